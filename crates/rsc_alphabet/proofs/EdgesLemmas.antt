@@ -1,0 +1,198 @@
+-- The boundaries of a set's maximal runs: they are where membership changes, and `add_set` adds them one run after the other.
+use Rattle.std.proofs.Common.{◌≡◌, ◌≢◌, ℕ, zero, suc, ◌+◌, ◌-◌, ◌<◌, ◌≤◌, Bool, true, false, not, ◌&&◌, ◌||◌, List, [], ◌∷◌, refl, sym, ap, ap₂, ◌∙◌, arith, nat_eq, nat_lt, nat_le, ⊎_elim}
+use Rattle.std.specs.List.{list_any, list_all}
+use Rattle.std.specs.Cmp.{nat_cmp_total}
+use Rattle.std.specs.FinSet as sets
+use Rattle.std.specs.Ordering.{nat_cmp}
+use Rattle.std.specs.FinSet.{contains-empty, same_set, nat_cmp-IsAntisymmetric}
+use Rattle.std.proofs.lemmas.Bool.{cases_lt, cases_Bool, cases_eq, eq-eqb, ne_eqb, le-leb, lt-ltb, le-ltb, true≢false, leb-true, and_parts}
+use Rattle.std.proofs.lemmas.Bool.Decides.{nat_tests}
+use Rattle.rsc_alphabet.specs.ByteSets.{Numbers, ends_run, runs}
+use Rattle.rsc_alphabet.specs.ByteSetLayout.{runs_from, parts_no_run}
+use Rattle.rsc_alphabet.specs.Partitions.{edges_of, edges_of_each, changes_at}
+use Rattle.rsc_alphabet.proofs.PartitionsLemmas.{contains-edges_of, c-union}
+use Rattle.rsc_alphabet.proofs.RunsLemmas.{runs_from_first, runs_from_skip, runs_from_none, parts_no_run-after, parts_no_run-skip}
+
+abbrev pub changes : Numbers → ℕ → Bool
+changes s k = (sets.contains s k && not (sets.contains s (k + 1))) || (not (sets.contains s k) && sets.contains s (k + 1))
+
+-- the last byte of the run that b stands in
+record EndsAt (s : Numbers) (b e : ℕ) : Type 0 where
+  from : b ≤ e
+  fits : e < 256
+  within : (k : ℕ) → b ≤ k → k ≤ e → sets.contains s k ≡ true
+  last : ends_run s e ≡ true
+
+find_end : (s : Numbers) (n b : ℕ) → b ≤ 255 → 255 ≤ b + n → sets.contains s b ≡ true → (e : ℕ) × EndsAt s b e
+find_end s zero b l far is = (
+  b,
+  record {
+    from = omega arith;
+    fits = omega arith;
+    within = λ k p q. let e : k ≡ b = omega arith in rw e is;
+    last = rw (is, eq-eqb b 255 (omega arith)) refl;
+  },
+)
+find_end s (suc n) b l far is =
+    ⊎_elim
+    (λ (h : b < 255). ⊎_elim
+    (λ (more : sets.contains s (b + 1) ≡ true).
+    let found : (e : ℕ) × EndsAt s (b + 1) e = find_end s n (b + 1) (omega arith) (omega arith) more in (
+      found.0,
+      record {
+        from = omega (arith, found.1.from);
+        fits = found.1.fits;
+        within = λ k p q. ⊎_elim (λ (e : k ≡ b). rw e is) (λ (ne : k ≢ b). found.1.within k (omega arith) q) (cases_eq k b);
+        last = found.1.last;
+      },
+    ))
+    (λ (none : sets.contains s (b + 1) ≡ false). (
+      b,
+      record {
+        from = omega arith;
+        fits = omega arith;
+        within = λ k p q. let e : k ≡ b = omega arith in rw e is;
+        last = rw (is, none) (elim (nat_eq b 255) as (λ v. (v || true) ≡ true) [ true ↦ refl | false ↦ refl ]);
+      },
+    ))
+    (cases_Bool (sets.contains s (b + 1))))
+    (λ (h : 255 ≤ b). (
+      b,
+      record {
+        from = omega arith;
+        fits = omega arith;
+        within = λ k p q. let e : k ≡ b = omega arith in rw e is;
+        last = rw (is, eq-eqb b 255 (omega arith)) refl;
+      },
+    ))
+    (cases_lt b 255)
+
+past : (b k : ℕ) (x y : Bool) → 256 ≤ b → (nat_lt k 255 && ((nat_le b k && x) || (nat_eq (k + 1) b && y))) ≡ false
+past b k true true l = grind (arith, nat_tests)
+past b k true false l = grind (arith, nat_tests)
+past b k false true l = grind (arith, nat_tests)
+past b k false false l = grind (arith, nat_tests)
+
+skipped : (b k : ℕ) (x y : Bool) → b ≤ 255 → (k ≡ b → x ≡ y) → (nat_lt k 255 && ((nat_le (b + 1) k && x) || (nat_eq (k + 1) (b + 1) && y))) ≡ (nat_lt k 255 && ((nat_le b k && x) || (nat_eq (k + 1) b && false)))
+skipped b k true true l at = grind (arith, nat_tests)
+skipped b k true false l at = let ne : k ≢ b = λ e. true≢false (at e) in grind (arith, nat_tests)
+skipped b k false true l at = let ne : k ≢ b = λ e. true≢false (sym (at e)) in grind (arith, nat_tests)
+skipped b k false false l at = grind (arith, nat_tests)
+
+stepped : (b e k : ℕ) (x y : Bool) → b ≤ e → e < 256 → (b ≤ k → k < e → x ≡ false) → (k ≡ e → e < 255 → x ≡ true) → (e < 255 → y ≡ false) →
+    (((nat_lt 0 b && nat_eq (b - 1) k) || (nat_lt e 255 && nat_eq e k)) || (nat_lt k 255 && ((nat_le (e + 1) k && x) || (nat_eq (k + 1) (e + 1) && y)))) ≡ (nat_lt k 255 && ((nat_le b k && x) || (nat_eq (k + 1) b && true)))
+stepped b e k true true from fits inner end next = let ne : 255 ≤ e = ⊎_elim (λ (h : e < 255). absurd (true≢false (next h))) (λ (h : 255 ≤ e). h) (cases_lt e 255) in let out : b ≤ k → k < e → ⊥ = λ p q. true≢false (inner p q) in grind (arith, nat_tests)
+stepped b e k true false from fits inner end next = let out : b ≤ k → k < e → ⊥ = λ p q. true≢false (inner p q) in grind (arith, nat_tests)
+stepped b e k false true from fits inner end next = let ne : 255 ≤ e = ⊎_elim (λ (h : e < 255). absurd (true≢false (next h))) (λ (h : 255 ≤ e). h) (cases_lt e 255) in grind (arith, nat_tests)
+stepped b e k false false from fits inner end next = let out : k ≡ e → e < 255 → ⊥ = λ p q. true≢false (sym (end p q)) in grind (arith, nat_tests)
+
+abbrev pub is_edge : ℕ → ℕ × ℕ → Bool
+is_edge k r = sets.contains (edges_of r) k
+
+-- from `low` on, the edges of the runs are the changes, and the run that begins at `low` has its edge there
+edges_from : (s : Numbers) (n low k : ℕ) → 256 ≤ low + n → parts_no_run s low ≡ true →
+    list_any (is_edge k) (runs_from s low) ≡ (nat_lt k 255 && ((nat_le low k && changes s k) || (nat_eq (k + 1) low && sets.contains s low)))
+edges_from s zero low k far clean =
+    ap (list_any (is_edge k)) (runs_from_none s low (omega arith)) ∙ sym (past low k (changes s k) (sets.contains s low) (omega arith))
+edges_from s (suc n) low k far clean =
+    ⊎_elim
+    (λ (h : low < 256). ⊎_elim
+    (λ (is : sets.contains s low ≡ true).
+    let found : (e : ℕ) × EndsAt s low e = find_end s 256 low (omega arith) (omega arith) is in
+    let e = found.0 in
+    let run = found.1 in
+    ap (list_any (is_edge k)) (runs_from_first s low e run.from run.fits run.within run.last clean)
+    ∙ ap₂ (λ t u. t || u) (contains-edges_of low e k)
+    (edges_from s n (e + 1) k (omega (arith, run.from)) (parts_no_run-after s low e run.from run.fits run.within run.last))
+    ∙ stepped low e k (changes s k) (sets.contains s (e + 1)) run.from run.fits
+    (λ p q. inside (sets.contains s k) (sets.contains s (k + 1)) (run.within k p (omega arith)) (run.within (k + 1) (omega arith) (omega arith)))
+    (λ at h. rw at (ends (sets.contains s e) (sets.contains s (e + 1)) e run.last h))
+    (λ h. after (sets.contains s e) (sets.contains s (e + 1)) e run.last h)
+    ∙ rw is refl)
+    (λ (none : sets.contains s low ≡ false).
+    ap (list_any (is_edge k)) (runs_from_skip s low (omega arith) none)
+    ∙ edges_from s n (low + 1) k (omega arith) (parts_no_run-skip s low none)
+    ∙ skipped low k (changes s k) (sets.contains s (low + 1)) (omega arith) (λ at. rw (at, none) refl)
+    ∙ rw none refl)
+    (cases_Bool (sets.contains s low)))
+    (λ (h : 256 ≤ low). ap (list_any (is_edge k)) (runs_from_none s low (omega arith)) ∙ sym (past low k (changes s k) (sets.contains s low) h))
+    (cases_lt low 256)
+  where
+    inside : (x y : Bool) → x ≡ true → y ≡ true → ((x && not y) || (not x && y)) ≡ false
+    inside x y p q = rw (p, q) refl
+
+    ends : (x y : Bool) (e : ℕ) → (x && (nat_eq e 255 || not y)) ≡ true → e < 255 → ((x && not y) || (not x && y)) ≡ true
+    ends true true e is h = absurd (true≢false (sym is ∙ rw (ne_eqb e 255 (λ q. omega arith)) refl))
+    ends true false e is h = refl
+    ends false y e is h = cc
+
+    after : (x y : Bool) (e : ℕ) → (x && (nat_eq e 255 || not y)) ≡ true → e < 255 → y ≡ false
+    after true true e is h = absurd (true≢false (sym is ∙ rw (ne_eqb e 255 (λ q. omega arith)) refl))
+    after true false e is h = refl
+    after false y e is h = cc
+
+-- a boundary is an edge of one of the ranges
+pub contains-edges_of_each : (ranges : List (ℕ × ℕ)) (k : ℕ) → sets.contains (edges_of_each ranges) k ≡ list_any (is_edge k) ranges
+contains-edges_of_each [] k = contains-empty nat_cmp k
+contains-edges_of_each (r ∷ rest) k = c-union (edges_of r) (edges_of_each rest) k ∙ ap (λ b. is_edge k r || b) (contains-edges_of_each rest k)
+
+-- the boundaries of a set's maximal runs are where membership changes
+pub contains-edges_of_runs : (s : Numbers) (k : ℕ) → sets.contains (edges_of_each (runs s)) k ≡ changes_at s k
+contains-edges_of_runs s k =
+    contains-edges_of_each (runs s) k ∙ edges_from s 256 0 k (omega arith) (rw (eq-eqb 0 0 refl) refl) ∙ whole (changes s k) (sets.contains s 0)
+  where
+    whole : (x y : Bool) → (nat_lt k 255 && ((nat_le 0 k && x) || (nat_eq (k + 1) 0 && y))) ≡ (nat_lt k 255 && x)
+    whole true true = grind (arith, nat_tests)
+    whole true false = grind (arith, nat_tests)
+    whole false true = grind (arith, nat_tests)
+    whole false false = grind (arith, nat_tests)
+
+abbrev pub is_ordered : ℕ × ℕ → Bool
+is_ordered r = nat_le r.0 r.1
+
+ordered_from : (s : Numbers) (n low : ℕ) → 256 ≤ low + n → parts_no_run s low ≡ true → list_all is_ordered (runs_from s low) ≡ true
+ordered_from s zero low far clean = ap (list_all is_ordered) (runs_from_none s low (omega arith))
+ordered_from s (suc n) low far clean =
+    ⊎_elim
+    (λ (h : low < 256). ⊎_elim
+    (λ (is : sets.contains s low ≡ true).
+    let found : (e : ℕ) × EndsAt s low e = find_end s 256 low (omega arith) (omega arith) is in
+    let e = found.0 in
+    let run = found.1 in
+    ap (list_all is_ordered) (runs_from_first s low e run.from run.fits run.within run.last clean)
+    ∙ rw (le-leb low e run.from) (ordered_from s n (e + 1) (omega (arith, run.from)) (parts_no_run-after s low e run.from run.fits run.within run.last)))
+    (λ (none : sets.contains s low ≡ false).
+    ap (list_all is_ordered) (runs_from_skip s low (omega arith) none)
+    ∙ ordered_from s n (low + 1) (omega arith) (parts_no_run-skip s low none))
+    (cases_Bool (sets.contains s low)))
+    (λ (h : 256 ≤ low). ap (list_all is_ordered) (runs_from_none s low (omega arith)))
+    (cases_lt low 256)
+
+pub ordered_runs : (s : Numbers) → list_all is_ordered (runs s) ≡ true
+ordered_runs s = ordered_from s 256 0 (omega arith) (rw (eq-eqb 0 0 refl) refl)
+
+pub edges_step : (s : Numbers) (r : ℕ × ℕ) (rest all : List (ℕ × ℕ)) (k : ℕ) → all ≡ r ∷ rest →
+    (sets.contains (sets.union s (edges_of r)) k || list_any (is_edge k) rest) ≡ (sets.contains s k || list_any (is_edge k) all)
+edges_step s r rest all k is = rw (c-union s (edges_of r) k, is) (or_assoc (sets.contains s k) (is_edge k r) (list_any (is_edge k) rest))
+  where
+    or_assoc : (x y z : Bool) → ((x || y) || z) ≡ (x || (y || z))
+    or_assoc true y z = refl
+    or_assoc false y z = refl
+
+pub first_ordered : (s e : ℕ) (rest all : List (ℕ × ℕ)) → all ≡ (s, e) ∷ rest → list_all is_ordered all ≡ true → s ≤ e
+first_ordered s e rest all is ordered = leb-true s e (and_parts (nat_le s e) (list_all is_ordered rest) (rw is at ordered)).0
+
+pub rest_ordered : (s e : ℕ) (rest all : List (ℕ × ℕ)) → all ≡ (s, e) ∷ rest → list_all is_ordered all ≡ true → list_all is_ordered rest ≡ true
+rest_ordered s e rest all is ordered = (and_parts (nat_le s e) (list_all is_ordered rest) (rw is at ordered)).1
+
+pub edges_done : (s old new : Numbers) (rest : List (ℕ × ℕ)) → rest ≡ [] → ((k : ℕ) → (sets.contains new k || list_any (is_edge k) rest) ≡ (sets.contains old k || list_any (is_edge k) (runs s))) →
+    new ≡ sets.union old (edges_of_each (runs s))
+edges_done s old new rest none each =
+    same_set nat_cmp_total nat_cmp-IsAntisymmetric _ _ (λ k.
+    sym (or_false (sets.contains new k)) ∙ (rw none at (each k))
+    ∙ ap (λ b. sets.contains old k || b) (sym (contains-edges_of_each (runs s) k))
+    ∙ sym (c-union old (edges_of_each (runs s)) k))
+  where
+    or_false : (x : Bool) → (x || false) ≡ x
+    or_false true = refl
+    or_false false = refl

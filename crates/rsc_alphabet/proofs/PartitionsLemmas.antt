@@ -1,0 +1,176 @@
+-- Boundaries, classes and ranges.
+use Rattle.std.proofs.Common.{◌≡◌, ◌↔◌, ⊎_elim, min, max, ℕ, zero, suc, ◌+◌, ◌-◌, ◌<◌, ◌≤◌, Bool, true, false, not, ◌&&◌, ◌||◌, cond, List, [], ◌∷◌, ◌++◌, length, set, refl, sym, ap, ◌∙◌, arith, nat_eq, nat_lt, ap₂, below_more, get_or-set_same, get_or-set_other, count_by, slice_index}
+use Rattle.std.specs.List.{list_any}
+use Rattle.std.specs.Ordering.{nat_cmp}
+use Rattle.std.specs.Cmp.{nat_cmp_total, unsigned_tied}
+use Rattle.std.specs.FinSet as sets
+use Rattle.std.specs.FinSet.{contains-from_list_nat, contains-insert, contains-remove, contains-union, contains-empty, same_set, nat_cmp-IsAntisymmetric}
+use Rattle.std.proofs.lemmas.Bool.{ne_eqb, cases_lt, false_from_ne_true}
+use Rattle.std.proofs.lemmas.Bool.Decides.{nat_tests}
+use Rattle.std.proofs.lemmas.List.Sums.{count_by-le-length, sum_by-append}
+use Rattle.std.proofs.lemmas.List.FromFn.{fill_by_all, length-map-range_with_len, get_or-map-range_with_len}
+use Rattle.rsc_alphabet.specs.Bytes.{from_to}
+use Rattle.rsc_alphabet.specs.BytesLaws.{from_to_none, from_to_first, from_to_parts, length-from_to}
+use Rattle.rsc_alphabet.specs.ByteSets.{Numbers}
+use Rattle.rsc_alphabet.specs.Partitions.{Together, class_of, class_map, edges_of}
+
+-- ---- sets of numbers
+
+pub c-insert : (s : Numbers) (k q : ℕ) → sets.contains (sets.insert s k) q ≡ (nat_eq q k || sets.contains s q)
+c-insert s k q = contains-insert nat_cmp_total s k q ∙ ap (λ b. b || sets.contains s q) (unsigned_tied q k)
+
+pub c-remove : (s : Numbers) (k q : ℕ) → sets.contains (sets.remove s k) q ≡ (not (nat_eq q k) && sets.contains s q)
+c-remove s k q = contains-remove nat_cmp_total s k q ∙ ap (λ b. not b && sets.contains s q) (unsigned_tied q k)
+
+pub c-union : (s t : Numbers) (q : ℕ) → sets.contains (sets.union s t) q ≡ (sets.contains s q || sets.contains t q)
+c-union s t q = contains-union nat_cmp_total s t q
+
+-- ---- the boundaries of a range
+
+pub contains-edges_of : (s e q : ℕ) → sets.contains (edges_of (s, e)) q ≡ ((nat_lt 0 s && nat_eq (s - 1) q) || (nat_lt e 255 && nat_eq e q))
+contains-edges_of s e q =
+    contains-from_list_nat _ q ∙ by_cases (nat_lt 0 s) (nat_lt e 255)
+  where
+    by_cases : (u v : Bool) → list_any (λ y. nat_eq y q) (cond u ((s - 1) ∷ []) [] ++ cond v (e ∷ []) []) ≡ ((u && nat_eq (s - 1) q) || (v && nat_eq e q))
+    by_cases true true = ap (λ b. nat_eq (s - 1) q || b) (or_none (nat_eq e q))
+      where
+        or_none : (b : Bool) → (b || false) ≡ b
+        or_none true = refl
+        or_none false = refl
+    by_cases true false = refl
+    by_cases false true = or_none (nat_eq e q)
+      where
+        or_none : (b : Bool) → (b || false) ≡ b
+        or_none true = refl
+        or_none false = refl
+    by_cases false false = refl
+
+-- what `set_range` leaves of the flags, above 0 and at 0
+pub edges_above : (ends : Numbers) (s e : ℕ) → 0 < s → s ≤ e → e < 256 → sets.remove (sets.insert (sets.insert ends (s - 1)) e) 255 ≡ sets.union (sets.remove ends 255) (edges_of (s, e))
+edges_above ends s e low order high = same_set nat_cmp_total nat_cmp-IsAntisymmetric _ _ (λ q.
+    rw (c-remove, c-insert, c-insert, c-union, c-remove, contains-edges_of) (tests (sets.contains ends q) q))
+  where
+    tests : (b : Bool) (q : ℕ) → (not (nat_eq q 255) && (nat_eq q e || (nat_eq q (s - 1) || b))) ≡ ((not (nat_eq q 255) && b) || ((nat_lt 0 s && nat_eq (s - 1) q) || (nat_lt e 255 && nat_eq e q)))
+    tests true q = grind (arith, nat_tests)
+    tests false q = grind (arith, nat_tests)
+
+pub edges_at_zero : (ends : Numbers) (s e : ℕ) → s ≤ 0 → e < 256 → sets.remove (sets.insert ends e) 255 ≡ sets.union (sets.remove ends 255) (edges_of (s, e))
+edges_at_zero ends s e low high = same_set nat_cmp_total nat_cmp-IsAntisymmetric _ _ (λ q.
+    rw (c-remove, c-insert, c-union, c-remove, contains-edges_of) (tests (sets.contains ends q) q))
+  where
+    tests : (b : Bool) (q : ℕ) → (not (nat_eq q 255) && (nat_eq q e || b)) ≡ ((not (nat_eq q 255) && b) || ((nat_lt 0 s && nat_eq (s - 1) q) || (nat_lt e 255 && nat_eq e q)))
+    tests true q = grind (arith, nat_tests)
+    tests false q = grind (arith, nat_tests)
+
+-- ---- classes
+
+pub class_of_more : (p : ℕ → Bool) (b : ℕ) → class_of p (b + 1) ≡ class_of p b + cond (p b) 1 0
+class_of_more p b =
+    ap (count_by p) (from_to_parts 0 b (b + 1) (omega arith) (omega arith) ∙ ap (λ t. from_to 0 b ++ t) (from_to_first b (b + 1) (omega arith) ∙ ap (λ t. b ∷ t) (from_to_none (b + 1) (b + 1) (omega arith))))
+    ∙ sum_by-append _ (from_to 0 b) (b ∷ []) ∙ ap (λ x. class_of p b + x) one
+  where
+    one : count_by p (b ∷ []) ≡ cond (p b) 1 0
+    one = elim (p b) as (λ v. 0 + cond v 1 0 ≡ cond v 1 0) [ true ↦ refl | false ↦ refl ]
+
+pub class_of_none : (p : ℕ → Bool) → class_of p 0 ≡ 0
+class_of_none p = ap (count_by p) (from_to_none 0 0 (omega arith))
+
+pub class_of-le : (p : ℕ → Bool) (b : ℕ) → class_of p b ≤ b
+class_of-le p b = omega (arith, count_by-le-length p (from_to 0 b), length-from_to 0 b)
+
+-- classes depend on the boundaries alone
+pub class_of_same : (p q : ℕ → Bool) (b : ℕ) → ((k : ℕ) → k < b → p k ≡ q k) → class_of p b ≡ class_of q b
+class_of_same p q zero same = class_of_none p ∙ sym (class_of_none q)
+class_of_same p q (suc b) same =
+    let e : suc b ≡ b + 1 = omega arith in
+    rw e (class_of_more p b ∙ ap₂ (λ x t. x + cond t 1 0) (class_of_same p q b (λ k h. same k (omega arith))) (same b (omega arith)) ∙ sym (class_of_more q b))
+
+pub class_map_is : (p : ℕ → Bool) (classes : List ℕ) → length classes ≡ 256 → ((k : ℕ) → k < 256 → slice_index classes k ≡ class_of p k) → classes ≡ class_map p
+unfolding from_to
+class_map_is p classes long each = fill_by_all (class_of p) classes 256 0 long each
+
+pub slice_index-class_map : (p : ℕ → Bool) (b : ℕ) → b < 256 → slice_index (class_map p) b ≡ class_of p b
+unfolding from_to
+slice_index-class_map p b h = get_or-map-range_with_len (class_of p) 0 256 b b 0 h (omega arith)
+
+pub length-class_map : (p : ℕ → Bool) → length (class_map p) ≡ 256
+unfolding from_to
+length-class_map p = length-map-range_with_len (class_of p) 0 256
+
+pub class_map_same : (p q : ℕ → Bool) → ((k : ℕ) → k < 255 → p k ≡ q k) → class_map p ≡ class_map q
+class_map_same p q same =
+    class_map_is q (class_map p) (length-class_map p) (λ k h. slice_index-class_map p k h ∙ class_of_same p q k (λ j l. same j (omega arith)))
+
+pub no_edges : sets.remove (sets.empty {K = ℕ} {R = nat_cmp}) 255 ≡ sets.empty
+no_edges = same_set nat_cmp_total nat_cmp-IsAntisymmetric _ _ (λ q. c-remove sets.empty 255 q ∙ rw (contains-empty nat_cmp q) (grind (arith, nat_tests)))
+
+-- classes rise from byte to byte
+pub class_of-rises : (p : ℕ → Bool) (b n : ℕ) → class_of p b ≤ class_of p (b + n)
+class_of-rises p b zero = let e : b + zero ≡ b = omega arith in rw e (omega arith)
+class_of-rises p b (suc n) = let e : b + suc n ≡ b + n + 1 = omega arith in rw e (omega (arith, class_of-rises p b n, class_of_more p (b + n)))
+
+-- ---- bytes are together exactly if they have one class
+
+class_of-between : (p : ℕ → Bool) (b n : ℕ) → ((k : ℕ) → b ≤ k → k < b + n → ¬ (p k ≡ true)) → class_of p (b + n) ≡ class_of p b
+class_of-between p b zero none = let e : b + zero ≡ b = omega arith in rw e
+class_of-between p b (suc n) none =
+    let e : b + suc n ≡ b + n + 1 = omega arith in
+    let here : p (b + n) ≡ false = false_from_ne_true (p (b + n)) (none (b + n) (omega arith) (omega arith)) in
+    rw (e, class_of_more p (b + n), here) (let z : class_of p (b + n) + 0 ≡ class_of p (b + n) = omega arith in rw z (class_of-between p b n (λ k l h. none k l (omega arith))))
+
+class_of-past : (p : ℕ → Bool) (b k c : ℕ) → b ≤ k → k < c → p k ≡ true → class_of p b < class_of p c
+class_of-past p b k c l h is =
+    let e : b + (k - b) ≡ k = omega arith in
+    let f : k + 1 + (c - (k + 1)) ≡ c = omega arith in
+    let before : class_of p b ≤ class_of p k = rw e at (class_of-rises p b (k - b)) in
+    let at_k : class_of p (k + 1) ≡ class_of p k + 1 = class_of_more p k ∙ rw is refl in
+    let after : class_of p (k + 1) ≤ class_of p c = rw f at (class_of-rises p (k + 1) (c - (k + 1))) in
+    omega arith
+
+pub same_class-up : (p : ℕ → Bool) (b c : ℕ) → b ≤ c → (class_of p b ≡ class_of p c) ↔ Together p b c
+same_class-up p b c l =
+    let least : min b c ≡ b = omega arith in
+    let most : max b c ≡ c = omega arith in (
+      (λ same k low high is. let past : class_of p b < class_of p c = class_of-past p b k c (omega arith) (omega arith) is in omega arith),
+      (λ together. let e : b + (c - b) ≡ c = omega arith in sym (rw e at (class_of-between p b (c - b) (λ k low high. together k (omega arith) (omega arith))))),
+    )
+
+pub same_class-together : (p : ℕ → Bool) (b c : ℕ) → (class_of p b ≡ class_of p c) ↔ Together p b c
+same_class-together p b c =
+    ⊎_elim
+    (λ (l : b < c). same_class-up p b c (omega arith))
+    (λ (l : c ≤ b). (
+      (λ same k low high. (same_class-up p c b l).0 (sym same) k (omega arith) (omega arith)),
+      (λ together. sym ((same_class-up p c b l).1 (λ k low high. together k (omega arith) (omega arith)))),
+    ))
+    (cases_lt b c)
+
+-- two bytes have one class of a class map exactly if they are together
+pub class_map-together : (p : ℕ → Bool) (b c : ℕ) → b < 256 → c < 256 → (slice_index (class_map p) b ≡ slice_index (class_map p) c) ↔ Together p b c
+class_map-together p b c lb lc = rw (slice_index-class_map p b lb, slice_index-class_map p c lc) (same_class-together p b c)
+
+-- ---- the boundary 255, which separates nothing
+
+pub end_is_boundary : (ends : Numbers) (b : ℕ) → b < 255 → sets.contains ends b ≡ true → sets.contains (sets.remove ends 255) b ≡ true
+end_is_boundary ends b h is = c-remove ends 255 b ∙ rw (is, ne_eqb b 255 (λ e. omega arith)) refl
+
+pub end_is_none : (ends : Numbers) (b : ℕ) → sets.contains ends b ≡ false → sets.contains (sets.remove ends 255) b ≡ false
+end_is_none ends b none = c-remove ends 255 b ∙ rw none (grind (arith, nat_tests))
+
+pub last_is_none : (ends : Numbers) (b : ℕ) → 255 ≤ b → b ≤ 255 → sets.contains (sets.remove ends 255) b ≡ false
+last_is_none ends b low high = let e : b ≡ 255 = omega arith in rw e (c-remove ends 255 255)
+
+-- ---- the walk that numbers the classes
+
+pub classes_more : (p : ℕ → Bool) (classes : List ℕ) (class b : ℕ) → ((k : ℕ) → k < b → slice_index classes k ≡ class_of p k) → class ≡ class_of p b → length classes ≡ 256 → b ≤ 255 →
+    (k : ℕ) → k < b + 1 → slice_index (set classes b class) k ≡ class_of p k
+classes_more p classes class b before here long h =
+    below_more _ b
+    (λ k l. get_or-set_other classes b k class 0 (omega arith) ∙ before k l)
+    (get_or-set_same classes b class 0 (omega arith) ∙ here)
+
+pub class_yes : (p : ℕ → Bool) (class b : ℕ) → class ≡ class_of p b → p b ≡ true → class + 1 ≡ class_of p (b + 1)
+class_yes p class b here is = sym (class_of_more p b ∙ rw (is, ← here) refl)
+
+pub class_no : (p : ℕ → Bool) (class b : ℕ) → class ≡ class_of p b → p b ≡ false → class ≡ class_of p (b + 1)
+class_no p class b here none = sym (class_of_more p b ∙ rw (none, ← here) (omega arith))

@@ -1,0 +1,156 @@
+-- Bytes that a list of ranges treats alike have one class.
+use Rattle.std.proofs.Common.{◌≡◌, ℕ, zero, suc, ◌+◌, ◌-◌, ◌<◌, ◌≤◌, Bool, true, false, not, ◌&&◌, ◌||◌, cond, List, [], ◌∷◌, ◌++◌, length, get_or, min, max, refl, sym, ap, ap₂, ◌∙◌, arith, nat_eq, nat_lt, take, ⊎_elim, slice_index}
+use Rattle.std.specs.List.{list_any, list_all}
+use Rattle.std.specs.FinSet as sets
+use Rattle.std.proofs.lemmas.Bool.{cases_lt, eq-eqb, eqb-true}
+use Rattle.std.proofs.lemmas.Bool.Decides.{nat_tests}
+use Rattle.std.proofs.lemmas.List.{take_more}
+use Rattle.std.proofs.lemmas.List.Folds.{list_all-append, list_any-append}
+use Rattle.rsc_alphabet.specs.Bytes.{from_to}
+use Rattle.rsc_alphabet.specs.BytesLaws.{from_to_none, from_to_first, from_to_parts}
+use Rattle.rsc_alphabet.specs.Partitions.{class_of, class_map, edges_of}
+use Rattle.rsc_alphabet.specs.Ranges.{holds, treats_alike, are_alike, separates}
+use Rattle.rsc_alphabet.proofs.PartitionsLemmas.{class_of_more, class_of-rises, contains-edges_of, slice_index-class_map}
+
+from_to_last : (low high : ℕ) → low ≤ high → from_to low (high + 1) ≡ from_to low high ++ high ∷ []
+from_to_last low high h =
+    from_to_parts low high (high + 1) h (omega arith)
+    ∙ ap (λ t. from_to low high ++ t) (from_to_first high (high + 1) (omega arith) ∙ ap (λ t. high ∷ t) (from_to_none (high + 1) (high + 1) (omega arith)))
+
+and_true : (b : Bool) → (b && true) ≡ b
+and_true true = refl
+and_true false = refl
+
+or_false : (b : Bool) → (b || false) ≡ b
+or_false true = refl
+or_false false = refl
+
+all_last : (h : ℕ → Bool) (low high : ℕ) → low ≤ high → list_all h (from_to low (high + 1)) ≡ (list_all h (from_to low high) && h high)
+all_last h low high l = ap (list_all h) (from_to_last low high l) ∙ list_all-append h (from_to low high) (high ∷ []) ∙ ap (λ b. list_all h (from_to low high) && b) (and_true (h high))
+
+any_last : (h : ℕ → Bool) (low high : ℕ) → low ≤ high → list_any h (from_to low (high + 1)) ≡ (list_any h (from_to low high) || h high)
+any_last h low high l = ap (list_any h) (from_to_last low high l) ∙ list_any-append h (from_to low high) (high ∷ []) ∙ ap (λ b. list_any h (from_to low high) || b) (or_false (h high))
+
+-- what `treats_alike` says of two bytes in order
+alike_up : (ℕ → Bool) → ℕ → ℕ → Bool
+alike_up h b c = list_all h (from_to b (c + 1)) || not (list_any h (from_to b (c + 1)))
+
+treats_alike_up : (r : ℕ × ℕ) (b c : ℕ) → b ≤ c → treats_alike r b c ≡ alike_up (holds r) b c
+unfolding alike_up
+treats_alike_up r b c l = let p : min b c ≡ b = omega arith in let q : max b c ≡ c = omega arith in rw (p, q)
+
+treats_alike_down : (r : ℕ × ℕ) (b c : ℕ) → treats_alike r b c ≡ treats_alike r c b
+treats_alike_down r b c = let p : min b c ≡ min c b = omega arith in let q : max b c ≡ max c b = omega arith in rw (p, q)
+
+by_parts : (all any x y : Bool) → (((all && x) && y) || not ((any || x) || y)) ≡ (((all && x) || not (any || x)) && ((x && y) || not (x || y)))
+by_parts true true true true = refl
+by_parts true true true false = refl
+by_parts true true false true = refl
+by_parts true true false false = refl
+by_parts true false true true = refl
+by_parts true false true false = refl
+by_parts true false false true = refl
+by_parts true false false false = refl
+by_parts false true true true = refl
+by_parts false true true false = refl
+by_parts false true false true = refl
+by_parts false true false false = refl
+by_parts false false true true = refl
+by_parts false false true false = refl
+by_parts false false false true = refl
+by_parts false false false false = refl
+
+pair : (h : ℕ → Bool) (c : ℕ) → alike_up h c (c + 1) ≡ ((h c && h (c + 1)) || not (h c || h (c + 1)))
+unfolding alike_up
+pair h c =
+    rw (all_last h c (c + 1) (omega arith), any_last h c (c + 1) (omega arith), all_last h c c (omega arith), any_last h c c (omega arith), from_to_none c c (omega arith)) refl
+
+opened : (h : ℕ → Bool) (b c : ℕ) → b ≤ c → alike_up h b (c + 1) ≡ (alike_up h b c && ((h c && h (c + 1)) || not (h c || h (c + 1))))
+unfolding alike_up
+opened h b c l =
+    rw (all_last h b (c + 1) (omega arith), any_last h b (c + 1) (omega arith), all_last h b c l, any_last h b c l)
+    (by_parts (list_all h (from_to b c)) (list_any h (from_to b c)) (h c) (h (c + 1)))
+
+alike_up_more : (h : ℕ → Bool) (b c : ℕ) → b ≤ c → alike_up h b (c + 1) ≡ (alike_up h b c && alike_up h c (c + 1))
+alike_up_more h b c l = opened h b c l ∙ ap (λ t. alike_up h b c && t) (sym (pair h c))
+
+alike_up_same : (h : ℕ → Bool) (b : ℕ) → alike_up h b b ≡ true
+unfolding alike_up
+alike_up_same h b =
+    rw (all_last h b b (omega arith), any_last h b b (omega arith), from_to_none b b (omega arith))
+    (elim (h b) as (λ v. (v || not v) ≡ true) [ true ↦ refl | false ↦ refl ])
+
+and_pairs : (a b x y : Bool) → ((a && b) && (x && y)) ≡ ((a && x) && (b && y))
+and_pairs true true x y = refl
+and_pairs true false true y = refl
+and_pairs true false false y = refl
+and_pairs false b x y = refl
+
+are_alike_more : (ranges : List (ℕ × ℕ)) (b c : ℕ) → b ≤ c → are_alike ranges b (c + 1) ≡ (are_alike ranges b c && are_alike ranges c (c + 1))
+are_alike_more [] b c l = refl
+are_alike_more (r ∷ rs) b c l =
+    ap₂ (λ t u. t && u) one (are_alike_more rs b c l) ∙ and_pairs (treats_alike r b c) (treats_alike r c (c + 1)) (are_alike rs b c) (are_alike rs c (c + 1))
+  where
+    one : treats_alike r b (c + 1) ≡ (treats_alike r b c && treats_alike r c (c + 1))
+    one =
+        treats_alike_up r b (c + 1) (omega arith) ∙ alike_up_more (holds r) b c l
+        ∙ sym (ap₂ (λ t u. t && u) (treats_alike_up r b c l) (treats_alike_up r c (c + 1) (omega arith)))
+
+are_alike_same : (ranges : List (ℕ × ℕ)) (b : ℕ) → are_alike ranges b b ≡ true
+are_alike_same [] b = refl
+are_alike_same (r ∷ rs) b = rw (treats_alike_up r b b (omega arith), alike_up_same (holds r) b) (are_alike_same rs b)
+
+are_alike_down : (ranges : List (ℕ × ℕ)) (b c : ℕ) → are_alike ranges b c ≡ are_alike ranges c b
+are_alike_down [] b c = refl
+are_alike_down (r ∷ rs) b c = ap₂ (λ t u. t && u) (treats_alike_down r b c) (are_alike_down rs b c)
+
+-- bytes in order are alike if they have one class
+are_alike_up : (ranges : List (ℕ × ℕ)) (b n : ℕ) → are_alike ranges b (b + n) ≡ nat_eq (class_of (separates ranges) (b + n)) (class_of (separates ranges) b)
+are_alike_up ranges b zero = let e : b + zero ≡ b = omega arith in rw e (are_alike_same ranges b ∙ sym (eq-eqb _ _ refl))
+are_alike_up ranges b (suc n) =
+    let e : b + suc n ≡ b + n + 1 = omega arith in
+    rw (e, class_of_more (separates ranges) (b + n)) (are_alike_more ranges b (b + n) (omega arith)
+    ∙ ap (λ t. t && are_alike ranges (b + n) (b + n + 1)) (are_alike_up ranges b n)
+    ∙ step (class_of (separates ranges) (b + n)) (class_of (separates ranges) b) (are_alike ranges (b + n) (b + n + 1)) (class_of-rises (separates ranges) b n))
+  where
+    step : (x y : ℕ) (t : Bool) → y ≤ x → (nat_eq x y && t) ≡ nat_eq (x + cond (not t) 1 0) y
+    step x y true l = let e : x + 0 ≡ x = omega arith in rw e (and_true (nat_eq x y))
+    step x y false l = grind (arith, nat_tests)
+
+-- bytes are alike if they have one class
+pub are_alike_is : (ranges : List (ℕ × ℕ)) (b c : ℕ) → are_alike ranges b c ≡ nat_eq (class_of (separates ranges) b) (class_of (separates ranges) c)
+are_alike_is ranges b c =
+    ⊎_elim
+    (λ (l : b < c). let e : b + (c - b) ≡ c = omega arith in
+    (rw e at (are_alike_up ranges b (c - b))) ∙ grind (arith, nat_tests))
+    (λ (l : c ≤ b). let e : c + (b - c) ≡ b = omega arith in
+    are_alike_down ranges b c ∙ (rw e at (are_alike_up ranges c (b - c))))
+    (cases_lt b c)
+
+pub same_class_is : (ranges : List (ℕ × ℕ)) (classes : List ℕ) (b c : ℕ) → classes ≡ class_map (separates ranges) → b < 256 → c < 256 →
+    ((slice_index classes b ≡ slice_index classes c → are_alike ranges b c ≡ true) × (are_alike ranges b c ≡ true → slice_index classes b ≡ slice_index classes c))
+same_class_is ranges classes b c is lb lc =
+    rw is (rw (slice_index-class_map (separates ranges) b lb, slice_index-class_map (separates ranges) c lc) (
+      (λ e. are_alike_is ranges b c ∙ eq-eqb _ _ e),
+      (λ t. eqb-true _ _ (sym (are_alike_is ranges b c) ∙ t)),
+    ))
+
+-- ---- the edges of one range
+
+pub contains-edges_of_range : (r : ℕ × ℕ) (k : ℕ) → r.0 ≤ r.1 → k < 255 → sets.contains (edges_of r) k ≡ not (treats_alike r k (k + 1))
+contains-edges_of_range (s, e) k order within =
+    contains-edges_of s e k ∙ tests ∙ sym (ap not (treats_alike_up (s, e) k (k + 1) (omega arith) ∙ pair (holds (s, e)) k))
+  where
+    tests : ((nat_lt 0 s && nat_eq (s - 1) k) || (nat_lt e 255 && nat_eq e k)) ≡ not ((holds (s, e) k && holds (s, e) (k + 1)) || not (holds (s, e) k || holds (s, e) (k + 1)))
+    tests = grind (arith, nat_tests)
+
+pub separates_more : (ranges : List (ℕ × ℕ)) (i : ℕ) (d : ℕ × ℕ) (k : ℕ) → i < length ranges → separates (take (i + 1) ranges) k ≡ (separates (take i ranges) k || not (treats_alike (get_or ranges i d) k (k + 1)))
+separates_more ranges i d k l =
+    ap (λ rs. separates rs k) (take_more ranges i d l)
+    ∙ ap not (list_all-append (λ r. treats_alike r k (k + 1)) (take i ranges) (get_or ranges i d ∷ []))
+    ∙ split (are_alike (take i ranges) k (k + 1)) (treats_alike (get_or ranges i d) k (k + 1))
+  where
+    split : (x y : Bool) → not (x && (y && true)) ≡ (not x || not y)
+    split true true = refl
+    split true false = refl
+    split false y = refl

@@ -1,0 +1,84 @@
+-- The steps of the walks of a set of bytes: its members, and its maximal runs.
+use Rattle.std.proofs.Common.{◌≡◌, ℕ, ◌+◌, ◌-◌, ◌<◌, ◌≤◌, Bool, true, false, not, ◌&&◌, ◌||◌, [], ◌∷◌, ◌++◌, filter, refl, ap, ap₂, ◌∙◌, arith, nat_eq, nat_lt}
+use Rattle.std.specs.List.{zip}
+use Rattle.std.specs.FinSet as sets
+use Rattle.std.proofs.lemmas.Bool.{ne_eqb}
+use Rattle.std.proofs.lemmas.Bool.Decides.{nat_tests}
+use Rattle.std.proofs.lemmas.List.Elements.{filter-append}
+use Rattle.rsc_alphabet.specs.Bytes.{from_to}
+use Rattle.rsc_alphabet.specs.BytesLaws.{from_to_none, from_to_parts, filter_none, filter_first, filter_skip}
+use Rattle.rsc_alphabet.specs.ByteSets.{Numbers, begins_run, ends_run}
+use Rattle.rsc_alphabet.specs.ByteSetLayout.{members_from, runs_from, parts_no_run}
+
+pub members_from_first : (s : Numbers) (b : ℕ) → b ≤ 255 → sets.contains s b ≡ true → members_from s b ≡ b ∷ members_from s (b + 1)
+members_from_first s b l is = filter_first (λ k. sets.contains s k) b 256 (omega arith) is
+
+pub members_from_skip : (s : Numbers) (b : ℕ) → b ≤ 255 → sets.contains s b ≡ false → members_from s b ≡ members_from s (b + 1)
+members_from_skip s b l none = filter_skip (λ k. sets.contains s k) b 256 (omega arith) none
+
+pub members_from_none : (s : Numbers) (b : ℕ) → 255 < b → members_from s b ≡ []
+members_from_none s b l = rw (from_to_none b 256 (omega arith)) refl
+
+-- ---- runs
+
+begins : (s : Numbers) (b : ℕ) → b ≤ 255 → parts_no_run s b ≡ true → sets.contains s b ≡ true → begins_run s b ≡ true
+begins s b l clean is = tests (sets.contains s b) (sets.contains s (b - 1)) is clean
+  where
+    tests : (x y : Bool) → x ≡ true → (nat_eq b 0 || (nat_lt 255 b || (not y || not x))) ≡ true → (x && (nat_eq b 0 || not y)) ≡ true
+    tests true true is clean = grind (arith, nat_tests)
+    tests true false is clean = grind (arith, nat_tests)
+    tests false y is clean = cc
+
+begins_none : (s : Numbers) (b : ℕ) → sets.contains s b ≡ false → begins_run s b ≡ false
+begins_none s b none = rw none refl
+
+ends_none : (s : Numbers) (b : ℕ) → sets.contains s b ≡ false → ends_run s b ≡ false
+ends_none s b none = rw none refl
+
+-- a byte after a member begins no run, and one before a member ends none
+begins_later : (s : Numbers) (b : ℕ) → 0 < b → sets.contains s (b - 1) ≡ true → begins_run s b ≡ false
+begins_later s b l before = rw (before, ne_eqb b 0 (λ e. omega arith)) (elim (sets.contains s b) as (λ v. (v && false) ≡ false) [ true ↦ refl | false ↦ refl ])
+
+ends_earlier : (s : Numbers) (b : ℕ) → b < 255 → sets.contains s (b + 1) ≡ true → ends_run s b ≡ false
+ends_earlier s b l after = rw (after, ne_eqb b 255 (λ e. omega arith)) (elim (sets.contains s b) as (λ v. (v && false) ≡ false) [ true ↦ refl | false ↦ refl ])
+
+module _ (s : Numbers) (b e : ℕ) (from : b ≤ e) (fits : e < 256) (within : (k : ℕ) → b ≤ k → k ≤ e → sets.contains s k ≡ true) (last : ends_run s e ≡ true) where
+  first_bytes : begins_run s b ≡ true → filter (begins_run s) (from_to b 256) ≡ b ∷ filter (begins_run s) (from_to (e + 1) 256)
+  first_bytes starts =
+      filter_first (begins_run s) b 256 (omega arith) starts
+      ∙ ap (λ t. b ∷ t) (
+      ap (filter (begins_run s)) (from_to_parts (b + 1) (e + 1) 256 (omega arith) (omega arith))
+      ∙ filter-append (begins_run s) (from_to (b + 1) (e + 1)) (from_to (e + 1) 256)
+      ∙ ap (λ t. t ++ filter (begins_run s) (from_to (e + 1) 256)) (filter_none (begins_run s) (b + 1) (e + 1) (λ k l h. begins_later s k (omega arith) (within (k - 1) (omega arith) (omega arith)))))
+
+  last_bytes : filter (ends_run s) (from_to b 256) ≡ e ∷ filter (ends_run s) (from_to (e + 1) 256)
+  last_bytes =
+      ap (filter (ends_run s)) (from_to_parts b e 256 from (omega arith))
+      ∙ filter-append (ends_run s) (from_to b e) (from_to e 256)
+      ∙ ap₂ (λ t u. t ++ u) (filter_none (ends_run s) b e (λ k l h. ends_earlier s k (omega arith) (within (k + 1) (omega arith) (omega arith))))
+      (filter_first (ends_run s) e 256 (omega arith) last)
+
+  pub runs_from_first : parts_no_run s b ≡ true → runs_from s b ≡ (b, e) ∷ runs_from s (e + 1)
+  runs_from_first clean =
+      ap₂ (λ t u. zip t u) (first_bytes (begins s b (omega arith) clean (within b (omega arith) from))) last_bytes
+
+  -- past a run, no run is parted
+  pub parts_no_run-after : parts_no_run s (e + 1) ≡ true
+  parts_no_run-after = tests (sets.contains s e) (sets.contains s (e + 1)) (sets.contains s (e + 1 - 1)) last
+    where
+      tests : (x y z : Bool) → (x && (nat_eq e 255 || not y)) ≡ true → (nat_eq (e + 1) 0 || (nat_lt 255 (e + 1) || (not z || not y))) ≡ true
+      tests true true z is = grind (arith, nat_tests)
+      tests true false true is = grind (arith, nat_tests)
+      tests true false false is = grind (arith, nat_tests)
+      tests false y z is = cc
+
+pub runs_from_skip : (s : Numbers) (b : ℕ) → b ≤ 255 → sets.contains s b ≡ false → runs_from s b ≡ runs_from s (b + 1)
+runs_from_skip s b l none =
+    ap₂ (λ t u. zip t u) (filter_skip (begins_run s) b 256 (omega arith) (begins_none s b none)) (filter_skip (ends_run s) b 256 (omega arith) (ends_none s b none))
+
+pub runs_from_none : (s : Numbers) (b : ℕ) → 255 < b → runs_from s b ≡ []
+runs_from_none s b l = rw (from_to_none b 256 (omega arith)) refl
+
+-- past a byte that isn't a member, no run is parted
+pub parts_no_run-skip : (s : Numbers) (b : ℕ) → sets.contains s b ≡ false → parts_no_run s (b + 1) ≡ true
+parts_no_run-skip s b none = let e : b + 1 - 1 ≡ b = omega arith in rw (e, none) (grind (arith, nat_tests))

@@ -1,0 +1,12 @@
+pub mod Bytes
+pub mod BytesLaws
+pub mod ByteSetLayout
+pub mod ByteSets
+pub mod ByteSetsLaws
+pub mod Partitions
+pub mod Ranges
+pub mod SameMembers
+pub mod SymbolLayout
+pub mod Symbols
+pub mod WalkLayout
+pub mod Walks

@@ -1,0 +1,108 @@
+//! Partitions of the bytes into intervals, and the class maps that they make.
+ghost use Rattle.std.specs.Prelude.{◌≡◌, ℕ, ◌<◌, ◌≤◌, ◌↔◌, IsTrue, All, slice_index};
+ghost use Rattle.std.specs.FinSet as sets;
+ghost use Rattle.rsc_alphabet.specs.ByteSets.{runs};
+ghost use Rattle.rsc_alphabet.specs.Partitions.{class_map, edges_of, edges_of_each};
+ghost use Rattle.rsc_alphabet.specs.Ranges.{are_alike, separates};
+
+use crate::{ByteClasses, ByteSet};
+use std::marker::Model;
+
+/// A partition of the bytes into intervals: the bytes that an automaton tells apart, gathered range by range.
+///
+/// A contract sees it as the finite set of its boundaries, numbers from 0 to 254.
+/// The boundary `b` separates the byte `b` from the byte `b + 1`.
+#[derive(Clone, Debug, Drop)]
+pub struct ByteClassSet {
+    // The last bytes of the intervals; the byte 255, which ends the last one, may be among them.
+    ends: ByteSet,
+}
+
+impl Model for ByteClassSet {
+    ghost use Rattle.std.specs.FinSet as sets;
+    ghost use Rattle.std.specs.Coded.{coded_ℕ};
+    ghost use Rattle.rsc_alphabet.specs.ByteSets.{Numbers};
+
+    ghost Value = { Numbers };
+
+    ghost coded = { sets.code coded_ℕ };
+
+    ghost view = { λ s. sets.remove s.ends 255 };
+}
+
+impl Default for ByteClassSet {
+    ghost use Rattle.std.specs.Prelude.{◌≡◌};
+    ghost use Rattle.std.specs.FinSet as sets;
+
+    ghost is_default = { λ s. s ≡ sets.empty };
+
+    fn default() -> Self {
+        Self::empty()
+    }
+}
+
+impl ByteClassSet {
+    /// The partition with no boundary: all bytes are together.
+    #[inline]
+    pub fn empty() -> Self
+        ensures { result ≡ sets.empty }
+    {
+        ByteClassSet {
+            ends: ByteSet::empty(),
+        }
+    }
+
+    /// Separates the bytes from `start` to `end`, both included, from all others: adds the boundaries `start - 1` and
+    /// `end`, where there is a byte on the other side. Needs `start` to be at most `end`.
+    #[inline]
+    pub fn set_range(&mut self, start: u8, end: u8)
+        requires { start ≤ end }
+        ensures { self.new ≡ sets.union self.old (edges_of (start, end)) }
+    {
+        if start > 0 {
+            self.ends.add(start - 1);
+        }
+        self.ends.add(end);
+    }
+
+    /// Separates each maximal run of a set's members from all other bytes, as by [`ByteClassSet::set_range`] of each.
+    pub fn add_set(&mut self, set: &ByteSet)
+        ensures { self.new ≡ sets.union self.old (edges_of_each (runs set.now)) }
+    {
+        for (start, end) in set.iter_ranges() {
+            self.set_range(start, end);
+        }
+    }
+
+    /// The class map of the partition: the class of a byte is the number of boundaries below it.
+    pub fn byte_classes(&self) -> ByteClasses
+        ensures { result ≡ class_map (sets.contains self.now) }
+    {
+        let mut classes = ByteClasses::empty();
+        let mut class = 0u8;
+        for byte in 0..=255u8 {
+            classes.set(byte, class);
+            if byte < 255 && self.ends.contains(byte) {
+                class += 1;
+            }
+        }
+        classes
+    }
+}
+
+/// The classes after each range was separated from all other bytes, as by [`ByteClassSet::set_range`] of each.
+///
+/// Two bytes have one class exactly if each range holds all bytes from the one to the other, or none of them.
+/// Needs the first byte of each pair to be at most the second.
+pub fn classes_of_ranges(ranges: &[(u8, u8)]) -> ByteClasses
+    requires { All (λ r. r.0 ≤ r.1) ranges.now }
+    ensures counts { result ≡ class_map (separates ranges.now) }
+    ensures alike { (b c : ℕ) → b < 256 → c < 256 →
+        (slice_index result b ≡ slice_index result c) ↔ IsTrue (are_alike ranges.now b c) }
+{
+    let mut partition = ByteClassSet::empty();
+    for &(start, end) in ranges {
+        partition.set_range(start, end);
+    }
+    partition.byte_classes()
+}

@@ -1,0 +1,100 @@
+//! The symbols that an automaton reads.
+ghost use Rattle.std.specs.Prelude.{◌≡◌, ◌≤◌, ◌↔◌, IsTrue, IsSome, Some};
+ghost use Rattle.rsc_alphabet.specs.Symbols.{byte as a_byte, end_of_input, byte_of, sentinel_of, number_of};
+
+use std::marker::Model;
+
+/// One symbol of an automaton's input: a byte, or the end of the input.
+///
+/// The end of the input is a symbol of its own, so that an assertion that looks one place ahead can be decided there.
+/// It carries a sentinel, the number of byte classes, which no class of a byte has.
+/// All bytes come before all ends of input; within each the number decides.
+#[derive(Clone, Copy, PartialEq, Eq, PartialOrd, Ord, Debug)]
+pub struct Unit(UnitKind);
+
+#[derive(Clone, Copy, PartialEq, Eq, PartialOrd, Ord, Debug)]
+enum UnitKind {
+    U8(u8),
+    EOI(u16),
+}
+
+impl Model for Unit {
+    ghost use Rattle.rsc_alphabet.specs.Symbols.{Symbol};
+    ghost use Rattle.rsc_alphabet.specs.SymbolLayout.{symbol_of, kind_of, kind_of-symbol_of};
+
+    ghost Value = { Symbol };
+
+    ghost view = { λ u. symbol_of u.0 };
+
+    ghost inverse = { λ s. record { 0 = kind_of s } };
+
+    ghost inverse_ok = { λ u h i. record { 0 = kind_of-symbol_of u.0 i } };
+}
+
+impl Unit {
+    /// The unit of a byte.
+    #[inline]
+    pub fn u8(byte: u8) -> Unit
+        ensures { result ≡ a_byte byte }
+    {
+        Unit(UnitKind::U8(byte))
+    }
+
+    /// The end of the input, with the number of byte classes, at most 256, as its sentinel.
+    #[inline]
+    pub fn eoi(num_byte_equiv_classes: usize) -> Unit
+        requires { num_byte_equiv_classes ≤ 256 }
+        ensures { result ≡ end_of_input num_byte_equiv_classes }
+    {
+        Unit(UnitKind::EOI(num_byte_equiv_classes as u16))
+    }
+
+    /// The byte, or `None` for an end of the input.
+    #[inline]
+    pub fn as_u8(self) -> Option<u8>
+        ensures { result ≡ byte_of self }
+    {
+        match self.0 {
+            UnitKind::U8(byte) => Some(byte),
+            UnitKind::EOI(_) => None,
+        }
+    }
+
+    /// The sentinel of an end of the input, or `None` for a byte.
+    #[inline]
+    pub fn as_eoi(self) -> Option<u16>
+        ensures { result ≡ sentinel_of self }
+    {
+        match self.0 {
+            UnitKind::U8(_) => None,
+            UnitKind::EOI(sentinel) => Some(sentinel),
+        }
+    }
+
+    /// The byte or the sentinel, as an index.
+    #[inline]
+    pub fn as_usize(self) -> usize
+        ensures { result ≡ number_of self }
+    {
+        match self.0 {
+            UnitKind::U8(byte) => usize::from(byte),
+            UnitKind::EOI(sentinel) => usize::from(sentinel),
+        }
+    }
+
+    /// Whether this is the unit of that byte. An end of the input is the unit of none.
+    #[inline]
+    pub fn is_byte(self, byte: u8) -> bool
+        ensures { IsTrue result ↔ (byte_of self ≡ Some byte) }
+    {
+        self.as_u8() == Some(byte)
+    }
+
+    /// Whether this is an end of the input.
+    #[inline]
+    pub fn is_eoi(self) -> bool
+        ensures { IsTrue result ↔ IsSome (sentinel_of self) }
+    {
+        self.as_eoi().is_some()
+    }
+}

@@ -1,0 +1,17 @@
+//! What stops a run.
+
+use thiserror::Error;
+
+/// Why [`crate::run::run`] gave up.
+#[derive(Debug, Drop, Clone, Copy, PartialEq, Eq, Error)]
+pub enum BenchError {
+    /// The input failed, or didn't end within the reads that are allowed. Nothing was written.
+    #[error("rsc_bench: read failed")]
+    Read,
+    /// The output failed. The answers of earlier lines were written.
+    #[error("rsc_bench: write failed")]
+    Write,
+    /// A request for memory was refused. The answers of earlier lines were written.
+    #[error("rsc_bench: out of memory")]
+    OutOfMemory,
+}
