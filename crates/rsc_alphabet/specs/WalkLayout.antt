@@ -1,5 +1,5 @@
 -- How far a walk over a map from byte to class has come.
-use Rattle.std.specs.Prelude.{◌≡◌, ℕ, ◌+◌, ◌-◌, ◌==◌, ◌||◌, ◌&&◌, if◌then◌else◌, is_none, Bool, not, List, [], ◌∷◌, ◌++◌, map, filter, slice_index, Option, Some, None}
+use Rattle.std.specs.Prelude.{◌≡◌, ℕ, ◌-◌, ◌==◌, ◌||◌, ◌&&◌, if◌then◌else◌, is_none, Bool, not, List, [], ◌∷◌, ◌++◌, map, filter, slice_index, Option, Some, None}
 use Rattle.rsc_alphabet.specs.Bytes.{from_to}
 use Rattle.rsc_alphabet.specs.Symbols.{Symbol, byte}
 use Rattle.rsc_alphabet.specs.Walks.{end_of}
