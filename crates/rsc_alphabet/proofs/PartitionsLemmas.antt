@@ -1,5 +1,5 @@
 -- Boundaries, classes and ranges.
-use Rattle.std.proofs.Common.{◌≡◌, ◌↔◌, ⊎_elim, min, max, ℕ, zero, suc, ◌+◌, ◌-◌, ◌<◌, ◌≤◌, Bool, true, false, not, ◌&&◌, ◌||◌, cond, List, [], ◌∷◌, ◌++◌, length, set, refl, sym, ap, ◌∙◌, arith, nat_eq, nat_lt, ap₂, below_more, get_or-set_same, get_or-set_other, count_by, slice_index}
+use Rattle.std.proofs.Common.{◌≡◌, ◌↔◌, ◌⊎◌, inl, inr, ⊎_elim, min, max, ℕ, zero, suc, ◌+◌, ◌-◌, ◌<◌, ◌≤◌, Bool, true, false, not, ◌&&◌, ◌||◌, cond, List, [], ◌∷◌, ◌++◌, length, set, refl, sym, ap, ◌∙◌, arith, nat_eq, nat_lt, ap₂, below_more, get_or-set_same, get_or-set_other, count_by, slice_index}
 use Rattle.std.specs.List.{list_any}
 use Rattle.std.specs.Ordering.{nat_cmp}
 use Rattle.std.specs.Cmp.{nat_cmp_total, unsigned_tied}
@@ -148,6 +148,47 @@ same_class-together p b c =
 -- two bytes have one class of a class map exactly if they are together
 pub class_map-together : (p : ℕ → Bool) (b c : ℕ) → b < 256 → c < 256 → (slice_index (class_map p) b ≡ slice_index (class_map p) c) ↔ Together p b c
 class_map-together p b c lb lc = rw (slice_index-class_map p b lb, slice_index-class_map p c lc) (same_class-together p b c)
+
+-- ---- classes start at 0 and rise by at most 1, so each number up to the last class is one
+
+pub first_class : (p : ℕ → Bool) → slice_index (class_map p) 0 ≡ 0
+first_class p = slice_index-class_map p 0 (omega arith) ∙ class_of_none p
+
+pub next_class : (p : ℕ → Bool) (b : ℕ) → b < 255 →
+    (slice_index (class_map p) (b + 1) ≡ slice_index (class_map p) b) ⊎ (slice_index (class_map p) (b + 1) ≡ slice_index (class_map p) b + 1)
+next_class p b l =
+    rw (slice_index-class_map p b (omega arith), slice_index-class_map p (b + 1) (omega arith), class_of_more p b) (either (class_of p b) (p b))
+  where
+    either : (c : ℕ) (t : Bool) → (c + cond t 1 0 ≡ c) ⊎ (c + cond t 1 0 ≡ c + 1)
+    either c true = inr refl
+    either c false = inl (omega arith)
+
+pub class_within : (p : ℕ → Bool) (b : ℕ) → b < 256 → slice_index (class_map p) b ≤ slice_index (class_map p) 255
+class_within p b l =
+    let e : b + (255 - b) ≡ 255 = omega arith in
+    rw (slice_index-class_map p b l, slice_index-class_map p 255 (omega arith)) (rw e at (class_of-rises p b (255 - b)))
+
+class_of_reached : (p : ℕ → Bool) (n c : ℕ) → c ≤ class_of p n → (b : ℕ) × ((b ≤ n) × (class_of p b ≡ c))
+class_of_reached p zero c l = (0, (omega arith, omega (arith, class_of_none p)))
+class_of_reached p (suc n) c l =
+    let e : suc n ≡ n + 1 = omega arith in
+    ⊎_elim
+    (λ (h : class_of p n < c).
+    let step : class_of p (n + 1) ≤ class_of p n + 1 = rw (class_of_more p n) (at_most (class_of p n) (p n)) in
+    let here : class_of p (n + 1) ≡ c = omega (arith, rw e at l) in
+    (n + 1, (omega arith, here)))
+    (λ (h : c ≤ class_of p n). let found = class_of_reached p n c h in (found.0, (omega (arith, found.1.0), found.1.1)))
+    (cases_lt (class_of p n) c)
+  where
+    at_most : (c : ℕ) (t : Bool) → c + cond t 1 0 ≤ c + 1
+    at_most c true = omega arith
+    at_most c false = omega arith
+
+pub class_reached : (p : ℕ → Bool) (c : ℕ) → c ≤ slice_index (class_map p) 255 → (b : ℕ) × ((b < 256) × (slice_index (class_map p) b ≡ c))
+class_reached p c l =
+    let found = class_of_reached p 255 c (rw (slice_index-class_map p 255 (omega arith)) at l) in
+    let low : found.0 < 256 = omega (arith, found.1.0) in
+    (found.0, (low, slice_index-class_map p found.0 low ∙ found.1.1))
 
 -- ---- the boundary 255, which separates nothing
 

@@ -8,5 +8,6 @@ pub mod Ranges
 pub mod SameMembers
 pub mod SymbolLayout
 pub mod Symbols
+pub mod SymbolsLaws
 pub mod WalkLayout
 pub mod Walks

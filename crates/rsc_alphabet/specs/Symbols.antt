@@ -1,5 +1,7 @@
 -- The symbols that an automaton reads: bytes, and the end of the input.
 use Rattle.std.specs.Prelude.{ℕ, Option, Some, None}
+use Rattle.std.specs.declared.cmp.Ordering.{Ordering}
+use Rattle.std.specs.Ordering.{nat_cmp, on, then_cmp}
 
 -- a byte, or an end of the input with the number that stands for it
 pub data Symbol : Type 0 where
@@ -17,3 +19,12 @@ sentinel_of (end_of_input n) = Some n
 abbrev pub number_of : Symbol → ℕ
 number_of (byte b) = b
 number_of (end_of_input n) = n
+
+-- bytes come before ends of the input
+abbrev pub rank_of : Symbol → ℕ
+rank_of (byte b) = 0
+rank_of (end_of_input n) = 1
+
+-- bytes come first, and within each kind the number decides
+abbrev pub symbol_cmp : Symbol → Symbol → Ordering
+symbol_cmp = then_cmp (on rank_of nat_cmp) (on number_of nat_cmp)

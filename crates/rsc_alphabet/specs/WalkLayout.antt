@@ -1,8 +1,18 @@
 -- How far a walk over a map from byte to class has come.
-use Rattle.std.specs.Prelude.{◌≡◌, ℕ, ◌-◌, ◌==◌, ◌||◌, ◌&&◌, if◌then◌else◌, is_none, Bool, not, List, [], ◌∷◌, ◌++◌, map, filter, slice_index, Option, Some, None}
+use Rattle.std.specs.Prelude.{◌≡◌, ℕ, ◌+◌, ◌-◌, ◌==◌, ◌||◌, ◌&&◌, if◌then◌else◌, is_none, nat_le, Bool, not, List, [], ◌∷◌, ◌++◌, map, filter, slice_index, Option, Some, None}
 use Rattle.rsc_alphabet.specs.Bytes.{from_to}
-use Rattle.rsc_alphabet.specs.Symbols.{Symbol, byte}
+use Rattle.rsc_alphabet.specs.Symbols.{Symbol, byte, end_of_input}
 use Rattle.rsc_alphabet.specs.Walks.{end_of}
+
+-- what a walk of the classes has left at the class `next`
+abbrev pub symbols_left : List ℕ → ℕ → List Symbol
+symbols_left classes next =
+    map (λ c. byte c) (from_to next (slice_index classes 255 + 1)) ++ (if nat_le next (slice_index classes 255 + 1) then end_of classes ∷ [] else [])
+
+-- what a walk of the elements of a class has left at the byte `next`
+abbrev pub elements_left : List ℕ → ℕ → ℕ → Bool → List Symbol
+elements_left classes class next with_end =
+    map (λ b. byte b) (filter (λ b. slice_index classes b == class) (from_to next 256)) ++ (if with_end then end_of_input 256 ∷ [] else [])
 
 -- the byte b is a representative: `last` is the class of the byte before `low`, or `None` where the range begins at `low`
 abbrev pub is_new : List ℕ → Option ℕ → ℕ → ℕ → Bool

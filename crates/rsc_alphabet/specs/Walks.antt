@@ -6,6 +6,11 @@ use Rattle.std.specs.Range.Bound.{start_index, end_index}
 use Rattle.rsc_alphabet.specs.Bytes.{from_to, bytes}
 use Rattle.rsc_alphabet.specs.Symbols.{Symbol, byte, end_of_input}
 
+-- the class of a byte, and the number of an end of the input
+abbrev pub class_at : List ℕ → Symbol → ℕ
+class_at classes (byte b) = slice_index classes b
+class_at classes (end_of_input n) = n
+
 -- the end of the input: its number is one more than the class of the last byte
 abbrev pub end_of : List ℕ → Symbol
 end_of classes = end_of_input (slice_index classes 255 + 1)

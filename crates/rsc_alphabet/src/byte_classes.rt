@@ -1,7 +1,8 @@
-//! Maps from a byte to its class, and the walk over the representatives of the classes.
-ghost use Rattle.std.specs.Prelude.{◌≡◌, ℕ, ◌+◌, ◌<◌, ◌≤◌, slice_index, slice_set, length};
+//! Maps from a byte to its class, and the walks over the classes, their elements and their representatives.
+ghost use Rattle.std.specs.Prelude.{◌≡◌, ◌↔◌, ℕ, ◌+◌, ◌^◌, ◌<◌, ◌≤◌, IsTrue, slice_index, slice_set, length};
 ghost use Rattle.std.specs.Iterator.{YieldsFirst, item_count};
-ghost use Rattle.rsc_alphabet.specs.Walks.{end_of, representatives_of};
+ghost use Rattle.rsc_alphabet.specs.Bytes.{bytes};
+ghost use Rattle.rsc_alphabet.specs.Walks.{class_at, end_of, symbols, elements_of, representatives_of};
 
 use crate::Unit;
 use std::marker::Model;
@@ -29,6 +30,17 @@ impl Model for ByteClasses {
     ghost inverse = { λ classes. record { classes = classes } };
 }
 
+impl Default for ByteClasses {
+    ghost use Rattle.std.specs.Prelude.{◌≡◌};
+    ghost use Rattle.rsc_alphabet.specs.Bytes.{bytes};
+
+    ghost is_default = { λ classes. classes ≡ bytes };
+
+    fn default() -> Self {
+        Self::singletons()
+    }
+}
+
 impl ByteClasses {
     /// The map that gives each byte the class 0.
     pub fn empty() -> ByteClasses
@@ -36,6 +48,17 @@ impl ByteClasses {
         ensures zero { (b : ℕ) → b < 256 → slice_index result b ≡ 0 }
     {
         ByteClasses { classes: [0; 256] }
+    }
+
+    /// The map that gives each byte a class of its own, which is its number.
+    pub fn singletons() -> ByteClasses
+        ensures { result ≡ bytes }
+    {
+        let mut classes = ByteClasses::empty();
+        for byte in 0..=255u8 {
+            classes.set(byte, byte);
+        }
+        classes
     }
 
     /// Gives a byte a class, and leaves all others as they are.
@@ -54,6 +77,17 @@ impl ByteClasses {
         self.classes[usize::from(byte)]
     }
 
+    /// The class of a unit as an index: the class of a byte, or the sentinel of an end of the input.
+    #[inline]
+    pub fn get_by_unit(&self, unit: Unit) -> usize
+        ensures { result ≡ class_at self.now unit }
+    {
+        match unit.as_u8() {
+            Some(byte) => usize::from(self.get(byte)),
+            None => unit.as_usize(),
+        }
+    }
+
     /// How many symbols there are: the classes 0 to that of the byte 255, and the end of the input.
     #[inline]
     pub fn alphabet_len(&self) -> usize
@@ -68,6 +102,58 @@ impl ByteClasses {
         ensures { result ≡ end_of self.now }
     {
         Unit::eoi(self.alphabet_len() - 1)
+    }
+
+    /// The exponent of the least power of two that is at least [`ByteClasses::alphabet_len`], from 1 to 9: the rows of a
+    /// transition table are as long as that power.
+    #[inline]
+    pub fn stride2(&self) -> usize
+        ensures enough { slice_index self.now 255 + 2 ≤ 2 ^ result }
+        ensures least { (k : ℕ) → slice_index self.now 255 + 2 ≤ 2 ^ k → result ≤ k }
+        ensures most { result ≤ 9 }
+    {
+        (self.alphabet_len() - 1).ilog2() as usize + 1
+    }
+
+    /// Whether the byte 255 has the class 255, as where each byte has a class of its own. No other byte is looked at.
+    #[inline]
+    pub fn is_singleton(&self) -> bool
+        ensures { IsTrue result ↔ (slice_index self.now 255 ≡ 255) }
+    {
+        self.get(255) == 255
+    }
+
+    /// The units of the classes 0 to that of the byte 255, and then the end of the input.
+    #[inline]
+    pub fn iter(&self) -> ByteClassIter<'_>
+        ensures { result ≡ symbols self.now }
+    {
+        ByteClassIter {
+            classes: self,
+            next_class: 0,
+        }
+    }
+
+    /// The bytes of a class, ascending, where the unit is the byte of that number. Of any end of the input it is the end
+    /// of the input after 256 classes alone.
+    #[inline]
+    pub fn elements(&self, class: Unit) -> ByteClassElements<'_>
+        ensures { result ≡ elements_of self.now class }
+    {
+        match class.as_u8() {
+            Some(class) => ByteClassElements {
+                classes: self,
+                class,
+                next_byte: 0,
+                with_end: false,
+            },
+            None => ByteClassElements {
+                classes: self,
+                class: 0,
+                next_byte: 256,
+                with_end: true,
+            },
+        }
     }
 
     /// The first byte of a range, each later one whose class differs from its predecessor's, and then, where the range
@@ -92,6 +178,89 @@ impl ByteClasses {
             last_class: None,
             with_end,
         }
+    }
+}
+
+/// The walk over the classes as units, made by [`ByteClasses::iter`].
+/// A contract sees it as the list of those that are left.
+#[derive(Debug, Drop)]
+pub struct ByteClassIter<'a> {
+    classes: &'a ByteClasses,
+    next_class: usize,
+}
+
+impl<'a> Model for ByteClassIter<'a> {
+    ghost use Rattle.std.specs.Prelude.{List};
+    ghost use Rattle.rsc_alphabet.specs.Symbols.{Symbol};
+    ghost use Rattle.rsc_alphabet.specs.WalkLayout.{symbols_left};
+
+    ghost Value = { List Symbol };
+
+    ghost view = { λ it. symbols_left it.classes.now it.next_class };
+}
+
+impl<'a> Iterator for ByteClassIter<'a> {
+    type Item = Unit;
+
+    ghost next_gives = { YieldsFirst (λ rest. rest) };
+
+    ghost remaining = { item_count (λ rest. rest) };
+
+    fn next(&mut self) -> Option<Unit> {
+        let end = self.classes.alphabet_len() - 1;
+        if self.next_class < end {
+            let class = self.next_class as u8;
+            self.next_class += 1;
+            return Some(Unit::u8(class));
+        }
+        if self.next_class == end {
+            self.next_class += 1;
+            return Some(Unit::eoi(end));
+        }
+        None
+    }
+}
+
+/// The walk over the elements of a class, made by [`ByteClasses::elements`].
+/// A contract sees it as the list of those that are left.
+#[derive(Debug, Drop)]
+pub struct ByteClassElements<'a> {
+    classes: &'a ByteClasses,
+    class: u8,
+    next_byte: usize,
+    with_end: bool,
+}
+
+impl<'a> Model for ByteClassElements<'a> {
+    ghost use Rattle.std.specs.Prelude.{List};
+    ghost use Rattle.rsc_alphabet.specs.Symbols.{Symbol};
+    ghost use Rattle.rsc_alphabet.specs.WalkLayout.{elements_left};
+
+    ghost Value = { List Symbol };
+
+    ghost view = { λ it. elements_left it.classes.now it.class it.next_byte it.with_end };
+}
+
+impl<'a> Iterator for ByteClassElements<'a> {
+    type Item = Unit;
+
+    ghost next_gives = { YieldsFirst (λ rest. rest) };
+
+    ghost remaining = { item_count (λ rest. rest) };
+
+    fn next(&mut self) -> Option<Unit> {
+        while self.next_byte <= 255 {
+            let byte = self.next_byte as u8;
+            self.next_byte += 1;
+            if self.classes.get(byte) == self.class {
+                return Some(Unit::u8(byte));
+            }
+        }
+        if self.with_end {
+            self.with_end = false;
+            return Some(Unit::eoi(256));
+        }
+        None
     }
 }
 

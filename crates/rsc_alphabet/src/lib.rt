@@ -10,6 +10,6 @@ mod tests;
 mod unit;
 
 pub use byte_class_set::{ByteClassSet, classes_of_ranges};
-pub use byte_classes::{ByteClassRepresentatives, ByteClasses};
+pub use byte_classes::{ByteClassElements, ByteClassIter, ByteClassRepresentatives, ByteClasses};
 pub use byte_set::{ByteSet, ByteSetIter, ByteSetRangeIter};
 pub use unit::Unit;

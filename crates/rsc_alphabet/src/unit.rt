@@ -2,6 +2,7 @@
 ghost use Rattle.std.specs.Prelude.{◌≡◌, ◌≤◌, ◌↔◌, IsTrue, IsSome, Some};
 ghost use Rattle.rsc_alphabet.specs.Symbols.{byte as a_byte, end_of_input, byte_of, sentinel_of, number_of};
 
+use std::cmp::Ordering;
 use std::marker::Model;
 
 /// One symbol of an automaton's input: a byte, or the end of the input.
@@ -9,7 +10,7 @@ use std::marker::Model;
 /// The end of the input is a symbol of its own, so that an assertion that looks one place ahead can be decided there.
 /// It carries a sentinel, the number of byte classes, which no class of a byte has.
 /// All bytes come before all ends of input; within each the number decides.
-#[derive(Clone, Copy, PartialEq, Eq, PartialOrd, Ord, Debug)]
+#[derive(Clone, Copy, Debug)]
 pub struct Unit(UnitKind);
 
 #[derive(Clone, Copy, PartialEq, Eq, PartialOrd, Ord, Debug)]
@@ -29,6 +30,61 @@ impl Model for Unit {
     ghost inverse = { λ s. record { 0 = kind_of s } };
 
     ghost inverse_ok = { λ u h i. record { 0 = kind_of-symbol_of u.0 i } };
+}
+
+impl PartialEq for Unit {
+    ghost use Rattle.std.specs.Ordering.{eq_by_cmp};
+    ghost use Rattle.rsc_alphabet.specs.Symbols.{symbol_cmp};
+    ghost use Rattle.rsc_alphabet.specs.SymbolsLaws.{symbol_partial_equivalence};
+
+    ghost eq = { eq_by_cmp symbol_cmp };
+
+    ghost laws = { symbol_partial_equivalence };
+
+    #[inline]
+    fn eq(&self, other: &Self) -> bool {
+        self.0 == other.0
+    }
+}
+
+impl Eq for Unit {
+    ghost use Rattle.rsc_alphabet.specs.SymbolsLaws.{symbol_equivalence};
+
+    ghost laws = { symbol_equivalence };
+}
+
+impl PartialOrd for Unit {
+    ghost use Rattle.std.specs.Ordering.{as_partial_cmp};
+    ghost use Rattle.rsc_alphabet.specs.Symbols.{symbol_cmp};
+    ghost use Rattle.rsc_alphabet.specs.SymbolsLaws.{symbol_partial_order};
+
+    ghost partial_cmp = { as_partial_cmp symbol_cmp };
+
+    ghost laws = { symbol_partial_order };
+
+    #[inline]
+    fn partial_cmp(&self, other: &Self) -> Option<Ordering> {
+        Some(self.cmp(other))
+    }
+}
+
+impl Ord for Unit {
+    ghost use Rattle.std.specs.Prelude.{refl};
+    ghost use Rattle.rsc_alphabet.specs.Symbols.{symbol_cmp};
+    ghost use Rattle.rsc_alphabet.specs.SymbolsLaws.{symbol_total};
+
+    ghost cmp = { symbol_cmp };
+
+    ghost total = { symbol_total };
+
+    ghost matches_partial_cmp = { λ x y. refl };
+
+    ghost matches_eq = { λ x y. refl };
+
+    #[inline]
+    fn cmp(&self, other: &Self) -> Ordering {
+        self.0.cmp(&other.0)
+    }
 }
 
 impl Unit {

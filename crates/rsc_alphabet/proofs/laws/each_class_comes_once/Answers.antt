@@ -1,0 +1,15 @@
+use Rattle.rsc_alphabet.proofs.PartitionsLemmas.{class_within, class_reached}
+use Rattle.rsc_alphabet.proofs.WalksLemmas.{slice_get-symbols, length-symbols}
+use Rattle.rsc_alphabet.proofs.laws.each_class_comes_once.Goals as goal
+
+pub returns-clause-place : goal.returns-clause-place
+returns-clause-place c = slice_get-symbols
+
+pub returns-clause-count : goal.returns-clause-count
+returns-clause-count c = length-symbols
+
+pub returns-clause-within : goal.returns-clause-within
+returns-clause-within c = class_within
+
+pub returns-clause-reached : goal.returns-clause-reached
+returns-clause-reached c = class_reached
