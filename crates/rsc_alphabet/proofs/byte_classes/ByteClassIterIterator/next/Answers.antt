@@ -1,5 +1,5 @@
 use Rattle.std.proofs.Common.{List, ◌≡◌, ◌+◌, ◌-◌, [], ◌∷◌, sym, ◌∙◌, arith, rules, ℕ, slice_index}
-use Rattle.rsc_alphabet.specs.Symbols.{Symbol, byte, end_of_input}
+use Rattle.rsc_alphabet.specs.Symbols.{end_of_input}
 use Rattle.rsc_alphabet.specs.WalkLayout.{symbols_left}
 use Rattle.rsc_alphabet.proofs.WalksLemmas.{symbols_left_more, symbols_left_end, symbols_left_none}
 use Rattle.rsc_alphabet.proofs.byte_classes.ByteClassIterIterator.next.Goals as goal
