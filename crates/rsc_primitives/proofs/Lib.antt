@@ -1,1 +1,5 @@
+pub mod Decided
+pub mod Encode
 mod IndicesLemmas
+pub mod Texts
+pub mod Utf8Lemmas

@@ -1,2 +1,4 @@
-pub mod Indices
 pub mod IndexTexts
+pub mod Indices
+pub mod Utf8
+pub mod Utf8Layout

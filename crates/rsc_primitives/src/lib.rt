@@ -2,6 +2,7 @@
 #![tactic(auto)]
 
 mod primitives;
+pub mod utf8;
 
 pub use primitives::{
     NonMaxUsize, PatternID, PatternIDError, PatternIDIter, SmallIndex, SmallIndexError, SmallIndexIter, StateID, StateIDError,
