@@ -1,6 +1,7 @@
 //! What the parts of a regex engine share: small indices, UTF-8 read from either end, and bytes shown as text.
 #![tactic(auto)]
 
+pub mod escape;
 pub mod laws;
 mod primitives;
 pub mod utf8;
