@@ -4,9 +4,11 @@
 pub mod escape;
 pub mod laws;
 mod primitives;
+#[cfg(test)]
+mod tests;
 pub mod utf8;
 
 pub use primitives::{
-    NonMaxUsize, PatternID, PatternIDError, PatternIDIter, SmallIndex, SmallIndexError, SmallIndexIter, StateID, StateIDError,
-    StateIDIter,
+    NonMaxUsize, PatternID, PatternIDError, PatternIDIter, SmallIndex, SmallIndexError,
+    SmallIndexIter, StateID, StateIDError, StateIDIter,
 };
