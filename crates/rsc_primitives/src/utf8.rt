@@ -14,7 +14,7 @@ pub fn is_word_byte(byte: u8) -> bool
     }
 }
 
-/// Whether `at` is the length of the bytes, or the place of a byte that goes on no character: one below 80 or from C0 on.
+/// Whether `at` is the length of the bytes, or the place of a byte that isn't within a character: at most 7F or at least C0.
 ///
 /// Any number is allowed. Above the length the answer is false.
 #[inline(always)]
