@@ -86,10 +86,7 @@ fn first_number(bytes: &[u8]) -> Option<u32>
     if a <= 0x7F {
         return Some(u32::from(a));
     }
-    if a < 0xC2 || 0xF4 < a {
-        return None;
-    }
-    if n < 2 {
+    if a < 0xC2 || 0xF4 < a || n < 2 {
         return None;
     }
     let b = bytes[1];

@@ -90,3 +90,13 @@ fn refuses_a_text_that_does_not_fit(rt: HostRuntime) -> Result<(), Fail> {
     assert!(rt; 1 < refused);
     Ok(())
 }
+
+#[test]
+fn refuses_the_text_of_a_byte_while_the_memory_is_taken(rt: HostRuntime) -> Result<(), Fail> {
+    let heap = LocalHeap::new(rt.alloc(), 16)?;
+    let taken = Vec::<u8, &LocalHeap>::with_capacity(&heap, 16)?;
+    assert!(rt; byte_text(&heap, 0xAB).is_err());
+    drop(taken);
+    assert_eq!(rt; byte_text(&heap, 0xAB)?.as_str(), "\\xAB");
+    Ok(())
+}
