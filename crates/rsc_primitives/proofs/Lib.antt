@@ -1,0 +1,9 @@
+pub mod BoundariesLemmas
+pub mod Decided
+pub mod Encode
+pub mod EncodingsLemmas
+mod EscapesLemmas
+mod IndicesLemmas
+mod Rows
+pub mod Texts
+pub mod Utf8Lemmas

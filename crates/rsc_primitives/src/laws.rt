@@ -1,0 +1,103 @@
+//! Laws that a caller may cite: functions that do nothing, and whose contracts are the laws.
+ghost use Rattle.std.specs.Prelude.{◌≡◌, ◌↔◌, ◌⊎◌, ◌<◌, ◌≤◌, ◌++◌, ℕ, List, [], length, slice_index, Ok, Some, true, ◌==◌, ◌+◌};
+ghost use Rattle.std.specs.Char.{IsScalar, encode_utf8};
+ghost use Rattle.std.specs.Int.{w32, from_le_bytes, to_le_bytes};
+ghost use Rattle.std.specs.Str.{encode_utf8_all, all_scalars};
+ghost use Rattle.std.specs.Hash as fed;
+ghost use Rattle.std.specs.Ordering.{nat_cmp};
+ghost use Rattle.rsc_primitives.specs.Indices.{IsIndex, index_of, max_index};
+ghost use Rattle.rsc_primitives.specs.Utf8.{Encodes, EncodesAll, BeginsAt, EndsAt, IsBoundary, IsInside};
+
+use crate::{
+    NonMaxUsize, PatternID, PatternIDError, SmallIndex, SmallIndexError, StateID, StateIDError,
+};
+use std::hash::Hash;
+
+/// How many indices of each kind there are, and how many bytes one takes.
+pub fn limits_of_indices()
+    ensures limit { (SmallIndex.LIMIT ≡ max_index + 1) × (PatternID.LIMIT ≡ max_index + 1) × (StateID.LIMIT ≡ max_index + 1) }
+    ensures size { (SmallIndex.SIZE ≡ 4) × (PatternID.SIZE ≡ 4) × (StateID.SIZE ≡ 4) }
+{}
+
+/// Reading the four bytes of an index gives the index.
+pub fn le_bytes_round_trip()
+    ensures { (n : ℕ) → IsIndex n → index_of (from_le_bytes w32 (to_le_bytes w32 n)) ≡ Ok n }
+{}
+
+/// Equality of indices, of their refusals and of [`NonMaxUsize`] is that of the numbers.
+pub fn equality_is_of_the_number()
+    ensures small_index { (a b : ℕ) → ⟦<SmallIndex as PartialEq>⟧.eq a b ≡ (a == b) }
+    ensures pattern_id { (a b : ℕ) → ⟦<PatternID as PartialEq>⟧.eq a b ≡ (a == b) }
+    ensures state_id { (a b : ℕ) → ⟦<StateID as PartialEq>⟧.eq a b ≡ (a == b) }
+    ensures small_index_error { (a b : ℕ) → ⟦<SmallIndexError as PartialEq>⟧.eq a b ≡ (a == b) }
+    ensures pattern_id_error { (a b : ℕ) → ⟦<PatternIDError as PartialEq>⟧.eq a b ≡ (a == b) }
+    ensures state_id_error { (a b : ℕ) → ⟦<StateIDError as PartialEq>⟧.eq a b ≡ (a == b) }
+    ensures non_max { (a b : ℕ) → ⟦<NonMaxUsize as PartialEq>⟧.eq a b ≡ (a == b) }
+{}
+
+/// The order of indices and of [`NonMaxUsize`] is that of the numbers.
+pub fn order_is_of_the_number()
+    ensures small_index { (a b : ℕ) → ⟦<SmallIndex as Ord>⟧.cmp a b ≡ nat_cmp a b }
+    ensures pattern_id { (a b : ℕ) → ⟦<PatternID as Ord>⟧.cmp a b ≡ nat_cmp a b }
+    ensures state_id { (a b : ℕ) → ⟦<StateID as Ord>⟧.cmp a b ≡ nat_cmp a b }
+    ensures non_max { (a b : ℕ) → ⟦<NonMaxUsize as Ord>⟧.cmp a b ≡ nat_cmp a b }
+{}
+
+/// What an index and a [`NonMaxUsize`] feed to a hasher is the number.
+pub fn hash_is_of_the_number()
+    ensures small_index { (a : ℕ) → ⟦<SmallIndex as Hash>⟧.hash_input a ≡ fed.u32 a }
+    ensures pattern_id { (a : ℕ) → ⟦<PatternID as Hash>⟧.hash_input a ≡ fed.u32 a }
+    ensures state_id { (a : ℕ) → ⟦<StateID as Hash>⟧.hash_input a ≡ fed.u32 a }
+    ensures non_max { (a : ℕ) → ⟦<NonMaxUsize as Hash>⟧.hash_input a ≡ fed.usize a }
+{}
+
+/// The bytes that encode a character are those that std's `encode_utf8` writes of it, and nothing else is encoded.
+pub fn encoding_is_that_of_std()
+    ensures { (e : List ℕ) (c : ℕ) → Encodes e c ↔ (IsScalar c × (e ≡ encode_utf8 c)) }
+{}
+
+/// The bytes that encode a list of characters are those that std's `encode_utf8` writes of one after the other.
+pub fn encoding_of_a_list_is_that_of_std()
+    ensures { (h cs : List ℕ) → EncodesAll h cs ↔ ((all_scalars cs ≡ true) × (h ≡ encode_utf8_all cs)) }
+{}
+
+/// No encoding is a proper beginning of another.
+pub fn no_encoding_begins_another()
+    ensures { (e rest : List ℕ) (c d : ℕ) → Encodes e c → Encodes (e ++ rest) d → rest ≡ [] }
+{}
+
+/// An encoding of two or more bytes holds no byte below 128.
+pub fn long_encodings_hold_no_ascii()
+    ensures { (e : List ℕ) (c k : ℕ) → Encodes e c → 2 ≤ length e → k < length e → 128 ≤ slice_index e k }
+{}
+
+/// At most one character begins at a place.
+pub fn at_most_one_begins()
+    ensures { (h : List ℕ) (i c d : ℕ) → BeginsAt h i c → BeginsAt h i d → c ≡ d }
+{}
+
+/// At most one character ends at a place.
+pub fn at_most_one_ends()
+    ensures { (h : List ℕ) (i c d : ℕ) → EndsAt h i c → EndsAt h i d → c ≡ d }
+{}
+
+/// A character begins at a place, or none does.
+pub fn one_begins_or_none()
+    ensures { (h : List ℕ) (i : ℕ) → ((c : ℕ) × BeginsAt h i c) ⊎ ((c : ℕ) → BeginsAt h i c → ⊥) }
+{}
+
+/// A character ends at a place, or none does.
+pub fn one_ends_or_none()
+    ensures { (h : List ℕ) (i : ℕ) → ((c : ℕ) × EndsAt h i c) ⊎ ((c : ℕ) → EndsAt h i c → ⊥) }
+{}
+
+/// Inside an encoded character none begins and none ends.
+pub fn none_begins_or_ends_inside()
+    ensures begins { (h : List ℕ) (i c : ℕ) → IsInside h i → BeginsAt h i c → ⊥ }
+    ensures ends { (h : List ℕ) (i c : ℕ) → IsInside h i → EndsAt h i c → ⊥ }
+{}
+
+/// In the encoding of a list of characters the boundaries are the places where a character begins, and the end.
+pub fn boundaries_of_encoded_text()
+    ensures { (h cs : List ℕ) (i : ℕ) → EncodesAll h cs → IsBoundary h i ↔ (((c : ℕ) × BeginsAt h i c) ⊎ (i ≡ length h)) }
+{}

@@ -1,0 +1,215 @@
+//! UTF-8 read from either end of any bytes: RFC 3629, section 4.
+ghost use Rattle.std.specs.Prelude.{◌≡◌, ◌↔◌, ℕ, ◌+◌, ◌-◌, ◌*◌, ◌≤◌, IsTrue, MatchOption};
+ghost use Rattle.rsc_primitives.specs.Utf8.{is_word_byte, IsTail, OpensThree, OpensFour, DecodesTo, DecodesLastTo, IsBoundary};
+ghost use Rattle.rsc_primitives.specs.Utf8Layout.{IsFirstNumber, IsLastNumber};
+
+/// Whether the byte is a digit, a letter of ASCII or the low line: the word characters below 128.
+#[inline(always)]
+pub fn is_word_byte(byte: u8) -> bool
+    ensures { result ≡ is_word_byte byte }
+{
+    match byte {
+        b'0'..=b'9' | b'A'..=b'Z' | b'_' | b'a'..=b'z' => true,
+        _ => false,
+    }
+}
+
+/// Whether `at` is the length of the bytes, or the place of a byte that isn't within a character: at most 7F or at least C0.
+///
+/// Any number is allowed. Above the length the answer is false.
+#[inline(always)]
+pub fn is_boundary(bytes: &[u8], at: usize) -> bool
+    ensures { IsTrue result ↔ IsBoundary bytes.now at }
+{
+    match bytes.get(at) {
+        None => at == bytes.len(),
+        Some(byte) => !is_tail(*byte),
+    }
+}
+
+/// The character whose encoding begins the bytes, or else the first byte. `None` is for no bytes.
+///
+/// It looks at no more than four bytes. What counts as an encoding is RFC 3629, section 4: no overlong form, no surrogate, no
+/// number above 10FFFF.
+#[inline(always)]
+pub fn decode(bytes: &[u8]) -> Option<Result<char, u8>>
+    ensures { DecodesTo bytes.now result }
+{
+    let first = *bytes.first()?;
+    if first < 0x80 {
+        return Some(Ok(char::from(first)));
+    }
+    if let Some(number) = first_number(bytes) {
+        if let Some(c) = char::from_u32(number) {
+            return Some(Ok(c));
+        }
+    }
+    Some(Err(first))
+}
+
+/// The character whose encoding ends the bytes, or else the last byte. `None` is for no bytes.
+///
+/// The encoding has to reach the end: of `a` and a byte 80 the answer is that byte. It looks at no more than four bytes.
+#[inline(always)]
+pub fn decode_last(bytes: &[u8]) -> Option<Result<char, u8>>
+    ensures { DecodesLastTo bytes.now result }
+{
+    let last = *bytes.last()?;
+    if last < 0x80 {
+        return Some(Ok(char::from(last)));
+    }
+    if let Some(number) = last_number(bytes) {
+        if let Some(c) = char::from_u32(number) {
+            return Some(Ok(c));
+        }
+    }
+    Some(Err(last))
+}
+
+#[inline(always)]
+fn is_tail(byte: u8) -> bool
+    ensures { IsTrue result ↔ IsTail byte }
+{
+    (0x80..=0xBF).contains(&byte)
+}
+
+// The number of the character that begins the bytes. Most bytes that begin none are told by the first alone.
+#[inline(always)]
+fn first_number(bytes: &[u8]) -> Option<u32>
+    ensures { MatchOption result ((n : ℕ) → IsFirstNumber bytes.now n → ⊥) (IsFirstNumber bytes.now) }
+{
+    let n = bytes.len();
+    if n < 1 {
+        return None;
+    }
+    let a = bytes[0];
+    if a <= 0x7F {
+        return Some(u32::from(a));
+    }
+    if a < 0xC2 || 0xF4 < a || n < 2 {
+        return None;
+    }
+    let b = bytes[1];
+    if !is_tail(b) {
+        return None;
+    }
+    if a <= 0xDF {
+        return Some(number_of_two(a, b));
+    }
+    if n < 3 {
+        return None;
+    }
+    let c = bytes[2];
+    if !is_tail(c) {
+        return None;
+    }
+    if opens_three(a, b) {
+        return Some(number_of_three(a, b, c));
+    }
+    if n < 4 {
+        return None;
+    }
+    let d = bytes[3];
+    if is_tail(d) && opens_four(a, b) {
+        Some(number_of_four(a, b, c, d))
+    } else {
+        None
+    }
+}
+
+// The number of the character that ends the bytes. It stops at the first byte from the back that can't stand there.
+#[inline(always)]
+fn last_number(bytes: &[u8]) -> Option<u32>
+    ensures { MatchOption result ((n : ℕ) → IsLastNumber bytes.now n → ⊥) (IsLastNumber bytes.now) }
+{
+    let n = bytes.len();
+    if n < 1 {
+        return None;
+    }
+    let d = bytes[n - 1];
+    if d <= 0x7F {
+        return Some(u32::from(d));
+    }
+    if n < 2 || !is_tail(d) {
+        return None;
+    }
+    let c = bytes[n - 2];
+    if 0xC2 <= c && c <= 0xDF {
+        return Some(number_of_two(c, d));
+    }
+    if n < 3 || !is_tail(c) {
+        return None;
+    }
+    let b = bytes[n - 3];
+    if opens_three(b, c) {
+        return Some(number_of_three(b, c, d));
+    }
+    if n < 4 {
+        return None;
+    }
+    let a = bytes[n - 4];
+    if opens_four(a, b) {
+        Some(number_of_four(a, b, c, d))
+    } else {
+        None
+    }
+}
+
+#[inline(always)]
+fn number_of_two(a: u8, b: u8) -> u32
+    requires lead { 0xC0 ≤ a }
+    requires tail { 0x80 ≤ b }
+    ensures { result ≡ (a - 0xC0) * 64 + (b - 0x80) }
+{
+    (u32::from(a) - 0xC0) * 64 + (u32::from(b) - 0x80)
+}
+
+#[inline(always)]
+fn number_of_three(a: u8, b: u8, c: u8) -> u32
+    requires lead { 0xE0 ≤ a }
+    requires second { 0x80 ≤ b }
+    requires tail { 0x80 ≤ c }
+    ensures { result ≡ (a - 0xE0) * 4096 + (b - 0x80) * 64 + (c - 0x80) }
+{
+    (u32::from(a) - 0xE0) * 4096 + (u32::from(b) - 0x80) * 64 + (u32::from(c) - 0x80)
+}
+
+#[inline(always)]
+fn number_of_four(a: u8, b: u8, c: u8, d: u8) -> u32
+    requires lead { 0xF0 ≤ a }
+    requires second { 0x80 ≤ b }
+    requires third { 0x80 ≤ c }
+    requires tail { 0x80 ≤ d }
+    ensures { result ≡ (a - 0xF0) * 262144 + (b - 0x80) * 4096 + (c - 0x80) * 64 + (d - 0x80) }
+{
+    (u32::from(a) - 0xF0) * 262144
+        + (u32::from(b) - 0x80) * 4096
+        + (u32::from(c) - 0x80) * 64
+        + (u32::from(d) - 0x80)
+}
+
+// Whether an encoding of three bytes may begin with these two.
+#[inline(always)]
+fn opens_three(a: u8, b: u8) -> bool
+    ensures { IsTrue result ↔ OpensThree a b }
+{
+    match a {
+        0xE0 => 0xA0 <= b && b <= 0xBF,
+        0xE1..=0xEC | 0xEE..=0xEF => 0x80 <= b && b <= 0xBF,
+        0xED => 0x80 <= b && b <= 0x9F,
+        _ => false,
+    }
+}
+
+// Whether an encoding of four bytes may begin with these two.
+#[inline(always)]
+fn opens_four(a: u8, b: u8) -> bool
+    ensures { IsTrue result ↔ OpensFour a b }
+{
+    match a {
+        0xF0 => 0x90 <= b && b <= 0xBF,
+        0xF1..=0xF3 => 0x80 <= b && b <= 0xBF,
+        0xF4 => 0x80 <= b && b <= 0x8F,
+        _ => false,
+    }
+}
