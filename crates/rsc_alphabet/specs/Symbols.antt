@@ -1,7 +1,8 @@
 -- The symbols that an automaton reads: bytes, and the end of the input.
-use Rattle.std.specs.Prelude.{ℕ, Option, Some, None}
+use Rattle.std.specs.Prelude.{ℕ, Bool, false, Option, Some, None}
 use Rattle.std.specs.declared.cmp.Ordering.{Ordering}
 use Rattle.std.specs.Ordering.{nat_cmp, on, then_cmp}
+use Rattle.rsc_primitives.specs.Utf8.{is_word_byte}
 
 -- a byte, or an end of the input with the number that stands for it
 pub data Symbol : Type 0 where
@@ -19,6 +20,11 @@ sentinel_of (end_of_input n) = Some n
 abbrev pub number_of : Symbol → ℕ
 number_of (byte b) = b
 number_of (end_of_input n) = n
+
+-- a word byte; no end of the input is one
+abbrev pub is_word_symbol : Symbol → Bool
+is_word_symbol (byte b) = is_word_byte b
+is_word_symbol (end_of_input n) = false
 
 -- bytes come before ends of the input
 abbrev pub rank_of : Symbol → ℕ

@@ -4,7 +4,9 @@ ghost use Rattle.std.specs.Iterator.{YieldsFirst, item_count};
 ghost use Rattle.rsc_alphabet.specs.Bytes.{bytes};
 ghost use Rattle.rsc_alphabet.specs.Walks.{class_at, end_of, symbols, elements_of, representatives_of};
 
-use crate::Unit;
+use crate::{ByteSet, Unit};
+use rsc_primitives::escape::DebugByte;
+use std::fmt;
 use std::marker::Model;
 use std::ops::Bound;
 
@@ -13,7 +15,7 @@ use std::ops::Bound;
 /// A contract sees it as the list of the classes of the bytes 0 to 255. Any such map can be made by [`ByteClasses::set`];
 /// those that [`crate::ByteClassSet::byte_classes`] makes rise from 0 by at most one a byte. The calls that number the
 /// classes, as [`ByteClasses::alphabet_len`], go by the class of the byte 255 alone.
-#[derive(Clone, Copy, Debug)]
+#[derive(Clone, Copy)]
 pub struct ByteClasses {
     classes: [u8; 256],
 }
@@ -178,6 +180,49 @@ impl ByteClasses {
             last_class: None,
             with_end,
         }
+    }
+}
+
+// The bytes of a class.
+fn bytes_of(classes: &ByteClasses, class: u8) -> ByteSet {
+    let mut bytes = ByteSet::empty();
+    for byte in 0..=255u8 {
+        if classes.get(byte) == class {
+            bytes.add(byte);
+        }
+    }
+    bytes
+}
+
+// The number of a class, and the ranges of its bytes one after the other.
+fn write_class<W: fmt::Write>(
+    classes: &ByteClasses,
+    class: u8,
+    f: &mut fmt::Formatter<W>,
+) -> fmt::Result {
+    write!(f, "{class} => [")?;
+    let bytes = bytes_of(classes, class);
+    for (start, end) in bytes.iter_ranges() {
+        fmt::Debug::fmt(&DebugByte(start), f)?;
+        if start < end {
+            f.write_str("-")?;
+            fmt::Debug::fmt(&DebugByte(end), f)?;
+        }
+    }
+    f.write_str("], ")
+}
+
+impl fmt::Debug for ByteClasses {
+    fn fmt<W: fmt::Write>(&self, f: &mut fmt::Formatter<W>) -> fmt::Result {
+        if self.is_singleton() {
+            return f.write_str("ByteClasses({singletons})");
+        }
+        f.write_str("ByteClasses(")?;
+        for class in 0..=self.get(255) {
+            write_class(self, class, f)?;
+        }
+        let end = self.alphabet_len() - 1;
+        write!(f, "{end} => [EOI])")
     }
 }
 

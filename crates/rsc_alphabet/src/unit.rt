@@ -1,8 +1,11 @@
 //! The symbols that an automaton reads.
 ghost use Rattle.std.specs.Prelude.{◌≡◌, ◌≤◌, ◌↔◌, IsTrue, IsSome, Some};
-ghost use Rattle.rsc_alphabet.specs.Symbols.{byte as a_byte, end_of_input, byte_of, sentinel_of, number_of};
+ghost use Rattle.rsc_alphabet.specs.Symbols.{byte as a_byte, end_of_input, byte_of, sentinel_of, number_of, is_word_symbol};
 
+use rsc_primitives::escape::DebugByte;
+use rsc_primitives::utf8;
 use std::cmp::Ordering;
+use std::fmt;
 use std::marker::Model;
 
 /// One symbol of an automaton's input: a byte, or the end of the input.
@@ -10,10 +13,10 @@ use std::marker::Model;
 /// The end of the input is a symbol of its own, so that an assertion that looks one place ahead can be decided there.
 /// It carries a sentinel, the number of byte classes, which no class of a byte has.
 /// All bytes come before all ends of input; within each the number decides.
-#[derive(Clone, Copy, Debug)]
+#[derive(Clone, Copy)]
 pub struct Unit(UnitKind);
 
-#[derive(Clone, Copy, PartialEq, Eq, PartialOrd, Ord, Debug)]
+#[derive(Clone, Copy, PartialEq, Eq, PartialOrd, Ord)]
 enum UnitKind {
     U8(u8),
     EOI(u16),
@@ -152,5 +155,25 @@ impl Unit {
         ensures { IsTrue result ↔ IsSome (sentinel_of self) }
     {
         self.as_eoi().is_some()
+    }
+
+    /// Whether this is a word byte: a digit, a letter or `_` of ASCII. An end of the input is none.
+    #[inline]
+    pub fn is_word_byte(self) -> bool
+        ensures { result ≡ is_word_symbol self }
+    {
+        match self.0 {
+            UnitKind::U8(byte) => utf8::is_word_byte(byte),
+            UnitKind::EOI(_) => false,
+        }
+    }
+}
+
+impl fmt::Debug for Unit {
+    fn fmt<W: fmt::Write>(&self, f: &mut fmt::Formatter<W>) -> fmt::Result {
+        match self.0 {
+            UnitKind::U8(byte) => fmt::Debug::fmt(&DebugByte(byte), f),
+            UnitKind::EOI(_) => f.write_str("EOI"),
+        }
     }
 }
