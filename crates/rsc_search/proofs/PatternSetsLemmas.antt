@@ -2,8 +2,17 @@
 use Rattle.std.proofs.Common.{◌≡◌, ◌≢◌, ℕ, zero, suc, replicate, ◌+◌, ◌-◌, ◌<◌, ◌≤◌, Bool, true, false, cond, ◌||◌, not, List, [], ◌∷◌, ◌++◌, length, get_or, set, refl, ap, sym, ◌∙◌, arith, append-nil, eqb, ltb, get_or-set_other, get_or-set_same}
 use Rattle.std.proofs.lemmas.List.{length-set, get_or_past}
 use Rattle.std.proofs.lemmas.Grind.{common_steps}
+use Rattle.std.proofs.lemmas.Bool.{and_parts}
+use Rattle.std.proofs.lemmas.Bool.Decides.{Decides-eqb}
+use Rattle.std.proofs.lemmas.List.{ext_get_or}
+use Rattle.std.proofs.lemmas.Slice.Eq.{bytes_eq-Decides}
+use Rattle.std.proofs.Math.Bool.{beq}
+use Rattle.std.specs.Cmp.{booleans_Decides, both_ways}
+use Rattle.std.specs.Cmp.Lexicographic.{pointwise, pointwise_decides}
+use Rattle.std.specs.Str.{bytes_eq}
 use Rattle.std.specs.List.{filter, range_with_len}
-use Rattle.rsc_search.specs.PatternSets.{Patterns, has_member, numbers_below, with_member}
+use Rattle.rsc_search.specs.PatternSetsLaws.{same_patterns_equiv}
+use Rattle.rsc_search.specs.PatternSets.{Patterns, has_member, numbers_below, with_member, same_patterns}
 use Rattle.rsc_search.specs.PatternSetLayout.{is_set, set_between, patterns_of, IsCounted}
 use Rattle.rsc_search.proofs.NumbersLemmas.{member_in, member_above, filter_none, filter_skip, filter_last, filter_alike, length_one_more, length_filter_le}
 
@@ -105,3 +114,17 @@ walk_last flags start p end from lt clear found = back (end - (p + 1)) end (omeg
 pub walk_last_after : (flags : List Bool) (start after end : ℕ) → start < after → after ≤ end → ((q : ℕ) → after ≤ q → q < end → is_set flags q ≡ false) → is_set flags (after - 1) ≡ true → set_between flags start end ≡ set_between flags start (after - 1) ++ (after - 1) ∷ []
 walk_last_after flags start after end lt le clear found =
     walk_last flags start (after - 1) end (omega arith) (omega arith) (λ q from below. clear q (omega arith) below) found
+
+-- lists of flags are equal exactly if they make equal sets
+pub same_flags : (xs ys : List Bool) → pointwise beq xs ys ≡ same_patterns (patterns_of xs) (patterns_of ys)
+same_flags xs ys = both_ways (pointwise beq xs ys) (same_patterns (patterns_of xs) (patterns_of ys)) to from
+  where
+    to : pointwise beq xs ys ≡ true → same_patterns (patterns_of xs) (patterns_of ys) ≡ true
+    to e = let eq : xs ≡ ys = (pointwise_decides booleans_Decides xs ys).0 e in rw eq (same_patterns_equiv.refl (patterns_of ys))
+    from : same_patterns (patterns_of xs) (patterns_of ys) ≡ true → pointwise beq xs ys ≡ true
+    from e =
+        let parts = and_parts (eqb (length xs) (length ys)) (bytes_eq (patterns_of xs).members (patterns_of ys).members) e in
+        let lengths : length xs ≡ length ys = (Decides-eqb (length xs) (length ys)).0 parts.0 in
+        let members : (patterns_of xs).members ≡ (patterns_of ys).members = (bytes_eq-Decides (patterns_of xs).members (patterns_of ys).members).0 parts.1 in
+        let flags : xs ≡ ys = ext_get_or false xs ys lengths (λ p lt. sym (has_member-set xs p) ∙ ap (λ ms. has_member ms p) members ∙ has_member-set ys p) in
+        (pointwise_decides booleans_Decides xs ys).1 flags

@@ -5,4 +5,4 @@ use Rattle.rsc_search.specs.PatternSets.{RefusedInsertion}
 
 abbrev pub refused_insertion_text : RefusedInsertion → List ℕ
 refused_insertion_text e =
-    codes "failed to insert pattern ID " ++ decimal e.attempted ++ codes " into pattern set with insufficient capacity of " ++ decimal e.capacity
+    codes "failed to insert pattern ID " ++ (decimal e.attempted ++ (codes " into pattern set with insufficient capacity of " ++ decimal e.capacity))

@@ -104,6 +104,7 @@ impl<'h> Input<'h> {
         requires { IsSpanWithin self.old.haystack (span_between start end (length self.old.haystack)) }
         ensures { self.new ≡ record self.old { span = span_between start end (length self.old.haystack) } }
     {
+        let len = self.haystack.len();
         let start = match start {
             Bound::Included(at) => at,
             Bound::Excluded(before) => before + 1,
@@ -112,7 +113,7 @@ impl<'h> Input<'h> {
         let end = match end {
             Bound::Included(last) => last + 1,
             Bound::Excluded(at) => at,
-            Bound::Unbounded => self.haystack.len(),
+            Bound::Unbounded => len,
         };
         self.set_span(Span { start, end });
     }

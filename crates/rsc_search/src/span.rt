@@ -1,6 +1,6 @@
 //! A part of a haystack, by its start and its end.
 ghost use Rattle.std.specs.Prelude.{◌≡◌, ◌+◌, ◌-◌, ◌^◌, ◌<◌, ◌≤◌, ◌↔◌, IsTrue};
-ghost use Rattle.std.specs.Option.{option_copied};
+ghost use Rattle.std.specs.Option.{option_copied, option_copied_mut};
 ghost use Rattle.std.specs.Borrow.{sem};
 ghost use Rattle.rsc_search.specs.Spans.{cut, cut_text};
 ghost use Rattle.rsc_search.specs.Lending.{LendsCut};
@@ -102,7 +102,10 @@ impl Span {
 
     /// The same bytes, lent for writing. The bytes outside the span stay as they are.
     #[inline]
-    pub fn get_mut<'h>(&self, haystack: &'h mut [u8]) -> Option<&'h mut [u8]> {
+    pub fn get_mut<'h>(&self, haystack: &'h mut [u8]) -> Option<&'h mut [u8]>
+        ensures value { option_copied_mut result ≡ cut haystack.old self.now }
+        ensures* writes_back { sem 𝓛 (LendsCut haystack.entry self.now result) }
+    {
         if self.start <= self.end && self.end <= haystack.len() {
             Some(&mut haystack[self.start..self.end])
         } else {
