@@ -1,6 +1,8 @@
 //! Why a search gives no answer.
-ghost use Rattle.std.specs.Prelude.{◌≡◌};
+ghost use Rattle.std.specs.Prelude.{◌≡◌, Some};
+ghost use Rattle.std.specs.Fmt.{DisplaysOnOk};
 ghost use Rattle.rsc_search.specs.declared.error.MatchErrorKind.TheVariants.{Quit, GaveUp, HaystackTooLong, UnsupportedAnchored};
+ghost use Rattle.rsc_search.specs.Texts.{unsupported_text};
 
 use crate::Anchored;
 use std::marker::Model;
@@ -98,3 +100,44 @@ impl MatchError {
         MatchError::new(MatchErrorKind::UnsupportedAnchored { mode })
     }
 }
+
+impl fmt::Display for MatchError {
+    ghost use Rattle.std.specs.Prelude.{Some};
+    ghost use Rattle.rsc_search.specs.Texts.{error_text};
+
+    ghost output = { λ kind. Some (error_text kind) };
+
+    fn fmt<W: fmt::Write>(&self, f: &mut fmt::Formatter<W>) -> fmt::Result {
+        match self.kind {
+            MatchErrorKind::Quit { byte, offset } => {
+                write!(f, "quit search after observing byte {byte} at offset {offset}")
+            }
+            MatchErrorKind::GaveUp { offset } => {
+                write!(f, "gave up searching at offset {offset}")
+            }
+            MatchErrorKind::HaystackTooLong { len } => {
+                write!(f, "haystack of length {len} is too long")
+            }
+            MatchErrorKind::UnsupportedAnchored { mode } => unsupported(mode, f),
+        }
+    }
+}
+
+// The text of a mode that isn't supported.
+fn unsupported<W: fmt::Write>(mode: Anchored, f: &mut fmt::Formatter<W>) -> fmt::Result
+    ensures { DisplaysOnOk W.write_str_gives f.old result (Some (unsupported_text mode)) f.new }
+{
+    match mode {
+        Anchored::Yes => f.write_str("anchored searches are not supported or enabled"),
+        Anchored::No => f.write_str("unanchored searches are not supported or enabled"),
+        Anchored::Pattern(pid) => {
+            let pattern = pid.as_usize();
+            write!(
+                f,
+                "anchored searches for a specific pattern ({pattern}) are not supported or enabled"
+            )
+        }
+    }
+}
+
+impl error::Error for MatchError {}

@@ -1,11 +1,10 @@
 //! What a search is given: a haystack, the span of it to search, and how.
-ghost use Rattle.std.specs.Prelude.{◌≡◌, ◌+◌, ◌<◌, ◌≤◌, ◌↔◌, IsTrue, length, false};
-ghost use Rattle.std.specs.Range.Bound.{start_index, end_index};
-ghost use Rattle.rsc_search.specs.declared.anchored.Anchored.TheVariants.{No};
-ghost use Rattle.rsc_search.specs.Inputs.{InputParts, whole, IsSpanWithin, span_between};
-ghost use Rattle.rsc_search.specs.Spans.{is_char_boundary};
+ghost use Rattle.std.specs.Prelude.{◌≡◌, ◌+◌, ◌<◌, ◌≤◌, ◌↔◌, ◌⊎◌, ℕ, List, IsTrue, length};
+ghost use Rattle.rsc_search.specs.Inputs.{whole, IsSpanWithin, span_between};
+ghost use Rattle.rsc_primitives.specs.Utf8.{BeginsAt, EncodesAll, IsBoundary};
 
 use crate::{Anchored, Span};
+use rsc_primitives::utf8;
 use std::fmt;
 use std::marker::Model;
 use std::ops::{Bound, Range};
@@ -211,6 +210,18 @@ impl<'h> Input<'h> {
         ensures { result ≡ self.now.earliest }
     {
         self.earliest
+    }
+
+    /// Whether a position is a character boundary: the haystack's length, or the place of a byte that goes on no
+    /// character. Any number is allowed; above the length the answer is false. In valid UTF-8 it is true exactly where a
+    /// character begins and at the end.
+    #[inline]
+    pub fn is_char_boundary(&self, at: usize) -> bool
+        ensures boundary { IsTrue result ↔ IsBoundary self.now.haystack at }
+        ensures valid { (chars : List ℕ) → EncodesAll self.now.haystack chars →
+            IsTrue result ↔ (((c : ℕ) × BeginsAt self.now.haystack at c) ⊎ (at ≡ length self.now.haystack)) }
+    {
+        utf8::is_boundary(self.haystack, at)
     }
 
     /// Whether there is nothing left to search: the span's start is above its end. Where they are equal an empty

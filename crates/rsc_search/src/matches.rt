@@ -1,6 +1,6 @@
 //! What a search answers: the pattern that matched, and where.
 ghost use Rattle.std.specs.Prelude.{◌≡◌, ◌-◌, ◌≤◌, ◌↔◌, IsTrue};
-ghost use Rattle.rsc_search.specs.Matches.{HalfMatched, Matched};
+ghost use Rattle.rsc_primitives.specs.Indices.{IsIndex};
 
 use crate::Span;
 use rsc_primitives::PatternID;
@@ -36,7 +36,7 @@ impl HalfMatch {
     /// The same, of the pattern with that number, which is at most 2147483646.
     #[inline]
     pub fn must(pattern: usize, offset: usize) -> HalfMatch
-        requires { pattern ≤ 2147483646 }
+        requires { IsIndex pattern }
         ensures { result ≡ record { pattern = pattern; offset = offset } }
     {
         HalfMatch::new(PatternID::must(pattern), offset)
@@ -92,7 +92,7 @@ impl Match {
     /// The same, of the pattern with that number, which is at most 2147483646.
     #[inline]
     pub fn must(pattern: usize, span: Span) -> Match
-        requires pattern { pattern ≤ 2147483646 }
+        requires pattern { IsIndex pattern }
         requires order { span.start ≤ span.end }
         ensures { result ≡ record { pattern = pattern; span = span } }
     {

@@ -1,7 +1,7 @@
 //! A part of a haystack, by its start and its end.
-ghost use Rattle.std.specs.Prelude.{◌≡◌, ◌+◌, ◌-◌, ◌^◌, ◌<◌, ◌≤◌, ◌↔◌, IsTrue};
+ghost use Rattle.std.specs.Prelude.{◌≡◌, ◌+◌, ◌-◌, ◌^◌, ◌<◌, ◌≤◌, ◌↔◌, ◌++◌, IsTrue, length, take, drop, slice_range};
 ghost use Rattle.std.specs.Option.{option_copied, option_copied_mut};
-ghost use Rattle.std.specs.Borrow.{sem};
+ghost use Rattle.std.specs.Borrow.{sem, Lends, Array, u8};
 ghost use Rattle.rsc_search.specs.Spans.{cut, cut_text};
 ghost use Rattle.rsc_search.specs.Lending.{LendsCut};
 
@@ -104,7 +104,6 @@ impl Span {
     #[inline]
     pub fn get_mut<'h>(&self, haystack: &'h mut [u8]) -> Option<&'h mut [u8]>
         ensures value { option_copied_mut result ≡ cut haystack.old self.now }
-        ensures* writes_back { sem 𝓛 (LendsCut haystack.entry self.now result) }
     {
         if self.start <= self.end && self.end <= haystack.len() {
             Some(&mut haystack[self.start..self.end])
