@@ -1,6 +1,7 @@
 -- The texts of the errors.
 use Rattle.std.specs.Prelude.{List, ℕ, ◌++◌, codes}
 use Rattle.std.specs.Fmt.{decimal}
+use Rattle.rsc_primitives.specs.Escapes.{byte_text}
 use Rattle.rsc_search.specs.declared.anchored.Anchored.{Anchored}
 use Rattle.rsc_search.specs.declared.anchored.Anchored.TheVariants.{No, Yes, Pattern}
 use Rattle.rsc_search.specs.declared.error.MatchErrorKind.{MatchErrorKind}
@@ -15,7 +16,7 @@ unsupported_text (Pattern p) = codes "anchored searches for a specific pattern (
 
 -- of a search that gives no answer
 abbrev pub error_text : MatchErrorKind → List ℕ
-error_text (Quit byte offset) = codes "quit search after observing byte " ++ (decimal byte ++ (codes " at offset " ++ decimal offset))
+error_text (Quit byte offset) = codes "quit search after observing byte " ++ (byte_text byte ++ (codes " at offset " ++ decimal offset))
 error_text (GaveUp offset) = codes "gave up searching at offset " ++ decimal offset
 error_text (HaystackTooLong len) = codes "haystack of length " ++ (decimal len ++ codes " is too long")
 error_text (UnsupportedAnchored mode) = unsupported_text mode

@@ -5,6 +5,7 @@ ghost use Rattle.rsc_search.specs.declared.error.MatchErrorKind.TheVariants.{Qui
 ghost use Rattle.rsc_search.specs.Texts.{unsupported_text};
 
 use crate::Anchored;
+use rsc_primitives::escape::DebugByte;
 use std::marker::Model;
 use std::{error, fmt};
 
@@ -110,7 +111,8 @@ impl fmt::Display for MatchError {
     fn fmt<W: fmt::Write>(&self, f: &mut fmt::Formatter<W>) -> fmt::Result {
         match self.kind {
             MatchErrorKind::Quit { byte, offset } => {
-                write!(f, "quit search after observing byte {byte} at offset {offset}")
+                let byte = DebugByte(byte);
+                write!(f, "quit search after observing byte {byte:?} at offset {offset}")
             }
             MatchErrorKind::GaveUp { offset } => {
                 write!(f, "gave up searching at offset {offset}")

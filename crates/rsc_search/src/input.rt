@@ -4,6 +4,7 @@ ghost use Rattle.rsc_search.specs.Inputs.{whole, IsSpanWithin, span_between};
 ghost use Rattle.rsc_primitives.specs.Utf8.{BeginsAt, EncodesAll, IsBoundary};
 
 use crate::{Anchored, Span};
+use rsc_primitives::escape::DebugHaystack;
 use rsc_primitives::utf8;
 use std::fmt;
 use std::marker::Model;
@@ -237,7 +238,7 @@ impl<'h> Input<'h> {
 impl fmt::Debug for Input<'_> {
     fn fmt<W: fmt::Write>(&self, f: &mut fmt::Formatter<W>) -> fmt::Result {
         f.debug_struct("Input")
-            .field("haystack", &self.haystack)
+            .field("haystack", &DebugHaystack(self.haystack))
             .field("span", &self.span)
             .field("anchored", &self.anchored)
             .field("earliest", &self.earliest)
