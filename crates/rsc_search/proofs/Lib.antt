@@ -1,3 +1,4 @@
 pub mod NumbersLemmas
 pub mod PartsLent
 pub mod PatternSetsLemmas
+pub mod SpansLemmas

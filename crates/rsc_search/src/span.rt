@@ -1,9 +1,9 @@
 //! A part of a haystack, by its start and its end.
-ghost use Rattle.std.specs.Prelude.{◌≡◌, ◌+◌, ◌-◌, ◌^◌, ◌<◌, ◌≤◌, ◌↔◌, IsTrue, length, slice_range};
+ghost use Rattle.std.specs.Prelude.{◌≡◌, ◌+◌, ◌-◌, ◌^◌, ◌<◌, ◌≤◌, ◌↔◌, IsTrue};
 ghost use Rattle.std.specs.Option.{option_copied, option_copied_mut};
 ghost use Rattle.std.specs.Borrow.{sem};
 ghost use Rattle.rsc_search.specs.Spans.{cut, cut_text};
-ghost use Rattle.rsc_search.specs.Lending.{LendsCut, LendsPart};
+ghost use Rattle.rsc_search.specs.Lending.{LendsCut};
 
 use std::fmt;
 use std::ops::Range;
@@ -103,13 +103,19 @@ impl Span {
     /// The same bytes, lent for writing. The bytes outside the span stay as they are.
     #[inline]
     pub fn get_mut<'h>(&self, haystack: &'h mut [u8]) -> Option<&'h mut [u8]>
+        ensures* writes_back { sem 𝓛 (LendsCut haystack.entry self.now result) }
         ensures value { option_copied_mut result ≡ cut haystack.old self.now }
     {
-        let (start, end) = (self.start, self.end);
-        if end < start || haystack.len() < end {
+        // One test at a time: the proof walks this body step by step.
+        let start = self.start;
+        let end = self.end;
+        if end < start {
             return None;
         }
-        Some(part_mut(haystack, start, end))
+        if haystack.len() < end {
+            return None;
+        }
+        Some(&mut haystack[start..end])
     }
 
     /// The text of a haystack that the span names, or `None` where [`Span::get`] is `None` or an end of the span
@@ -127,17 +133,6 @@ impl Span {
             None
         }
     }
-}
-
-// A function of its own, since its proof is a walk by hand.
-#[inline]
-fn part_mut(bytes: &mut [u8], start: usize, end: usize) -> &mut [u8]
-    requires order { start ≤ end }
-    requires within { end ≤ length bytes.old }
-    ensures* writes_back { sem 𝓛 (LendsPart bytes.entry start end result) }
-    ensures value { result.now ≡ slice_range bytes.old start end }
-{
-    &mut bytes[start..end]
 }
 
 impl From<Range<usize>> for Span {
