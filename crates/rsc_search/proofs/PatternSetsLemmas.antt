@@ -5,6 +5,11 @@ use Rattle.std.proofs.lemmas.Grind.{common_steps}
 use Rattle.std.proofs.lemmas.Bool.{and_parts}
 use Rattle.std.proofs.lemmas.Bool.Decides.{Decides-eqb}
 use Rattle.std.proofs.lemmas.List.{ext_get_or}
+use Rattle.std.proofs.lemmas.List.Elements.{All-filter}
+use Rattle.std.proofs.lemmas.List.FromFn.{length-range_with_len, get_or-range_with_len}
+use Rattle.std.proofs.lemmas.List.Kept.{IsStrictlyIncreasing-filter}
+use Rattle.std.specs.Prelude.{All}
+use Rattle.std.specs.List.Sorted.{IsStrictlyIncreasing}
 use Rattle.std.proofs.lemmas.Slice.Eq.{bytes_eq-Decides}
 use Rattle.std.proofs.Math.Bool.{beq}
 use Rattle.std.specs.Cmp.{booleans_Decides, both_ways}
@@ -128,3 +133,24 @@ same_flags xs ys = both_ways (pointwise beq xs ys) (same_patterns (patterns_of x
         let members : (patterns_of xs).members ≡ (patterns_of ys).members = (bytes_eq-Decides (patterns_of xs).members (patterns_of ys).members).0 parts.1 in
         let flags : xs ≡ ys = ext_get_or false xs ys lengths (λ p lt. sym (has_member-set xs p) ∙ ap (λ ms. has_member ms p) members ∙ has_member-set ys p) in
         (pointwise_decides booleans_Decides xs ys).1 flags
+
+-- the members of a walk ascend, and are below where it ends
+pub walk_ascends : (flags : List Bool) (start end : ℕ) → IsStrictlyIncreasing (set_between flags start end)
+walk_ascends flags start end = IsStrictlyIncreasing-filter (is_set flags) (range_with_len start (end - start)) rises
+  where
+    rises : IsStrictlyIncreasing (range_with_len start (end - start))
+    rises k within =
+        let count : length (range_with_len start (end - start)) ≡ end - start = length-range_with_len start (end - start) in
+        let here : get_or (range_with_len start (end - start)) k 0 ≡ start + k = get_or-range_with_len start (end - start) k 0 (omega arith) in
+        let next : get_or (range_with_len start (end - start)) (k + 1) 0 ≡ start + (k + 1) = get_or-range_with_len start (end - start) (k + 1) 0 (omega arith) in
+        omega arith
+
+pub walk_below : (flags : List Bool) (start end n : ℕ) → end ≤ n → All (λ p. p < n) (set_between flags start end)
+walk_below flags start end n le = All-filter (is_set flags) (λ p. p < n) (range_with_len start (end - start)) (λ k d within.
+    let count : length (range_with_len start (end - start)) ≡ end - start = length-range_with_len start (end - start) in
+    let here : get_or (range_with_len start (end - start)) k d ≡ start + k = get_or-range_with_len start (end - start) k d (omega arith) in
+    omega arith)
+
+-- a number below the capacity is a member after an insertion exactly if it was one or is the new one
+pub has_member-with_member : (s : Patterns) (p q : ℕ) → q < s.capacity → has_member (with_member s p).members q ≡ (eqb q p || has_member s.members q)
+has_member-with_member s p q lt = member_in (λ r. eqb r p || has_member s.members r) 0 s.capacity q (omega arith) (omega arith)

@@ -4,6 +4,7 @@
 mod anchored;
 mod error;
 mod input;
+pub mod laws;
 mod matches;
 mod pattern_set;
 mod span;

@@ -1,5 +1,6 @@
 //! Sets of patterns, and the walk over their members from both ends.
-ghost use Rattle.std.specs.Prelude.{◌≡◌, ℕ, ◌+◌, ◌-◌, ◌<◌, ◌≤◌, ◌↔◌, true, false, not, List, length, IsTrue, IsOk, IfOk, IfErr, OnOk, OnErr};
+ghost use Rattle.std.specs.Prelude.{◌≡◌, ℕ, ◌-◌, ◌<◌, ◌≤◌, ◌↔◌, true, false, not, All, length, IsTrue, IsOk, IfOk, IfErr, OnOk, OnErr};
+ghost use Rattle.std.specs.List.Sorted.{IsStrictlyIncreasing};
 ghost use Rattle.std.specs.Iterator.{YieldsFirst, YieldsLast, item_count};
 ghost use Rattle.rsc_search.specs.PatternSets.{Patterns, no_patterns, has_member, with_member};
 ghost use Rattle.rsc_search.specs.PatternSetLayout.{is_set};
@@ -130,7 +131,9 @@ impl<A: Allocator> PatternSet<A> {
     /// The members, ascending; from the back, descending.
     #[inline]
     pub fn iter(&self) -> PatternSetIter<'_>
-        ensures { result ≡ self.now.members }
+        ensures members { result ≡ self.now.members }
+        ensures ascending { IsStrictlyIncreasing result }
+        ensures below { All (λ p. p < self.now.capacity) result }
     {
         PatternSetIter {
             which: self.which.as_slice(),
