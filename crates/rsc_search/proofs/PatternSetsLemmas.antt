@@ -126,6 +126,7 @@ same_flags xs ys = both_ways (pointwise beq xs ys) (same_patterns (patterns_of x
   where
     to : pointwise beq xs ys ≡ true → same_patterns (patterns_of xs) (patterns_of ys) ≡ true
     to e = let eq : xs ≡ ys = (pointwise_decides booleans_Decides xs ys).0 e in rw eq (same_patterns_equiv.refl (patterns_of ys))
+
     from : same_patterns (patterns_of xs) (patterns_of ys) ≡ true → pointwise beq xs ys ≡ true
     from e =
         let parts = and_parts (eqb (length xs) (length ys)) (bytes_eq (patterns_of xs).members (patterns_of ys).members) e in

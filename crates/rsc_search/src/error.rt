@@ -112,7 +112,10 @@ impl fmt::Display for MatchError {
         match self.kind {
             MatchErrorKind::Quit { byte, offset } => {
                 let byte = DebugByte(byte);
-                write!(f, "quit search after observing byte {byte:?} at offset {offset}")
+                write!(
+                    f,
+                    "quit search after observing byte {byte:?} at offset {offset}"
+                )
             }
             MatchErrorKind::GaveUp { offset } => {
                 write!(f, "gave up searching at offset {offset}")

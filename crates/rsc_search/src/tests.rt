@@ -1,4 +1,6 @@
 //! What no contract says: worked values from outside, shown texts, and each request for memory refused in turn.
+ghost use Rattle.std.specs.Prelude.{◌≡◌};
+
 use crate::{
     Anchored, HalfMatch, Input, Match, MatchError, MatchErrorKind, MatchKind, PatternSet, Span,
 };
@@ -7,7 +9,9 @@ use rsc_primitives::PatternID;
 use std::ops::{Bound, Range};
 use std::test::Fail;
 
-fn span(start: usize, end: usize) -> Span {
+fn span(start: usize, end: usize) -> Span
+    ensures { result ≡ record { start = start; end = end } }
+{
     Span { start, end }
 }
 
@@ -23,13 +27,18 @@ fn spans(rt: HostRuntime) -> Result<(), Fail> {
     let reversed = span(4, 2);
     assert_eq!(rt; reversed.len(), 0);
     assert!(rt; reversed.is_empty() && !reversed.contains(3));
-    let range: Range<usize> = ordered.into();
-    assert_eq!(rt; range.start, 2);
-    assert!(rt; Span::from(ordered.range()) == ordered);
-    assert!(rt; span(2, 4) != span(2, 5));
     let text = format!(in rt.alloc(); "{ordered:?}")?;
     assert_eq!(rt; text.as_str(), "2..4");
     Ok(())
+}
+
+#[test]
+fn spans_and_ranges(rt: HostRuntime) {
+    let two_to_four = span(2, 4);
+    let range: Range<usize> = two_to_four.into();
+    assert!(rt; range.start == 2 && range.end == 4);
+    assert!(rt; Span::from(two_to_four.range()) == two_to_four);
+    assert!(rt; two_to_four != span(2, 5) && two_to_four != span(1, 4));
 }
 
 #[test]
@@ -58,15 +67,23 @@ fn slices(rt: HostRuntime) {
     assert_eq!(rt; bytes, [1, 9, 9, 4]);
 }
 
+// The slice lives as long as the haystack, and so beyond the input that it came from.
+fn slice_after_its_input(haystack: &[u8]) -> &[u8] {
+    let kept;
+    {
+        let input = Input::new(haystack);
+        kept = input.haystack();
+    }
+    kept
+}
+
 #[test]
-fn inputs(rt: HostRuntime) -> Result<(), Fail> {
+fn inputs_by_setters(rt: HostRuntime) {
     let abc: &[u8] = b"abc";
+    assert!(rt; slice_after_its_input(abc) == abc);
     let mut input = Input::new(abc);
-    let text = format!(in rt.alloc(); "{input:?}")?;
-    assert_eq!(rt; text.as_str(), "Input { haystack: \"abc\", span: 0..3, anchored: No, earliest: false }");
     input.set_range(Bound::Excluded(0), Bound::Included(1));
-    assert!(rt; input.get_span() == span(1, 2));
-    assert_eq!(rt; input.get_range().end, 2);
+    assert!(rt; input.get_span() == span(1, 2) && input.get_range().end == 2);
     assert!(rt; !input.is_done());
     input.set_span(span(3, 2));
     assert!(rt; input.is_done());
@@ -74,6 +91,11 @@ fn inputs(rt: HostRuntime) -> Result<(), Fail> {
     input.set_end(1);
     input.set_start(2);
     assert!(rt; input.start() == 2 && input.end() == 1 && input.is_done());
+}
+
+#[test]
+fn inputs_by_builders(rt: HostRuntime) -> Result<(), Fail> {
+    let abc: &[u8] = b"abc";
     let input = Input::new(abc)
         .range(Bound::Unbounded, Bound::Excluded(2))
         .anchored(Anchored::Yes)
@@ -84,11 +106,26 @@ fn inputs(rt: HostRuntime) -> Result<(), Fail> {
     again.set_anchored(Anchored::No);
     again.set_earliest(false);
     assert!(rt; again.haystack() == abc && !again.is_done() && !again.get_earliest());
-    let character = Input::new("𝛃".as_bytes());
-    for (at, want) in [(0, true), (1, false), (4, true), (5, false)] {
-        assert_eq!(rt; character.is_char_boundary(at), want, "in 𝛃 at {at}");
-    }
     Ok(())
+}
+
+#[test]
+fn inputs_shown(rt: HostRuntime) -> Result<(), Fail> {
+    let input = Input::new(b"abc");
+    let text = format!(in rt.alloc(); "{input:?}")?;
+    assert_eq!(rt;
+        text.as_str(),
+        "Input { haystack: \"abc\", span: 0..3, anchored: No, earliest: false }"
+    );
+    Ok(())
+}
+
+#[test]
+fn character_boundaries(rt: HostRuntime) {
+    let input = Input::new("𝛃".as_bytes());
+    for (at, want) in [(0, true), (1, false), (4, true), (5, false)] {
+        assert_eq!(rt; input.is_char_boundary(at), want, "in 𝛃 at {at}");
+    }
 }
 
 #[test]
@@ -122,13 +159,16 @@ fn modes(rt: HostRuntime) {
 #[test]
 fn errors(rt: HostRuntime) -> Result<(), Fail> {
     let quit = MatchError::quit(0xFF, 3);
-    assert!(rt; *quit.kind() == MatchErrorKind::Quit { byte: 0xFF, offset: 3 });
+    assert!(rt;
+        *quit.kind()
+            == MatchErrorKind::Quit {
+                byte: 0xFF,
+                offset: 3
+            }
+    );
     assert!(rt; quit.clone()? == quit);
     for (error, want) in [
-        (
-            quit,
-            "quit search after observing byte \\xFF at offset 3",
-        ),
+        (quit, "quit search after observing byte \\xFF at offset 3"),
         (
             MatchError::quit(0x20, 0),
             "quit search after observing byte ' ' at offset 0",
@@ -158,8 +198,8 @@ fn errors(rt: HostRuntime) -> Result<(), Fail> {
 }
 
 #[test]
-fn pattern_sets(rt: HostRuntime) -> Result<(), Fail> {
-    let (zero, two, three) = (PatternID::must(0), PatternID::must(2), PatternID::must(3));
+fn walks_from_both_ends(rt: HostRuntime) -> Result<(), Fail> {
+    let (zero, two) = (PatternID::must(0), PatternID::must(2));
     let mut set = PatternSet::new(rt.alloc(), 3)?;
     assert!(rt; set.insert(two) && set.insert(zero) && !set.insert(zero));
     let mut walk = set.iter();
@@ -169,29 +209,46 @@ fn pattern_sets(rt: HostRuntime) -> Result<(), Fail> {
     assert!(rt; walk.next() == Some(zero));
     assert!(rt; walk.next() == None && walk.next_back() == None);
     assert!(rt; rest.next_back() == Some(zero) && rest.len() == 0);
-    match set.try_insert(three) {
-        Ok(_) => assert!(rt; false, "3 is inserted"),
-        Err(refused) => {
-            assert!(rt; refused.attempted() == three && refused.capacity() == 3);
-            let text = format!(in rt.alloc(); "{refused}")?;
-            assert_eq!(rt; text.as_str(), "failed to insert pattern ID 3 into pattern set with insufficient capacity of 3");
+    Ok(())
+}
+
+#[test]
+fn refused_insertions(rt: HostRuntime) -> Result<(), Fail> {
+    let mut set = PatternSet::new(rt.alloc(), 3)?;
+    for (attempted, want) in [
+        (
+            PatternID::must(3),
+            "failed to insert pattern ID 3 into pattern set with insufficient capacity of 3",
+        ),
+        (
+            PatternID::MAX,
+            "failed to insert pattern ID 2147483646 into pattern set with insufficient capacity of 3",
+        ),
+    ] {
+        assert!(rt; !set.contains(attempted));
+        match set.try_insert(attempted) {
+            Ok(_) => assert!(rt; false, "{want}"),
+            Err(refused) => {
+                assert!(rt; refused.attempted() == attempted && refused.capacity() == 3);
+                let text = format!(in rt.alloc(); "{refused}")?;
+                assert_eq!(rt; text.as_str(), want);
+            }
         }
+        assert!(rt; set.is_empty() && set.capacity() == 3);
     }
-    assert!(rt; set.len() == 2 && !set.is_full() && !set.is_empty());
-    assert!(rt; set.contains(two) && !set.contains(three) && !set.contains(PatternID::MAX));
-    match set.try_insert(PatternID::MAX) {
-        Ok(_) => assert!(rt; false, "the greatest is inserted"),
-        Err(refused) => {
-            let text = format!(in rt.alloc(); "{refused}")?;
-            assert_eq!(rt; text.as_str(), "failed to insert pattern ID 2147483646 into pattern set with insufficient capacity of 3");
-        }
-    }
+    Ok(())
+}
+
+#[test]
+fn clones_are_sets_of_their_own(rt: HostRuntime) -> Result<(), Fail> {
+    let mut set = PatternSet::new(rt.alloc(), 2)?;
+    assert!(rt; set.insert(PatternID::must(0)));
     let copy = set.clone()?;
     assert!(rt; copy == set);
     assert!(rt; set.try_insert(PatternID::must(1)).is_ok_and(|new| new) && set.is_full());
-    assert!(rt; copy != set);
+    assert!(rt; copy != set && copy.len() == 1);
     set.clear();
-    assert!(rt; set.is_empty() && set.capacity() == 3 && set.iter().next() == None);
+    assert!(rt; set.is_empty() && set.capacity() == 2 && set.iter().next() == None);
     Ok(())
 }
 
@@ -241,6 +298,9 @@ fn memory_is_refused_until_there_is_enough(rt: HostRuntime) -> Result<(), Fail> 
             clones = clones.saturating_add(1);
         }
     }
-    assert!(rt; 0 < clones && clones < sets && sets < 64, "{clones} of {sets}");
+    assert!(rt;
+        0 < clones && clones < sets && sets < 64,
+        "{clones} of {sets}"
+    );
     Ok(())
 }
