@@ -1,6 +1,6 @@
 -- A part of a slice that is lent on. Assumes `Logic`.
 --     lends_part      a `&mut [T]` on front ++ (mid ++ back) becomes one on mid, and the lender ends with what is left there between front and back
-use Rattle.std.proofs.Common.{◌≡◌, ℕ, ◌+◌, List, [], ◌∷◌, ◌++◌, length, refl, sym, ap, ◌∙◌, arith, length-append, MutBor}
+use Rattle.std.proofs.Common.{◌≡◌, ℕ, ◌+◌, List, [], ◌∷◌, ◌++◌, length, refl, sym, ap, ◌∙◌, arith, length-append}
 use seplogic.Ra.Ura.{Ura}
 use mir.Syntax.{Lifetime}
 use mir.Val.{Val}
@@ -8,7 +8,7 @@ use base.Logic.{SProp, ent, sep, ex}
 use base.Stored.{coded_list}
 use base.Fml.{Lft, GName, Share, flft, fobs, fbor}
 use types.Logic.{Logic, sem}
-use types.Kit.{Item, ‵, ◌⊛◌, ◌$◌, ◌∵◌, !, qed, by, move, drop, fsplit, fsplit3, fjoin, updating, await, later, some, use1, use2, group, pick, now, show, done, split, split3, rewrite, feq_l, feq_i, join}
+use types.Kit.{Item, ‵, ◌⊛◌, ◌$◌, ◌∵◌, !, qed, move, drop, fsplit, fsplit3, fjoin, updating, await, later, some, use1, use2, group, pick, now, show, done, split, split3, rewrite, feq_l, feq_i, join}
 use types.SemTy.{cells, Arr, Body}
 use types.Follow.{takes_part}
 use types.Mut.{open_ref}
@@ -16,7 +16,6 @@ use denote.RattleType.{RattleType}
 use denote.Memory.{mem}
 use denote.Array.{Array}
 use denote.Slice.{MutSlice, Room, slice_val}
-use denote.Steps.{nothing}
 use denote.Follow.{follows}
 use denote.FollowSlice.{heres_id, slice_of}
 use borrow.Table.Elements.{at, cut_app, join_app}

@@ -1,5 +1,5 @@
 -- The members of a set, by its flags.
-use Rattle.std.proofs.Common.{◌≡◌, ◌≢◌, ℕ, zero, suc, replicate, ◌+◌, ◌-◌, ◌<◌, ◌≤◌, Bool, true, false, cond, ◌||◌, not, List, [], ◌∷◌, ◌++◌, length, get_or, set, refl, ap, sym, ◌∙◌, arith, append-nil, eqb, ltb, get_or-set_other, get_or-set_same}
+use Rattle.std.proofs.Common.{◌≡◌, ◌≢◌, ℕ, zero, suc, replicate, ◌+◌, ◌-◌, ◌<◌, ◌≤◌, Bool, true, false, cond, ◌||◌, List, [], ◌∷◌, ◌++◌, length, get_or, set, refl, ap, sym, ◌∙◌, arith, append-nil, eqb, ltb, get_or-set_other, get_or-set_same}
 use Rattle.std.proofs.lemmas.List.{length-set, get_or_past}
 use Rattle.std.proofs.lemmas.Grind.{common_steps}
 use Rattle.std.proofs.lemmas.Bool.{and_parts}
@@ -18,7 +18,7 @@ use Rattle.std.specs.Str.{bytes_eq}
 use Rattle.std.specs.List.{filter, range_with_len}
 use Rattle.rsc_search.specs.PatternSetsLaws.{same_patterns_equiv}
 use Rattle.rsc_search.specs.PatternSets.{Patterns, has_member, numbers_below, with_member, same_patterns}
-use Rattle.rsc_search.specs.PatternSetLayout.{is_set, set_between, patterns_of, IsCounted}
+use Rattle.rsc_search.specs.PatternSetLayout.{is_set, set_between, patterns_of}
 use Rattle.rsc_search.proofs.NumbersLemmas.{member_in, member_above, filter_none, filter_skip, filter_last, filter_alike, length_one_more, length_filter_le}
 
 -- a number is a member exactly if its flag is set

@@ -1,13 +1,12 @@
 -- The definitions, computed at worked values.
-use Rattle.std.proofs.Common.{◌≡◌, List, ℕ, [], ◌∷◌, true, false, Option, Some, None, refl}
+use Rattle.std.proofs.Common.{◌≡◌, [], ◌∷◌, true, false, Some, None, refl}
 use Rattle.std.specs.Prelude.{codes}
 use Rattle.std.specs.Fmt.{digits}
 use Rattle.std.specs.declared.ops.Bound.TheVariants.{Included, Excluded, Unbounded}
-use Rattle.rsc_search.specs.declared.span.Span.{Span}
-use Rattle.rsc_search.specs.declared.anchored.Anchored.TheVariants.{No, Yes, Pattern}
+use Rattle.rsc_search.specs.declared.anchored.Anchored.TheVariants.{Pattern}
 use Rattle.rsc_search.specs.declared.error.MatchErrorKind.TheVariants.{Quit, UnsupportedAnchored}
 use Rattle.rsc_search.specs.Inputs.{span_between}
-use Rattle.rsc_search.specs.PatternSets.{Patterns, no_patterns, has_member, with_member, same_patterns}
+use Rattle.rsc_search.specs.PatternSets.{no_patterns, with_member, same_patterns}
 use Rattle.rsc_search.specs.Spans.{cut, cut_text, is_boundary}
 use Rattle.rsc_search.specs.Texts.{error_text, refused_insertion_text}
 

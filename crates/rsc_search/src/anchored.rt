@@ -57,7 +57,7 @@ impl Default for MatchKind {
     ghost is_default = { λ kind. kind ≡ LeftmostFirst };
 
     fn default() -> Self {
-        MatchKind::LeftmostFirst
+        Self::LeftmostFirst
     }
 }
 

@@ -1,4 +1,4 @@
-use Rattle.std.proofs.Common.{◌≡◌, ◌≤◌, List, Bool, false, arith, ap, sym, ◌∙◌}
+use Rattle.std.proofs.Common.{◌≡◌, false, arith, ap, sym, ◌∙◌}
 use Rattle.std.specs.Prelude.{unwrap_or}
 use Rattle.rsc_search.specs.PatternSets.{Patterns, has_member}
 use Rattle.rsc_search.specs.PatternSetLayout.{is_set}

@@ -1,6 +1,5 @@
-use Rattle.std.proofs.Common.{◌≡◌, ◌<◌, ◌≤◌, ◌+◌, length, get_or, not, true, false, ap, sym, ◌∙◌, arith}
+use Rattle.std.proofs.Common.{◌≡◌, ◌<◌, ◌+◌, length, not, true, false, ap, sym, ◌∙◌, arith}
 use Rattle.std.proofs.lemmas.List.{get_or_default, length-set}
-use Rattle.rsc_search.specs.PatternSets.{Patterns, has_member, with_member, numbers_below}
 use Rattle.rsc_search.specs.PatternSetLayout.{is_set}
 use Rattle.rsc_search.proofs.PatternSetsLemmas.{has_member-set, set_with_member, member_stays, one_more_member, members_within}
 use Rattle.rsc_search.proofs.pattern_set.PatternSet.insert.Goals as goal

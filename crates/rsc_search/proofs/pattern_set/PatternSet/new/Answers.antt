@@ -1,4 +1,4 @@
-use Rattle.std.proofs.Common.{◌≡◌, [], false, length, replicate, sym, ap, ◌∙◌, arith, refl}
+use Rattle.std.proofs.Common.{◌≡◌, false, length, replicate, sym, ap, refl}
 use Rattle.std.proofs.lemmas.List.{length-replicate}
 use Rattle.rsc_search.proofs.PatternSetsLemmas.{none_set}
 use Rattle.rsc_search.proofs.pattern_set.PatternSet.new.Goals as goal

@@ -1,5 +1,5 @@
-use Rattle.std.proofs.Common.{◌≡◌, ◌<◌, ◌≤◌, ◌+◌, ◌-◌, List, [], ◌∷◌, ◌++◌, length, rules, ap, sym, ◌∙◌, arith, length-append}
-use Rattle.rsc_search.specs.PatternSetLayout.{is_set, set_between}
+use Rattle.std.proofs.Common.{◌≡◌, ◌<◌, ◌-◌, [], ◌∷◌, ◌++◌, length, rules, ap, sym, ◌∙◌, arith, length-append}
+use Rattle.rsc_search.specs.PatternSetLayout.{set_between}
 use Rattle.rsc_search.proofs.PatternSetsLemmas.{walk_none, walk_ended, walk_last_after}
 use Rattle.rsc_search.proofs.pattern_set.PatternSetIterDoubleEndedIterator.next_back.Goals as goal
 

@@ -1,5 +1,5 @@
-use Rattle.std.proofs.Common.{◌≡◌, ◌<◌, ◌≤◌, ◌+◌, ◌-◌, List, [], ◌∷◌, length, rules, ap, sym, ◌∙◌, arith}
-use Rattle.rsc_search.specs.PatternSetLayout.{is_set, set_between}
+use Rattle.std.proofs.Common.{◌≡◌, ◌<◌, ◌+◌, [], ◌∷◌, length, rules, ap, sym, ◌∙◌, arith}
+use Rattle.rsc_search.specs.PatternSetLayout.{set_between}
 use Rattle.rsc_search.proofs.PatternSetsLemmas.{walk_none, walk_ended, walk_first}
 use Rattle.rsc_search.proofs.pattern_set.PatternSetIterIterator.next.Goals as goal
 

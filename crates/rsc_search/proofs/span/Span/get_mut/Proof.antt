@@ -1,6 +1,6 @@
 -- `get_mut` meets its contract: a walk of its MIR by hand, since no generated proof follows a part of a slice that is returned.
 -- A walk is a list of steps over a context, the things that are owned, which comments show as [first; second; ..].
-use Rattle.std.proofs.Common.{◌≡◌, ℕ, ◌+◌, ◌-◌, ◌*◌, ◌^◌, ◌<◌, ◌≤◌, List, [], ◌∷◌, ◌++◌, length, take, Option, Some, None, sym, refl, ap, ◌∙◌, arith, lit<, w64, MutBor, Bor}
+use Rattle.std.proofs.Common.{◌≡◌, ℕ, ◌+◌, ◌-◌, ◌*◌, ◌^◌, ◌<◌, ◌≤◌, List, [], ◌∷◌, ◌++◌, length, take, Some, None, sym, refl, ap, ◌∙◌, arith, lit<, w64, MutBor, Bor}
 use Rattle.std.proofs.Common.{drop as drop_list}
 use Rattle.std.proofs.Math.Facts.{ltb_yes, ltb_no}
 use lib.ListN.{length-drop}
@@ -17,16 +17,16 @@ use types.Logic.{Logic}
 use contract.Monad.{Fun}
 use contract.Running.{tables, tables_of}
 use sound.WpLaws.{WpFn-mono}
-use types.Kit.{Item, ⋆, rewrite, ‵, ◌⊛◌, raw, given, some, later, at_ret, ◌$◌, ◌∵◌, !, qed, by, move, keep, drop, split, split3, join, learn, fsplit, fsplit3, fjoin, use0, use1, use2, await, pick, suffices, frame, done}
+use types.Kit.{Item, ⋆, rewrite, ‵, ◌⊛◌, some, later, at_ret, ◌$◌, ◌∵◌, !, qed, by, move, keep, drop, split, split3, join, fsplit, fsplit3, fjoin, use0, use1, use2, await, pick, suffices, frame, done}
 use types.Match.{live}
 use types.Part.{whole, sub, look_in, agg}
 use types.Run.{stop, fld, addr, lit, load, of_opd, bin, and_then, no_more, first, branches, skips, exec, returns, returns_within, enter}
 use types.ByLocal.{alloc_all, pass_all, free_all, look_at, get, get_in, through, sets, env}
-use denote.Builtin.{u8, usize, RefOf}
+use denote.Builtin.{u8, RefOf}
 use denote.Exit.{yes, no}
 use denote.RattleType.{RattleType, owns}
 use denote.Laws.{Is, shows}
-use denote.Memory.{mem, cell_at}
+use denote.Memory.{cell_at}
 use denote.Opens.{Opens}
 use denote.Ref.{ShrRef, shr_vals, shr_Tells}
 use denote.Signature.{plain, mut_slice_of}
