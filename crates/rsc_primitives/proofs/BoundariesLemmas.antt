@@ -1,5 +1,5 @@
 -- The boundaries of encoded text are the places where a character begins, and the end.
-use Rattle.std.proofs.Common.{◌≡◌, ℕ, zero, suc, ◌+◌, ◌-◌, ◌<◌, ◌≤◌, ◌⊎◌, ◌↔◌, List, [], ◌∷◌, ◌++◌, length, get_or, refl, sym, ap, ◌∙◌, subst, arith, inl, inr, ⊎_elim, length-append, get_or-append-add}
+use Rattle.std.proofs.Common.{◌≡◌, ℕ, ◌+◌, ◌-◌, ◌<◌, ◌≤◌, ◌⊎◌, ◌↔◌, List, [], ◌∷◌, ◌++◌, length, get_or, sym, subst, arith, inl, inr, ⊎_elim, length-append, get_or-append-add}
 use Rattle.std.proofs.lemmas.List.{get_or_append_left}
 use Rattle.rsc_primitives.specs.Utf8.{IsTail, Encodes, EncodesAll, EncodedFrom, BeginsAt, IsBoundary}
 use Rattle.rsc_primitives.proofs.Utf8Lemmas.{Placed-from, Encodes-rest}

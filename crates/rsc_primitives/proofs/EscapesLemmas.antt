@@ -1,9 +1,9 @@
 -- The texts of bytes, and the steps of a row of bytes.
-use Rattle.std.proofs.Common.{◌≡◌, ℕ, ◌+◌, ◌-◌, ◌<◌, ◌≤◌, List, [], ◌∷◌, ◌++◌, length, refl, sym, ap, ◌∙◌, subst, arith, false}
+use Rattle.std.proofs.Common.{◌≡◌, ℕ, ◌+◌, ◌-◌, ◌≤◌, List, [], ◌∷◌, length, arith, false}
 use Rattle.std.proofs.lemmas.Bool.Decides.{nat_tests}
 use Rattle.std.specs.Char.{len_utf8, is_ascii}
 use Rattle.std.specs.Prelude.{slice_range}
-use Rattle.rsc_primitives.specs.Utf8.{BeginsAt, EncodedFrom}
+use Rattle.rsc_primitives.specs.Utf8.{BeginsAt}
 use Rattle.rsc_primitives.specs.Escapes.{EncodesOnlyAscii}
 use Rattle.rsc_primitives.proofs.Utf8Lemmas.{length-Encodes-len_utf8, length-slice}
 use Rattle.rsc_primitives.proofs.Texts.{behind}

@@ -4,5 +4,6 @@ pub mod Encode
 pub mod EncodingsLemmas
 mod EscapesLemmas
 mod IndicesLemmas
+mod Rows
 pub mod Texts
 pub mod Utf8Lemmas

@@ -6,7 +6,7 @@ use Rattle.std.specs.Prelude.{slice_range, slice_get}
 use Rattle.std.proofs.lemmas.Bool.Decides.{nat_tests}
 use Rattle.std.proofs.lemmas.Option.{slice_get_within, get_or_from_slice_get}
 use Rattle.rsc_primitives.specs.Utf8.{IsTail, OpensThree, OpensFour, Encodes, EncodedFrom, BeginsAt, EndsAt, IsInside, DecodesTo, DecodesLastTo}
-use Rattle.rsc_primitives.specs.Utf8Layout.{IsFirstNumber}
+use Rattle.rsc_primitives.specs.Utf8Layout.{IsFirstNumber, IsLastNumber}
 
 -- how many bytes an encoding takes that begins with this byte
 abbrev pub lead_len : ℕ → ℕ
@@ -274,10 +274,74 @@ length-Encodes-len_utf8 (a ∷ b ∷ c ∷ []) n h = grind (arith, nat_tests)
 length-Encodes-len_utf8 (a ∷ b ∷ c ∷ d ∷ []) n h = grind (arith, nat_tests)
 length-Encodes-len_utf8 (a ∷ b ∷ c ∷ d ∷ x ∷ r) n h = absurd h
 
--- ---- the back of a list, by its rest from s on
+-- ---- the back of a list, by its bytes
 
 lead_len_le : (a : ℕ) → lead_len a ≤ 4
 lead_len_le a = grind (arith, nat_tests)
+
+slice_step : (h : List ℕ) (i j : ℕ) → i < j → j ≤ length h → slice_range h i j ≡ get_or h i 0 ∷ slice_range h (suc i) j
+slice_step h i j l w =
+    let e : j - i ≡ suc (j - suc i) = omega arith in
+    let at : i < length h = omega arith in
+    ap (λ n. take n (drop i h)) e ∙ ap (λ (x : List ℕ). take (suc (j - suc i)) x) (drop-cons h i 0 at)
+
+last_one : (h : List ℕ) → 1 ≤ length h → slice_range h (length h - 1) (length h) ≡ get_or h (length h - 1) 0 ∷ []
+last_one h r = slice_one h (length h - 1) (length h) (omega arith) (omega arith)
+
+last_two : (h : List ℕ) → 2 ≤ length h → slice_range h (length h - 2) (length h) ≡ get_or h (length h - 2) 0 ∷ get_or h (length h - 1) 0 ∷ []
+last_two h r =
+    let i : suc (length h - 2) ≡ length h - 1 = omega arith in
+    slice_step h (length h - 2) (length h) (omega arith) (omega arith)
+    ∙ ap (λ t. get_or h (length h - 2) 0 ∷ t) (ap (λ k. slice_range h k (length h)) i ∙ last_one h (omega arith))
+
+last_three : (h : List ℕ) → 3 ≤ length h → slice_range h (length h - 3) (length h) ≡ get_or h (length h - 3) 0 ∷ get_or h (length h - 2) 0 ∷ get_or h (length h - 1) 0 ∷ []
+last_three h r =
+    let i : suc (length h - 3) ≡ length h - 2 = omega arith in
+    slice_step h (length h - 3) (length h) (omega arith) (omega arith)
+    ∙ ap (λ t. get_or h (length h - 3) 0 ∷ t) (ap (λ k. slice_range h k (length h)) i ∙ last_two h (omega arith))
+
+last_four : (h : List ℕ) → 4 ≤ length h
+    → slice_range h (length h - 4) (length h) ≡ get_or h (length h - 4) 0 ∷ get_or h (length h - 3) 0 ∷ get_or h (length h - 2) 0 ∷ get_or h (length h - 1) 0 ∷ []
+last_four h r =
+    let i : suc (length h - 4) ≡ length h - 3 = omega arith in
+    slice_step h (length h - 4) (length h) (omega arith) (omega arith)
+    ∙ ap (λ t. get_or h (length h - 4) 0 ∷ t) (ap (λ k. slice_range h k (length h)) i ∙ last_three h (omega arith))
+
+back : (h e : List ℕ) (k c : ℕ) → k ≤ length h → slice_range h (length h - k) (length h) ≡ e → Encodes e c → EndsAt h (length h) c
+back h e k c l q p =
+    (length h - k, record { ordered = omega arith; within = omega arith; encoded = subst (λ (x : List ℕ). Encodes x c) (sym q) p })
+
+pub EndsAt-from : (h : List ℕ) (c : ℕ) → IsLastNumber h c → EndsAt h (length h) c
+EndsAt-from h c s =
+    ⊎_elim (λ p. back h _ 1 c p.0 (last_one h p.0) (p.1, p.2))
+    (⊎_elim (λ p. back h _ 2 c p.0 (last_two h p.0) (p.1, p.2, p.3))
+    (⊎_elim (λ p. back h _ 3 c p.0 (last_three h p.0) (p.1, p.2, p.3)) (λ p. back h _ 4 c p.0 (last_four h p.0) (p.1, p.2, p.3, p.4)))) s
+
+sizes : (j n k : ℕ) → n ≡ j + k → 0 < k → k ≤ 4 → (n ≡ j + 1) ⊎ (n ≡ j + 2) ⊎ (n ≡ j + 3) ⊎ (n ≡ j + 4)
+sizes j n k e l u = grind arith
+
+pub IsLastNumber-from : (h : List ℕ) (c : ℕ) → EndsAt h (length h) c → IsLastNumber h c
+IsLastNumber-from h c p =
+    ⊎_elim (λ s. let r : 1 ≤ length h = omega arith in let e = forms 1 _ s (last_one h r) in inl (r, e.0, e.1))
+    (⊎_elim (λ s. let r : 2 ≤ length h = omega arith in let e = forms 2 _ s (last_two h r) in inr (inl (r, e.0, e.1, e.2)))
+    (⊎_elim (λ s. let r : 3 ≤ length h = omega arith in let e = forms 3 _ s (last_three h r) in inr (inr (inl (r, e.0, e.1, e.2))))
+    (λ s. let r : 4 ≤ length h = omega arith in let e = forms 4 _ s (last_four h r) in inr (inr (inr (r, e.0, e.1, e.2, e.3))))))
+    (sizes p.0 (length h) (lead_len (get_or h p.0 0)) size (lead_len_pos (get_or h p.0 0)) (lead_len_le (get_or h p.0 0)))
+  where
+    size : length h ≡ p.0 + lead_len (get_or h p.0 0)
+    size = (Placed-from h p.0 (length h) c p.1).size
+
+    forms : (k : ℕ) (e : List ℕ) → length h ≡ p.0 + k → slice_range h (length h - k) (length h) ≡ e → Encodes e c
+    forms k e s q =
+        let from : p.0 ≡ length h - k = omega arith in
+        subst (λ (x : List ℕ). Encodes x c) (ap (λ j. slice_range h j (length h)) from ∙ q) p.1.encoded
+
+-- a byte of ASCII at the end is the character that ends the list
+pub EndsAt-ascii : (h : List ℕ) (b : ℕ) → slice_get h (length h - 1) ≡ Some b → b < 128 → EndsAt h (length h) b
+EndsAt-ascii h b g low =
+    let w : length h - 1 < length h = slice_get_within h (length h - 1) b g in
+    let e : get_or h (length h - 1) 0 ≡ b = get_or_from_slice_get h (length h - 1) b 0 g in
+    EndsAt-from h b (inl (omega arith, omega arith, sym e))
 
 -- what a place has in the whole list and in the rest
 rest_slice : (h : List ℕ) (s n : ℕ) → slice_range (drop s h) 0 n ≡ slice_range h s (s + n)
@@ -289,39 +353,6 @@ BeginsAt-drop h s j c e =
     let w = e.within in
     let i : s + (j - s) ≡ j = omega arith in
     (j - s, record { ordered = omega arith; within = simp length-drop (omega arith); encoded = subst (λ (x : List ℕ). Encodes x c) (sym (rest_slice h s (j - s) ∙ ap (slice_range h s) i)) e.encoded })
-
--- a character that begins the rest, and has as many bytes as the rest, ends the list
-pub EndsAt-from_rest : (h : List ℕ) (s c : ℕ) → s < length h → BeginsAt (drop s h) 0 c → len_utf8 c ≡ length h - s → EndsAt h (length h) c
-EndsAt-from_rest h s c l b e =
-    let p = b.1 in
-    let w = p.within in
-    let n : length (slice_range (drop s h) 0 b.0) ≡ b.0 - 0 = length-slice (drop s h) 0 b.0 p.ordered p.within in
-    let m : length (slice_range (drop s h) 0 b.0) ≡ len_utf8 c = length-Encodes-len_utf8 (slice_range (drop s h) 0 b.0) c p.encoded in
-    let i : s + b.0 ≡ length h = omega arith in
-    (s, record { ordered = omega arith; within = omega arith; encoded = subst (λ (x : List ℕ). Encodes x c) (rest_slice h s b.0 ∙ ap (slice_range h s) i) p.encoded })
-
--- a character that ends the list begins where the scan over tails stops
-pub EndsAt-begins : (h : List ℕ) (s c : ℕ) → s < length h → length h - 4 ≤ s → ((k : ℕ) → s < k → k < length h → IsTail (get_or h k 0))
-    → (s ≤ length h - 4) ⊎ (IsTail (get_or h s 0) → ⊥) → EndsAt h (length h) c → BeginsAt (drop s h) 0 c × (len_utf8 c ≡ length h - s)
-EndsAt-begins h s c l low tails stop e =
-    let p = Placed-from h e.0 (length h) c e.1 in
-    let size = p.size in
-    let some = p.some in
-    let four = lead_len_le (get_or h e.0 0) in
-    let not_above : s < e.0 → ⊥ = λ x. p.head (tails e.0 x some) in
-    let not_below : e.0 < s → ⊥ = λ x. ⊎_elim (λ y. omega arith) (λ y. y (p.rest s x l)) stop in
-    let same : e.0 ≡ s = grind arith in
-    let r : EncodedFrom h s (length h) c = subst (λ x. EncodedFrom h x (length h) c) same e.1 in
-    let n : length (slice_range h s (length h)) ≡ length h - s = length-slice h s (length h) r.ordered r.within in
-    (BeginsAt-drop h s (length h) c r, sym (length-Encodes-len_utf8 (slice_range h s (length h)) c r.encoded) ∙ n)
-
-pub EndsAt-none : (h : List ℕ) (s : ℕ) → s < length h → length h - 4 ≤ s → ((k : ℕ) → s < k → k < length h → IsTail (get_or h k 0))
-    → (s ≤ length h - 4) ⊎ (IsTail (get_or h s 0) → ⊥) → ((c : ℕ) → BeginsAt (drop s h) 0 c → len_utf8 c ≡ length h - s → ⊥) → (c : ℕ) → EndsAt h (length h) c → ⊥
-EndsAt-none h s l low tails stop none c e = let q = EndsAt-begins h s c l low tails stop e in none c q.0 q.1
-
--- a first character of another size
-pub BeginsAt-other_size : (h : List ℕ) (c n m : ℕ) → BeginsAt h 0 c → n ≡ len_utf8 c → (n ≡ m → ⊥) → (d : ℕ) → BeginsAt h 0 d → len_utf8 d ≡ m → ⊥
-BeginsAt-other_size h c n m b e f d q l = f (e ∙ ap len_utf8 (BeginsAt-same h 0 c d b q) ∙ l)
 
 -- what an answer says, for a reader that takes it apart
 pub DecodesTo-ok : (h : List ℕ) (r : Option (Result ℕ ℕ)) (f : Result ℕ ℕ) (c : ℕ) → DecodesTo h r → r ≡ Some f → f ≡ Ok c → BeginsAt h 0 c
@@ -378,10 +409,3 @@ DecodesLastTo-ok h r f c p e q = rw (e, q) at p
 
 pub DecodesTo-at_err : (h : List ℕ) (r : Option (Result ℕ ℕ)) (f : Result ℕ ℕ) (b : ℕ) → DecodesTo h r → r ≡ Some f → f ≡ Err b → DecodesTo h (Some (Err b))
 DecodesTo-at_err h r f b p e q = rw (e, q) at p
-
--- a byte of ASCII at the end is the character that ends the list
-pub EndsAt-ascii : (h : List ℕ) (b : ℕ) → slice_get h (length h - 1) ≡ Some b → b < 128 → EndsAt h (length h) b
-EndsAt-ascii h b g low =
-    let w : length h - 1 < length h = slice_get_within h (length h - 1) b g in
-    let e : get_or h (length h - 1) 0 ≡ b = get_or_from_slice_get h (length h - 1) b 0 g in
-    (length h - 1, record { ordered = omega arith; within = omega arith; encoded = subst (λ (c : ℕ). Encodes (slice_range h (length h - 1) (length h)) c) e (one_byte h (length h - 1) (length h) (omega arith) w (omega arith)) })

@@ -1,4 +1,4 @@
--- The character that begins a list of bytes, by the places of its bytes: for the reader that looks at one after the other.
+-- The character that begins a list of bytes, and the one that ends it, by the places of its bytes: for the readers that look at one after the other.
 use Rattle.std.specs.Prelude.{◌≡◌, ℕ, ◌+◌, ◌-◌, ◌*◌, ◌≤◌, ◌⊎◌, List, length, slice_index}
 use Rattle.std.specs.Int.{IsInRange}
 use Rattle.rsc_primitives.specs.Utf8.{IsTail, OpensThree, OpensFour}
@@ -11,3 +11,14 @@ IsFirstNumber h n =
     ⊎ ((3 ≤ length h) × OpensThree (slice_index h 0) (slice_index h 1) × IsTail (slice_index h 2) × (n ≡ (slice_index h 0 - 0xE0) * 4096 + (slice_index h 1 - 0x80) * 64 + (slice_index h 2 - 0x80)))
     ⊎ ((4 ≤ length h) × OpensFour (slice_index h 0) (slice_index h 1) × IsTail (slice_index h 2) × IsTail (slice_index h 3)
     × (n ≡ (slice_index h 0 - 0xF0) * 262144 + (slice_index h 1 - 0x80) * 4096 + (slice_index h 2 - 0x80) * 64 + (slice_index h 3 - 0x80)))
+
+-- n is the number of the character that ends the bytes
+abbrev pub IsLastNumber : List ℕ → ℕ → Type 0
+IsLastNumber h n =
+    ((1 ≤ length h) × (slice_index h (length h - 1) ≤ 0x7F) × (n ≡ slice_index h (length h - 1)))
+    ⊎ ((2 ≤ length h) × IsInRange 0xC2 0xDF (slice_index h (length h - 2)) × IsTail (slice_index h (length h - 1))
+    × (n ≡ (slice_index h (length h - 2) - 0xC0) * 64 + (slice_index h (length h - 1) - 0x80)))
+    ⊎ ((3 ≤ length h) × OpensThree (slice_index h (length h - 3)) (slice_index h (length h - 2)) × IsTail (slice_index h (length h - 1))
+    × (n ≡ (slice_index h (length h - 3) - 0xE0) * 4096 + (slice_index h (length h - 2) - 0x80) * 64 + (slice_index h (length h - 1) - 0x80)))
+    ⊎ ((4 ≤ length h) × OpensFour (slice_index h (length h - 4)) (slice_index h (length h - 3)) × IsTail (slice_index h (length h - 2)) × IsTail (slice_index h (length h - 1))
+    × (n ≡ (slice_index h (length h - 4) - 0xF0) * 262144 + (slice_index h (length h - 3) - 0x80) * 4096 + (slice_index h (length h - 2) - 0x80) * 64 + (slice_index h (length h - 1) - 0x80)))

@@ -1,6 +1,7 @@
 //! Bytes shown as text for people to read, whatever they are.
-ghost use Rattle.std.specs.Prelude.{◌≡◌, ℕ, ◌≤◌, ◌<◌, IfOk, MatchOption, Some, length, flat_map, string_bytes, true, false};
+ghost use Rattle.std.specs.Prelude.{◌≡◌, ℕ, ◌≤◌, ◌<◌, IfOk, MatchOption, Some, length, flat_map, string_bytes};
 ghost use Rattle.std.specs.Char.{len_utf8};
+ghost use Rattle.std.specs.Char.Escape.{escape_or};
 ghost use Rattle.std.specs.Fmt.{WritesOnOk};
 ghost use Rattle.rsc_primitives.specs.Escapes.{byte_text, step_text, haystack_text, hex_escape, EncodesOnlyAscii};
 ghost use Rattle.rsc_primitives.specs.Utf8.{BeginsAt};
@@ -63,21 +64,8 @@ fn write_byte<W: fmt::Write>(byte: u8, f: &mut fmt::Formatter<W>) -> fmt::Result
 {
     match byte {
         b' ' => f.write_str("' '"),
-        b'\t' => f.write_str("\\t"),
-        b'\n' => f.write_str("\\n"),
-        b'\r' => f.write_str("\\r"),
-        b'"' => f.write_str("\\\""),
-        b'\'' => f.write_str("\\'"),
-        b'\\' => f.write_str("\\\\"),
-        0x21..=0x7E => f.write_char(char::from(byte)),
-        _ => write_capital_hex(byte, f),
+        _ => write_escaped(byte, true, f),
     }
-}
-
-fn write_capital_hex<W: fmt::Write>(byte: u8, f: &mut fmt::Formatter<W>) -> fmt::Result
-    ensures { WritesOnOk W.write_str_gives f.old result (hex_escape true byte) f.new }
-{
-    write!(f, "\\x{byte:02X}")
 }
 
 fn write_haystack<W: fmt::Write>(haystack: &[u8], f: &mut fmt::Formatter<W>) -> fmt::Result
@@ -131,26 +119,39 @@ fn write_step<W: fmt::Write>(byte: u8, f: &mut fmt::Formatter<W>) -> fmt::Result
     ensures { WritesOnOk W.write_str_gives f.old result (step_text byte) f.new }
 {
     match byte {
-        0 => f.write_str("\\0"),
-        b'\t' => f.write_str("\\t"),
-        b'\n' => f.write_str("\\n"),
-        b'\r' => f.write_str("\\r"),
-        b'"' => f.write_str("\\\""),
-        b'\'' => f.write_str("\\'"),
-        b'\\' => f.write_str("\\\\"),
+        0x00 => f.write_str("\\0"),
         0x1A => f.write_str("\\u{1a}"),
         0x1B => f.write_str("\\u{1b}"),
         0x1C => f.write_str("\\u{1c}"),
         0x1D => f.write_str("\\u{1d}"),
         0x1E => f.write_str("\\u{1e}"),
         0x1F => f.write_str("\\u{1f}"),
-        0x20..=0x7E => f.write_char(char::from(byte)),
-        _ => write_small_hex(byte, f),
+        _ => write_escaped(byte, false, f),
     }
 }
 
-fn write_small_hex<W: fmt::Write>(byte: u8, f: &mut fmt::Formatter<W>) -> fmt::Result
-    ensures { WritesOnOk W.write_str_gives f.old result (hex_escape false byte) f.new }
+// A byte that prints as it is, one that has a letter of its own, and any other by its hexadecimal digits.
+fn write_escaped<W: fmt::Write>(byte: u8, capitals: bool, f: &mut fmt::Formatter<W>) -> fmt::Result
+    ensures { WritesOnOk W.write_str_gives f.old result (escape_or byte (hex_escape capitals byte)) f.new }
 {
-    write!(f, "\\x{byte:02x}")
+    match byte {
+        b'\t' => f.write_str("\\t"),
+        b'\n' => f.write_str("\\n"),
+        b'\r' => f.write_str("\\r"),
+        b'"' => f.write_str("\\\""),
+        b'\'' => f.write_str("\\'"),
+        b'\\' => f.write_str("\\\\"),
+        0x20..=0x7E => f.write_char(char::from(byte)),
+        _ => write_hex(byte, capitals, f),
+    }
+}
+
+fn write_hex<W: fmt::Write>(byte: u8, capitals: bool, f: &mut fmt::Formatter<W>) -> fmt::Result
+    ensures { WritesOnOk W.write_str_gives f.old result (hex_escape capitals byte) f.new }
+{
+    if capitals {
+        write!(f, "\\x{byte:02X}")
+    } else {
+        write!(f, "\\x{byte:02x}")
+    }
 }

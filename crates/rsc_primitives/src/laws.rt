@@ -1,17 +1,23 @@
 //! Laws that a caller may cite: functions that do nothing, and whose contracts are the laws.
-ghost use Rattle.std.specs.Prelude.{◌≡◌, ◌↔◌, ◌⊎◌, ◌<◌, ◌≤◌, ◌++◌, ℕ, List, [], length, slice_index, Ok, Some, true, ◌==◌};
+ghost use Rattle.std.specs.Prelude.{◌≡◌, ◌↔◌, ◌⊎◌, ◌<◌, ◌≤◌, ◌++◌, ℕ, List, [], length, slice_index, Ok, Some, true, ◌==◌, ◌+◌};
 ghost use Rattle.std.specs.Char.{IsScalar, encode_utf8};
 ghost use Rattle.std.specs.Int.{w32, from_le_bytes, to_le_bytes};
 ghost use Rattle.std.specs.Str.{encode_utf8_all, all_scalars};
 ghost use Rattle.std.specs.Hash as fed;
 ghost use Rattle.std.specs.Ordering.{nat_cmp};
-ghost use Rattle.rsc_primitives.specs.Indices.{IsIndex, index_of};
+ghost use Rattle.rsc_primitives.specs.Indices.{IsIndex, index_of, max_index};
 ghost use Rattle.rsc_primitives.specs.Utf8.{Encodes, EncodesAll, BeginsAt, EndsAt, IsBoundary, IsInside};
 
 use crate::{
     NonMaxUsize, PatternID, PatternIDError, SmallIndex, SmallIndexError, StateID, StateIDError,
 };
 use std::hash::Hash;
+
+/// How many indices of each kind there are, and how many bytes one takes.
+pub fn limits_of_indices()
+    ensures limit { (SmallIndex.LIMIT ≡ max_index + 1) × (PatternID.LIMIT ≡ max_index + 1) × (StateID.LIMIT ≡ max_index + 1) }
+    ensures size { (SmallIndex.SIZE ≡ 4) × (PatternID.SIZE ≡ 4) × (StateID.SIZE ≡ 4) }
+{}
 
 /// Reading the four bytes of an index gives the index.
 pub fn le_bytes_round_trip()

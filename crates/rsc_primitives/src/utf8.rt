@@ -1,8 +1,7 @@
 //! UTF-8 read from either end of any bytes: RFC 3629, section 4.
-ghost use Rattle.std.specs.Prelude.{◌≡◌, ◌↔◌, ℕ, IsTrue, MatchOption, length};
-ghost use Rattle.std.specs.Char.{len_utf8};
-ghost use Rattle.rsc_primitives.specs.Utf8.{is_word_byte, IsTail, OpensThree, OpensFour, BeginsAt, DecodesTo, DecodesLastTo, IsBoundary};
-ghost use Rattle.rsc_primitives.specs.Utf8Layout.{IsFirstNumber};
+ghost use Rattle.std.specs.Prelude.{◌≡◌, ◌↔◌, ℕ, ◌+◌, ◌-◌, ◌*◌, ◌≤◌, IsTrue, MatchOption};
+ghost use Rattle.rsc_primitives.specs.Utf8.{is_word_byte, IsTail, OpensThree, OpensFour, DecodesTo, DecodesLastTo, IsBoundary};
+ghost use Rattle.rsc_primitives.specs.Utf8Layout.{IsFirstNumber, IsLastNumber};
 
 /// Whether the byte is a digit, a letter of ASCII or the low line: the word characters below 128.
 #[inline(always)]
@@ -15,7 +14,7 @@ pub fn is_word_byte(byte: u8) -> bool
     }
 }
 
-/// Whether `at` is the length of the bytes, or the place of a byte that goes on no character: one below 80 or from C0 on.
+/// Whether `at` is the length of the bytes, or the place of a byte that isn't within a character: at most 7F or at least C0.
 ///
 /// Any number is allowed. Above the length the answer is false.
 #[inline(always)]
@@ -59,28 +58,12 @@ pub fn decode_last(bytes: &[u8]) -> Option<Result<char, u8>>
     if last < 0x80 {
         return Some(Ok(char::from(last)));
     }
-    let limit = bytes.len().saturating_sub(4);
-    let mut start = bytes.len() - 1;
-    while start > limit && is_tail(bytes[start]) {
-        start -= 1;
+    if let Some(number) = last_number(bytes) {
+        if let Some(c) = char::from_u32(number) {
+            return Some(Ok(c));
+        }
     }
-    match only_char(&bytes[start..]) {
-        Some(c) => Some(Ok(c)),
-        None => Some(Err(last)),
-    }
-}
-
-// The character whose encoding the bytes are.
-#[inline(always)]
-fn only_char(bytes: &[u8]) -> Option<char>
-    ensures { MatchOption result ((c : ℕ) → BeginsAt bytes.now 0 c → len_utf8 c ≡ length bytes.now → ⊥) (λ c. BeginsAt bytes.now 0 c × (len_utf8 c ≡ length bytes.now)) }
-{
-    match decode(bytes) {
-        Some(Ok(c)) if c.len_utf8() == bytes.len() => Some(c),
-        Some(Ok(_)) => None,
-        Some(Err(_)) => None,
-        None => None,
-    }
+    Some(Err(last))
 }
 
 #[inline(always)]
@@ -113,8 +96,8 @@ fn first_number(bytes: &[u8]) -> Option<u32>
     if !is_tail(b) {
         return None;
     }
-    if 0xC2 <= a && a <= 0xDF {
-        return Some((u32::from(a) - 0xC0) * 64 + (u32::from(b) - 0x80));
+    if a <= 0xDF {
+        return Some(number_of_two(a, b));
     }
     if n < 3 {
         return None;
@@ -124,24 +107,88 @@ fn first_number(bytes: &[u8]) -> Option<u32>
         return None;
     }
     if opens_three(a, b) {
-        return Some(
-            (u32::from(a) - 0xE0) * 4096 + (u32::from(b) - 0x80) * 64 + (u32::from(c) - 0x80),
-        );
+        return Some(number_of_three(a, b, c));
     }
     if n < 4 {
         return None;
     }
     let d = bytes[3];
     if is_tail(d) && opens_four(a, b) {
-        Some(
-            (u32::from(a) - 0xF0) * 262144
-                + (u32::from(b) - 0x80) * 4096
-                + (u32::from(c) - 0x80) * 64
-                + (u32::from(d) - 0x80),
-        )
+        Some(number_of_four(a, b, c, d))
     } else {
         None
     }
+}
+
+// The number of the character that ends the bytes. It stops at the first byte from the back that can't stand there.
+#[inline(always)]
+fn last_number(bytes: &[u8]) -> Option<u32>
+    ensures { MatchOption result ((n : ℕ) → IsLastNumber bytes.now n → ⊥) (IsLastNumber bytes.now) }
+{
+    let n = bytes.len();
+    if n < 1 {
+        return None;
+    }
+    let d = bytes[n - 1];
+    if d <= 0x7F {
+        return Some(u32::from(d));
+    }
+    if n < 2 || !is_tail(d) {
+        return None;
+    }
+    let c = bytes[n - 2];
+    if 0xC2 <= c && c <= 0xDF {
+        return Some(number_of_two(c, d));
+    }
+    if n < 3 || !is_tail(c) {
+        return None;
+    }
+    let b = bytes[n - 3];
+    if opens_three(b, c) {
+        return Some(number_of_three(b, c, d));
+    }
+    if n < 4 {
+        return None;
+    }
+    let a = bytes[n - 4];
+    if opens_four(a, b) {
+        Some(number_of_four(a, b, c, d))
+    } else {
+        None
+    }
+}
+
+#[inline(always)]
+fn number_of_two(a: u8, b: u8) -> u32
+    requires lead { 0xC0 ≤ a }
+    requires tail { 0x80 ≤ b }
+    ensures { result ≡ (a - 0xC0) * 64 + (b - 0x80) }
+{
+    (u32::from(a) - 0xC0) * 64 + (u32::from(b) - 0x80)
+}
+
+#[inline(always)]
+fn number_of_three(a: u8, b: u8, c: u8) -> u32
+    requires lead { 0xE0 ≤ a }
+    requires second { 0x80 ≤ b }
+    requires tail { 0x80 ≤ c }
+    ensures { result ≡ (a - 0xE0) * 4096 + (b - 0x80) * 64 + (c - 0x80) }
+{
+    (u32::from(a) - 0xE0) * 4096 + (u32::from(b) - 0x80) * 64 + (u32::from(c) - 0x80)
+}
+
+#[inline(always)]
+fn number_of_four(a: u8, b: u8, c: u8, d: u8) -> u32
+    requires lead { 0xF0 ≤ a }
+    requires second { 0x80 ≤ b }
+    requires third { 0x80 ≤ c }
+    requires tail { 0x80 ≤ d }
+    ensures { result ≡ (a - 0xF0) * 262144 + (b - 0x80) * 4096 + (c - 0x80) * 64 + (d - 0x80) }
+{
+    (u32::from(a) - 0xF0) * 262144
+        + (u32::from(b) - 0x80) * 4096
+        + (u32::from(c) - 0x80) * 64
+        + (u32::from(d) - 0x80)
 }
 
 // Whether an encoding of three bytes may begin with these two.

@@ -9,9 +9,9 @@ use std::error::Error;
 use std::fmt;
 use std::marker::Model;
 
-/// An index from 0 to 2147483646, in four bytes.
+/// The number of a pattern, from 0 to 2147483646, in four bytes.
 ///
-/// A contract sees it as the number. A count of all indices below [`PatternID::LIMIT`] fits in an `i32`.
+/// A contract sees it as the number. The number plus 1 and a count of all such numbers fit in an `i32`.
 #[derive(Clone, Copy, Debug, PartialEq, Eq, PartialOrd, Ord, Hash)]
 pub struct PatternID(u32);
 
@@ -133,6 +133,7 @@ impl PatternID {
 impl Default for PatternID {
     ghost is_default = { λ index. index ≡ 0 };
 
+    #[inline]
     fn default() -> PatternID {
         PatternID::ZERO
     }
@@ -212,6 +213,7 @@ impl Model for PatternIDError {
 
 impl PatternIDError {
     /// The number that was refused.
+    #[inline]
     pub fn attempted(&self) -> u64
         ensures { result ≡ self.now }
     {
@@ -243,14 +245,15 @@ pub struct PatternIDIter {
 }
 
 impl Model for PatternIDIter {
-    ghost use Rattle.std.specs.Prelude.{ℕ, ◌≤◌, ◌-◌, List};
+    ghost use Rattle.std.specs.Prelude.{ℕ, ◌+◌, ◌-◌, ◌≤◌, List};
     ghost use Rattle.std.specs.List.{range_with_len};
+    ghost use Rattle.rsc_primitives.specs.Indices.{max_index};
 
     ghost Value = { List ℕ };
 
     ghost view = { λ it. range_with_len it.next_index (it.len - it.next_index) };
 
-    ghost invariant = { λ it. it.len ≤ 2147483647 };
+    ghost invariant = { λ it. it.len ≤ max_index + 1 };
 }
 
 impl Iterator for PatternIDIter {

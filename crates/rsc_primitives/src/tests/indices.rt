@@ -1,10 +1,11 @@
-ghost use Rattle.std.specs.Prelude.{◌≡◌, ◌↔◌, ◌<◌, ◌≤◌, IsTrue, IsOkAnd, Ok, length};
+ghost use Rattle.std.specs.Prelude.{◌≡◌, ◌↔◌, ◌<◌, ◌≤◌, IsTrue, IsOkAnd, IfOk, Ok, length};
+ghost use Rattle.std.specs.List.{range_with_len};
 
 use crate::{
     NonMaxUsize, PatternID, PatternIDError, PatternIDIter, SmallIndex, SmallIndexError, StateID,
     StateIDError,
 };
-use std::alloc::AllocError;
+use std::alloc::{AllocError, Global};
 use std::test::Fail;
 
 // Callers, each proved by the contracts alone.
@@ -45,11 +46,11 @@ fn at_state(id: StateID, states: &[u8]) -> u8
     states[id.as_usize()]
 }
 
-fn count(len: usize) -> usize
+fn all_below(alloc: Global, len: usize) -> Result<Vec<SmallIndex>, AllocError>
     requires { len ≤ SmallIndex.LIMIT }
-    ensures { result ≡ len }
+    ensures { IfOk result (λ indices. indices.items ≡ range_with_len 0 len) }
 {
-    SmallIndex::iter(len).count()
+    SmallIndex::iter(len).collect(alloc)
 }
 
 // The number of an index, or `None` and the number that was refused.
@@ -176,7 +177,11 @@ fn walks_from_zero_and_rests_at_the_end(rt: HostRuntime) -> Result<(), Fail> {
         assert_eq!(rt; walk.next().map(|id| id.as_usize()), want);
     }
     assert_eq!(rt; SmallIndex::iter(0).next(), None);
-    assert_eq!(rt; count(5), 5);
+    let indices = all_below(rt.alloc(), 2)?;
+    assert_eq!(rt;
+        indices.as_slice(),
+        [SmallIndex::ZERO, SmallIndex::must(1)].as_slice()
+    );
     let mut walk = PatternID::iter(2);
     assert_eq!(rt; walk.next(), Some(PatternID::ZERO));
     let mut again = walk_again(&walk)?;
