@@ -1,0 +1,5 @@
+pub mod NumbersLemmas
+pub mod PartsLent
+pub mod PatternSetsLemmas
+pub mod Rows
+pub mod SpansLemmas
