@@ -1,0 +1,12 @@
+-- The walk over the first indices: what is left of it at a place.
+use Rattle.std.proofs.Common.{◌≡◌, ℕ, suc, zero, ◌+◌, ◌-◌, ◌≤◌, ◌<◌, List, [], ◌∷◌, refl, arith, ap}
+use Rattle.std.specs.List.{range_with_len}
+
+range_first : (a n m : ℕ) → n ≡ suc m → range_with_len a n ≡ a ∷ range_with_len (a + 1) m
+range_first a n m e = rw e refl
+
+pub range_left_first : (a b : ℕ) → a < b → range_with_len a (b - a) ≡ a ∷ range_with_len (a + 1) (b - (a + 1))
+range_left_first a b h = range_first a (b - a) (b - (a + 1)) (omega (arith, h))
+
+pub range_left_none : (a b : ℕ) → b ≤ a → range_with_len a (b - a) ≡ []
+range_left_none a b h = let e : b - a ≡ 0 = omega (arith, h) in rw e refl

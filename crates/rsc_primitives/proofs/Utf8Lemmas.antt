@@ -1,0 +1,387 @@
+-- What the nine forms say of bytes and places, in numbers alone.
+use Rattle.std.proofs.Common.{◌≡◌, ℕ, zero, suc, ◌+◌, ◌-◌, ◌*◌, ◌<◌, ◌≤◌, min, ◌⊎◌, cond, ltb, List, [], ◌∷◌, length, get_or, take, drop, refl, sym, ap, ◌∙◌, subst, arith, length-take, length-drop, get_or-take, get_or-drop, inl, inr, ⊎_elim, Option, Some, None, Result, Ok, Err, ext_get_or, drop-cons}
+use Rattle.std.specs.Int.{IsInRange}
+use Rattle.std.specs.Char.{InScalarRange, len_utf8}
+use Rattle.std.specs.Prelude.{slice_range, slice_get}
+use Rattle.std.proofs.lemmas.Bool.Decides.{nat_tests}
+use Rattle.std.proofs.lemmas.Option.{slice_get_within, get_or_from_slice_get}
+use Rattle.rsc_primitives.specs.Utf8.{IsTail, OpensThree, OpensFour, Encodes, EncodedFrom, BeginsAt, EndsAt, IsInside, DecodesTo, DecodesLastTo}
+use Rattle.rsc_primitives.specs.Utf8Layout.{IsFirstNumber}
+
+-- how many bytes an encoding takes that begins with this byte
+abbrev pub lead_len : ℕ → ℕ
+lead_len a = cond (ltb a 0x80) 1 (cond (ltb a 0xE0) 2 (cond (ltb a 0xF0) 3 4))
+
+lead_range : (a b : ℕ) → OpensThree a b → (0xE0 ≤ a) × (a < 0xF0) × IsTail b
+lead_range a b h = grind arith
+
+lead_range_four : (a b : ℕ) → OpensFour a b → (0xF0 ≤ a) × (a < 0xF5) × IsTail b
+lead_range_four a b h = grind arith
+
+len_one : (a : ℕ) → a ≤ 0x7F → 1 ≡ lead_len a
+len_one a h = grind (arith, nat_tests)
+
+len_two : (a : ℕ) → IsInRange 0xC2 0xDF a → 2 ≡ lead_len a
+len_two a h = grind (arith, nat_tests)
+
+len_three : (a : ℕ) → 0xE0 ≤ a → a < 0xF0 → 3 ≡ lead_len a
+len_three a h k = grind (arith, nat_tests)
+
+len_four : (a : ℕ) → 0xF0 ≤ a → 4 ≡ lead_len a
+len_four a h = grind (arith, nat_tests)
+
+pub length-Encodes : (e : List ℕ) (n : ℕ) → Encodes e n → length e ≡ lead_len (get_or e 0 0)
+length-Encodes [] n h = absurd h
+length-Encodes (a ∷ []) n h = len_one a h.0
+length-Encodes (a ∷ b ∷ []) n h = len_two a h.0
+length-Encodes (a ∷ b ∷ c ∷ []) n h = let r = lead_range a b h.0 in len_three a r.0 r.1
+length-Encodes (a ∷ b ∷ c ∷ d ∷ []) n h = len_four a (lead_range_four a b h.0).0
+length-Encodes (a ∷ b ∷ c ∷ d ∷ x ∷ r) n h = absurd h
+
+pub Encodes-head : (e : List ℕ) (n : ℕ) → Encodes e n → IsTail (get_or e 0 0) → ⊥
+Encodes-head [] n h t = h
+Encodes-head (a ∷ []) n h t = omega arith
+Encodes-head (a ∷ b ∷ []) n h t = omega arith
+Encodes-head (a ∷ b ∷ c ∷ []) n h t = let r = lead_range a b h.0 in omega arith
+Encodes-head (a ∷ b ∷ c ∷ d ∷ []) n h t = let r = lead_range_four a b h.0 in omega arith
+Encodes-head (a ∷ b ∷ c ∷ d ∷ x ∷ r) n h t = h
+
+pub Encodes-rest : (e : List ℕ) (n : ℕ) → Encodes e n → (k : ℕ) → 0 < k → k < length e → IsTail (get_or e k 0)
+Encodes-rest [] n h k p l = absurd h
+Encodes-rest (a ∷ []) n h k p l = absurd (omega arith)
+Encodes-rest (a ∷ b ∷ []) n h (suc zero) p l = h.1
+Encodes-rest (a ∷ b ∷ c ∷ []) n h (suc zero) p l = (lead_range a b h.0).2
+Encodes-rest (a ∷ b ∷ c ∷ []) n h (suc (suc zero)) p l = h.1
+Encodes-rest (a ∷ b ∷ c ∷ d ∷ []) n h (suc zero) p l = (lead_range_four a b h.0).2
+Encodes-rest (a ∷ b ∷ c ∷ d ∷ []) n h (suc (suc zero)) p l = h.1
+Encodes-rest (a ∷ b ∷ c ∷ d ∷ []) n h (suc (suc (suc zero))) p l = h.2
+Encodes-rest (a ∷ b ∷ c ∷ d ∷ x ∷ r) n h k p l = absurd h
+Encodes-rest _ n h k p l = absurd (omega arith)
+
+pub Encodes-same : (e : List ℕ) (n m : ℕ) → Encodes e n → Encodes e m → n ≡ m
+Encodes-same [] n m h k = absurd h
+Encodes-same (a ∷ []) n m h k = h.1 ∙ sym k.1
+Encodes-same (a ∷ b ∷ []) n m h k = h.2 ∙ sym k.2
+Encodes-same (a ∷ b ∷ c ∷ []) n m h k = h.2 ∙ sym k.2
+Encodes-same (a ∷ b ∷ c ∷ d ∷ []) n m h k = h.3 ∙ sym k.3
+Encodes-same (a ∷ b ∷ c ∷ d ∷ x ∷ r) n m h k = absurd h
+
+-- a character below 128 is its one byte, and the bytes of any other are 128 and more
+pub Encodes-size : (e : List ℕ) (n : ℕ) → Encodes e n → ((length e ≡ 1) × (get_or e 0 0 ≡ n) × (n < 128)) ⊎ ((128 ≤ n) × (128 ≤ get_or e 0 0))
+Encodes-size [] n h = absurd h
+Encodes-size (a ∷ []) n h = grind arith
+Encodes-size (a ∷ b ∷ []) n h = grind arith
+Encodes-size (a ∷ b ∷ c ∷ []) n h = grind arith
+Encodes-size (a ∷ b ∷ c ∷ d ∷ []) n h = grind arith
+Encodes-size (a ∷ b ∷ c ∷ d ∷ x ∷ r) n h = absurd h
+
+-- an encoding by places
+pub record Placed (h : List ℕ) (i j : ℕ) : Type 0 where
+  pub some : i < j
+  pub within : j ≤ length h
+  pub size : j ≡ i + lead_len (get_or h i 0)
+  pub head : IsTail (get_or h i 0) → ⊥
+  pub rest : (k : ℕ) → i < k → k < j → IsTail (get_or h k 0)
+
+length-slice : (h : List ℕ) (i j : ℕ) → i ≤ j → j ≤ length h → length (slice_range h i j) ≡ j - i
+length-slice h i j p q = simp (length-take, length-drop) (omega arith)
+
+get_or-slice : (h : List ℕ) (i j k : ℕ) → k < j - i → get_or (slice_range h i j) k 0 ≡ get_or h (i + k) 0
+get_or-slice h i j k p = get_or-take (j - i) (drop i h) k 0 p ∙ get_or-drop i h k 0
+
+lead_len_pos : (a : ℕ) → 0 < lead_len a
+lead_len_pos a = grind (arith, nat_tests)
+
+pub Placed-from : (h : List ℕ) (i j c : ℕ) → EncodedFrom h i j c → Placed h i j
+Placed-from h i j c e =
+    let l = length-slice h i j e.ordered e.within in
+    let s = length-Encodes (slice_range h i j) c e.encoded in
+    let pos = lead_len_pos (get_or (slice_range h i j) 0 0) in
+    let some : i < j = omega arith in
+    let room : 0 < j - i = omega arith in
+    let first : get_or (slice_range h i j) 0 0 ≡ get_or h i 0 = get_or-slice h i j 0 room ∙ ap (λ x. get_or h x 0) (omega arith) in
+    let size : j - i ≡ lead_len (get_or h i 0) = sym l ∙ s ∙ ap lead_len first in
+    record {
+      some = some;
+      within = e.within;
+      size = omega arith;
+      head = λ t. Encodes-head (slice_range h i j) c e.encoded (subst IsTail (sym first) t);
+      rest = λ k p q.
+          let here : k - i < j - i = omega arith in
+          let at : get_or (slice_range h i j) (k - i) 0 ≡ get_or h k 0 = get_or-slice h i j (k - i) here ∙ ap (λ x. get_or h x 0) (omega arith) in
+          let t : IsTail (get_or (slice_range h i j) (k - i) 0) = Encodes-rest (slice_range h i j) c e.encoded (k - i) (omega arith) (omega arith) in
+          subst IsTail at t;
+    }
+
+-- at most one character begins at a place, and at most one ends there
+pub EncodedFrom-to : (h : List ℕ) (i j k c d : ℕ) → EncodedFrom h i j c → EncodedFrom h i k d → j ≡ k
+EncodedFrom-to h i j k c d p q = let a = Placed-from h i j c p in let b = Placed-from h i k d q in a.size ∙ sym b.size
+
+pub EncodedFrom-from : (h : List ℕ) (i j k c d : ℕ) → EncodedFrom h j i c → EncodedFrom h k i d → j ≡ k
+EncodedFrom-from h i j k c d p q =
+    let a = Placed-from h j i c p in
+    let b = Placed-from h k i d q in
+    let before : j < k → ⊥ = λ l. b.head (a.rest k l b.some) in
+    let after : k < j → ⊥ = λ l. a.head (b.rest j l a.some) in
+    grind arith
+
+pub BeginsAt-same : (h : List ℕ) (i c d : ℕ) → BeginsAt h i c → BeginsAt h i d → c ≡ d
+BeginsAt-same h i c d p q =
+    let e : q.0 ≡ p.0 = EncodedFrom-to h i q.0 p.0 d c q.1 p.1 in
+    let r : EncodedFrom h i p.0 d = subst (λ x. EncodedFrom h i x d) e q.1 in
+    Encodes-same (slice_range h i p.0) c d p.1.encoded r.encoded
+
+pub EndsAt-same : (h : List ℕ) (i c d : ℕ) → EndsAt h i c → EndsAt h i d → c ≡ d
+EndsAt-same h i c d p q =
+    let e : q.0 ≡ p.0 = EncodedFrom-from h i q.0 p.0 d c q.1 p.1 in
+    let r : EncodedFrom h p.0 i d = subst (λ x. EncodedFrom h x i d) e q.1 in
+    Encodes-same (slice_range h p.0 i) c d p.1.encoded r.encoded
+
+-- inside a character none begins and none ends
+pub IsInside-begins : (h : List ℕ) (i c : ℕ) → IsInside h i → BeginsAt h i c → ⊥
+IsInside-begins h i c s b =
+    let a = Placed-from h s.from s.to s.char s.encoded in
+    let p = Placed-from h i b.0 c b.1 in
+    p.head (a.rest i s.after_first s.before_last)
+
+pub IsInside-ends : (h : List ℕ) (i c : ℕ) → IsInside h i → EndsAt h i c → ⊥
+IsInside-ends h i c s b =
+    let a = Placed-from h s.from s.to s.char s.encoded in
+    let p = Placed-from h b.0 i c b.1 in
+    let before : b.0 < s.from → ⊥ = λ l. a.head (p.rest s.from l s.after_first) in
+    let after : s.from < b.0 → ⊥ = λ l. p.head (a.rest b.0 l (omega arith)) in
+    let same : b.0 ≡ s.from = grind arith in
+    let size : i ≡ s.from + lead_len (get_or h s.from 0) = p.size ∙ ap (λ x. x + lead_len (get_or h x 0)) same in
+    omega arith
+
+-- two lists of bytes that differ at most in bytes below 128
+pub record AgreePastAscii (h k : List ℕ) : Type 0 where
+  pub same_length : length h ≡ length k
+  pub each : (i : ℕ) → i < length h → (get_or h i 0 ≡ get_or k i 0) ⊎ ((get_or h i 0 < 128) × (get_or k i 0 < 128))
+
+zero_or : (n : ℕ) → (n ≡ 0) ⊎ (0 < n)
+zero_or n = grind arith
+
+tail_agrees : (h k : List ℕ) (i : ℕ) → AgreePastAscii h k → i < length h → 128 ≤ get_or h i 0 → get_or k i 0 ≡ get_or h i 0
+tail_agrees h k i s l b = ⊎_elim (λ e. sym e) (λ p. absurd (omega arith)) (s.each i l)
+
+pub slice_one : (k : List ℕ) (i j : ℕ) → j ≡ i + 1 → i < length k → slice_range k i j ≡ get_or k i 0 ∷ []
+slice_one k i j one w =
+    let e : j - i ≡ 1 = omega arith in
+    ap (λ n. take n (drop i k)) e ∙ ap (λ (x : List ℕ). take 1 x) (drop-cons k i 0 w)
+
+one_byte : (k : List ℕ) (i j : ℕ) → j ≡ i + 1 → i < length k → get_or k i 0 < 128 → Encodes (slice_range k i j) (get_or k i 0)
+one_byte k i j one w low = subst (λ (x : List ℕ). Encodes x (get_or k i 0)) (sym (slice_one k i j one w)) (omega arith, refl)
+
+same_slice : (h k : List ℕ) (i j : ℕ) → AgreePastAscii h k → Placed h i j → length (slice_range h i j) ≡ j - i → length (slice_range k i j) ≡ j - i → 128 ≤ get_or h i 0 → slice_range h i j ≡ slice_range k i j
+same_slice h k i j s p l lk big =
+    ext_get_or 0 (slice_range h i j) (slice_range k i j) (l ∙ sym lk)
+    (λ n q.
+    let some = p.some in
+    let w = p.within in
+    let here : n < j - i = omega arith in
+    let at : get_or (slice_range h i j) n 0 ≡ get_or h (i + n) 0 = get_or-slice h i j n here in
+    let atk : get_or (slice_range k i j) n 0 ≡ get_or k (i + n) 0 = get_or-slice k i j n here in
+    let high : 128 ≤ get_or h (i + n) 0 = ⊎_elim (λ (z : n ≡ 0). subst (λ x. 128 ≤ get_or h x 0) (omega arith) big) (λ (z : 0 < n). (p.rest (i + n) (omega arith) (omega arith)).0) (zero_or n) in
+    at ∙ sym (tail_agrees h k (i + n) s (omega arith) high) ∙ sym atk)
+
+-- such lists have the same characters past ASCII at the same places, and one-byte characters at the same places
+pub EncodedFrom-agree : (h k : List ℕ) (i j c : ℕ) → AgreePastAscii h k → EncodedFrom h i j c
+    → (EncodedFrom k i j c × (128 ≤ c)) ⊎ ((j ≡ i + 1) × (c ≡ get_or h i 0) × (c < 128) × (get_or k i 0 < 128) × EncodedFrom k i j (get_or k i 0))
+EncodedFrom-agree h k i j c s e =
+    let p = Placed-from h i j c e in
+    let same_len = s.same_length in
+    let room : 0 < j - i = let some = p.some in omega arith in
+    let l : length (slice_range h i j) ≡ j - i = length-slice h i j e.ordered e.within in
+    let lk : length (slice_range k i j) ≡ j - i = length-slice k i j e.ordered (let w = e.within in omega arith) in
+    let first : get_or (slice_range h i j) 0 0 ≡ get_or h i 0 = get_or-slice h i j 0 room ∙ ap (λ x. get_or h x 0) (omega arith) in
+    ⊎_elim
+    (λ t.
+    let here : c ≡ get_or h i 0 = sym t.1 ∙ first in
+    let low : c < 128 = t.2 in
+    let one : j ≡ i + 1 = let some = p.some in let e1 = t.0 in omega arith in
+    let within : i < length h = let some = p.some in let w = e.within in omega arith in
+    let lowk : get_or k i 0 < 128 = ⊎_elim (λ q. let z : get_or k i 0 ≡ c = sym q ∙ sym here in omega arith) (λ q. q.1) (s.each i within) in
+    inr (one, here, low, lowk, record { ordered = e.ordered; within = (let w = e.within in omega arith); encoded = one_byte k i j one (omega arith) lowk }))
+    (λ t. inl (record { ordered = e.ordered; within = (let w = e.within in omega arith); encoded = subst (λ (x : List ℕ). Encodes x c) (same_slice h k i j s p l lk (subst (λ x. 128 ≤ x) first t.1)) e.encoded }, t.0))
+    (Encodes-size (slice_range h i j) c e.encoded)
+
+-- ---- the front of a list, by its bytes
+
+slice_from_start : (h : List ℕ) (j : ℕ) → slice_range h 0 j ≡ take j h
+slice_from_start h j = ap (λ n. take n h) (omega arith)
+
+forms_of : (h : List ℕ) (j c : ℕ) → j ≤ length h → Encodes (take j h) c → IsFirstNumber h c
+forms_of h zero c l e = absurd e
+forms_of (a ∷ r) (suc zero) c l e = inl (omega arith, e.0, e.1)
+forms_of (a ∷ b ∷ r) (suc (suc zero)) c l e = inr (inl (omega arith, e.0, e.1, e.2))
+forms_of (a ∷ b ∷ x ∷ r) (suc (suc (suc zero))) c l e = inr (inr (inl (omega arith, e.0, e.1, e.2)))
+forms_of (a ∷ b ∷ x ∷ y ∷ r) (suc (suc (suc (suc zero)))) c l e = inr (inr (inr (omega arith, e.0, e.1, e.2, e.3)))
+forms_of (a ∷ b ∷ x ∷ y ∷ z ∷ r) (suc (suc (suc (suc (suc n))))) c l e = absurd e
+forms_of _ _ c l e = absurd (omega arith)
+
+pub IsFirstNumber-from : (h : List ℕ) (c : ℕ) → BeginsAt h 0 c → IsFirstNumber h c
+IsFirstNumber-from h c p =
+    let e = p.1 in
+    forms_of h p.0 c e.within (subst (λ (x : List ℕ). Encodes x c) (slice_from_start h p.0) e.encoded)
+
+front : (h : List ℕ) (j c : ℕ) → j ≤ length h → Encodes (take j h) c → BeginsAt h 0 c
+front h j c l e = (j, record { ordered = omega arith; within = l; encoded = subst (λ (x : List ℕ). Encodes x c) (sym (slice_from_start h j)) e })
+
+pub BeginsAt-from : (h : List ℕ) (c : ℕ) → IsFirstNumber h c → BeginsAt h 0 c
+BeginsAt-from h c s =
+    ⊎_elim (λ p. front h 1 c p.0 (one h c p.0 p.1 p.2))
+    (⊎_elim (λ p. front h 2 c p.0 (two h c p.0 p.1 p.2 p.3))
+    (⊎_elim (λ p. front h 3 c p.0 (three h c p.0 p.1 p.2 p.3)) (λ p. front h 4 c p.0 (four h c p.0 p.1 p.2 p.3 p.4)))) s
+  where
+    one : (h : List ℕ) (c : ℕ) → 1 ≤ length h → get_or h 0 0 ≤ 0x7F → c ≡ get_or h 0 0 → Encodes (take 1 h) c
+    one [] c l p q = absurd (omega arith)
+    one (a ∷ r) c l p q = (p, q)
+
+    two : (h : List ℕ) (c : ℕ) → 2 ≤ length h → IsInRange 0xC2 0xDF (get_or h 0 0) → IsTail (get_or h 1 0) → c ≡ (get_or h 0 0 - 0xC0) * 64 + (get_or h 1 0 - 0x80) → Encodes (take 2 h) c
+    two [] c l p q r = absurd (omega arith)
+    two (a ∷ []) c l p q r = absurd (omega arith)
+    two (a ∷ b ∷ t) c l p q r = (p, q, r)
+
+    three : (h : List ℕ) (c : ℕ) → 3 ≤ length h → OpensThree (get_or h 0 0) (get_or h 1 0) → IsTail (get_or h 2 0) → c ≡ (get_or h 0 0 - 0xE0) * 4096 + (get_or h 1 0 - 0x80) * 64 + (get_or h 2 0 - 0x80) → Encodes (take 3 h) c
+    three [] c l p q r = absurd (omega arith)
+    three (a ∷ []) c l p q r = absurd (omega arith)
+    three (a ∷ b ∷ []) c l p q r = absurd (omega arith)
+    three (a ∷ b ∷ x ∷ t) c l p q r = (p, q, r)
+
+    four : (h : List ℕ) (c : ℕ) → 4 ≤ length h → OpensFour (get_or h 0 0) (get_or h 1 0) → IsTail (get_or h 2 0) → IsTail (get_or h 3 0)
+        → c ≡ (get_or h 0 0 - 0xF0) * 262144 + (get_or h 1 0 - 0x80) * 4096 + (get_or h 2 0 - 0x80) * 64 + (get_or h 3 0 - 0x80) → Encodes (take 4 h) c
+    four [] c l p q r s = absurd (omega arith)
+    four (a ∷ []) c l p q r s = absurd (omega arith)
+    four (a ∷ b ∷ []) c l p q r s = absurd (omega arith)
+    four (a ∷ b ∷ x ∷ []) c l p q r s = absurd (omega arith)
+    four (a ∷ b ∷ x ∷ y ∷ t) c l p q r s = (p, q, r, s)
+
+-- the number is that of a character, and the character has as many bytes as std says
+pub InScalarRange-Encodes : (e : List ℕ) (n : ℕ) → Encodes e n → InScalarRange n
+InScalarRange-Encodes [] n h = absurd h
+InScalarRange-Encodes (a ∷ []) n h = grind arith
+InScalarRange-Encodes (a ∷ b ∷ []) n h = grind arith
+InScalarRange-Encodes (a ∷ b ∷ c ∷ []) n h = grind arith
+InScalarRange-Encodes (a ∷ b ∷ c ∷ d ∷ []) n h = grind arith
+InScalarRange-Encodes (a ∷ b ∷ c ∷ d ∷ x ∷ r) n h = absurd h
+
+pub length-Encodes-len_utf8 : (e : List ℕ) (n : ℕ) → Encodes e n → length e ≡ len_utf8 n
+length-Encodes-len_utf8 [] n h = absurd h
+length-Encodes-len_utf8 (a ∷ []) n h = grind (arith, nat_tests)
+length-Encodes-len_utf8 (a ∷ b ∷ []) n h = grind (arith, nat_tests)
+length-Encodes-len_utf8 (a ∷ b ∷ c ∷ []) n h = grind (arith, nat_tests)
+length-Encodes-len_utf8 (a ∷ b ∷ c ∷ d ∷ []) n h = grind (arith, nat_tests)
+length-Encodes-len_utf8 (a ∷ b ∷ c ∷ d ∷ x ∷ r) n h = absurd h
+
+-- ---- the back of a list, by its rest from s on
+
+lead_len_le : (a : ℕ) → lead_len a ≤ 4
+lead_len_le a = grind (arith, nat_tests)
+
+-- what a place has in the whole list and in the rest
+rest_slice : (h : List ℕ) (s n : ℕ) → slice_range (drop s h) 0 n ≡ slice_range h s (s + n)
+rest_slice h s n = slice_from_start (drop s h) n ∙ ap (λ m. take m (drop s h)) (omega arith)
+
+pub BeginsAt-drop : (h : List ℕ) (s j c : ℕ) → EncodedFrom h s j c → BeginsAt (drop s h) 0 c
+BeginsAt-drop h s j c e =
+    let o = e.ordered in
+    let w = e.within in
+    let i : s + (j - s) ≡ j = omega arith in
+    (j - s, record { ordered = omega arith; within = simp length-drop (omega arith); encoded = subst (λ (x : List ℕ). Encodes x c) (sym (rest_slice h s (j - s) ∙ ap (slice_range h s) i)) e.encoded })
+
+-- a character that begins the rest, and has as many bytes as the rest, ends the list
+pub EndsAt-from_rest : (h : List ℕ) (s c : ℕ) → s < length h → BeginsAt (drop s h) 0 c → len_utf8 c ≡ length h - s → EndsAt h (length h) c
+EndsAt-from_rest h s c l b e =
+    let p = b.1 in
+    let w = p.within in
+    let n : length (slice_range (drop s h) 0 b.0) ≡ b.0 - 0 = length-slice (drop s h) 0 b.0 p.ordered p.within in
+    let m : length (slice_range (drop s h) 0 b.0) ≡ len_utf8 c = length-Encodes-len_utf8 (slice_range (drop s h) 0 b.0) c p.encoded in
+    let i : s + b.0 ≡ length h = omega arith in
+    (s, record { ordered = omega arith; within = omega arith; encoded = subst (λ (x : List ℕ). Encodes x c) (rest_slice h s b.0 ∙ ap (slice_range h s) i) p.encoded })
+
+-- a character that ends the list begins where the scan over tails stops
+pub EndsAt-begins : (h : List ℕ) (s c : ℕ) → s < length h → length h - 4 ≤ s → ((k : ℕ) → s < k → k < length h → IsTail (get_or h k 0))
+    → (s ≤ length h - 4) ⊎ (IsTail (get_or h s 0) → ⊥) → EndsAt h (length h) c → BeginsAt (drop s h) 0 c × (len_utf8 c ≡ length h - s)
+EndsAt-begins h s c l low tails stop e =
+    let p = Placed-from h e.0 (length h) c e.1 in
+    let size = p.size in
+    let some = p.some in
+    let four = lead_len_le (get_or h e.0 0) in
+    let not_above : s < e.0 → ⊥ = λ x. p.head (tails e.0 x some) in
+    let not_below : e.0 < s → ⊥ = λ x. ⊎_elim (λ y. omega arith) (λ y. y (p.rest s x l)) stop in
+    let same : e.0 ≡ s = grind arith in
+    let r : EncodedFrom h s (length h) c = subst (λ x. EncodedFrom h x (length h) c) same e.1 in
+    let n : length (slice_range h s (length h)) ≡ length h - s = length-slice h s (length h) r.ordered r.within in
+    (BeginsAt-drop h s (length h) c r, sym (length-Encodes-len_utf8 (slice_range h s (length h)) c r.encoded) ∙ n)
+
+pub EndsAt-none : (h : List ℕ) (s : ℕ) → s < length h → length h - 4 ≤ s → ((k : ℕ) → s < k → k < length h → IsTail (get_or h k 0))
+    → (s ≤ length h - 4) ⊎ (IsTail (get_or h s 0) → ⊥) → ((c : ℕ) → BeginsAt (drop s h) 0 c → len_utf8 c ≡ length h - s → ⊥) → (c : ℕ) → EndsAt h (length h) c → ⊥
+EndsAt-none h s l low tails stop none c e = let q = EndsAt-begins h s c l low tails stop e in none c q.0 q.1
+
+-- a first character of another size
+pub BeginsAt-other_size : (h : List ℕ) (c n m : ℕ) → BeginsAt h 0 c → n ≡ len_utf8 c → (n ≡ m → ⊥) → (d : ℕ) → BeginsAt h 0 d → len_utf8 d ≡ m → ⊥
+BeginsAt-other_size h c n m b e f d q l = f (e ∙ ap len_utf8 (BeginsAt-same h 0 c d b q) ∙ l)
+
+-- what an answer says, for a reader that takes it apart
+pub DecodesTo-ok : (h : List ℕ) (r : Option (Result ℕ ℕ)) (f : Result ℕ ℕ) (c : ℕ) → DecodesTo h r → r ≡ Some f → f ≡ Ok c → BeginsAt h 0 c
+DecodesTo-ok h r f c p e q = rw (e, q) at p
+
+pub DecodesTo-err : (h : List ℕ) (r : Option (Result ℕ ℕ)) (f : Result ℕ ℕ) (b : ℕ) → DecodesTo h r → r ≡ Some f → f ≡ Err b → (c : ℕ) → BeginsAt h 0 c → ⊥
+DecodesTo-err h r f b p e q = (rw (e, q) at p).1
+
+-- ---- a part of a list has the characters of the whole
+
+pub BeginsAt-from_drop : (h : List ℕ) (s c : ℕ) → s ≤ length h → BeginsAt (drop s h) 0 c → BeginsAt h s c
+BeginsAt-from_drop h s c l b =
+    let p = b.1 in
+    let w : b.0 ≤ length h - s = simp length-drop at p.within in
+    (s + b.0, record { ordered = omega arith; within = omega arith; encoded = subst (λ (x : List ℕ). Encodes x c) (rest_slice h s b.0) p.encoded })
+
+front_slice : (h : List ℕ) (s j : ℕ) → j ≤ s → s ≤ length h → slice_range (take s h) j s ≡ slice_range h j s
+front_slice h s j o l =
+    ext_get_or 0 (slice_range (take s h) j s) (slice_range h j s)
+    (length-slice (take s h) j s o (simp length-take (omega arith)) ∙ sym (length-slice h j s o l))
+    (λ n q.
+    let e = length-slice (take s h) j s o (simp length-take (omega arith)) in
+    let here : n < s - j = omega arith in
+    get_or-slice (take s h) j s n here ∙ get_or-take s h (j + n) 0 (omega arith) ∙ sym (get_or-slice h j s n here))
+
+pub EndsAt-take : (h : List ℕ) (s c : ℕ) → s ≤ length h → EndsAt h s c → EndsAt (take s h) (length (take s h)) c
+EndsAt-take h s c l e =
+    let p = e.1 in
+    let n : length (take s h) ≡ s = simp length-take (omega arith) in
+    rw n (e.0, record { ordered = p.ordered; within = simp length-take (omega arith); encoded = subst (λ (x : List ℕ). Encodes x c) (sym (front_slice h s e.0 p.ordered l)) p.encoded })
+
+pub EndsAt-from_take : (h : List ℕ) (s c : ℕ) → s ≤ length h → EndsAt (take s h) (length (take s h)) c → EndsAt h s c
+EndsAt-from_take h s c l e =
+    let n : length (take s h) ≡ s = simp length-take (omega arith) in
+    let f : EndsAt (take s h) s c = subst (λ x. EndsAt (take s h) x c) n e in
+    let p = f.1 in
+    (f.0, record { ordered = p.ordered; within = l; encoded = subst (λ (x : List ℕ). Encodes x c) (front_slice h s f.0 p.ordered l) p.encoded })
+
+-- what the readers of a part say of the whole
+pub DecodesLastTo-none : (h : List ℕ) (s : ℕ) → s ≤ length h → DecodesLastTo (take s h) None → s ≡ 0
+DecodesLastTo-none h s l e = let n : length (take s h) ≡ 0 = ap length e in let m : min s (length h) ≡ 0 = sym (length-take s h) ∙ n in omega arith
+
+pub DecodesTo-none : (h : List ℕ) (s : ℕ) → s ≤ length h → DecodesTo (drop s h) None → s ≡ length h
+DecodesTo-none h s l e = let n : length (drop s h) ≡ 0 = ap length e in let m : length h - s ≡ 0 = sym (length-drop s h) ∙ n in omega arith
+
+pub DecodesLastTo-err : (h : List ℕ) (s b : ℕ) → s ≤ length h → DecodesLastTo (take s h) (Some (Err b)) → (0 < s) × ((c : ℕ) → EndsAt h s c → ⊥)
+DecodesLastTo-err h s b l e = (let p = e.0 in let n : length (take s h) ≡ s = simp length-take (omega arith) in omega arith, λ c q. e.2 c (EndsAt-take h s c l q))
+
+pub DecodesTo-err_at : (h : List ℕ) (s b : ℕ) → s ≤ length h → DecodesTo (drop s h) (Some (Err b)) → (s < length h) × ((c : ℕ) → BeginsAt h s c → ⊥)
+DecodesTo-err_at h s b l e = (let w = slice_get_within (drop s h) 0 b e.0 in let m : 0 < length h - s = simp length-drop at w in omega arith, λ c q. e.1 c (BeginsAt-drop h s q.0 c q.1))
+
+pub DecodesLastTo-ok : (h : List ℕ) (r : Option (Result ℕ ℕ)) (f : Result ℕ ℕ) (c : ℕ) → DecodesLastTo h r → r ≡ Some f → f ≡ Ok c → EndsAt h (length h) c
+DecodesLastTo-ok h r f c p e q = rw (e, q) at p
+
+pub DecodesTo-at_err : (h : List ℕ) (r : Option (Result ℕ ℕ)) (f : Result ℕ ℕ) (b : ℕ) → DecodesTo h r → r ≡ Some f → f ≡ Err b → DecodesTo h (Some (Err b))
+DecodesTo-at_err h r f b p e q = rw (e, q) at p
+
+-- a byte of ASCII at the end is the character that ends the list
+pub EndsAt-ascii : (h : List ℕ) (b : ℕ) → slice_get h (length h - 1) ≡ Some b → b < 128 → EndsAt h (length h) b
+EndsAt-ascii h b g low =
+    let w : length h - 1 < length h = slice_get_within h (length h - 1) b g in
+    let e : get_or h (length h - 1) 0 ≡ b = get_or_from_slice_get h (length h - 1) b 0 g in
+    (length h - 1, record { ordered = omega arith; within = omega arith; encoded = subst (λ (c : ℕ). Encodes (slice_range h (length h - 1) (length h)) c) e (one_byte h (length h - 1) (length h) (omega arith) w (omega arith)) })

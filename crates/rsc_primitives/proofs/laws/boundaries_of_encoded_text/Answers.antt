@@ -1,0 +1,5 @@
+use Rattle.rsc_primitives.proofs.BoundariesLemmas.{IsBoundary-EncodesAll}
+use Rattle.rsc_primitives.proofs.laws.boundaries_of_encoded_text.Goals as goal
+
+pub returns : goal.returns
+returns c = IsBoundary-EncodesAll

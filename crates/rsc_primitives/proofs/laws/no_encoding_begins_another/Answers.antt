@@ -1,0 +1,5 @@
+use Rattle.rsc_primitives.proofs.EncodingsLemmas.{Encodes-no_more}
+use Rattle.rsc_primitives.proofs.laws.no_encoding_begins_another.Goals as goal
+
+pub returns : goal.returns
+returns c = Encodes-no_more

@@ -1,0 +1,5 @@
+use Rattle.rsc_primitives.proofs.Decided.{EndsAt-decided}
+use Rattle.rsc_primitives.proofs.laws.one_ends_or_none.Goals as goal
+
+pub returns : goal.returns
+returns c = EndsAt-decided

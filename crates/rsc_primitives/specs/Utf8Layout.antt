@@ -1,0 +1,13 @@
+-- The character that begins a list of bytes, by the places of its bytes: for the reader that looks at one after the other.
+use Rattle.std.specs.Prelude.{◌≡◌, ℕ, ◌+◌, ◌-◌, ◌*◌, ◌≤◌, ◌⊎◌, List, length, slice_index}
+use Rattle.std.specs.Int.{IsInRange}
+use Rattle.rsc_primitives.specs.Utf8.{IsTail, OpensThree, OpensFour}
+
+-- n is the number of the character that begins the bytes
+abbrev pub IsFirstNumber : List ℕ → ℕ → Type 0
+IsFirstNumber h n =
+    ((1 ≤ length h) × (slice_index h 0 ≤ 0x7F) × (n ≡ slice_index h 0))
+    ⊎ ((2 ≤ length h) × IsInRange 0xC2 0xDF (slice_index h 0) × IsTail (slice_index h 1) × (n ≡ (slice_index h 0 - 0xC0) * 64 + (slice_index h 1 - 0x80)))
+    ⊎ ((3 ≤ length h) × OpensThree (slice_index h 0) (slice_index h 1) × IsTail (slice_index h 2) × (n ≡ (slice_index h 0 - 0xE0) * 4096 + (slice_index h 1 - 0x80) * 64 + (slice_index h 2 - 0x80)))
+    ⊎ ((4 ≤ length h) × OpensFour (slice_index h 0) (slice_index h 1) × IsTail (slice_index h 2) × IsTail (slice_index h 3)
+    × (n ≡ (slice_index h 0 - 0xF0) * 262144 + (slice_index h 1 - 0x80) * 4096 + (slice_index h 2 - 0x80) * 64 + (slice_index h 3 - 0x80)))

@@ -1,0 +1,63 @@
+//! Laws that a caller may cite: functions that do nothing, and whose contracts are the laws.
+ghost use Rattle.std.specs.Prelude.{◌≡◌, ◌↔◌, ◌⊎◌, ◌<◌, ◌≤◌, ◌++◌, ℕ, List, [], length, slice_index, Ok, true};
+ghost use Rattle.std.specs.Char.{IsScalar, encode_utf8};
+ghost use Rattle.std.specs.Int.{w32, from_le_bytes, to_le_bytes};
+ghost use Rattle.std.specs.Str.{encode_utf8_all, all_scalars};
+ghost use Rattle.rsc_primitives.specs.Indices.{IsIndex, index_of};
+ghost use Rattle.rsc_primitives.specs.Utf8.{Encodes, EncodesAll, BeginsAt, EndsAt, IsBoundary, IsInside};
+
+/// Reading the four bytes of an index gives the index.
+pub fn le_bytes_round_trip()
+    ensures { (n : ℕ) → IsIndex n → index_of (from_le_bytes w32 (to_le_bytes w32 n)) ≡ Ok n }
+{}
+
+/// The bytes that encode a character are those that std's `encode_utf8` writes of it, and nothing else is encoded.
+pub fn encoding_is_that_of_std()
+    ensures { (e : List ℕ) (c : ℕ) → Encodes e c ↔ (IsScalar c × (e ≡ encode_utf8 c)) }
+{}
+
+/// The bytes that encode a list of characters are those that std's `encode_utf8` writes of one after the other.
+pub fn encoding_of_a_list_is_that_of_std()
+    ensures { (h cs : List ℕ) → EncodesAll h cs ↔ ((all_scalars cs ≡ true) × (h ≡ encode_utf8_all cs)) }
+{}
+
+/// No encoding is a proper beginning of another.
+pub fn no_encoding_begins_another()
+    ensures { (e rest : List ℕ) (c d : ℕ) → Encodes e c → Encodes (e ++ rest) d → rest ≡ [] }
+{}
+
+/// An encoding of two or more bytes holds no byte below 128.
+pub fn long_encodings_hold_no_ascii()
+    ensures { (e : List ℕ) (c k : ℕ) → Encodes e c → 2 ≤ length e → k < length e → 128 ≤ slice_index e k }
+{}
+
+/// At most one character begins at a place.
+pub fn at_most_one_begins()
+    ensures { (h : List ℕ) (i c d : ℕ) → BeginsAt h i c → BeginsAt h i d → c ≡ d }
+{}
+
+/// At most one character ends at a place.
+pub fn at_most_one_ends()
+    ensures { (h : List ℕ) (i c d : ℕ) → EndsAt h i c → EndsAt h i d → c ≡ d }
+{}
+
+/// A character begins at a place, or none does.
+pub fn one_begins_or_none()
+    ensures { (h : List ℕ) (i : ℕ) → ((c : ℕ) × BeginsAt h i c) ⊎ ((c : ℕ) → BeginsAt h i c → ⊥) }
+{}
+
+/// A character ends at a place, or none does.
+pub fn one_ends_or_none()
+    ensures { (h : List ℕ) (i : ℕ) → ((c : ℕ) × EndsAt h i c) ⊎ ((c : ℕ) → EndsAt h i c → ⊥) }
+{}
+
+/// Inside an encoded character none begins and none ends.
+pub fn none_begins_or_ends_inside()
+    ensures begins { (h : List ℕ) (i c : ℕ) → IsInside h i → BeginsAt h i c → ⊥ }
+    ensures ends { (h : List ℕ) (i c : ℕ) → IsInside h i → EndsAt h i c → ⊥ }
+{}
+
+/// In the encoding of a list of characters the boundaries are the places where a character begins, and the end.
+pub fn boundaries_of_encoded_text()
+    ensures { (h cs : List ℕ) (i : ℕ) → EncodesAll h cs → IsBoundary h i ↔ (((c : ℕ) × BeginsAt h i c) ⊎ (i ≡ length h)) }
+{}
