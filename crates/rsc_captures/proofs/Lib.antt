@@ -1,0 +1,5 @@
+pub mod Lists
+pub mod Places
+pub mod Indexed
+pub mod Clear
+pub mod Starts
