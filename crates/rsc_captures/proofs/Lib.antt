@@ -1,5 +1,8 @@
 pub mod Lists
 pub mod Places
 pub mod Indexed
-pub mod Clear
+pub mod Checked
+pub mod FaultsLemmas
 pub mod Starts
+pub mod NameLemmas
+pub mod Owners

@@ -1,7 +1,10 @@
 pub mod Groups
+pub mod Checks
 pub mod Faults
 pub mod Kinds
 pub mod Found
 pub mod Names
+pub mod NameWalks
 pub mod Layout
 pub mod Repeats
+pub mod SlotOwners

@@ -1,7 +1,8 @@
 //! Looks for the first fault of a group list, and takes no memory.
 ghost use Rattle.std.specs.Prelude.{◌≡◌, ℕ, ◌+◌, ◌*◌, ◌<◌, ◌≤◌, length, IfOk, IfErr, OnOk};
 ghost use Rattle.rsc_captures.specs.Groups.{has_name, lists_in, explicit_before, group_count};
-ghost use Rattle.rsc_captures.specs.Faults.{pattern_fault, group_fault, IsClearPattern, IsFirstInPattern, IsClear, IsFaultless, IsFirstFault, HasNoOtherFault};
+ghost use Rattle.rsc_captures.specs.Faults.{pattern_fault, group_fault};
+ghost use Rattle.rsc_captures.specs.Checks.{IsCheckedPattern, FoundInPattern, AreChecked, IsChecked, IsFound, HasNoOtherFault};
 ghost use Rattle.rsc_captures.specs.Found.{fault_found};
 ghost use Rattle.std.specs.Option.{option_copied};
 ghost use Rattle.std.specs.List.{list_any};
@@ -99,8 +100,8 @@ fn check_groups<'a>(
     requires limit { limit ≤ 2147483646 }
     requires before { before ≡ explicit_before (lists_in lists.now) p }
     requires within { 2 * before ≤ limit }
-    ensures ok { OnOk result (IsClearPattern limit (lists_in lists.now) p) }
-    ensures err { IfErr result (λ fault. IsFirstInPattern limit (lists_in lists.now) p (fault_found fault)) }
+    ensures ok { OnOk result (IsCheckedPattern limit (lists_in lists.now) p) }
+    ensures err { IfErr result (λ fault. FoundInPattern limit (lists_in lists.now) p (fault_found fault)) }
 {
     let pattern = match check_pattern(lists, p) {
         Ok(pattern) => pattern,
@@ -117,9 +118,9 @@ fn check_groups<'a>(
 /// Looks at the number of slots, where each place is clear.
 fn check_slots<'a>(limit: usize, lists: &[&[Option<&'a str>]]) -> Result<(), Fault<'a>>
     requires limit { limit ≤ 2147483646 }
-    requires clear { IsClear limit (lists_in lists.now) }
-    ensures ok { OnOk result (IsFaultless limit (lists_in lists.now)) }
-    ensures err { IfErr result (λ fault. IsFirstFault limit (lists_in lists.now) (fault_found fault)) }
+    requires clear { AreChecked limit (lists_in lists.now) }
+    ensures ok { OnOk result (IsChecked limit (lists_in lists.now)) }
+    ensures err { IfErr result (λ fault. IsFound limit (lists_in lists.now) (fault_found fault)) }
 {
     let mut before = 0;
     for p in 0..lists.len() {
@@ -134,8 +135,8 @@ fn check_slots<'a>(limit: usize, lists: &[&[Option<&'a str>]]) -> Result<(), Fau
 /// Looks at the places of the list in order, and then at the number of slots. Names are compared one with another.
 pub(crate) fn check<'a>(limit: usize, lists: &[&[Option<&'a str>]]) -> Result<(), Fault<'a>>
     requires limit { limit ≤ 2147483646 }
-    ensures ok { OnOk result (IsFaultless limit (lists_in lists.now)) }
-    ensures err { IfErr result (λ fault. IsFirstFault limit (lists_in lists.now) (fault_found fault)) }
+    ensures ok { OnOk result (IsChecked limit (lists_in lists.now)) }
+    ensures err { IfErr result (λ fault. IsFound limit (lists_in lists.now) (fault_found fault)) }
 {
     let mut before = 0;
     for p in 0..lists.len() {

@@ -1,21 +1,26 @@
 //! The groups of all patterns, and the slots of their offsets.
-ghost use Rattle.std.specs.Prelude.{◌≡◌, ℕ, ◌+◌, ◌-◌, ◌*◌, ◌<◌, ◌≤◌, ◌↔◌, length, ⊤, Some, IfOk, IfErr, OnOk, MatchOption, MatchResult};
+ghost use Rattle.std.specs.Prelude.{◌≡◌, ℕ, ◌+◌, ◌-◌, ◌*◌, ◌<◌, ◌≤◌, ◌↔◌, length, ⊤, [], Some, None, IfOk, IfErr, OnOk, MatchOption, MatchResult};
 ghost use Rattle.std.specs.Option.{option_copied};
 ghost use Rattle.rsc_captures.specs.Groups.{lists_in, groups_of, group_count, name_of, index_of, slot_of, slots_of, all_groups, AreDistinctBelow};
-ghost use Rattle.rsc_captures.specs.Faults.{Duplicate, IsFaultless, HasNoOtherFault, RefusesFor, IsDuplicate};
+ghost use Rattle.rsc_captures.specs.Faults.{Duplicate, LIMIT_OF_IDS, IsFaultless, RefusesFor};
+ghost use Rattle.rsc_captures.specs.Checks.{IsChecked, HasNoOtherFault, RefusesAsFound, IsDuplicate};
+ghost use Rattle.rsc_captures.specs.NameWalks.{all_names_of};
+ghost use Rattle.rsc_captures.specs.SlotOwners.{IsSlotOf, IsOwned};
 ghost use Rattle.rsc_captures.specs.Found.{fault_found};
 ghost use Rattle.rsc_captures.specs.Repeats.{IsDuplicateOf, IsFirstDuplicate};
 
 use crate::error::{GroupInfoError, GroupInfoErrorKind};
 use crate::faults::{Fault, check, has_other_fault};
+use crate::name_walks::{GroupInfoAllNames, GroupInfoPatternNames};
 use crate::names::{NamesError, PatternGroups};
 use rsc_primitives::PatternID;
 use std::alloc::{AllocError, Allocator, Global};
 use std::marker::Model;
 use std::rc::Rc;
 
-/// The groups of each pattern. `starts` has where the slots of each pattern's explicit groups begin, and last how many slots there are.
+// The groups of each pattern, and where the slots of its explicit groups begin; last comes how many slots there are.
 #[derive(Drop)]
+#[derive_where(Debug)]
 struct Inner<A: Allocator> {
     patterns: Vec<PatternGroups<A>, A>,
     starts: Vec<usize, A>,
@@ -32,8 +37,13 @@ impl<A: Allocator> Model for Inner<A> {
     ghost invariant = { λ a. IsLaidOut a.starts.items a.patterns.items };
 }
 
-/// The groups of a list of patterns. A clone shares its memory.
+/// Which capturing groups the patterns of a search have, with their names, and which slots hold a group's offsets.
+///
+/// The first group of each pattern stands for its whole match, and has no name; the slots of the first groups come before
+/// all others. A group's offsets stand in a slot and the next. A contract sees a group info as the list of its patterns,
+/// each the list of its groups' names. A clone shares its memory.
 #[derive(Drop)]
+#[derive_where(Debug)]
 pub struct GroupInfo<A: Allocator = Global> {
     inner: Rc<Inner<A>, A>,
 }
@@ -46,7 +56,7 @@ impl<A: Allocator> Model for GroupInfo<A> {
     ghost view = { λ a. a.inner.value };
 }
 
-/// The error for a name that stands twice, or for want of memory.
+// The error for a name that stands twice, or for want of memory.
 fn duplicate<A: Allocator + Clone + Drop>(alloc: A, pattern: PatternID, name: &str) -> GroupInfoError<A>
     ensures { MatchOption result ⊤ (λ fault. fault ≡ Duplicate pattern name.now) }
 {
@@ -56,7 +66,7 @@ fn duplicate<A: Allocator + Clone + Drop>(alloc: A, pattern: PatternID, name: &s
     }
 }
 
-/// The error for a fault. Only a name that stands twice takes memory.
+// The error for a fault. Only a name that stands twice takes memory.
 fn refusal<A: Allocator + Clone + Drop>(alloc: A, fault: Fault<'_>) -> GroupInfoError<A>
     ensures { MatchOption result (IsDuplicate (fault_found fault.entry)) (λ found. found ≡ fault_found fault.entry) }
 {
@@ -77,7 +87,7 @@ fn refusal<A: Allocator + Clone + Drop>(alloc: A, fault: Fault<'_>) -> GroupInfo
     }
 }
 
-/// The groups of pattern `p`, held in memory of their own.
+// The groups of pattern `p`, held in memory of their own.
 fn build_pattern<A: Allocator + Clone + Drop>(
     alloc: A,
     lists: &[&[Option<&str>]],
@@ -103,7 +113,7 @@ fn build_pattern<A: Allocator + Clone + Drop>(
     }
 }
 
-/// Holds the groups of a list that has no fault besides names that stand twice.
+// Holds the groups of a list that has no fault besides names that stand twice.
 fn build<A: Allocator + Clone + Drop>(alloc: A, lists: &[&[Option<&str>]]) -> Result<GroupInfo<A>, GroupInfoError<A>>
     requires { HasNoOtherFault 2147483646 (lists_in lists.now) }
     ensures ok { IfOk result (λ info. info ≡ lists_in lists.now) }
@@ -126,17 +136,17 @@ fn build<A: Allocator + Clone + Drop>(alloc: A, lists: &[&[Option<&str>]]) -> Re
 }
 
 impl<A: Allocator + Clone + Drop> GroupInfo<A> {
-    /// The groups of the lists, unless they have a fault. The first fault is the answer; none but a name that
-    /// stands twice takes memory.
-    pub fn new_limited(
+    // `new` with another limit. Every fault but a name that stands twice is found without memory; only where there is
+    // such a fault does the plain, slow reading name the first.
+    fn new_limited(
         alloc: A,
         limit: usize,
         lists: &[&[Option<&str>]],
     ) -> Result<GroupInfo<A>, GroupInfoError<A>>
         requires { limit ≤ 2147483646 }
         ensures groups { IfOk result (λ info. info ≡ lists_in lists.now) }
-        ensures faultless { OnOk result (IsFaultless limit (lists_in lists.now)) }
-        ensures refused { IfErr result (RefusesFor limit (lists_in lists.now)) }
+        ensures faultless { OnOk result (IsChecked limit (lists_in lists.now)) }
+        ensures refused { IfErr result (RefusesAsFound limit (lists_in lists.now)) }
     {
         if has_other_fault(limit, lists) {
             if let Err(fault) = check(limit, lists) {
@@ -146,15 +156,55 @@ impl<A: Allocator + Clone + Drop> GroupInfo<A> {
         build(alloc, lists)
     }
 
-    /// `new_limited` at the greatest number of a slot.
+    /// The groups of these lists: one list for each pattern, with an optional name for each of its groups.
+    ///
+    /// # Errors
+    ///
+    /// The first fault of the lists, which are read by pattern and then by group: too many patterns, a pattern without
+    /// groups, a first group with a name, too many groups, a name that stands twice in its pattern. Last comes a pattern
+    /// whose groups, after the first groups of all patterns, have no slots left. Where memory is refused the kind is
+    /// [`GroupInfoErrorKind::OutOfMemory`]; a list with any fault but a name that stands twice takes none.
     pub fn new(alloc: A, lists: &[&[Option<&str>]]) -> Result<GroupInfo<A>, GroupInfoError<A>>
         ensures groups { IfOk result (λ info. info ≡ lists_in lists.now) }
-        ensures faultless { OnOk result (IsFaultless 2147483646 (lists_in lists.now)) }
-        ensures refused { IfErr result (RefusesFor 2147483646 (lists_in lists.now)) }
+        ensures faultless { OnOk result (IsFaultless LIMIT_OF_IDS (lists_in lists.now)) }
+        ensures refused { IfErr result (RefusesFor LIMIT_OF_IDS (lists_in lists.now)) }
     {
         GroupInfo::new_limited(alloc, 2147483646, lists)
     }
 
+    /// The group info of no patterns.
+    ///
+    /// # Errors
+    ///
+    /// Where memory is refused.
+    pub fn empty(alloc: A) -> Result<GroupInfo<A>, GroupInfoError<A>>
+        ensures groups { IfOk result (λ info. info ≡ []) }
+        ensures refused { IfErr result (λ e. e ≡ None) }
+    {
+        GroupInfo::new(alloc, &[])
+    }
+
+    /// The names of a pattern's groups in order, `None` for a group without one; nothing where there is no such pattern.
+    #[inline]
+    pub fn pattern_names(&self, pid: PatternID) -> GroupInfoPatternNames<'_, A>
+        ensures { result ≡ groups_of self.now pid }
+    {
+        GroupInfoPatternNames::new(self, pid)
+    }
+
+    /// All groups by pattern and then by group, each with its pattern, its number and its name, if it has one.
+    #[inline]
+    pub fn all_names(&self) -> GroupInfoAllNames<'_, A>
+        ensures { result ≡ all_names_of self.now }
+    {
+        GroupInfoAllNames::new(self)
+    }
+
+    /// The same groups, sharing the memory.
+    ///
+    /// # Errors
+    ///
+    /// Where one more owner is refused; the source stays as it is.
     pub fn clone(&self) -> Result<GroupInfo<A>, AllocError>
         ensures { IfOk result (λ copy. copy ≡ self.now) }
     {
@@ -163,13 +213,18 @@ impl<A: Allocator + Clone + Drop> GroupInfo<A> {
         })
     }
 
+    /// How many patterns there are.
+    #[inline]
     pub fn pattern_len(&self) -> usize
-        ensures { result ≡ length self.now }
+        ensures value { result ≡ length self.now }
+        ensures indices { result ≤ LIMIT_OF_IDS + 1 }
     {
         let inner: &Inner<A> = &self.inner;
         inner.patterns.len()
     }
 
+    /// How many groups a pattern has: none where there is no such pattern.
+    #[inline]
     pub fn group_len(&self, pid: PatternID) -> usize
         ensures { result ≡ group_count self.now pid }
     {
@@ -180,6 +235,8 @@ impl<A: Allocator + Clone + Drop> GroupInfo<A> {
         }
     }
 
+    /// The name of a group, or `None` where it has none, or where there is no such group.
+    #[inline]
     pub fn to_name(&self, pid: PatternID, group_index: usize) -> Option<&str>
         ensures { option_copied result ≡ name_of self.now pid group_index }
     {
@@ -188,6 +245,7 @@ impl<A: Allocator + Clone + Drop> GroupInfo<A> {
         groups.name(group_index)
     }
 
+    /// The group of a pattern that has the name, or `None` where there is none. Names are local to each pattern.
     pub fn to_index(&self, pid: PatternID, name: &str) -> Option<usize>
         ensures index { result ≡ index_of (groups_of self.now pid) name.now }
         ensures named { (g : ℕ) → (result ≡ Some g) ↔ (name_of self.now pid g ≡ Some name.now) }
@@ -197,6 +255,8 @@ impl<A: Allocator + Clone + Drop> GroupInfo<A> {
         groups.index(name)
     }
 
+    /// The slot of a group's start, or `None` where there is no such group.
+    #[inline]
     pub fn slot(&self, pid: PatternID, group_index: usize) -> Option<usize>
         ensures { result ≡ slot_of self.now pid group_index }
     {
@@ -212,6 +272,8 @@ impl<A: Allocator + Clone + Drop> GroupInfo<A> {
         }
     }
 
+    /// The slots of a group's start and of its end, or `None` where there is no such group.
+    #[inline]
     pub fn slots(&self, pid: PatternID, group_index: usize) -> Option<(usize, usize)>
         ensures { result ≡ slots_of self.now pid group_index }
     {
@@ -219,19 +281,27 @@ impl<A: Allocator + Clone + Drop> GroupInfo<A> {
         Some((slot, slot + 1))
     }
 
+    /// How many slots there are: two for each group. Each of them is a slot of exactly one group.
+    #[inline]
     pub fn slot_len(&self) -> usize
-        ensures { result ≡ 2 * all_groups self.now }
+        ensures value { result ≡ 2 * all_groups self.now }
+        ensures owned { (s : ℕ) → s < result → IsOwned self.now s }
+        ensures once { (s p g q h : ℕ) → IsSlotOf self.now p g s → IsSlotOf self.now q h s → (p ≡ q) × (g ≡ h) }
     {
         let inner: &Inner<A> = &self.inner;
         inner.starts[inner.patterns.len()]
     }
 
+    /// How many groups all patterns have.
+    #[inline]
     pub fn all_group_len(&self) -> usize
         ensures { result ≡ all_groups self.now }
     {
         self.slot_len() / 2
     }
 
+    /// How many slots the first groups have: two for each pattern. They come before all others.
+    #[inline]
     pub fn implicit_slot_len(&self) -> usize
         ensures { result ≡ 2 * length self.now }
     {
@@ -239,6 +309,8 @@ impl<A: Allocator + Clone + Drop> GroupInfo<A> {
         2 * inner.patterns.len()
     }
 
+    /// How many slots all other groups have.
+    #[inline]
     pub fn explicit_slot_len(&self) -> usize
         ensures { result ≡ 2 * all_groups self.now - 2 * length self.now }
     {

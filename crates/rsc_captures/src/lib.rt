@@ -4,7 +4,10 @@
 mod error;
 mod faults;
 mod group_info;
+pub mod laws;
+mod name_walks;
 mod names;
 
 pub use error::{GroupInfoError, GroupInfoErrorKind};
 pub use group_info::GroupInfo;
+pub use name_walks::{GroupInfoAllNames, GroupInfoPatternNames};

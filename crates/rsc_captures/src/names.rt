@@ -15,6 +15,7 @@ use std::marker::Model;
 
 /// The groups of one pattern: their names in order, and the group of each name.
 #[derive(Drop)]
+#[derive_where(Debug)]
 pub(crate) struct PatternGroups<A: Allocator = Global> {
     names: Vec<Option<String<A>>, A>,
     index: BTreeMap<String<A>, usize, A>,
@@ -54,7 +55,7 @@ impl<T: Drop> From<AllocFailed<T>> for NamesError {
     }
 }
 
-/// Puts the name into the index at group `g`, and says whether it is new there.
+// Puts the name into the index at group `g`, and says whether it is new there.
 fn insert_name<A: Allocator + Clone + Drop>(
     alloc: A,
     index: &mut BTreeMap<String<A>, usize, A>,
@@ -69,7 +70,7 @@ fn insert_name<A: Allocator + Clone + Drop>(
     Ok(old.is_none())
 }
 
-/// Adds a group at the end, unless the index has its name already; says whether it was added.
+// Adds a group at the end, unless the index has its name already; says whether it was added.
 fn push_group<A: Allocator + Clone + Drop>(
     alloc: A,
     names: &mut Vec<Option<String<A>>, A>,

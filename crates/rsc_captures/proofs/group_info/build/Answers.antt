@@ -8,7 +8,7 @@ use Rattle.rsc_captures.specs.Groups.{GroupLists, lists_in, group_count, slots_s
 use Rattle.std.proofs.Common.{◌≤◌}
 use Rattle.rsc_captures.specs.Faults.{slots_end}
 use Rattle.rsc_captures.specs.Repeats.{IsDuplicateOf, IsFirstDuplicate}
-use Rattle.rsc_captures.proofs.Clear.{faultless_from, MatchOption-some_weaker}
+use Rattle.rsc_captures.proofs.Checked.{faultless_from, MatchOption-some_weaker}
 use Rattle.rsc_captures.proofs.Places.{length-lists_in}
 use Rattle.rsc_captures.proofs.Starts.{starts_push}
 use Rattle.rsc_captures.proofs.group_info.build.Goals as goal

@@ -1,7 +1,7 @@
 use Rattle.std.proofs.Common.{◌≡◌, [], None, get_or, ap, sym, ◌∙◌, arith}
 use Rattle.std.specs.Prelude.{unwrap_or}
 use Rattle.rsc_captures.specs.Faults.{Duplicate}
-use Rattle.rsc_captures.proofs.Clear.{MatchOption-some_weaker}
+use Rattle.rsc_captures.proofs.Checked.{MatchOption-some_weaker}
 use Rattle.rsc_captures.proofs.Places.{duplicate_in}
 use Rattle.rsc_captures.proofs.group_info.build_pattern.Goals as goal
 

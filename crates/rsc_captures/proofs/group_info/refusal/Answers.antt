@@ -1,6 +1,7 @@
 use Rattle.std.proofs.Common.{refl}
-use Rattle.rsc_captures.specs.Faults.{Duplicate, IsDuplicate}
-use Rattle.rsc_captures.proofs.Clear.{MatchOption-none}
+use Rattle.rsc_captures.specs.Faults.{Duplicate}
+use Rattle.rsc_captures.specs.Checks.{IsDuplicate}
+use Rattle.rsc_captures.proofs.Checked.{MatchOption-none}
 use Rattle.rsc_captures.proofs.group_info.refusal.Goals as goal
 
 pub returns-in-Duplicate : goal.returns-in-Duplicate

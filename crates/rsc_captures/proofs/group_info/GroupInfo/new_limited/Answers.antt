@@ -1,7 +1,7 @@
 use Rattle.std.proofs.lemmas.Result.{on_ok_weaker, IfErr-weaker}
 use Rattle.rsc_captures.specs.Groups.{lists_in}
-use Rattle.rsc_captures.specs.Faults.{HasNoOtherFault}
-use Rattle.rsc_captures.proofs.Clear.{faultless_from, refuses_from, no_other_from_faultless}
+use Rattle.rsc_captures.specs.Checks.{HasNoOtherFault}
+use Rattle.rsc_captures.proofs.Checked.{faultless_from, refuses_from, no_other_from_faultless}
 use Rattle.rsc_captures.proofs.Places.{length-lists_in}
 use Rattle.rsc_captures.proofs.group_info.GroupInfo.new_limited.Goals as goal
 use Rattle.rsc_captures.proofs.group_info.GroupInfo.new_limited.Goals.{then-has_other_fault+in_default, else-has_other_fault}

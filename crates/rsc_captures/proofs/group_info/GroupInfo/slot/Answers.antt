@@ -1,5 +1,5 @@
 use Rattle.std.proofs.Common.{◌≡◌, ◌+◌, ◌-◌, ◌*◌, ◌<◌, ◌≤◌, [], length, get_or, ap, ◌∙◌, arith}
-use Rattle.rsc_captures.specs.Groups.{Groups, groups_of, group_count}
+use Rattle.rsc_captures.specs.Groups.{groups_of, group_count}
 use Rattle.rsc_captures.proofs.Starts.{slot_fits}
 use Rattle.rsc_captures.proofs.group_info.GroupInfo.slot.Goals as goal
 

@@ -1,7 +1,7 @@
 use Rattle.std.proofs.Common.{◌≡◌, ◌<◌, [], length, ◌∙◌}
 use Rattle.rsc_captures.specs.Groups.{groups_of, group_count, AreDistinctBelow}
 use Rattle.rsc_captures.proofs.Indexed.{index_of-is}
-use Rattle.rsc_captures.proofs.Clear.{clear_distinct}
+use Rattle.rsc_captures.proofs.Checked.{clear_distinct}
 use Rattle.rsc_captures.proofs.group_info.GroupInfo.to_index.Goals as goal
 
 pub returns-clause-named : goal.returns-clause-named
