@@ -4,5 +4,4 @@ pub mod Indexed
 pub mod Checked
 pub mod FaultsLemmas
 pub mod Starts
-pub mod NameLemmas
 pub mod Owners

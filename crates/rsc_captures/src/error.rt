@@ -114,7 +114,10 @@ impl<A: Allocator> fmt::Display for GroupInfoErrorKind<A> {
             }
             GroupInfoErrorKind::TooManyGroups { pattern, minimum } => {
                 let pattern = pattern.as_usize();
-                write!(f, "too many capture groups (at least {minimum}) were found for pattern {pattern}")
+                write!(
+                    f,
+                    "too many capture groups (at least {minimum}) were found for pattern {pattern}"
+                )
             }
             GroupInfoErrorKind::MissingGroups { pattern } => {
                 let pattern = pattern.as_usize();
@@ -125,13 +128,21 @@ impl<A: Allocator> fmt::Display for GroupInfoErrorKind<A> {
             }
             GroupInfoErrorKind::FirstMustBeUnnamed { pattern } => {
                 let pattern = pattern.as_usize();
-                write!(f, "first capture group (at index 0) for pattern {pattern} has a name (it must be unnamed)")
+                write!(
+                    f,
+                    "first capture group (at index 0) for pattern {pattern} has a name (it must be unnamed)"
+                )
             }
             GroupInfoErrorKind::Duplicate { pattern, name } => {
                 let pattern = pattern.as_usize();
-                write!(f, "duplicate capture group name '{name}' found for pattern {pattern}")
+                write!(
+                    f,
+                    "duplicate capture group name '{name}' found for pattern {pattern}"
+                )
             }
-            GroupInfoErrorKind::OutOfMemory => f.write_str("out of memory while building capture info"),
+            GroupInfoErrorKind::OutOfMemory => f.write_str(
+                "out of memory while building capture info",
+            ),
         }
     }
 }

@@ -57,7 +57,11 @@ impl<A: Allocator> Model for GroupInfo<A> {
 }
 
 // The error for a name that stands twice, or for want of memory.
-fn duplicate<A: Allocator + Clone + Drop>(alloc: A, pattern: PatternID, name: &str) -> GroupInfoError<A>
+fn duplicate<A: Allocator + Clone + Drop>(
+    alloc: A,
+    pattern: PatternID,
+    name: &str,
+) -> GroupInfoError<A>
     ensures { MatchOption result ⊤ (λ fault. fault ≡ Duplicate pattern name.now) }
 {
     match String::from_str(alloc, name) {
@@ -114,7 +118,10 @@ fn build_pattern<A: Allocator + Clone + Drop>(
 }
 
 // Holds the groups of a list that has no fault besides names that stand twice.
-fn build<A: Allocator + Clone + Drop>(alloc: A, lists: &[&[Option<&str>]]) -> Result<GroupInfo<A>, GroupInfoError<A>>
+fn build<A: Allocator + Clone + Drop>(
+    alloc: A,
+    lists: &[&[Option<&str>]],
+) -> Result<GroupInfo<A>, GroupInfoError<A>>
     requires { HasNoOtherFault 2147483646 (lists_in lists.now) }
     ensures ok { IfOk result (λ info. info ≡ lists_in lists.now) }
     ensures distinct { OnOk result ((p : ℕ) → p < length lists.now → AreDistinctBelow (groups_of (lists_in lists.now) p) (group_count (lists_in lists.now) p)) }

@@ -7,6 +7,8 @@ mod group_info;
 pub mod laws;
 mod name_walks;
 mod names;
+#[cfg(test)]
+mod tests;
 
 pub use error::{GroupInfoError, GroupInfoErrorKind};
 pub use group_info::GroupInfo;

@@ -1,7 +1,8 @@
 //! The walks over the names of a group info.
-ghost use Rattle.std.specs.Prelude.{◌≡◌, ◌-◌, length};
+ghost use Rattle.std.specs.Prelude.{◌≡◌, length, Some, IfSome};
 ghost use Rattle.std.specs.Option.{option_copied};
-ghost use Rattle.std.specs.Iterator.{YieldsFirstBy, item_count};
+ghost use Rattle.std.specs.Iterator.{YieldsFirstBy, UpTo, item_count};
+ghost use Rattle.std.specs.Iterator.SizeHint.{IsWithinCount};
 ghost use Rattle.rsc_captures.specs.Groups.{groups_of};
 ghost use Rattle.rsc_captures.specs.NameWalks.{named_group, all_names_of};
 
@@ -30,7 +31,10 @@ impl<'a, A: Allocator> Model for GroupInfoPatternNames<'a, A> {
 }
 
 impl<'a, A: Allocator + Clone + Drop> GroupInfoPatternNames<'a, A> {
-    pub(crate) fn new(group_info: &'a GroupInfo<A>, pattern: PatternID) -> GroupInfoPatternNames<'a, A>
+    pub(crate) fn new(
+        group_info: &'a GroupInfo<A>,
+        pattern: PatternID,
+    ) -> GroupInfoPatternNames<'a, A>
         ensures { result ≡ groups_of group_info.now pattern }
     {
         GroupInfoPatternNames {
@@ -64,6 +68,15 @@ impl<'a, A: Allocator + Clone + Drop> Iterator for GroupInfoPatternNames<'a, A> 
         }
         self.next_group += 1;
         Some(self.group_info.to_name(self.pattern, group))
+    }
+
+    fn size_hint(&self) -> (usize, Option<usize>)
+        ensures lower { IsWithinCount result.0 (item_count (λ rest. rest) self.now) }
+        ensures upper { IfSome result.1 (UpTo (item_count (λ rest. rest) self.now)) }
+        ensures exact { result ≡ (length self.now, Some (length self.now)) }
+    {
+        let left = self.len();
+        (left, Some(left))
     }
 }
 

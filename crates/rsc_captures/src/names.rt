@@ -103,7 +103,10 @@ impl<A: Allocator + Clone + Drop> PatternGroups<A> {
         ensures distinct { OnOk result (AreDistinctBelow (groups_in groups.now) (length groups.now)) }
         ensures err { IfErr result (NamesRefused (groups_in groups.now)) }
     {
-        let mut names: Vec<Option<String<A>>, A> = Vec::with_capacity(alloc.clone()?, groups.len())?;
+        let mut names: Vec<Option<String<A>>, A> = Vec::with_capacity(
+            alloc.clone()?,
+            groups.len(),
+        )?;
         let mut index: BTreeMap<String<A>, usize, A> = BTreeMap::new(alloc.clone()?);
         for (g, group) in groups.iter().enumerate() {
             if !push_group(alloc.clone()?, &mut names, &mut index, *group)? {
