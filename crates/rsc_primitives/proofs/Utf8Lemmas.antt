@@ -83,7 +83,7 @@ pub record Placed (h : List ℕ) (i j : ℕ) : Type 0 where
   pub head : IsTail (get_or h i 0) → ⊥
   pub rest : (k : ℕ) → i < k → k < j → IsTail (get_or h k 0)
 
-length-slice : (h : List ℕ) (i j : ℕ) → i ≤ j → j ≤ length h → length (slice_range h i j) ≡ j - i
+pub length-slice : (h : List ℕ) (i j : ℕ) → i ≤ j → j ≤ length h → length (slice_range h i j) ≡ j - i
 length-slice h i j p q = simp (length-take, length-drop) (omega arith)
 
 get_or-slice : (h : List ℕ) (i j k : ℕ) → k < j - i → get_or (slice_range h i j) k 0 ≡ get_or h (i + k) 0

@@ -1,3 +1,4 @@
+pub mod Escapes
 pub mod IndexTexts
 pub mod Indices
 pub mod Utf8

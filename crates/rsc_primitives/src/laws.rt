@@ -1,14 +1,48 @@
 //! Laws that a caller may cite: functions that do nothing, and whose contracts are the laws.
-ghost use Rattle.std.specs.Prelude.{◌≡◌, ◌↔◌, ◌⊎◌, ◌<◌, ◌≤◌, ◌++◌, ℕ, List, [], length, slice_index, Ok, true};
+ghost use Rattle.std.specs.Prelude.{◌≡◌, ◌↔◌, ◌⊎◌, ◌<◌, ◌≤◌, ◌++◌, ℕ, List, [], length, slice_index, Ok, Some, true, ◌==◌};
 ghost use Rattle.std.specs.Char.{IsScalar, encode_utf8};
 ghost use Rattle.std.specs.Int.{w32, from_le_bytes, to_le_bytes};
 ghost use Rattle.std.specs.Str.{encode_utf8_all, all_scalars};
+ghost use Rattle.std.specs.Hash as fed;
+ghost use Rattle.std.specs.Ordering.{nat_cmp};
 ghost use Rattle.rsc_primitives.specs.Indices.{IsIndex, index_of};
 ghost use Rattle.rsc_primitives.specs.Utf8.{Encodes, EncodesAll, BeginsAt, EndsAt, IsBoundary, IsInside};
+
+use crate::{
+    NonMaxUsize, PatternID, PatternIDError, SmallIndex, SmallIndexError, StateID, StateIDError,
+};
+use std::hash::Hash;
 
 /// Reading the four bytes of an index gives the index.
 pub fn le_bytes_round_trip()
     ensures { (n : ℕ) → IsIndex n → index_of (from_le_bytes w32 (to_le_bytes w32 n)) ≡ Ok n }
+{}
+
+/// Equality of indices, of their refusals and of [`NonMaxUsize`] is that of the numbers.
+pub fn equality_is_of_the_number()
+    ensures small_index { (a b : ℕ) → ⟦<SmallIndex as PartialEq>⟧.eq a b ≡ (a == b) }
+    ensures pattern_id { (a b : ℕ) → ⟦<PatternID as PartialEq>⟧.eq a b ≡ (a == b) }
+    ensures state_id { (a b : ℕ) → ⟦<StateID as PartialEq>⟧.eq a b ≡ (a == b) }
+    ensures small_index_error { (a b : ℕ) → ⟦<SmallIndexError as PartialEq>⟧.eq a b ≡ (a == b) }
+    ensures pattern_id_error { (a b : ℕ) → ⟦<PatternIDError as PartialEq>⟧.eq a b ≡ (a == b) }
+    ensures state_id_error { (a b : ℕ) → ⟦<StateIDError as PartialEq>⟧.eq a b ≡ (a == b) }
+    ensures non_max { (a b : ℕ) → ⟦<NonMaxUsize as PartialEq>⟧.eq a b ≡ (a == b) }
+{}
+
+/// The order of indices and of [`NonMaxUsize`] is that of the numbers.
+pub fn order_is_of_the_number()
+    ensures small_index { (a b : ℕ) → ⟦<SmallIndex as Ord>⟧.cmp a b ≡ nat_cmp a b }
+    ensures pattern_id { (a b : ℕ) → ⟦<PatternID as Ord>⟧.cmp a b ≡ nat_cmp a b }
+    ensures state_id { (a b : ℕ) → ⟦<StateID as Ord>⟧.cmp a b ≡ nat_cmp a b }
+    ensures non_max { (a b : ℕ) → ⟦<NonMaxUsize as Ord>⟧.cmp a b ≡ nat_cmp a b }
+{}
+
+/// What an index and a [`NonMaxUsize`] feed to a hasher is the number.
+pub fn hash_is_of_the_number()
+    ensures small_index { (a : ℕ) → ⟦<SmallIndex as Hash>⟧.hash_input a ≡ fed.u32 a }
+    ensures pattern_id { (a : ℕ) → ⟦<PatternID as Hash>⟧.hash_input a ≡ fed.u32 a }
+    ensures state_id { (a : ℕ) → ⟦<StateID as Hash>⟧.hash_input a ≡ fed.u32 a }
+    ensures non_max { (a : ℕ) → ⟦<NonMaxUsize as Hash>⟧.hash_input a ≡ fed.usize a }
 {}
 
 /// The bytes that encode a character are those that std's `encode_utf8` writes of it, and nothing else is encoded.

@@ -10,15 +10,13 @@ use std::marker::Model;
 pub struct NonMaxUsize(usize);
 
 impl Model for NonMaxUsize {
-    ghost use Rattle.std.specs.Prelude.{ℕ, ◌<◌};
+    ghost use Rattle.std.specs.Prelude.{ℕ, ◌<◌, ◌-◌, ◌^◌};
 
     ghost Value = { ℕ };
 
     ghost view = { λ n. n.0 };
 
-    ghost use Rattle.std.below.core.specs.declared.int.usize.TheConstants.{MAX};
-
-    ghost invariant = { λ n. n.0 < MAX };
+    ghost invariant = { λ n. n.0 < 2 ^ 64 - 1 };
 
     ghost inverse = { λ n. record { 0 = n } };
 }

@@ -176,7 +176,7 @@ impl TryFrom<u64> for PatternID {
 
     #[inline]
     fn try_from(index: u64) -> Result<PatternID, PatternIDError> {
-        if index > 2147483646 {
+        if index > PatternID::MAX.as_u64() {
             return Err(PatternIDError { attempted: index });
         }
         Ok(PatternID(index as u32))
@@ -226,7 +226,10 @@ impl fmt::Display for PatternIDError {
 
     fn fmt<W: fmt::Write>(&self, f: &mut fmt::Formatter<W>) -> fmt::Result {
         let attempted = self.attempted;
-        write!(f, "failed to create PatternID from {attempted}, which exceeds PatternID(2147483646)")
+        write!(
+            f,
+            "failed to create PatternID from {attempted}, which exceeds PatternID(2147483646)"
+        )
     }
 }
 

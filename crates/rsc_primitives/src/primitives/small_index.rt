@@ -176,7 +176,7 @@ impl TryFrom<u64> for SmallIndex {
 
     #[inline]
     fn try_from(index: u64) -> Result<SmallIndex, SmallIndexError> {
-        if index > 2147483646 {
+        if index > SmallIndex::MAX.as_u64() {
             return Err(SmallIndexError { attempted: index });
         }
         Ok(SmallIndex(index as u32))
@@ -226,7 +226,10 @@ impl fmt::Display for SmallIndexError {
 
     fn fmt<W: fmt::Write>(&self, f: &mut fmt::Formatter<W>) -> fmt::Result {
         let attempted = self.attempted;
-        write!(f, "failed to create small index from {attempted}, which exceeds SmallIndex(2147483646)")
+        write!(
+            f,
+            "failed to create small index from {attempted}, which exceeds SmallIndex(2147483646)"
+        )
     }
 }
 

@@ -176,7 +176,7 @@ impl TryFrom<u64> for StateID {
 
     #[inline]
     fn try_from(index: u64) -> Result<StateID, StateIDError> {
-        if index > 2147483646 {
+        if index > StateID::MAX.as_u64() {
             return Err(StateIDError { attempted: index });
         }
         Ok(StateID(index as u32))
@@ -226,7 +226,10 @@ impl fmt::Display for StateIDError {
 
     fn fmt<W: fmt::Write>(&self, f: &mut fmt::Formatter<W>) -> fmt::Result {
         let attempted = self.attempted;
-        write!(f, "failed to create StateID from {attempted}, which exceeds StateID(2147483646)")
+        write!(
+            f,
+            "failed to create StateID from {attempted}, which exceeds StateID(2147483646)"
+        )
     }
 }
 

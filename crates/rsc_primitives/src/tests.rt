@@ -1,0 +1,3 @@
+mod escapes;
+mod indices;
+mod utf8;

@@ -1,0 +1,239 @@
+ghost use Rattle.std.specs.Prelude.{◌≡◌, ◌↔◌, ◌<◌, ◌≤◌, IsTrue, IsOkAnd, Ok, length};
+
+use crate::{
+    NonMaxUsize, PatternID, PatternIDError, PatternIDIter, SmallIndex, SmallIndexError, StateID,
+    StateIDError,
+};
+use std::alloc::AllocError;
+use std::test::Fail;
+
+// Callers, each proved by the contracts alone.
+
+fn read_back(id: PatternID) -> Result<PatternID, PatternIDError>
+    ensures { result ≡ Ok id }
+{
+    PatternID::from_le_bytes(id.to_le_bytes())
+}
+
+fn walk_again(walk: &PatternIDIter) -> Result<PatternIDIter, AllocError>
+    ensures { IsOkAnd result (λ copy. copy ≡ walk.now) }
+{
+    walk.clone()
+}
+
+fn error_again(error: &PatternIDError) -> Result<PatternIDError, AllocError>
+    ensures { IsOkAnd result (λ copy. copy ≡ error.now) }
+{
+    error.clone()
+}
+
+fn is_before(a: &StateID, b: &StateID) -> bool
+    ensures { IsTrue result ↔ (a.now < b.now) }
+{
+    a < b
+}
+
+fn is_same(a: &NonMaxUsize, b: &NonMaxUsize) -> bool
+    ensures { IsTrue result ↔ (a.now ≡ b.now) }
+{
+    a == b
+}
+
+fn at_state(id: StateID, states: &[u8]) -> u8
+    requires { id < length states.now }
+{
+    states[id.as_usize()]
+}
+
+fn count(len: usize) -> usize
+    requires { len ≤ SmallIndex.LIMIT }
+    ensures { result ≡ len }
+{
+    SmallIndex::iter(len).count()
+}
+
+// The number of an index, or `None` and the number that was refused.
+
+fn small(answer: Result<SmallIndex, SmallIndexError>) -> (Option<u64>, u64) {
+    match answer {
+        Ok(index) => (Some(index.as_u64()), 0),
+        Err(error) => (None, error.attempted()),
+    }
+}
+
+fn pattern(answer: Result<PatternID, PatternIDError>) -> (Option<u64>, u64) {
+    match answer {
+        Ok(index) => (Some(index.as_u64()), 0),
+        Err(error) => (None, error.attempted()),
+    }
+}
+
+fn state(answer: Result<StateID, StateIDError>) -> (Option<u64>, u64) {
+    match answer {
+        Ok(index) => (Some(index.as_u64()), 0),
+        Err(error) => (None, error.attempted()),
+    }
+}
+
+#[test]
+fn refuses_exactly_the_numbers_above_the_greatest(rt: HostRuntime) {
+    for (number, want) in [
+        (0u64, (Some(0u64), 0u64)),
+        (2147483646, (Some(2147483646), 0)),
+        (2147483647, (None, 2147483647)),
+        (4294967295, (None, 4294967295)),
+        (18446744073709551615, (None, 18446744073709551615)),
+    ] {
+        assert_eq!(rt;
+            small(SmallIndex::new(number as usize)),
+            want,
+            "new of {number}"
+        );
+        assert_eq!(rt;
+            pattern(PatternID::new(number as usize)),
+            want,
+            "new of {number}"
+        );
+        assert_eq!(rt;
+            state(StateID::new(number as usize)),
+            want,
+            "new of {number}"
+        );
+        assert_eq!(rt;
+            small(SmallIndex::try_from(number)),
+            want,
+            "try_from of {number}"
+        );
+        assert_eq!(rt;
+            pattern(PatternID::try_from(number)),
+            want,
+            "try_from of {number}"
+        );
+        assert_eq!(rt;
+            state(StateID::try_from(number)),
+            want,
+            "try_from of {number}"
+        );
+    }
+    for (number, want) in [
+        (2147483646u32, (Some(2147483646u64), 0u64)),
+        (2147483647, (None, 2147483647)),
+    ] {
+        assert_eq!(rt; small(SmallIndex::try_from(number)), want, "{number}");
+        assert_eq!(rt; pattern(PatternID::try_from(number)), want, "{number}");
+        assert_eq!(rt; state(StateID::try_from(number)), want, "{number}");
+    }
+    assert_eq!(rt; small(SmallIndex::try_from(65535u16)), (Some(65535), 0));
+    assert_eq!(rt; pattern(PatternID::try_from(65535u16)), (Some(65535), 0));
+    assert_eq!(rt; state(StateID::try_from(65535u16)), (Some(65535), 0));
+}
+
+#[test]
+fn reads_four_bytes_the_least_first(rt: HostRuntime) {
+    for (bytes, want) in [
+        ([0x00, 0x01, 0x00, 0x00], (Some(256u64), 0u64)),
+        ([0xFE, 0xFF, 0xFF, 0x7F], (Some(2147483646), 0)),
+        ([0xFF, 0xFF, 0xFF, 0x7F], (None, 2147483647)),
+        ([0xFF, 0xFF, 0xFF, 0xFF], (None, 4294967295)),
+    ] {
+        assert_eq!(rt; small(SmallIndex::from_le_bytes(bytes)), want, "{bytes:?}");
+        assert_eq!(rt; pattern(PatternID::from_le_bytes(bytes)), want, "{bytes:?}");
+        assert_eq!(rt; state(StateID::from_le_bytes(bytes)), want, "{bytes:?}");
+    }
+    assert_eq!(rt; SmallIndex::MAX.to_le_bytes(), [0xFE, 0xFF, 0xFF, 0x7F]);
+    assert_eq!(rt; PatternID::MAX.to_le_bytes(), [0xFE, 0xFF, 0xFF, 0x7F]);
+    assert_eq!(rt; StateID::MAX.to_le_bytes(), [0xFE, 0xFF, 0xFF, 0x7F]);
+    assert_eq!(rt; pattern(read_back(PatternID::must(513))), (Some(513), 0));
+}
+
+#[test]
+fn tells_the_number(rt: HostRuntime) {
+    assert_eq!(rt; SmallIndex::from(200u8).as_usize(), 200);
+    assert_eq!(rt; PatternID::MAX.one_more(), 2147483647);
+    assert_eq!(rt; PatternID::must(7).as_u32(), 7);
+    assert_eq!(rt; StateID::must(7).as_i32(), 7);
+    assert_eq!(rt; StateID::default(), StateID::ZERO);
+    assert_eq!(rt;
+        (SmallIndex::LIMIT, PatternID::LIMIT, StateID::LIMIT),
+        (2147483647, 2147483647, 2147483647)
+    );
+    assert_eq!(rt;
+        (SmallIndex::SIZE, PatternID::SIZE, StateID::SIZE),
+        (4, 4, 4)
+    );
+    assert_eq!(rt;
+        size_of::<SmallIndex>() + size_of::<PatternID>() + size_of::<StateID>(),
+        12
+    );
+    assert!(rt; is_before(&StateID::ZERO, &StateID::MAX));
+    assert_eq!(rt; at_state(StateID::must(1), b"ab"), b'b');
+}
+
+#[test]
+fn walks_from_zero_and_rests_at_the_end(rt: HostRuntime) -> Result<(), Fail> {
+    let mut walk = StateID::iter(3);
+    for want in [Some(0), Some(1), Some(2), None, None] {
+        assert_eq!(rt; walk.next().map(|id| id.as_usize()), want);
+    }
+    assert_eq!(rt; SmallIndex::iter(0).next(), None);
+    assert_eq!(rt; count(5), 5);
+    let mut walk = PatternID::iter(2);
+    assert_eq!(rt; walk.next(), Some(PatternID::ZERO));
+    let mut again = walk_again(&walk)?;
+    assert_eq!(rt; again.next(), Some(PatternID::must(1)));
+    assert_eq!(rt; walk.next(), Some(PatternID::must(1)));
+    Ok(())
+}
+
+#[test]
+fn shows_the_refused_number(rt: HostRuntime) -> Result<(), Fail> {
+    let error = SmallIndex::new(4294967295).err().ok_or("accepted")?;
+    assert_eq!(rt;
+        format!(in rt.alloc(); "{error}")?.as_str(),
+        "failed to create small index from 4294967295, which exceeds SmallIndex(2147483646)"
+    );
+    let error = PatternID::new(2147483647).err().ok_or("accepted")?;
+    assert_eq!(rt;
+        format!(in rt.alloc(); "{error}")?.as_str(),
+        "failed to create PatternID from 2147483647, which exceeds PatternID(2147483646)"
+    );
+    assert!(rt; error_again(&error)? == error);
+    let error = StateID::try_from(18446744073709551615u64)
+        .err()
+        .ok_or("accepted")?;
+    assert_eq!(rt;
+        format!(in rt.alloc(); "{error}")?.as_str(),
+        "failed to create StateID from 18446744073709551615, which exceeds StateID(2147483646)"
+    );
+    Ok(())
+}
+
+#[test]
+fn shows_what_they_are(rt: HostRuntime) -> Result<(), Fail> {
+    assert_eq!(rt;
+        format!(in rt.alloc(); "{:?}", SmallIndex::must(5))?.as_str(),
+        "SmallIndex(5)"
+    );
+    assert_eq!(rt;
+        format!(in rt.alloc(); "{:?}", PatternID::must(5))?.as_str(),
+        "PatternID(5)"
+    );
+    assert_eq!(rt;
+        format!(in rt.alloc(); "{:?}", StateID::must(5))?.as_str(),
+        "StateID(5)"
+    );
+    let offset = NonMaxUsize::new(5).ok_or("refused")?;
+    assert_eq!(rt; format!(in rt.alloc(); "{offset:?}")?.as_str(), "5");
+    Ok(())
+}
+
+#[test]
+fn refuses_the_greatest_offset_alone(rt: HostRuntime) -> Result<(), Fail> {
+    assert!(rt; NonMaxUsize::new(18446744073709551615).is_none());
+    for number in [0, 1, 18446744073709551614] {
+        let offset = NonMaxUsize::new(number).ok_or("refused")?;
+        assert_eq!(rt; offset.get(), number, "at {number}");
+        assert!(rt; is_same(&offset, &offset), "at {number}");
+    }
+    Ok(())
+}

@@ -1,0 +1,3 @@
+pub mod NumbersLemmas
+pub mod PartsLent
+pub mod PatternSetsLemmas

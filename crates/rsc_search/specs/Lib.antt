@@ -1,0 +1,10 @@
+pub mod Inputs
+pub mod Lending
+pub mod Matches
+pub mod Modes
+pub mod PatternSetLayout
+pub mod PatternSets
+pub mod PatternSetsLaws
+pub mod Spans
+pub mod SpansLaws
+pub mod Texts

@@ -1,0 +1,10 @@
+-- Where a search may begin.
+use Rattle.std.specs.Prelude.{ℕ, Option, Some, None}
+use Rattle.rsc_search.specs.declared.anchored.Anchored.{Anchored}
+use Rattle.rsc_search.specs.declared.anchored.Anchored.TheVariants.{No, Yes, Pattern}
+
+-- the one pattern that may match
+abbrev pub pattern_of : Anchored → Option ℕ
+pattern_of No = None
+pattern_of Yes = None
+pattern_of (Pattern p) = Some p

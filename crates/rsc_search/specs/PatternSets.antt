@@ -1,0 +1,33 @@
+-- Sets of patterns: a capacity, and the members below it in ascending order.
+use Rattle.std.specs.Prelude.{ℕ, ◌==◌, ◌||◌, ◌&&◌, Bool, List, [], filter}
+use Rattle.std.specs.List.{list_any, range_with_len}
+use Rattle.std.specs.Str.{bytes_eq}
+
+pub record Patterns : Type 0 where
+  pub capacity : ℕ
+  pub members : List ℕ
+
+-- the number is among the members
+abbrev pub has_member : List ℕ → ℕ → Bool
+has_member members p = list_any (λ q. q == p) members
+
+-- the numbers below n that pass the test, ascending
+abbrev pub numbers_below : ℕ → (ℕ → Bool) → List ℕ
+numbers_below n test = filter test (range_with_len 0 n)
+
+-- the set with no members
+abbrev pub no_patterns : ℕ → Patterns
+no_patterns n = record { capacity = n; members = [] }
+
+-- the set whose members are p and those that it had: the numbers below the capacity that are p or a member
+abbrev pub with_member : Patterns → ℕ → Patterns
+with_member s p = record { capacity = s.capacity; members = numbers_below s.capacity (λ q. q == p || has_member s.members q) }
+
+-- two sets have one capacity and the same members
+abbrev pub same_patterns : Patterns → Patterns → Bool
+same_patterns s t = s.capacity == t.capacity && bytes_eq s.members t.members
+
+-- why an insertion is refused: the pattern handed in, and the set's capacity, which it isn't below
+pub record RefusedInsertion : Type 0 where
+  pub attempted : ℕ
+  pub capacity : ℕ

@@ -1,0 +1,178 @@
+//! A part of a haystack, by its start and its end.
+ghost use Rattle.std.specs.Prelude.{◌≡◌, ◌+◌, ◌-◌, ◌^◌, ◌<◌, ◌≤◌, ◌↔◌, IsTrue, length, slice_range};
+ghost use Rattle.std.specs.Option.{option_copied, option_copied_mut};
+ghost use Rattle.std.specs.Borrow.{sem};
+ghost use Rattle.rsc_search.specs.Spans.{cut, cut_text};
+ghost use Rattle.rsc_search.specs.Lending.{LendsCut, LendsPart};
+
+use std::fmt;
+use std::ops::Range;
+
+/// A part of a haystack: from the byte at `start` up to, and without, the byte at `end`.
+///
+/// Both are positions in bytes. Nothing is asked of their order: a span whose start is above its end is empty.
+#[derive(Clone, Copy, Hash)]
+pub struct Span {
+    /// The position of the first byte.
+    pub start: usize,
+    /// The position after the last byte.
+    pub end: usize,
+}
+
+impl PartialEq for Span {
+    ghost use Rattle.rsc_search.specs.Spans.{same_span};
+    ghost use Rattle.rsc_search.specs.SpansLaws.{same_span_partial};
+
+    ghost eq = { same_span };
+
+    ghost laws = { same_span_partial };
+
+    #[inline]
+    fn eq(&self, other: &Self) -> bool {
+        self.start == other.start && self.end == other.end
+    }
+}
+
+impl Eq for Span {
+    ghost use Rattle.rsc_search.specs.SpansLaws.{same_span_equiv};
+
+    ghost laws = { same_span_equiv };
+}
+
+impl Span {
+    /// The span as a range of positions.
+    #[inline]
+    pub fn range(&self) -> Range<usize>
+        ensures start { result.start ≡ self.now.start }
+        ensures end { result.end ≡ self.now.end }
+    {
+        self.start..self.end
+    }
+
+    /// Whether the span holds no byte: its start is at least its end.
+    #[inline]
+    pub fn is_empty(&self) -> bool
+        ensures { IsTrue result ↔ (self.now.end ≤ self.now.start) }
+    {
+        self.start >= self.end
+    }
+
+    /// How many bytes the span holds; 0 where its start is above its end.
+    #[inline]
+    pub fn len(&self) -> usize
+        ensures { result ≡ self.now.end - self.now.start }
+    {
+        self.end.saturating_sub(self.start)
+    }
+
+    /// Whether a position stands in the span. The end of a span that isn't empty counts too, although no byte of the
+    /// span stands there.
+    #[inline]
+    pub fn contains(&self, offset: usize) -> bool
+        ensures { IsTrue result ↔ ((self.now.start < self.now.end) × (self.now.start ≤ offset) × (offset ≤ self.now.end)) }
+    {
+        !self.is_empty() && self.start <= offset && offset <= self.end
+    }
+
+    /// The span moved up by so many bytes. Both its ends have to fit a `usize` then.
+    #[inline]
+    pub fn offset(&self, offset: usize) -> Span
+        requires start { self.now.start + offset < 2 ^ 64 }
+        requires end { self.now.end + offset < 2 ^ 64 }
+        ensures { result ≡ record { start = self.now.start + offset; end = self.now.end + offset } }
+    {
+        Span {
+            start: self.start + offset,
+            end: self.end + offset,
+        }
+    }
+
+    /// The bytes of a haystack that the span names, or `None` where its start is above its end or its end above the
+    /// haystack's length.
+    #[inline]
+    pub fn get<'h>(&self, haystack: &'h [u8]) -> Option<&'h [u8]>
+        ensures { option_copied result ≡ cut haystack.now self.now }
+    {
+        if self.start <= self.end && self.end <= haystack.len() {
+            Some(&haystack[self.start..self.end])
+        } else {
+            None
+        }
+    }
+
+    /// The same bytes, lent for writing. The bytes outside the span stay as they are.
+    #[inline]
+    pub fn get_mut<'h>(&self, haystack: &'h mut [u8]) -> Option<&'h mut [u8]>
+        ensures value { option_copied_mut result ≡ cut haystack.old self.now }
+    {
+        let (start, end) = (self.start, self.end);
+        if end < start || haystack.len() < end {
+            return None;
+        }
+        Some(part_mut(haystack, start, end))
+    }
+
+    /// The text of a haystack that the span names, or `None` where [`Span::get`] is `None` or an end of the span
+    /// isn't a character boundary.
+    #[inline]
+    pub fn get_str<'h>(&self, haystack: &'h str) -> Option<&'h str>
+        ensures { option_copied result ≡ cut_text haystack.now self.now }
+    {
+        if self.start <= self.end
+            && haystack.is_char_boundary(self.start)
+            && haystack.is_char_boundary(self.end)
+        {
+            Some(&haystack[self.start..self.end])
+        } else {
+            None
+        }
+    }
+}
+
+// A function of its own, since its proof is a walk by hand.
+#[inline]
+fn part_mut(bytes: &mut [u8], start: usize, end: usize) -> &mut [u8]
+    requires order { start ≤ end }
+    requires within { end ≤ length bytes.old }
+    ensures* writes_back { sem 𝓛 (LendsPart bytes.entry start end result) }
+    ensures value { result.now ≡ slice_range bytes.old start end }
+{
+    &mut bytes[start..end]
+}
+
+impl From<Range<usize>> for Span {
+    ghost use Rattle.std.specs.Prelude.{◌≡◌};
+
+    ghost from_gives = { λ range span. span ≡ record { start = range.start; end = range.end } };
+
+    #[inline]
+    fn from(range: Range<usize>) -> Span {
+        Span {
+            start: range.start,
+            end: range.end,
+        }
+    }
+}
+
+impl From<Span> for Range<usize> {
+    ghost use Rattle.std.specs.Prelude.{◌≡◌};
+
+    ghost from_gives = { λ span range. range ≡ record { start = span.start; end = span.end } };
+
+    #[inline]
+    fn from(span: Span) -> Range<usize> {
+        span.start..span.end
+    }
+}
+
+impl fmt::Debug for Span {
+    ghost use Rattle.std.specs.Prelude.{Some};
+    ghost use Rattle.rsc_search.specs.Spans.{span_text};
+
+    ghost debug_output = { λ span. Some (span_text span) };
+
+    fn fmt<W: fmt::Write>(&self, f: &mut fmt::Formatter<W>) -> fmt::Result {
+        let (start, end) = (self.start, self.end);
+        write!(f, "{start}..{end}")
+    }
+}

@@ -1,0 +1,246 @@
+//! What no contract says: worked values from outside, shown texts, and each request for memory refused in turn.
+use crate::{
+    Anchored, HalfMatch, Input, Match, MatchError, MatchErrorKind, MatchKind, PatternSet, Span,
+};
+use linked_list_allocator::LocalHeap;
+use rsc_primitives::PatternID;
+use std::ops::{Bound, Range};
+use std::test::Fail;
+
+fn span(start: usize, end: usize) -> Span {
+    Span { start, end }
+}
+
+#[test]
+fn spans(rt: HostRuntime) -> Result<(), Fail> {
+    let ordered = span(2, 4);
+    assert_eq!(rt; ordered.len(), 2);
+    assert!(rt; ordered.offset(3) == span(5, 7));
+    for (at, want) in [(1, false), (2, true), (3, true), (4, true), (5, false)] {
+        assert_eq!(rt; ordered.contains(at), want, "2..4 at {at}");
+    }
+    assert!(rt; !span(2, 2).contains(2));
+    let reversed = span(4, 2);
+    assert_eq!(rt; reversed.len(), 0);
+    assert!(rt; reversed.is_empty() && !reversed.contains(3));
+    let range: Range<usize> = ordered.into();
+    assert_eq!(rt; range.start, 2);
+    assert!(rt; Span::from(ordered.range()) == ordered);
+    assert!(rt; span(2, 4) != span(2, 5));
+    let text = format!(in rt.alloc(); "{ordered:?}")?;
+    assert_eq!(rt; text.as_str(), "2..4");
+    Ok(())
+}
+
+#[test]
+fn slices(rt: HostRuntime) {
+    let accent = "é";
+    for (s, want) in [
+        (span(1, 3), None),
+        (span(0, 2), Some("é")),
+        (span(0, 1), None),
+        (span(2, 2), Some("")),
+        (span(1, 1), None),
+        (span(0, 3), None),
+    ] {
+        assert!(rt; s.get_str(accent) == want, "of é at {}", s.end);
+    }
+    let haystack: &[u8] = b"abc";
+    assert!(rt; span(3, 3).get(haystack) == Some(b"".as_slice()));
+    assert!(rt; span(3, 2).get(haystack) == None);
+    assert!(rt; span(1, 4).get(haystack) == None);
+    let mut bytes = [1, 2, 3, 4];
+    if let Some(part) = span(1, 3).get_mut(&mut bytes) {
+        part.fill(9);
+    }
+    assert!(rt; span(3, 2).get_mut(&mut bytes).is_none());
+    assert!(rt; span(2, 5).get_mut(&mut bytes).is_none());
+    assert_eq!(rt; bytes, [1, 9, 9, 4]);
+}
+
+#[test]
+fn inputs(rt: HostRuntime) -> Result<(), Fail> {
+    let abc: &[u8] = b"abc";
+    let mut input = Input::new(abc);
+    let text = format!(in rt.alloc(); "{input:?}")?;
+    assert_eq!(rt; text.as_str(), "Input { haystack: \"abc\", span: 0..3, anchored: No, earliest: false }");
+    input.set_range(Bound::Excluded(0), Bound::Included(1));
+    assert!(rt; input.get_span() == span(1, 2));
+    assert_eq!(rt; input.get_range().end, 2);
+    assert!(rt; !input.is_done());
+    input.set_span(span(3, 2));
+    assert!(rt; input.is_done());
+    let mut input = Input::new(abc);
+    input.set_end(1);
+    input.set_start(2);
+    assert!(rt; input.start() == 2 && input.end() == 1 && input.is_done());
+    let input = Input::new(abc)
+        .range(Bound::Unbounded, Bound::Excluded(2))
+        .anchored(Anchored::Yes)
+        .earliest(true);
+    assert!(rt; input.get_span() == span(0, 2));
+    assert!(rt; input.get_anchored() == Anchored::Yes && input.get_earliest());
+    let mut again = input.clone()?.span(span(1, 1));
+    again.set_anchored(Anchored::No);
+    again.set_earliest(false);
+    assert!(rt; again.haystack() == abc && !again.is_done() && !again.get_earliest());
+    let character = Input::new("𝛃".as_bytes());
+    for (at, want) in [(0, true), (1, false), (4, true), (5, false)] {
+        assert_eq!(rt; character.is_char_boundary(at), want, "in 𝛃 at {at}");
+    }
+    Ok(())
+}
+
+#[test]
+fn matches(rt: HostRuntime) {
+    let half = HalfMatch::must(3, 7);
+    assert!(rt; half == HalfMatch::new(PatternID::must(3), 7));
+    assert!(rt; half.pattern() == PatternID::must(3) && half.offset() == 7);
+    let found = Match::must(1, span(2, 5));
+    assert!(rt; found == Match::new(PatternID::must(1), span(2, 5)));
+    assert!(rt; found != Match::must(1, span(2, 4)));
+    assert!(rt; found.pattern() == PatternID::must(1) && found.span() == span(2, 5));
+    assert!(rt; found.start() == 2 && found.end() == 5 && found.len() == 3);
+    assert!(rt; !found.is_empty() && found.range().start == 2);
+}
+
+#[test]
+fn modes(rt: HostRuntime) {
+    let four = PatternID::must(4);
+    for (mode, anchored, pattern) in [
+        (Anchored::No, false, None),
+        (Anchored::Yes, true, None),
+        (Anchored::Pattern(four), true, Some(four)),
+    ] {
+        assert_eq!(rt; mode.is_anchored(), anchored);
+        assert!(rt; mode.pattern() == pattern);
+    }
+    assert!(rt; MatchKind::All.continue_past_first_match());
+    assert!(rt; !MatchKind::default().continue_past_first_match());
+}
+
+#[test]
+fn errors(rt: HostRuntime) -> Result<(), Fail> {
+    let quit = MatchError::quit(0xFF, 3);
+    assert!(rt; *quit.kind() == MatchErrorKind::Quit { byte: 0xFF, offset: 3 });
+    assert!(rt; quit.clone()? == quit);
+    for (error, want) in [
+        (
+            quit,
+            "quit search after observing byte \\xFF at offset 3",
+        ),
+        (
+            MatchError::quit(0x20, 0),
+            "quit search after observing byte ' ' at offset 0",
+        ),
+        (MatchError::gave_up(7), "gave up searching at offset 7"),
+        (
+            MatchError::haystack_too_long(9),
+            "haystack of length 9 is too long",
+        ),
+        (
+            MatchError::unsupported_anchored(Anchored::Yes),
+            "anchored searches are not supported or enabled",
+        ),
+        (
+            MatchError::new(MatchErrorKind::UnsupportedAnchored { mode: Anchored::No }),
+            "unanchored searches are not supported or enabled",
+        ),
+        (
+            MatchError::unsupported_anchored(Anchored::Pattern(PatternID::must(4))),
+            "anchored searches for a specific pattern (4) are not supported or enabled",
+        ),
+    ] {
+        let text = format!(in rt.alloc(); "{error}")?;
+        assert_eq!(rt; text.as_str(), want);
+    }
+    Ok(())
+}
+
+#[test]
+fn pattern_sets(rt: HostRuntime) -> Result<(), Fail> {
+    let (zero, two, three) = (PatternID::must(0), PatternID::must(2), PatternID::must(3));
+    let mut set = PatternSet::new(rt.alloc(), 3)?;
+    assert!(rt; set.insert(two) && set.insert(zero) && !set.insert(zero));
+    let mut walk = set.iter();
+    assert!(rt; walk.size_hint() == (2, Some(2)) && walk.len() == 2);
+    assert!(rt; walk.next_back() == Some(two));
+    let mut rest = walk.clone()?;
+    assert!(rt; walk.next() == Some(zero));
+    assert!(rt; walk.next() == None && walk.next_back() == None);
+    assert!(rt; rest.next_back() == Some(zero) && rest.len() == 0);
+    match set.try_insert(three) {
+        Ok(_) => assert!(rt; false, "3 is inserted"),
+        Err(refused) => {
+            assert!(rt; refused.attempted() == three && refused.capacity() == 3);
+            let text = format!(in rt.alloc(); "{refused}")?;
+            assert_eq!(rt; text.as_str(), "failed to insert pattern ID 3 into pattern set with insufficient capacity of 3");
+        }
+    }
+    assert!(rt; set.len() == 2 && !set.is_full() && !set.is_empty());
+    assert!(rt; set.contains(two) && !set.contains(three) && !set.contains(PatternID::MAX));
+    match set.try_insert(PatternID::MAX) {
+        Ok(_) => assert!(rt; false, "the greatest is inserted"),
+        Err(refused) => {
+            let text = format!(in rt.alloc(); "{refused}")?;
+            assert_eq!(rt; text.as_str(), "failed to insert pattern ID 2147483646 into pattern set with insufficient capacity of 3");
+        }
+    }
+    let copy = set.clone()?;
+    assert!(rt; copy == set);
+    assert!(rt; set.try_insert(PatternID::must(1)).is_ok_and(|new| new) && set.is_full());
+    assert!(rt; copy != set);
+    set.clear();
+    assert!(rt; set.is_empty() && set.capacity() == 3 && set.iter().next() == None);
+    Ok(())
+}
+
+#[test]
+fn pattern_sets_by_capacity(rt: HostRuntime) -> Result<(), Fail> {
+    let zero = PatternID::must(0);
+    let mut none = PatternSet::new(rt.alloc(), 0)?;
+    assert!(rt; none.is_empty() && none.is_full() && none.try_insert(zero).is_err());
+    let mut one = PatternSet::new(rt.alloc(), 1)?;
+    let mut two = PatternSet::new(rt.alloc(), 2)?;
+    assert!(rt; one.insert(zero) && two.insert(zero));
+    assert!(rt; one != two);
+    assert!(rt; two.insert(PatternID::must(1)) && !two.insert(PatternID::must(1)));
+    Ok(())
+}
+
+// Over memory of that size: whether a set could be made, and whether it and its clone could. The set answers as before
+// where its clone was refused.
+fn made_and_cloned(heap: &LocalHeap) -> (bool, bool) {
+    let Ok(mut set) = PatternSet::new(heap, 40) else {
+        return (false, false);
+    };
+    let seven = PatternID::must(7);
+    let inserted = set.try_insert(seven).is_ok_and(|new| new);
+    let cloned = match set.clone() {
+        Ok(copy) => copy == set,
+        Err(_) => false,
+    };
+    let as_before = set.len() == 1 && set.capacity() == 40 && set.contains(seven);
+    (inserted && as_before, cloned)
+}
+
+#[test]
+fn memory_is_refused_until_there_is_enough(rt: HostRuntime) -> Result<(), Fail> {
+    let mut sets = 0u32;
+    let mut clones = 0u32;
+    for size in 0..64usize {
+        let heap = LocalHeap::new(rt.alloc(), 8 * size)?;
+        let (made, cloned) = made_and_cloned(&heap);
+        assert!(rt; made || !cloned, "at {size}");
+        assert!(rt; made || sets == 0, "refused again at {size}");
+        assert!(rt; cloned || clones == 0, "a clone refused again at {size}");
+        if made {
+            sets = sets.saturating_add(1);
+        }
+        if cloned {
+            clones = clones.saturating_add(1);
+        }
+    }
+    assert!(rt; 0 < clones && clones < sets && sets < 64, "{clones} of {sets}");
+    Ok(())
+}
