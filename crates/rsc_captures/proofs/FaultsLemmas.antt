@@ -1,8 +1,8 @@
 -- The first fault of a list: what the code found is it, there is at most one, and a list without a fault has none.
-use Rattle.std.proofs.Common.{◌≡◌, ◌⊎◌, ℕ, ◌+◌, ◌<◌, ◌≤◌, length, [], Option, Some, None, MatchOption, sym, ap, ◌∙◌, subst, inl, inr, arith, ⊎_elim}
+use Rattle.std.proofs.Common.{◌≡◌, ℕ, ◌<◌, ◌≤◌, [], Option, Some, None, sym, ap, ◌∙◌, subst, inl, inr, arith, ⊎_elim}
 use Rattle.std.proofs.lemmas.Bool.{cases_lt}
 use Rattle.rsc_captures.specs.Groups.{GroupLists, group_count}
-use Rattle.rsc_captures.specs.Faults.{Fault, TooManyGroups, Duplicate, IsPlace, ComesBefore, place_fault, slots_end, IsClear, IsFirstAtPlace, IsFirstPastLimit, IsFirstFault, IsFaultless, FirstIsDuplicate, RefusesFor}
+use Rattle.rsc_captures.specs.Faults.{Fault, TooManyGroups, Duplicate, IsPlace, ComesBefore, place_fault, slots_end, IsClear, IsFirstAtPlace, IsFirstPastLimit, IsFirstFault, IsFaultless, RefusesFor}
 use Rattle.rsc_captures.specs.Checks.{AreChecked, IsCheckedPattern, FoundAtPlace, FoundPastLimit, IsFound, IsChecked, FoundDuplicate, RefusesAsFound}
 
 module _ {limit : ℕ} {lists : GroupLists} where

@@ -5,3 +5,5 @@ pub mod Checked
 pub mod FaultsLemmas
 pub mod Starts
 pub mod Owners
+pub mod Pieces
+pub mod Spans

@@ -1,10 +1,10 @@
 -- Each slot is a slot of exactly one group.
-use Rattle.std.proofs.Common.{◌≡◌, ◌⊎◌, ℕ, zero, suc, ◌+◌, ◌-◌, ◌*◌, ◌/◌, ◌%◌, ◌<◌, ◌≤◌, Bool, true, false, cond, List, [], length, take, get_or, nat_eq, nat_lt, Option, Some, None, refl, sym, ap, ◌∙◌, subst, inl, inr, arith, ⊎_elim}
-use Rattle.std.proofs.lemmas.Bool.{cases_lt, cases_eq, lt-ltb, ltb-true}
+use Rattle.std.proofs.Common.{◌≡◌, ◌⊎◌, ℕ, zero, suc, ◌+◌, ◌-◌, ◌*◌, ◌/◌, ◌%◌, ◌<◌, ◌≤◌, true, false, cond, [], length, nat_eq, nat_lt, Some, None, refl, sym, ap, ◌∙◌, inl, inr, arith, ⊎_elim}
+use Rattle.std.proofs.lemmas.Bool.{cases_lt, lt-ltb, ltb-true}
 use Rattle.std.proofs.lemmas.Bool.Decides.{nat_tests}
 use Rattle.std.proofs.lemmas.List.{get_or_past}
 use Rattle.std.proofs.lemmas.List.Sums.{sum_by_more}
-use Rattle.rsc_captures.specs.Groups.{GroupLists, Groups, groups_of, group_count, explicit_groups, explicit_before, all_groups, slot_number, slot_of}
+use Rattle.rsc_captures.specs.Groups.{GroupLists, groups_of, group_count, explicit_groups, explicit_before, all_groups, slot_number, slot_of}
 use Rattle.rsc_captures.specs.Checks.{IsChecked}
 use Rattle.rsc_captures.specs.SlotOwners.{IsSlotOf, IsOwned}
 use Rattle.rsc_captures.proofs.Starts.{all_groups_are}

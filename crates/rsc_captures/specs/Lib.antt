@@ -8,3 +8,5 @@ pub mod NameWalks
 pub mod Layout
 pub mod Repeats
 pub mod SlotOwners
+pub mod Captured
+pub mod Lending

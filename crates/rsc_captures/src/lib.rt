@@ -1,7 +1,9 @@
 //! Which capturing groups the patterns of a search have, and which slots hold the offsets of a match.
 #![tactic(auto)]
 
+mod captures;
 mod error;
+mod extract;
 mod faults;
 mod group_info;
 pub mod laws;
@@ -10,6 +12,8 @@ mod names;
 #[cfg(test)]
 mod tests;
 
+pub use captures::{Captures, CapturesPatternIter};
 pub use error::{GroupInfoError, GroupInfoErrorKind};
+pub use extract::Haystack;
 pub use group_info::GroupInfo;
 pub use name_walks::{GroupInfoAllNames, GroupInfoPatternNames};
