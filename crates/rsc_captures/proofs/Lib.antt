@@ -7,3 +7,4 @@ pub mod Starts
 pub mod Owners
 pub mod Pieces
 pub mod Spans
+pub mod Extracted

@@ -78,3 +78,26 @@ impl<A: Allocator + Clone + Drop> Captures<A> {
         Some((whole, parts))
     }
 }
+
+impl Captures {
+    // `extract_from` over the usual allocator.
+    fn extract_parts<H: Haystack, const N: usize>(&self, haystack: H) -> Option<(H, [H; N])>
+        ensures {
+            option_map (λ parts. H.bytes parts.0 ∷ map H.bytes parts.1) result
+                ≡ pieces (H.cut_of (H.bytes haystack)) (N + 1) (participating self.now)
+        }
+    {
+        self.extract_from::<H, N>(haystack)
+    }
+
+    /// What the groups that take part in the match cut out of a text: the first, which is the whole match, and the next
+    /// `N`, as by [`Captures::extract_from`].
+    pub fn extract<'h, const N: usize>(&self, haystack: &'h str) -> Option<(&'h str, [&'h str; N])>
+        ensures {
+            option_map (λ parts. parts.0.now ∷ map (λ p. p.now) parts.1) result
+                ≡ pieces (cut_text haystack.now) (N + 1) (participating self.now)
+        }
+    {
+        self.extract_parts::<&str, N>(haystack)
+    }
+}
