@@ -8,3 +8,4 @@ pub mod Owners
 pub mod Pieces
 pub mod Spans
 pub mod Extracted
+pub mod Alone

@@ -1,11 +1,11 @@
 //! The offsets of a match's groups.
-ghost use Rattle.std.specs.Prelude.{◌≡◌, ℕ, List, Option, ◌+◌, ◌*◌, ◌<◌, ◌≤◌, ◌∷◌, [], map, length, replicate, Some, None, IfOk, IfSome, MatchOption, is_some};
+ghost use Rattle.std.specs.Prelude.{◌≡◌, ℕ, List, Option, ◌+◌, ◌*◌, ◌<◌, ◌≤◌, ◌∷◌, [], map, length, replicate, Some, None, IfOk, IfSome, is_some, option_and_then};
 ghost use Rattle.std.specs.Option.{option_map, ForSome};
 ghost use Rattle.std.specs.Borrow.{sem};
 ghost use Rattle.std.specs.Iterator.{YieldsFirst, UpTo, item_count};
 ghost use Rattle.std.specs.Iterator.SizeHint.{IsWithinCount};
 ghost use Rattle.rsc_search.specs.declared.span.Span.{Span};
-ghost use Rattle.rsc_captures.specs.Groups.{all_groups};
+ghost use Rattle.rsc_captures.specs.Groups.{all_groups, slots_of};
 ghost use Rattle.rsc_captures.specs.Captured.{Captured, no_offsets, span_at, group_span, matched_groups, matched_spans, named_span, match_of};
 
 use crate::group_info::GroupInfo;
@@ -41,11 +41,15 @@ pub struct Captures<A: Allocator = Global> {
 }
 
 impl<A: Allocator> Model for Captures<A> {
+    ghost use Rattle.std.specs.Prelude.{◌*◌, ◌≤◌, length};
+    ghost use Rattle.rsc_captures.specs.Groups.{all_groups};
     ghost use Rattle.rsc_captures.specs.Captured.{Captured};
 
     ghost Value = { Captured };
 
     ghost view = { λ c. record { groups = c.group_info; pattern = c.pid; offsets = c.slots.items } };
+
+    ghost invariant = { λ c. length c.slots.items ≤ 2 * all_groups c.group_info };
 }
 
 impl<A: Allocator + Clone + Drop> Captures<A> {
@@ -53,6 +57,7 @@ impl<A: Allocator + Clone + Drop> Captures<A> {
 
     // Captures with so many slots, none of them set.
     fn with_slots(alloc: A, group_info: GroupInfo<A>, count: usize) -> Result<Captures<A>, AllocError>
+        requires { count ≤ 2 * all_groups group_info }
         ensures { IfOk result (λ c. c ≡ no_offsets group_info count) }
     {
         Ok(Captures {
@@ -199,7 +204,20 @@ impl<A: Allocator + Clone + Drop> Captures<A> {
     /// the slots of group i are 2i and 2i + 1, whichever pattern is set; else they are those of the pattern that matched.
     #[inline]
     pub fn get_group(&self, index: usize) -> Option<Span>
-        ensures { result ≡ group_span self.now index }
+        ensures span { result ≡ group_span self.now index }
+        ensures alone {
+            length self.now.groups ≡ 1 → self.now.pattern ≡ Some 0 →
+                result ≡ option_and_then (λ slots. span_at self.now.offsets slots.0) (slots_of self.now.groups 0 index)
+        }
+    {
+        self.group_span(index)
+    }
+
+    // `get_group`, with the one exact clause.
+    #[inline]
+    fn group_span(&self, index: usize) -> Option<Span>
+        ensures span { result ≡ group_span self.now index }
+        ensures room { length self.now.offsets ≤ 2 * all_groups self.now.groups }
     {
         let pid = self.pid?;
         if self.group_info.pattern_len() == 1 {

@@ -310,7 +310,8 @@ impl<A: Allocator + Clone + Drop> GroupInfo<A> {
     /// How many slots the first groups have: two for each pattern. They come before all others.
     #[inline]
     pub fn implicit_slot_len(&self) -> usize
-        ensures { result ≡ 2 * length self.now }
+        ensures value { result ≡ 2 * length self.now }
+        ensures within { result ≤ 2 * all_groups self.now }
     {
         let inner: &Inner<A> = &self.inner;
         2 * inner.patterns.len()
