@@ -56,7 +56,11 @@ impl<A: Allocator + Clone + Drop> Captures<A> {
     ghost use Rattle.rsc_captures.specs.Lending.{LendsSlots};
 
     // Captures with so many slots, none of them set.
-    fn with_slots(alloc: A, group_info: GroupInfo<A>, count: usize) -> Result<Captures<A>, AllocError>
+    fn with_slots(
+        alloc: A,
+        group_info: GroupInfo<A>,
+        count: usize,
+    ) -> Result<Captures<A>, AllocError>
         requires { count ≤ 2 * all_groups group_info }
         ensures { IfOk result (λ c. c ≡ no_offsets group_info count) }
     {
@@ -205,10 +209,8 @@ impl<A: Allocator + Clone + Drop> Captures<A> {
     #[inline]
     pub fn get_group(&self, index: usize) -> Option<Span>
         ensures span { result ≡ group_span self.now index }
-        ensures alone {
-            length self.now.groups ≡ 1 → self.now.pattern ≡ Some 0 →
-                result ≡ option_and_then (λ slots. span_at self.now.offsets slots.0) (slots_of self.now.groups 0 index)
-        }
+        ensures alone { length self.now.groups ≡ 1 → self.now.pattern ≡ Some 0 →
+            result ≡ option_and_then (λ slots. span_at self.now.offsets slots.0) (slots_of self.now.groups 0 index) }
     {
         self.group_span(index)
     }

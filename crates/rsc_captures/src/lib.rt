@@ -14,6 +14,6 @@ mod tests;
 
 pub use captures::{Captures, CapturesPatternIter};
 pub use error::{GroupInfoError, GroupInfoErrorKind};
-pub use extract::Haystack;
+pub use extract::{Haystack, extract_bytes_pair, extract_pair};
 pub use group_info::GroupInfo;
 pub use name_walks::{GroupInfoAllNames, GroupInfoPatternNames};
