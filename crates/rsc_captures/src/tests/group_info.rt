@@ -4,6 +4,7 @@ ghost use Rattle.std.specs.Prelude.{◌≤◌};
 use crate::{GroupInfo, GroupInfoErrorKind, laws};
 use linked_list_allocator::LocalHeap;
 use rsc_primitives::PatternID;
+use std::alloc::Global;
 use std::test::Fail;
 
 fn pattern(p: usize) -> PatternID
@@ -74,47 +75,45 @@ fn names_are_local_to_their_pattern(rt: HostRuntime) -> Result<(), Fail> {
     Ok(())
 }
 
+// Whether the list is refused with that text.
+fn refused_as(alloc: Global, lists: &[&[Option<&str>]], want: &str) -> Result<bool, Fail> {
+    match GroupInfo::new(alloc, lists) {
+        Ok(_) => Ok(false),
+        Err(error) => Ok(error.to_string(alloc)?.as_str() == want),
+    }
+}
+
 #[test]
 fn refuses_the_first_fault(rt: HostRuntime) -> Result<(), Fail> {
-    let rows: [(&[&[Option<&str>]], &str); 7] = [
-        (
-            &[&[None], &[]],
-            "no capturing groups found for pattern 1 (either all patterns have zero groups or all patterns have at least one group)",
-        ),
-        (
-            &[&[], &[None, Some("x"), Some("x")]],
-            "no capturing groups found for pattern 0 (either all patterns have zero groups or all patterns have at least one group)",
-        ),
-        (
-            &[&[Some("x")]],
-            "first capture group (at index 0) for pattern 0 has a name (it must be unnamed)",
-        ),
-        (
-            &[&[Some("x")], &[]],
-            "first capture group (at index 0) for pattern 0 has a name (it must be unnamed)",
-        ),
-        (
-            &[&[None, Some("x"), Some("x")], &[]],
-            "duplicate capture group name 'x' found for pattern 0",
-        ),
-        (
+    let alloc = rt.alloc();
+    let missing =
+        "no capturing groups found for pattern 1 (either all patterns have zero groups or all patterns have at least one group)";
+    assert!(rt; refused_as(alloc, &[&[None], &[]], missing)?);
+    let missing =
+        "no capturing groups found for pattern 0 (either all patterns have zero groups or all patterns have at least one group)";
+    assert!(rt; refused_as(alloc, &[&[], &[None, Some("x"), Some("x")]], missing)?);
+    let named = "first capture group (at index 0) for pattern 0 has a name (it must be unnamed)";
+    assert!(rt; refused_as(alloc, &[&[Some("x")]], named)?);
+    assert!(rt; refused_as(alloc, &[&[Some("x")], &[]], named)?);
+    let duplicate = "duplicate capture group name 'x' found for pattern 0";
+    assert!(rt; refused_as(alloc, &[&[None, Some("x"), Some("x")], &[None]], duplicate)?);
+    assert!(rt; refused_as(alloc, &[&[None, Some("x"), Some("x")], &[]], duplicate)?);
+    let duplicate = "duplicate capture group name 'y' found for pattern 1";
+    assert!(rt;
+        refused_as(
+            alloc,
             &[&[None, Some("x")], &[None, Some("y"), None, Some("y")]],
-            "duplicate capture group name 'y' found for pattern 1",
-        ),
-        (
+            duplicate
+        )?
+    );
+    let duplicate = "duplicate capture group name '' found for pattern 1";
+    assert!(rt;
+        refused_as(
+            alloc,
             &[&[None, Some("")], &[None, Some(""), Some("")]],
-            "duplicate capture group name '' found for pattern 1",
-        ),
-    ];
-    for (lists, want) in rows {
-        match GroupInfo::new(rt.alloc(), lists) {
-            Ok(_) => assert!(rt; false, "accepted in place of {want}"),
-            Err(error) => {
-                let text = error.to_string(rt.alloc())?;
-                assert_eq!(rt; text.as_str(), want);
-            }
-        }
-    }
+            duplicate
+        )?
+    );
     Ok(())
 }
 
@@ -160,37 +159,46 @@ fn memory_is_refused_until_there_is_enough(rt: HostRuntime) -> Result<(), Fail> 
     Ok(())
 }
 
+// Whether the list is refused for want of memory, where there is so much.
+fn wants_memory(alloc: Global, size: usize, lists: &[&[Option<&str>]]) -> Result<bool, Fail> {
+    let heap = LocalHeap::new(alloc, size)?;
+    match GroupInfo::new(&heap, lists) {
+        Ok(_) => Ok(false),
+        Err(error) => Ok(matches!(error.kind(), GroupInfoErrorKind::OutOfMemory)),
+    }
+}
+
 #[test]
-fn want_of_memory_is_named(rt: HostRuntime) -> Result<(), Fail> {
-    let lists: [(&[&[Option<&str>]], bool); 5] = [
-        (&[&[None, Some("x")]], true),
-        (&[&[None, Some("x"), Some("x")]], true),
-        (&[&[None, Some("x")], &[Some("x")]], false),
-        (&[&[None, Some("x")], &[]], false),
-        (&[&[], &[None, Some("x"), Some("x")]], false),
-    ];
-    for (list, needs_memory) in lists {
-        let heap = LocalHeap::new(rt.alloc(), 0)?;
-        match GroupInfo::new(&heap, list) {
-            Ok(_) => assert!(rt; false, "accepted without memory"),
-            Err(error) => {
-                let out_of_memory = matches!(error.kind(), GroupInfoErrorKind::OutOfMemory);
-                assert!(rt; out_of_memory == needs_memory);
-            }
-        }
+fn faults_come_before_any_request(rt: HostRuntime) -> Result<(), Fail> {
+    let alloc = rt.alloc();
+    assert!(rt; wants_memory(alloc, 0, &[&[None, Some("x")]])?);
+    assert!(rt; wants_memory(alloc, 0, &[&[None, Some("x"), Some("x")]])?);
+    assert!(rt; !wants_memory(alloc, 0, &[&[None, Some("x")], &[Some("x")]])?);
+    assert!(rt; !wants_memory(alloc, 0, &[&[None, Some("x")], &[]])?);
+    assert!(rt; !wants_memory(alloc, 0, &[&[], &[None, Some("x"), Some("x")]])?);
+    Ok(())
+}
+
+// Whether a name that stands twice is refused as such, or for want of memory, where there is so much.
+fn names_the_duplicate(alloc: Global, size: usize) -> Result<(bool, bool), Fail> {
+    let heap = LocalHeap::new(alloc, size)?;
+    match GroupInfo::new(&heap, &[&[None, Some("x"), Some("x")]]) {
+        Ok(_) => Ok((false, false)),
+        Err(error) => Ok((
+            matches!(error.kind(), GroupInfoErrorKind::Duplicate { .. }),
+            matches!(error.kind(), GroupInfoErrorKind::OutOfMemory),
+        )),
     }
+}
+
+#[test]
+fn a_name_twice_is_refused_at_every_size(rt: HostRuntime) -> Result<(), Fail> {
+    let mut named = 0u32;
     for size in 0..256usize {
-        let heap = LocalHeap::new(rt.alloc(), 8 * size)?;
-        match GroupInfo::new(&heap, &[&[None, Some("x"), Some("x")]]) {
-            Ok(_) => assert!(rt; false, "accepted at {size}"),
-            Err(error) => {
-                let named = matches!(
-                    error.kind(),
-                    GroupInfoErrorKind::OutOfMemory | GroupInfoErrorKind::Duplicate { .. }
-                );
-                assert!(rt; named, "at {size}");
-            }
-        }
+        let (duplicate, out_of_memory) = names_the_duplicate(rt.alloc(), 8 * size)?;
+        assert!(rt; duplicate || (out_of_memory && named == 0), "at {size}");
+        named = named.saturating_add(u32::from(duplicate));
     }
+    assert!(rt; 0 < named && named < 256, "{named}");
     Ok(())
 }
