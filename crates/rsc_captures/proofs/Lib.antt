@@ -1,0 +1,11 @@
+pub mod Lists
+pub mod Places
+pub mod Indexed
+pub mod Checked
+pub mod FaultsLemmas
+pub mod Starts
+pub mod Owners
+pub mod Pieces
+pub mod Spans
+pub mod Extracted
+pub mod Alone

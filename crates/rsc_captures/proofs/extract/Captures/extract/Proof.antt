@@ -1,0 +1,78 @@
+use mathlib.Core.Path.{refl}
+use mathlib.Core.List.{[], ◌∷◌}
+use mir.Syntax.{named, a_number}
+use mir.MapTy.{inst_fn}
+use base.Logic.{id⊢}
+use types.Kit.{‵, raw, ◌⊛◌, some, later, ◌$◌, ◌∵◌, !, qed, done, move, drop, use1, use2, split, join, pick, await, suffices, group}
+use types.Run.{enter, no_more, and_then, returns}
+use types.ByLocal.{alloc_all, pass_all, free_all, look_at, get, lands_as}
+use contract.BorrowLft.{◌⊑◌}
+use contract.Running.{tables}
+use denote.Exit.{yes, no}
+use denote.Laws.{shows}
+use denote.Param.{number, layouts, Types}
+use denote.Param.Laws.{arg_laws, arg_copy}
+use denote.RattleType.{RattleType}
+use denote.Ref.{shr_vals, shr_Tells}
+use denote.Signature.{Slot}
+use denote.Slice.{shr_slice_vals}
+use denote.Steps.{nothing, peeks, heard}
+use denote.Struct.Field.{Field}
+use denote.Text.{StrRefOf, str-field, str-laws}
+use denote.Triple.Call.{calls_at}
+use denote.Triple.Clauses.{Ended, lasts, at_exit}
+use denote.Triple.Entry.{on_entry, alive}
+use denote.Triple.Spec.{triple_of}
+use denote.Triple.Table.{framed}
+use denote.Triple.Walked.{Stays, says, stay_dropped, Goes-dropped, ends_at}
+use borrow.Table.Str.{str_laws, str_copy}
+use Rattle.std.proofs.raw_atomic.Walks.{proved}
+use Rattle.std.specs.contracts.prelude.RefStrClone.TheImpl as clone
+use Rattle.std.proofs.prelude.RefStrClone.TheImpl.Met as clone_met
+use Rattle.rsc_captures.specs.contracts.extract.RefStrHaystack.TheImpl as haystack
+use Rattle.rsc_captures.proofs.extract.RefStrHaystack.TheImpl.Met as haystack_met
+use Rattle.rsc_captures.specs.contracts.extract.Captures.extract as f
+use Rattle.rsc_captures.proofs.extract.Captures.extract.Statement.{statement}
+use Rattle.rsc_captures.proofs.extract.Captures.extract.Code as code
+use Rattle.rsc_captures.specs.contracts.extract.Captures.extract_parts as g
+use Rattle.rsc_captures.proofs.extract.Captures.extract_parts.Met.{met}
+use Rattle.rsc_captures.proofs.Extracted.{captures_row, self_slot, second, fat_pointer, passed, Result, Result-lawful, lives_so, beside}
+
+abbrev haystack_slot : Slot 3
+haystack_slot = StrRefOf (1 ∷ []) tt
+
+abbrev stayed : (N : RattleType) → Stays (f.ended N).signature.params (f.ended N).kept
+stayed N = (stay_dropped self_slot yes, (stay_dropped haystack_slot yes, tt))
+
+pub extract_spec : {M : Type 1} → statement M
+extract_spec 𝓤 𝓛 𝓜 𝓡 wired n fits =
+    let N : RattleType = number n in let c = f.clauses N 𝓛 𝓜.mem 𝓡.returns in
+    let Ts : Types (a_number ∷ []) = (N, tt) in
+    proved 𝓛 (f.ended N) (stayed N) c 𝓜 𝓡 (Goes-dropped 𝓛 3 self_slot yes (λ κs x w. refl), (Goes-dropped 𝓛 3 haystack_slot yes (λ κs x w. refl), tt))
+    (f.Key.name (layouts (a_number ∷ []) Ts)) (inst_fn (layouts (a_number ∷ []) Ts) code.function) (code.unfolded 𝓤 𝓛.H 𝓜 𝓡 wired Ts)
+    (λ κs. (shr_vals, (shr_slice_vals, tt))) (λ κs. (shr_Tells (named 0) κs.0 captures_row, ((str-laws (second κs)).tells, tt))) (λ κs qs bounds a _ are.
+    let F : Field = str-field (second κs) in let L = str_laws (second κs) in let H : RattleType = passed F in let R : RattleType = Result F n in
+    -- the callee's contract at this haystack, that it is met, and what is picked of it
+    let T : Ended = g.ended H N haystack.ghosts haystack.dict clone.ghosts clone.dict in
+    let G = triple_of 𝓛 T.signature (g.spec H N haystack.ghosts haystack.dict clone.ghosts clone.dict 𝓛 𝓜.mem 𝓡.returns) in
+    let d = g.clauses H N haystack.ghosts haystack.dict clone.ghosts clone.dict 𝓛 𝓜.mem 𝓡.returns κs a in
+    let meets = met 𝓤 𝓛 𝓜 𝓡 (code.calls-rsc_captures::extract::Captures::extract_parts 𝓡.env wired) H n
+    (arg_laws fat_pointer no F.row L refl) fits (arg_copy fat_pointer no F.row (str_copy (second κs)) refl) haystack.ghosts haystack.dict clone.ghosts clone.dict
+    (record { cut = (haystack_met.bound 𝓡.env (code.calls-rsc_captures::extract::RefStrHaystack::cut 𝓡.env wired) κs.1.0 _ 𝓤 𝓛 𝓜 𝓡).cut })
+    (record { clone = (clone_met.bound 𝓡.env (code.calls-core::clone::RefStrClone::clone 𝓡.env wired) κs.1.0 _ 𝓤 𝓛 𝓜 𝓡).clone }) in
+    let z : G.Ghost = ((κs, qs, bounds, a, (shr_vals a.0, (shr_slice_vals a.1.0, tt))), tt) in
+    let pre = (c κs a).requires tt in
+    qed 𝓛 (raw (on_entry 𝓛 (f.signature N) κs qs a z.0.4) ∷ raw pre ∷ []) ∵
+    move ! (1 ∷ []) $ use1 𝓛 (raw (d.requires tt)) (beside 𝓤 (κs.1.0 ⊑ H.lives) pre (lives_so κs.1.0)) $ move ! (1 ∷ 0 ∷ []) $ use2 𝓛 (raw (G.pre z)) (id⊢ 𝓤 _) $
+    enter ! _ _ _ _ _ $ alloc_all ! (λ l. pass_all ! refl ((tt, tt), ((((str-laws (second κs)).lawful 𝓛).typed a.1.0 _ are.1.0).0, tt)) $
+    calls_at ! (framed 𝓤 𝓛.H 𝓜 (tables 𝓤 𝓛.H 𝓜 𝓡 𝓡.env)) G meets z (and_then ! (get ! refl) (and_then ! (get ! refl) (no_more !))) (λ v.
+    use1 𝓛 (later (some (λ (r : R.Denot). (raw (alive 𝓛 (f.signature N) κs qs) ⊛ ‵ (R.own_val r (v ∷ []))) ⊛
+    some (λ (ws : Unit {0} × (Unit {0} × Unit {0})). ‵ (lasts T κs a ws) ⊛ raw (d.ensures tt r (at_exit T κs a ws)))))) (id⊢ 𝓤 _) $
+    await ! tt $ pick ! (λ r. split ! $ split ! $
+    -- [the tokens; the result; the callee's clause; the locals]
+    move ! (1 ∷ []) $ peeks ! R _ (shows 𝓛 R) r (v ∷ []) (λ is.
+    lands_as ! refl refl (((Result-lawful F n L 𝓛).typed r (v ∷ []) is).0) $
+    move ! (2 ∷ []) $ pick ! (λ ws. split ! $ drop ! $ heard ! _ (λ cuts.
+    returns ! (look_at ! 0 refl) $ free_all ! refl $
+    suffices ! _ (ends_at 𝓛 (f.ended N) (stayed N) c ((κs, qs, bounds, a, z.0.4), tt) v r (tt, (tt, tt)) (tt, (tt, tt))) $ says ! cuts $
+    nothing ! $ nothing ! $ join ! $ nothing ! $ join ! $ move ! (2 ∷ []) $ group ! 3 $ done !)))))))

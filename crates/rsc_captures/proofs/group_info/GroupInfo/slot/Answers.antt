@@ -1,0 +1,24 @@
+use Rattle.std.proofs.Common.{◌≡◌, ◌+◌, ◌-◌, ◌*◌, ◌<◌, ◌≤◌, [], length, get_or, ap, ◌∙◌, arith}
+use Rattle.rsc_captures.specs.Groups.{groups_of, group_count}
+use Rattle.rsc_captures.proofs.Starts.{slot_fits}
+use Rattle.rsc_captures.proofs.group_info.GroupInfo.slot.Goals as goal
+
+pub overflow_mul-result-else-group_index-eq0 : goal.overflow_mul-result-else-group_index-eq0
+overflow_mul-result-else-group_index-eq0 g c =
+    let found = c.in_ok-groups.ensures.lookup in
+    let lt : c.as_usize-p.result < length c.inner.inside.patterns.items = rw c.deref.ensures.value at found.3.0 in
+    let groups : c.in_ok-groups.groups.now ≡ groups_of c.inner.inside.patterns.items c.as_usize-p.result = rw c.deref.ensures.value at (found.3.1 []) in
+    let count : c.len.result ≡ group_count c.inner.inside.patterns.items c.as_usize-p.result = c.len.ensures ∙ ap length groups in
+    let fits : get_or c.inner.inside.starts.items c.as_usize-p.result 0 + 2 * (c.args.group_index - 1) ≤ 2147483646 =
+    slot_fits c.inner.inside.starts.items c.inner.inside.patterns.items c.as_usize-p.result c.args.group_index 0 c.inner.invariant lt (omega arith) (omega arith) in
+    omega arith
+
+pub overflow_add-result : goal.overflow_add-result
+overflow_add-result g c =
+    let found = c.in_ok-groups.ensures.lookup in
+    let lt : c.as_usize-p.result < length c.inner.inside.patterns.items = rw c.deref.ensures.value at found.3.0 in
+    let groups : c.in_ok-groups.groups.now ≡ groups_of c.inner.inside.patterns.items c.as_usize-p.result = rw c.deref.ensures.value at (found.3.1 []) in
+    let count : c.len.result ≡ group_count c.inner.inside.patterns.items c.as_usize-p.result = c.len.ensures ∙ ap length groups in
+    let fits : get_or c.inner.inside.starts.items c.as_usize-p.result c.index.result.now + 2 * (c.args.group_index - 1) ≤ 2147483646 =
+    slot_fits c.inner.inside.starts.items c.inner.inside.patterns.items c.as_usize-p.result c.args.group_index c.index.result.now c.inner.invariant lt (omega arith) (omega arith) in
+    omega (arith, c.index.ensures)

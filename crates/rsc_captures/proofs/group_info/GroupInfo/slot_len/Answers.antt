@@ -1,0 +1,23 @@
+use Rattle.std.proofs.Common.{◌≡◌, ◌*◌, length, ap, ◌∙◌}
+use Rattle.rsc_captures.specs.Groups.{all_groups}
+use Rattle.rsc_captures.specs.Checks.{IsChecked}
+use Rattle.rsc_captures.proofs.Owners.{each_owned, one_owner}
+use Rattle.rsc_captures.proofs.Starts.{last_start_or}
+use Rattle.rsc_captures.proofs.group_info.GroupInfo.slot_len.Goals as goal
+
+pub returns-clause-value : goal.returns-clause-value
+returns-clause-value g c =
+    let lists : c.inner.inside.patterns.items ≡ c.args.self.now = c.inner.view_is ∙ c.deref-inner.ensures ∙ c.self.view_is in
+    let len : c.len.result ≡ length c.args.self.now = c.len.ensures ∙ c.inner.inside.patterns.ok.0 ∙ ap length lists in
+    rw len at c.index.ensures ∙ last_start_or c.inner.inside.starts.items c.args.self.now _ (rw lists at c.inner.invariant)
+
+pub returns-clause-owned : goal.returns-clause-owned
+returns-clause-owned g c =
+    let lists : c.inner.inside.patterns.items ≡ c.args.self.now = c.inner.view_is ∙ c.deref-inner.ensures ∙ c.self.view_is in
+    let len : c.len.result ≡ length c.args.self.now = c.len.ensures ∙ c.inner.inside.patterns.ok.0 ∙ ap length lists in
+    let all : c.index.result.now ≡ 2 * all_groups c.args.self.now = rw len at c.index.ensures ∙ last_start_or c.inner.inside.starts.items c.args.self.now _ (rw lists at c.inner.invariant) in
+    let checked : IsChecked 2147483646 c.args.self.now = rw lists at c.inner.invariant.faultless in
+    λ s lt. each_owned c.args.self.now checked s (rw all at lt)
+
+pub returns-clause-once : goal.returns-clause-once
+returns-clause-once g c = one_owner c.args.self.now

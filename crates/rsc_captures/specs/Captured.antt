@@ -1,0 +1,69 @@
+-- What captures hold: the groups, the pattern that matched, if there is one, and an offset, if it is set, in each slot.
+use Rattle.std.specs.Prelude.{ℕ, ◌+◌, ◌-◌, ◌*◌, ◌==◌, List, [], ◌∷◌, ◌++◌, length, take, drop, map, replicate, slice_index_or, Option, Some, None, if◌then◌else◌, option_and_then}
+use Rattle.std.specs.Option.{option_map, option_map_or}
+use Rattle.std.specs.List.{filter_map, range_with_len}
+use Rattle.rsc_search.specs.declared.span.Span.{Span}
+use Rattle.rsc_search.specs.Matches.{Matched}
+use Rattle.rsc_captures.specs.Groups.{GroupLists, groups_of, group_count, slot_of, index_of}
+
+pub record Captured : Type 0 where
+  pub groups : GroupLists
+  pub pattern : Option ℕ
+  pub offsets : List (Option ℕ)
+
+-- the span whose offsets stand in a slot and the next, if both are there and set
+abbrev pub span_at : List (Option ℕ) → ℕ → Option Span
+span_at offsets slot = option_and_then (λ from. option_map (λ to. record { start = from; end = to }) (slice_index_or offsets (slot + 1) None)) (slice_index_or offsets slot None)
+
+-- the first slot of group i of pattern q; where there is one pattern, whatever q is, and whether it has the group or not
+abbrev pub first_slot : GroupLists → ℕ → ℕ → Option ℕ
+first_slot groups q i = if length groups == 1 then Some (2 * i) else slot_of groups q i
+
+-- the span of group i; none where no pattern matched
+abbrev pub group_span : Captured → ℕ → Option Span
+group_span c i = option_and_then (λ q. option_and_then (span_at c.offsets) (first_slot c.groups q i)) c.pattern
+
+-- the span of the group that has the name in the pattern that matched
+abbrev pub named_span : Captured → List ℕ → Option Span
+named_span c name = option_and_then (group_span c) (option_and_then (λ q. index_of (groups_of c.groups q) name) c.pattern)
+
+-- no pattern, and so many slots that aren't set
+abbrev pub no_offsets : GroupLists → ℕ → Captured
+no_offsets groups count = record { groups = groups; pattern = None; offsets = replicate count None }
+
+-- how many groups the pattern has that matched
+abbrev pub matched_groups : Captured → ℕ
+matched_groups c = option_map_or (group_count c.groups) c.pattern 0
+
+-- the span of each group of the pattern that matched, from i on
+abbrev pub spans_from : Captured → ℕ → List (Option Span)
+spans_from c i = map (group_span c) (range_with_len i (matched_groups c - i))
+
+-- the span of each group of the pattern that matched
+abbrev pub matched_spans : Captured → List (Option Span)
+matched_spans c = spans_from c 0
+
+-- the spans of the groups from i on that participate in the match, in order
+abbrev pub participating_from : Captured → ℕ → List Span
+participating_from c i = filter_map (group_span c) (range_with_len i (matched_groups c - i))
+
+-- the spans of all groups that participate
+abbrev pub participating : Captured → List Span
+participating c = participating_from c 0
+
+-- the values, where each is there
+abbrev pub all_some : {X : Type 0} → List (Option X) → Option (List X)
+all_some [] = Some []
+all_some (x ∷ xs) = option_and_then (λ y. option_map (λ ys. y ∷ ys) (all_some xs)) x
+
+-- what the first n of the spans cut out, where there are n of them and each cuts
+abbrev pub pieces : (Span → Option (List ℕ)) → ℕ → List Span → Option (List (List ℕ))
+pieces cut n spans = if length (take n spans) == n then all_some (map cut (take n spans)) else None
+
+-- the new offsets, in as many slots as before: a lent slice keeps its length, and then these are the new offsets
+abbrev pub refilled : List (Option ℕ) → List (Option ℕ) → List (Option ℕ)
+refilled old new = take (length old) (new ++ drop (length new) old)
+
+-- the match: the pattern, and the span of its first group
+abbrev pub match_of : Captured → Option Matched
+match_of c = option_and_then (λ q. option_map (λ s. record { pattern = q; span = s }) (group_span c 0)) c.pattern

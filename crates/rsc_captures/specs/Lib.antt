@@ -1,0 +1,12 @@
+pub mod Groups
+pub mod Checks
+pub mod Faults
+pub mod Kinds
+pub mod Found
+pub mod Names
+pub mod NameWalks
+pub mod Layout
+pub mod Repeats
+pub mod SlotOwners
+pub mod Captured
+pub mod Lending

@@ -1,0 +1,337 @@
+//! The offsets of a match's groups.
+ghost use Rattle.std.specs.Prelude.{◌≡◌, ℕ, List, Option, ◌+◌, ◌*◌, ◌<◌, ◌≤◌, ◌∷◌, [], map, length, replicate, Some, None, IfOk, IfSome, is_some, option_and_then};
+ghost use Rattle.std.specs.Option.{option_map, ForSome};
+ghost use Rattle.std.specs.Borrow.{sem};
+ghost use Rattle.std.specs.Iterator.{YieldsFirst, UpTo, item_count};
+ghost use Rattle.std.specs.Iterator.SizeHint.{IsWithinCount};
+ghost use Rattle.rsc_search.specs.declared.span.Span.{Span};
+ghost use Rattle.rsc_captures.specs.Groups.{all_groups, slots_of};
+ghost use Rattle.rsc_captures.specs.Captured.{Captured, no_offsets, span_at, group_span, matched_groups, matched_spans, named_span, match_of};
+
+use crate::group_info::GroupInfo;
+use rsc_primitives::{NonMaxUsize, PatternID};
+use rsc_search::{Match, Span};
+use std::alloc::{AllocError, Allocator, Global};
+use std::fmt;
+use std::marker::Model;
+
+// The span whose offsets stand in a slot and the next.
+#[inline]
+fn span_at(slots: &[Option<NonMaxUsize>], slot: usize) -> Option<Span>
+    ensures { result ≡ span_at slots.now slot }
+{
+    let start = slots.get(slot).copied().unwrap_or(None)?;
+    let end = slots.get(slot + 1).copied().unwrap_or(None)?;
+    Some(Span {
+        start: start.get(),
+        end: end.get(),
+    })
+}
+
+/// The offsets of the groups of a match, if there is a match.
+///
+/// A search fills the slots and sets the pattern. Nothing is asked of what stands in the slots, and no call here fails on
+/// it. A contract sees captures as the groups, the pattern and the offset of each slot, if it is set. How many slots
+/// there are never changes.
+#[derive(Drop)]
+pub struct Captures<A: Allocator = Global> {
+    group_info: GroupInfo<A>,
+    pid: Option<PatternID>,
+    slots: Vec<Option<NonMaxUsize>, A>,
+}
+
+impl<A: Allocator> Model for Captures<A> {
+    ghost use Rattle.std.specs.Prelude.{◌*◌, ◌≤◌, length};
+    ghost use Rattle.rsc_captures.specs.Groups.{all_groups};
+    ghost use Rattle.rsc_captures.specs.Captured.{Captured};
+
+    ghost Value = { Captured };
+
+    ghost view = { λ c. record { groups = c.group_info; pattern = c.pid; offsets = c.slots.items } };
+
+    ghost invariant = { λ c. length c.slots.items ≤ 2 * all_groups c.group_info };
+}
+
+impl<A: Allocator + Clone + Drop> Captures<A> {
+    ghost use Rattle.rsc_captures.specs.Lending.{LendsSlots};
+
+    // Captures with so many slots, none of them set.
+    fn with_slots(
+        alloc: A,
+        group_info: GroupInfo<A>,
+        count: usize,
+    ) -> Result<Captures<A>, AllocError>
+        requires { count ≤ 2 * all_groups group_info }
+        ensures { IfOk result (λ c. c ≡ no_offsets group_info count) }
+    {
+        Ok(Captures {
+            group_info,
+            pid: None,
+            slots: vec![in alloc; None; count]?,
+        })
+    }
+
+    /// Captures with room for all groups, with no pattern and no offset.
+    ///
+    /// # Errors
+    ///
+    /// Where memory is refused; the group info is dropped then.
+    pub fn all(alloc: A, group_info: GroupInfo<A>) -> Result<Captures<A>, AllocError>
+        ensures { IfOk result (λ c. c ≡ no_offsets group_info (2 * all_groups group_info)) }
+    {
+        let count = group_info.slot_len();
+        Captures::with_slots(alloc, group_info, count)
+    }
+
+    /// Captures with room for the first group of each pattern, which stands for the whole match, with no pattern and no
+    /// offset.
+    ///
+    /// # Errors
+    ///
+    /// Where memory is refused; the group info is dropped then.
+    pub fn matches(alloc: A, group_info: GroupInfo<A>) -> Result<Captures<A>, AllocError>
+        ensures { IfOk result (λ c. c ≡ no_offsets group_info (2 * length group_info)) }
+    {
+        let count = group_info.implicit_slot_len();
+        Captures::with_slots(alloc, group_info, count)
+    }
+
+    /// Captures with no slots: they can say which pattern matched, and no more. Takes no memory, and is always `Ok`.
+    pub fn empty(alloc: A, group_info: GroupInfo<A>) -> Result<Captures<A>, AllocError>
+        ensures { result ≡ Ok (no_offsets group_info 0) }
+    {
+        Ok(Captures {
+            group_info,
+            pid: None,
+            slots: Vec::new(alloc),
+        })
+    }
+
+    /// The same captures in memory of their own.
+    ///
+    /// # Errors
+    ///
+    /// Where memory is refused; the source stays as it is.
+    pub fn clone(&self) -> Result<Captures<A>, AllocError>
+        ensures { IfOk result (λ copy. copy ≡ self.now) }
+    {
+        let group_info = self.group_info.clone()?;
+        let slots = Vec::from_slice(self.slots.allocator().clone()?, self.slots.as_slice())?;
+        Ok(Captures {
+            group_info,
+            pid: self.pid,
+            slots,
+        })
+    }
+
+    /// Whether a pattern matched.
+    #[inline]
+    pub fn is_match(&self) -> bool
+        ensures { result ≡ is_some self.now.pattern }
+    {
+        self.pid.is_some()
+    }
+
+    /// The pattern that matched, if there is one.
+    #[inline]
+    pub fn pattern(&self) -> Option<PatternID>
+        ensures { result ≡ self.now.pattern }
+    {
+        self.pid
+    }
+
+    /// The groups.
+    #[inline]
+    pub fn group_info(&self) -> &GroupInfo<A>
+        ensures { result.now ≡ self.now.groups }
+    {
+        &self.group_info
+    }
+
+    /// The offset in each slot, if it is set.
+    #[inline]
+    pub fn slots(&self) -> &[Option<NonMaxUsize>]
+        ensures { result.now ≡ self.now.offsets }
+    {
+        self.slots.as_slice()
+    }
+
+    /// The slots, lent for writing. What is last written stays; the number of slots does too.
+    #[inline]
+    pub fn slots_mut(&mut self) -> &mut [Option<NonMaxUsize>]
+        ensures* writes_back { sem 𝓛 (LendsSlots A.row A.Allocator self.entry result) }
+        ensures value { result.now ≡ self.old.offsets }
+    {
+        self.slots.as_mut_slice()
+    }
+
+    /// Takes the pattern and all offsets away.
+    pub fn clear(&mut self)
+        ensures { self.new ≡ no_offsets self.old.groups (length self.old.offsets) }
+    {
+        self.pid = None;
+        self.slots.as_mut_slice().fill(None);
+    }
+
+    /// Sets the pattern that matched. Any pattern will do, also one that the groups don't have.
+    #[inline]
+    pub fn set_pattern(&mut self, pid: Option<PatternID>)
+        ensures { self.new ≡ record self.old { pattern = pid } }
+    {
+        self.pid = pid;
+    }
+
+    /// The pattern that matched with the span of the whole match, or `None` where either is missing. Needs the span, where
+    /// there is one, to have its start at most its end.
+    #[inline]
+    pub fn get_match(&self) -> Option<Match>
+        requires { ForSome (group_span self.now 0) (λ s. s.start ≤ s.end) }
+        ensures { result ≡ match_of self.now }
+    {
+        let pid = self.pid?;
+        let span = self.get_group(0)?;
+        Some(Match::new(pid, span))
+    }
+
+    /// How many groups the pattern has that matched; none without one, and of an unknown one.
+    #[inline]
+    pub fn group_len(&self) -> usize
+        ensures { result ≡ matched_groups self.now }
+    {
+        match self.pid {
+            Some(pid) => self.group_info.group_len(pid),
+            None => 0,
+        }
+    }
+
+    /// The span of a group, if a pattern matched and both slots of the group are there and set. Where there is one pattern,
+    /// the slots of group i are 2i and 2i + 1, whichever pattern is set; else they are those of the pattern that matched.
+    #[inline]
+    pub fn get_group(&self, index: usize) -> Option<Span>
+        ensures span { result ≡ group_span self.now index }
+        ensures alone { length self.now.groups ≡ 1 → self.now.pattern ≡ Some 0 →
+            result ≡ option_and_then (λ slots. span_at self.now.offsets slots.0) (slots_of self.now.groups 0 index) }
+    {
+        self.group_span(index)
+    }
+
+    // `get_group`, with the one exact clause.
+    #[inline]
+    fn group_span(&self, index: usize) -> Option<Span>
+        ensures span { result ≡ group_span self.now index }
+        ensures room { length self.now.offsets ≤ 2 * all_groups self.now.groups }
+    {
+        let pid = self.pid?;
+        if self.group_info.pattern_len() == 1 {
+            span_at(self.slots.as_slice(), index.checked_mul(2)?)
+        } else {
+            let slot = self.group_info.slot(pid, index)?;
+            span_at(self.slots.as_slice(), slot)
+        }
+    }
+
+    /// The span of the group that has the name in the pattern that matched.
+    pub fn get_group_by_name(&self, name: &str) -> Option<Span>
+        ensures { result ≡ named_span self.now name.now }
+    {
+        let pid = self.pid?;
+        let index = self.group_info.to_index(pid, name)?;
+        self.get_group(index)
+    }
+
+    /// The span of each group of the pattern that matched, in order, or `None` for one that takes no part.
+    #[inline]
+    pub fn iter(&self) -> CapturesPatternIter<'_, A>
+        ensures { result ≡ matched_spans self.now }
+    {
+        CapturesPatternIter {
+            captures: self,
+            next_group: 0,
+        }
+    }
+}
+
+impl<A: Allocator + Clone + Drop> fmt::Debug for Captures<A> {
+    fn fmt<W: fmt::Write>(&self, f: &mut fmt::Formatter<W>) -> fmt::Result {
+        let Some(pid) = self.pid else {
+            return f.write_str("Captures { pid: None }");
+        };
+        write!(f, "Captures {{ pid: Some({pid:?}), spans: {{")?;
+        for group in 0..self.group_len() {
+            if group > 0 {
+                f.write_str(", ")?;
+            }
+            write!(f, "{group}")?;
+            if let Some(name) = self.group_info.to_name(pid, group) {
+                write!(f, "/{name:?}")?;
+            }
+            match self.get_group(group) {
+                Some(span) => write!(f, ": {span:?}")?,
+                None => f.write_str(": None")?,
+            }
+        }
+        f.write_str("} }")
+    }
+}
+
+/// The walk over the groups of the pattern that matched, made by [`Captures::iter`]. A contract sees it as the list of the
+/// spans that are left.
+#[derive(Drop)]
+#[derive_where(Clone)]
+pub struct CapturesPatternIter<'a, A: Allocator = Global> {
+    captures: &'a Captures<A>,
+    next_group: usize,
+}
+
+impl<'a, A: Allocator> Model for CapturesPatternIter<'a, A> {
+    ghost use Rattle.std.specs.Prelude.{List, Option};
+    ghost use Rattle.rsc_search.specs.declared.span.Span.{Span};
+    ghost use Rattle.rsc_captures.specs.Captured.{spans_from};
+
+    ghost Value = { List (Option Span) };
+
+    ghost view = { λ it. spans_from it.captures.now it.next_group };
+}
+
+impl<'a, A: Allocator + Clone + Drop> CapturesPatternIter<'a, A> {
+    /// How many groups are left.
+    pub fn len(&self) -> usize
+        ensures { result ≡ length self.now }
+    {
+        self.captures.group_len().saturating_sub(self.next_group)
+    }
+}
+
+impl<'a, A: Allocator + Clone + Drop> Iterator for CapturesPatternIter<'a, A> {
+    type Item = Option<Span>;
+
+    ghost next_gives = { YieldsFirst (λ rest. rest) };
+
+    ghost remaining = { item_count (λ rest. rest) };
+
+    #[inline]
+    fn next(&mut self) -> Option<Option<Span>> {
+        let group = self.next_group;
+        if group >= self.captures.group_len() {
+            return None;
+        }
+        self.next_group += 1;
+        Some(self.captures.get_group(group))
+    }
+
+    fn size_hint(&self) -> (usize, Option<usize>)
+        ensures lower { IsWithinCount result.0 (item_count (λ rest. rest) self.now) }
+        ensures upper { IfSome result.1 (UpTo (item_count (λ rest. rest) self.now)) }
+        ensures exact { result ≡ (length self.now, Some (length self.now)) }
+    {
+        let left = self.len();
+        (left, Some(left))
+    }
+}
+
+impl<'a, A: Allocator + Clone + Drop> fmt::Debug for CapturesPatternIter<'a, A> {
+    fn fmt<W: fmt::Write>(&self, f: &mut fmt::Formatter<W>) -> fmt::Result {
+        let left = self.len();
+        write!(f, "CapturesPatternIter({left})")
+    }
+}

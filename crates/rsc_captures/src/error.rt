@@ -1,0 +1,160 @@
+//! Why a group list is refused.
+ghost use Rattle.std.specs.Prelude.{◌≡◌, None, Some};
+ghost use Rattle.std.specs.Fmt.{DisplaysOnOk};
+ghost use Rattle.rsc_captures.specs.Kinds.{refusal_text};
+
+use rsc_primitives::{PatternID, PatternIDError};
+use std::alloc::{AllocError, AllocFailed, Allocator, Global};
+use std::error::Error;
+use std::fmt;
+use std::marker::Model;
+
+/// What is wrong with a group list, or that memory was refused.
+#[derive(Drop)]
+#[derive_where(Debug)]
+pub enum GroupInfoErrorKind<A: Allocator = Global> {
+    /// There are more patterns than a [`PatternID`] can number.
+    TooManyPatterns {
+        /// The refusal of the first number that is none of a pattern's.
+        err: PatternIDError,
+    },
+    /// There are more groups than slots can be numbered for.
+    TooManyGroups {
+        /// The pattern whose groups pass the limit.
+        pattern: PatternID,
+        /// How many groups the pattern has at least.
+        minimum: usize,
+    },
+    /// A pattern has no groups, and so not the one that stands for the whole match.
+    MissingGroups {
+        /// The pattern.
+        pattern: PatternID,
+    },
+    /// The first group of a pattern, which stands for the whole match, has a name.
+    FirstMustBeUnnamed {
+        /// The pattern.
+        pattern: PatternID,
+    },
+    /// A name stands twice in a pattern.
+    Duplicate {
+        /// The pattern.
+        pattern: PatternID,
+        /// The name.
+        name: String<A>,
+    },
+    /// A request for memory was refused.
+    OutOfMemory,
+}
+
+/// The refusal of a group list. A contract sees it as the fault of the list, or as none for want of memory.
+#[derive(Drop)]
+#[derive_where(Debug)]
+pub struct GroupInfoError<A: Allocator = Global> {
+    kind: GroupInfoErrorKind<A>,
+}
+
+impl<A: Allocator> Model for GroupInfoError<A> {
+    ghost use Rattle.std.specs.Prelude.{Option};
+    ghost use Rattle.rsc_captures.specs.Faults.{Fault};
+
+    ghost Value = { Option Fault };
+
+    ghost use Rattle.rsc_captures.specs.Kinds.{fault_of};
+
+    ghost view = { λ e. fault_of e.kind };
+}
+
+impl<A: Allocator> From<AllocError> for GroupInfoError<A> {
+    ghost from_gives = { λ _ e. e ≡ None };
+
+    fn from(_error: AllocError) -> GroupInfoError<A> {
+        GroupInfoError {
+            kind: GroupInfoErrorKind::OutOfMemory,
+        }
+    }
+}
+
+impl<A: Allocator, T: Drop> From<AllocFailed<T>> for GroupInfoError<A> {
+    ghost from_gives = { λ _ e. e ≡ None };
+
+    fn from(_error: AllocFailed<T>) -> GroupInfoError<A> {
+        GroupInfoError {
+            kind: GroupInfoErrorKind::OutOfMemory,
+        }
+    }
+}
+
+impl<A: Allocator> GroupInfoError<A> {
+    ghost use Rattle.std.specs.Prelude.{◌≡◌};
+    ghost use Rattle.rsc_captures.specs.Kinds.{fault_of};
+
+    pub(crate) fn new(kind: GroupInfoErrorKind<A>) -> GroupInfoError<A>
+        ensures { result ≡ fault_of kind }
+    {
+        GroupInfoError { kind }
+    }
+
+    /// What is wrong with the list.
+    pub fn kind(&self) -> &GroupInfoErrorKind<A>
+        ensures { fault_of result.now ≡ self.now }
+    {
+        &self.kind
+    }
+}
+
+impl<A: Allocator> fmt::Display for GroupInfoErrorKind<A> {
+    ghost use Rattle.rsc_captures.specs.Kinds.{fault_of, refusal_text};
+
+    ghost output = { λ kind. Some (refusal_text (fault_of kind)) };
+
+    fn fmt<W: fmt::Write>(&self, f: &mut fmt::Formatter<W>) -> fmt::Result {
+        match self {
+            GroupInfoErrorKind::TooManyPatterns { err } => {
+                write!(f, "too many patterns to build capture info: {err}")
+            }
+            GroupInfoErrorKind::TooManyGroups { pattern, minimum } => {
+                let pattern = pattern.as_usize();
+                write!(
+                    f,
+                    "too many capture groups (at least {minimum}) were found for pattern {pattern}"
+                )
+            }
+            GroupInfoErrorKind::MissingGroups { pattern } => {
+                let pattern = pattern.as_usize();
+                write!(
+                    f,
+                    "no capturing groups found for pattern {pattern} (either all patterns have zero groups or all patterns have at least one group)"
+                )
+            }
+            GroupInfoErrorKind::FirstMustBeUnnamed { pattern } => {
+                let pattern = pattern.as_usize();
+                write!(
+                    f,
+                    "first capture group (at index 0) for pattern {pattern} has a name (it must be unnamed)"
+                )
+            }
+            GroupInfoErrorKind::Duplicate { pattern, name } => {
+                let pattern = pattern.as_usize();
+                write!(
+                    f,
+                    "duplicate capture group name '{name}' found for pattern {pattern}"
+                )
+            }
+            GroupInfoErrorKind::OutOfMemory => f.write_str(
+                "out of memory while building capture info",
+            ),
+        }
+    }
+}
+
+impl<A: Allocator> fmt::Display for GroupInfoError<A> {
+    ghost use Rattle.rsc_captures.specs.Kinds.{refusal_text};
+
+    ghost output = { λ fault. Some (refusal_text fault) };
+
+    fn fmt<W: fmt::Write>(&self, f: &mut fmt::Formatter<W>) -> fmt::Result {
+        fmt::Display::fmt(&self.kind, f)
+    }
+}
+
+impl<A: Allocator> Error for GroupInfoError<A> {}

@@ -1,0 +1,126 @@
+//! What the groups that take part in a match cut out of the haystack, without copying.
+ghost use Rattle.std.specs.Prelude.{◌≡◌, ℕ, List, Option, ◌+◌, ◌∷◌, [], map, MatchOption};
+ghost use Rattle.std.specs.Option.{option_map};
+ghost use Rattle.rsc_search.specs.Spans.{cut, cut_text};
+ghost use Rattle.rsc_search.specs.declared.span.Span.{Span};
+ghost use Rattle.rsc_captures.specs.Captured.{participating, participating_from, pieces};
+
+use crate::captures::Captures;
+use rsc_search::Span;
+use std::alloc::Allocator;
+
+/// Text or bytes that a span may cut.
+pub trait Haystack: Copy + Drop {
+    ghost bytes: { Self → List ℕ };
+
+    ghost cut_of: { List ℕ → Span → Option (List ℕ) };
+
+    /// What the span cuts out, or `None` where it doesn't cut.
+    fn cut(self, span: Span) -> Option<Self>
+        ensures { option_map bytes result ≡ cut_of (bytes self) span };
+}
+
+impl Haystack for &str {
+    ghost bytes = { λ s. s.now };
+
+    ghost cut_of = { cut_text };
+
+    #[inline]
+    fn cut(self, span: Span) -> Option<Self> {
+        span.get_str(self)
+    }
+}
+
+impl Haystack for &[u8] {
+    ghost bytes = { λ s. s.now };
+
+    ghost cut_of = { cut };
+
+    #[inline]
+    fn cut(self, span: Span) -> Option<Self> {
+        span.get(self)
+    }
+}
+
+impl<A: Allocator + Clone + Drop> Captures<A> {
+    // The first group from `from` on that takes part, and the place after it.
+    fn next_participating(&self, from: usize) -> Option<(Span, usize)>
+        ensures { MatchOption result (participating_from self.now from ≡ [])
+            (λ found. participating_from self.now from ≡ found.0 ∷ participating_from self.now found.1) }
+    {
+        for index in from..self.group_len() {
+            if let Some(span) = self.get_group(index) {
+                return Some((span, index + 1));
+            }
+        }
+        None
+    }
+
+    /// What the groups that take part in the match cut out of a text or of bytes: the first, which is the whole match, and
+    /// the next `N`. Any after them are not looked at. `None` exactly if there are fewer than `N + 1` of them, or one of
+    /// those doesn't cut the haystack. The parts live as long as the haystack.
+    pub fn extract_from<H: Haystack, const N: usize>(&self, haystack: H) -> Option<(H, [H; N])>
+        ensures { option_map (λ parts. H.bytes parts.0 ∷ map H.bytes parts.1) result
+            ≡ pieces (H.cut_of (H.bytes haystack)) (N + 1) (participating self.now) }
+    {
+        let (span, mut next) = self.next_participating(0)?;
+        let whole = haystack.cut(span)?;
+        let mut parts = [whole; N];
+        for k in 0..N {
+            let (span, after) = self.next_participating(next)?;
+            parts[k] = haystack.cut(span)?;
+            next = after;
+        }
+        Some((whole, parts))
+    }
+}
+
+impl Captures {
+    // `extract_from` over the usual allocator.
+    fn extract_parts<H: Haystack, const N: usize>(&self, haystack: H) -> Option<(H, [H; N])>
+        ensures { option_map (λ parts. H.bytes parts.0 ∷ map H.bytes parts.1) result
+            ≡ pieces (H.cut_of (H.bytes haystack)) (N + 1) (participating self.now) }
+    {
+        self.extract_from::<H, N>(haystack)
+    }
+
+    /// What the groups that take part in the match cut out of a text: the first, which is the whole match, and the next
+    /// `N`, as by [`Captures::extract_from`].
+    pub fn extract<'h, const N: usize>(&self, haystack: &'h str) -> Option<(&'h str, [&'h str; N])>
+        ensures { option_map (λ parts. parts.0.now ∷ map (λ p. p.now) parts.1) result
+            ≡ pieces (cut_text haystack.now) (N + 1) (participating self.now) }
+    {
+        self.extract_parts::<&str, N>(haystack)
+    }
+
+    /// What the groups that take part in the match cut out of bytes: the first, which is the whole match, and the next `N`,
+    /// as by [`Captures::extract_from`].
+    pub fn extract_bytes<'h, const N: usize>(
+        &self,
+        haystack: &'h [u8],
+    ) -> Option<(&'h [u8], [&'h [u8]; N])>
+        ensures { option_map (λ parts. parts.0.now ∷ map (λ p. p.now) parts.1) result
+            ≡ pieces (cut haystack.now) (N + 1) (participating self.now) }
+    {
+        self.extract_parts::<&[u8], N>(haystack)
+    }
+}
+
+/// [`Captures::extract`] at a count of 2: a call that the checker covers in its callers, as it doesn't cover the other.
+pub fn extract_pair<'h>(captures: &Captures, haystack: &'h str) -> Option<(&'h str, [&'h str; 2])>
+    ensures { option_map (λ parts. parts.0.now ∷ map (λ p. p.now) parts.1) result
+        ≡ pieces (cut_text haystack.now) 3 (participating captures.now) }
+{
+    captures.extract::<2>(haystack)
+}
+
+/// [`Captures::extract_bytes`] at a count of 2, for the same reason.
+pub fn extract_bytes_pair<'h>(
+    captures: &Captures,
+    haystack: &'h [u8],
+) -> Option<(&'h [u8], [&'h [u8]; 2])>
+    ensures { option_map (λ parts. parts.0.now ∷ map (λ p. p.now) parts.1) result
+        ≡ pieces (cut haystack.now) 3 (participating captures.now) }
+{
+    captures.extract_bytes::<2>(haystack)
+}

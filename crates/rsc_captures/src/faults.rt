@@ -1,0 +1,168 @@
+//! Looks for the first fault of a group list, and takes no memory.
+ghost use Rattle.std.specs.Prelude.{◌≡◌, ℕ, ◌+◌, ◌*◌, ◌<◌, ◌≤◌, length, IfOk, IfErr, OnOk};
+ghost use Rattle.rsc_captures.specs.Groups.{has_name, lists_in, explicit_before, group_count};
+ghost use Rattle.rsc_captures.specs.Faults.{pattern_fault, group_fault};
+ghost use Rattle.rsc_captures.specs.Checks.{IsCheckedPattern, FoundInPattern, AreChecked, IsChecked, IsFound, HasNoOtherFault};
+ghost use Rattle.rsc_captures.specs.Found.{fault_found};
+ghost use Rattle.std.specs.Option.{option_copied};
+ghost use Rattle.std.specs.List.{list_any};
+ghost use Rattle.std.specs.Bool.{OnFalse};
+
+use rsc_primitives::{PatternID, PatternIDError};
+
+/// A fault, with the name lent by the list.
+#[derive(Drop)]
+pub(crate) enum Fault<'a> {
+    TooManyPatterns(PatternIDError),
+    TooManyGroups(PatternID, usize),
+    MissingGroups(PatternID),
+    FirstMustBeUnnamed(PatternID),
+    Duplicate(PatternID, &'a str),
+}
+
+/// Whether the group has the name.
+fn is_named(group: Option<&str>, name: &str) -> bool
+    ensures { result ≡ has_name name.now (option_copied group.entry) }
+{
+    match group {
+        Some(other) => name == other,
+        None => false,
+    }
+}
+
+/// Whether the name stands at one of the groups.
+fn has_name(groups: &[Option<&str>], name: &str) -> bool
+    ensures { result ≡ list_any (λ group. has_name name.now (option_copied group)) groups.now }
+{
+    for group in groups {
+        if is_named(*group, name) {
+            return true;
+        }
+    }
+    false
+}
+
+/// Looks at a pattern as a whole.
+fn check_pattern<'a>(lists: &[&[Option<&'a str>]], p: usize) -> Result<PatternID, Fault<'a>>
+    requires { p < length lists.now }
+    ensures ok { IfOk result (λ pattern. (pattern ≡ p) × (p ≤ 2147483646) × (pattern_fault (lists_in lists.now) p ≡ None) × (0 < group_count (lists_in lists.now) p)) }
+    ensures err { IfErr result (λ fault. pattern_fault (lists_in lists.now) p ≡ Some (fault_found fault)) }
+{
+    let pattern = match PatternID::new(p) {
+        Ok(pattern) => pattern,
+        Err(err) => return Err(Fault::TooManyPatterns(err)),
+    };
+    match lists[p].first() {
+        None => Err(Fault::MissingGroups(pattern)),
+        Some(Some(_)) => Err(Fault::FirstMustBeUnnamed(pattern)),
+        Some(None) => Ok(pattern),
+    }
+}
+
+/// Looks at an explicit group, where `before` explicit groups stand in earlier patterns.
+fn check_group<'a>(
+    limit: usize,
+    lists: &[&[Option<&'a str>]],
+    pattern: PatternID,
+    before: usize,
+    g: usize,
+) -> Result<(), Fault<'a>>
+    requires pattern { pattern < length lists.now }
+    requires group { g < group_count (lists_in lists.now) pattern }
+    requires limit { limit ≤ 2147483646 }
+    requires before { before ≡ explicit_before (lists_in lists.now) pattern }
+    requires within { 2 * before ≤ limit }
+    ensures ok { OnOk result ((group_fault limit (lists_in lists.now) pattern g ≡ None) × (2 * (before + g) ≤ limit)) }
+    ensures err { IfErr result (λ fault. group_fault limit (lists_in lists.now) pattern g ≡ Some (fault_found fault)) }
+{
+    if g > limit / 2 - before {
+        return Err(Fault::TooManyGroups(pattern, g));
+    }
+    let groups = lists[pattern.as_usize()];
+    let group = groups[g];
+    let Some(name) = group else {
+        return Ok(());
+    };
+    if has_name(&groups[..g], name) {
+        return Err(Fault::Duplicate(pattern, name));
+    }
+    Ok(())
+}
+
+/// Looks at the places of a pattern in order.
+fn check_groups<'a>(
+    limit: usize,
+    lists: &[&[Option<&'a str>]],
+    p: usize,
+    before: usize,
+) -> Result<(), Fault<'a>>
+    requires pattern { p < length lists.now }
+    requires limit { limit ≤ 2147483646 }
+    requires before { before ≡ explicit_before (lists_in lists.now) p }
+    requires within { 2 * before ≤ limit }
+    ensures ok { OnOk result (IsCheckedPattern limit (lists_in lists.now) p) }
+    ensures err { IfErr result (λ fault. FoundInPattern limit (lists_in lists.now) p (fault_found fault)) }
+{
+    let pattern = match check_pattern(lists, p) {
+        Ok(pattern) => pattern,
+        Err(fault) => return Err(fault),
+    };
+    for g in 1..lists[p].len() {
+        if let Err(fault) = check_group(limit, lists, pattern, before, g) {
+            return Err(fault);
+        }
+    }
+    Ok(())
+}
+
+/// Looks at the number of slots, where each place is clear.
+fn check_slots<'a>(limit: usize, lists: &[&[Option<&'a str>]]) -> Result<(), Fault<'a>>
+    requires limit { limit ≤ 2147483646 }
+    requires clear { AreChecked limit (lists_in lists.now) }
+    ensures ok { OnOk result (IsChecked limit (lists_in lists.now)) }
+    ensures err { IfErr result (λ fault. IsFound limit (lists_in lists.now) (fault_found fault)) }
+{
+    let mut before = 0;
+    for p in 0..lists.len() {
+        before += lists[p].len() - 1;
+        if lists.len() > limit / 2 - before {
+            return Err(Fault::TooManyGroups(PatternID::must(p), lists[p].len()));
+        }
+    }
+    Ok(())
+}
+
+/// Looks at the places of the list in order, and then at the number of slots. Names are compared one with another.
+pub(crate) fn check<'a>(limit: usize, lists: &[&[Option<&'a str>]]) -> Result<(), Fault<'a>>
+    requires limit { limit ≤ 2147483646 }
+    ensures ok { OnOk result (IsChecked limit (lists_in lists.now)) }
+    ensures err { IfErr result (λ fault. IsFound limit (lists_in lists.now) (fault_found fault)) }
+{
+    let mut before = 0;
+    for p in 0..lists.len() {
+        if let Err(fault) = check_groups(limit, lists, p, before) {
+            return Err(fault);
+        }
+        before += lists[p].len() - 1;
+    }
+    check_slots(limit, lists)
+}
+
+/// Whether there is a fault besides names that stand twice. One walk, which compares no names.
+pub(crate) fn has_other_fault(limit: usize, lists: &[&[Option<&str>]]) -> bool
+    requires { limit ≤ 2147483646 }
+    ensures { OnFalse result (HasNoOtherFault limit (lists_in lists.now)) }
+{
+    let mut before = 0;
+    for p in 0..lists.len() {
+        if check_pattern(lists, p).is_err() {
+            return true;
+        }
+        let explicit = lists[p].len() - 1;
+        if explicit > limit / 2 - before {
+            return true;
+        }
+        before += explicit;
+    }
+    lists.len() > limit / 2 - before
+}

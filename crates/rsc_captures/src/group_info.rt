@@ -1,0 +1,328 @@
+//! The groups of all patterns, and the slots of their offsets.
+ghost use Rattle.std.specs.Prelude.{◌≡◌, ℕ, ◌+◌, ◌-◌, ◌*◌, ◌<◌, ◌≤◌, ◌↔◌, length, ⊤, [], Some, None, IfOk, IfErr, OnOk, MatchOption, MatchResult};
+ghost use Rattle.std.specs.Option.{option_copied};
+ghost use Rattle.rsc_captures.specs.Groups.{lists_in, groups_of, group_count, name_of, index_of, slot_of, slots_of, all_groups, AreDistinctBelow};
+ghost use Rattle.rsc_captures.specs.Faults.{Duplicate, LIMIT_OF_IDS, IsFaultless, RefusesFor};
+ghost use Rattle.rsc_captures.specs.Checks.{IsChecked, HasNoOtherFault, RefusesAsFound, IsDuplicate};
+ghost use Rattle.rsc_captures.specs.NameWalks.{all_names_of};
+ghost use Rattle.rsc_captures.specs.SlotOwners.{IsSlotOf, IsOwned};
+ghost use Rattle.rsc_captures.specs.Found.{fault_found};
+ghost use Rattle.rsc_captures.specs.Repeats.{IsDuplicateOf, IsFirstDuplicate};
+
+use crate::error::{GroupInfoError, GroupInfoErrorKind};
+use crate::faults::{Fault, check, has_other_fault};
+use crate::name_walks::{GroupInfoAllNames, GroupInfoPatternNames};
+use crate::names::{NamesError, PatternGroups};
+use rsc_primitives::PatternID;
+use std::alloc::{AllocError, Allocator, Global};
+use std::marker::Model;
+use std::rc::Rc;
+
+// The groups of each pattern, and where the slots of its explicit groups begin; last comes how many slots there are.
+#[derive(Drop)]
+#[derive_where(Debug)]
+struct Inner<A: Allocator> {
+    patterns: Vec<PatternGroups<A>, A>,
+    starts: Vec<usize, A>,
+}
+
+impl<A: Allocator> Model for Inner<A> {
+    ghost use Rattle.rsc_captures.specs.Groups.{GroupLists};
+    ghost use Rattle.rsc_captures.specs.Layout.{IsLaidOut};
+
+    ghost Value = { GroupLists };
+
+    ghost view = { λ a. a.patterns.items };
+
+    ghost invariant = { λ a. IsLaidOut a.starts.items a.patterns.items };
+}
+
+/// Which capturing groups the patterns of a search have, with their names, and which slots hold a group's offsets.
+///
+/// The first group of each pattern stands for its whole match, and has no name; the slots of the first groups come before
+/// all others. A group's offsets stand in a slot and the next. A contract sees a group info as the list of its patterns,
+/// each the list of its groups' names. A clone shares its memory.
+#[derive(Drop)]
+#[derive_where(Debug)]
+pub struct GroupInfo<A: Allocator = Global> {
+    inner: Rc<Inner<A>, A>,
+}
+
+impl<A: Allocator> Model for GroupInfo<A> {
+    ghost use Rattle.rsc_captures.specs.Groups.{GroupLists};
+
+    ghost Value = { GroupLists };
+
+    ghost view = { λ a. a.inner.value };
+}
+
+// The error for a name that stands twice, or for want of memory.
+fn duplicate<A: Allocator + Clone + Drop>(
+    alloc: A,
+    pattern: PatternID,
+    name: &str,
+) -> GroupInfoError<A>
+    ensures { MatchOption result ⊤ (λ fault. fault ≡ Duplicate pattern name.now) }
+{
+    match String::from_str(alloc, name) {
+        Ok(name) => GroupInfoError::new(GroupInfoErrorKind::Duplicate { pattern, name }),
+        Err(_) => GroupInfoError::new(GroupInfoErrorKind::OutOfMemory),
+    }
+}
+
+// The error for a fault. Only a name that stands twice takes memory.
+fn refusal<A: Allocator + Clone + Drop>(alloc: A, fault: Fault<'_>) -> GroupInfoError<A>
+    ensures { MatchOption result (IsDuplicate (fault_found fault.entry)) (λ found. found ≡ fault_found fault.entry) }
+{
+    match fault {
+        Fault::TooManyPatterns(err) => {
+            GroupInfoError::new(GroupInfoErrorKind::TooManyPatterns { err })
+        }
+        Fault::TooManyGroups(pattern, minimum) => {
+            GroupInfoError::new(GroupInfoErrorKind::TooManyGroups { pattern, minimum })
+        }
+        Fault::MissingGroups(pattern) => {
+            GroupInfoError::new(GroupInfoErrorKind::MissingGroups { pattern })
+        }
+        Fault::FirstMustBeUnnamed(pattern) => {
+            GroupInfoError::new(GroupInfoErrorKind::FirstMustBeUnnamed { pattern })
+        }
+        Fault::Duplicate(pattern, name) => duplicate(alloc, pattern, name),
+    }
+}
+
+// The groups of pattern `p`, held in memory of their own.
+fn build_pattern<A: Allocator + Clone + Drop>(
+    alloc: A,
+    lists: &[&[Option<&str>]],
+    p: usize,
+) -> Result<PatternGroups<A>, GroupInfoError<A>>
+    requires pattern { p < length lists.now }
+    requires number { p ≤ 2147483646 }
+    ensures ok { IfOk result (λ groups. groups ≡ groups_of (lists_in lists.now) p) }
+    ensures distinct { OnOk result (AreDistinctBelow (groups_of (lists_in lists.now) p) (group_count (lists_in lists.now) p)) }
+    ensures err { IfErr result (λ e. MatchOption e ⊤ (IsDuplicateOf (lists_in lists.now) p)) }
+{
+    let groups = lists[p];
+    match PatternGroups::new(alloc.clone()?, groups) {
+        Ok(held) => Ok(held),
+        Err(NamesError::OutOfMemory) => Err(GroupInfoError::new(GroupInfoErrorKind::OutOfMemory)),
+        Err(NamesError::Repeats(g)) => {
+            let group = groups.get(g).copied().unwrap_or(None);
+            match group {
+                Some(name) => Err(duplicate(alloc, PatternID::must(p), name)),
+                None => unreachable!(),
+            }
+        }
+    }
+}
+
+// Holds the groups of a list that has no fault besides names that stand twice.
+fn build<A: Allocator + Clone + Drop>(
+    alloc: A,
+    lists: &[&[Option<&str>]],
+) -> Result<GroupInfo<A>, GroupInfoError<A>>
+    requires { HasNoOtherFault 2147483646 (lists_in lists.now) }
+    ensures ok { IfOk result (λ info. info ≡ lists_in lists.now) }
+    ensures distinct { OnOk result ((p : ℕ) → p < length lists.now → AreDistinctBelow (groups_of (lists_in lists.now) p) (group_count (lists_in lists.now) p)) }
+    ensures err { IfErr result (λ e. MatchOption e ⊤ (IsFirstDuplicate (lists_in lists.now))) }
+{
+    let mut patterns: Vec<PatternGroups<A>, A> = Vec::with_capacity(alloc.clone()?, lists.len())?;
+    let mut starts: Vec<usize, A> = Vec::with_capacity(alloc.clone()?, lists.len() + 1)?;
+    let mut start = 2 * lists.len();
+    starts.push(start)?;
+    for p in 0..lists.len() {
+        let groups = build_pattern(alloc.clone()?, lists, p)?;
+        start += 2 * (groups.len() - 1);
+        patterns.push(groups)?;
+        starts.push(start)?;
+    }
+    Ok(GroupInfo {
+        inner: Rc::new(alloc, Inner { patterns, starts })?,
+    })
+}
+
+impl<A: Allocator + Clone + Drop> GroupInfo<A> {
+    // `new` with another limit. Every fault but a name that stands twice is found without memory; only where there is
+    // such a fault does the plain, slow reading name the first.
+    fn new_limited(
+        alloc: A,
+        limit: usize,
+        lists: &[&[Option<&str>]],
+    ) -> Result<GroupInfo<A>, GroupInfoError<A>>
+        requires { limit ≤ 2147483646 }
+        ensures groups { IfOk result (λ info. info ≡ lists_in lists.now) }
+        ensures faultless { OnOk result (IsChecked limit (lists_in lists.now)) }
+        ensures refused { IfErr result (RefusesAsFound limit (lists_in lists.now)) }
+    {
+        if has_other_fault(limit, lists) {
+            if let Err(fault) = check(limit, lists) {
+                return Err(refusal(alloc, fault));
+            }
+        }
+        build(alloc, lists)
+    }
+
+    /// The groups of these lists: one list for each pattern, with an optional name for each of its groups.
+    ///
+    /// # Errors
+    ///
+    /// The first fault of the lists, which are read by pattern and then by group: too many patterns, a pattern without
+    /// groups, a first group with a name, too many groups, a name that stands twice in its pattern. Last comes a pattern
+    /// whose groups, after the first groups of all patterns, have no slots left. Where memory is refused the kind is
+    /// [`GroupInfoErrorKind::OutOfMemory`]; a list with any fault but a name that stands twice takes none.
+    pub fn new(alloc: A, lists: &[&[Option<&str>]]) -> Result<GroupInfo<A>, GroupInfoError<A>>
+        ensures groups { IfOk result (λ info. info ≡ lists_in lists.now) }
+        ensures faultless { OnOk result (IsFaultless LIMIT_OF_IDS (lists_in lists.now)) }
+        ensures refused { IfErr result (RefusesFor LIMIT_OF_IDS (lists_in lists.now)) }
+    {
+        GroupInfo::new_limited(alloc, 2147483646, lists)
+    }
+
+    /// The group info of no patterns.
+    ///
+    /// # Errors
+    ///
+    /// Where memory is refused.
+    pub fn empty(alloc: A) -> Result<GroupInfo<A>, GroupInfoError<A>>
+        ensures groups { IfOk result (λ info. info ≡ []) }
+        ensures refused { IfErr result (λ e. e ≡ None) }
+    {
+        GroupInfo::new(alloc, &[])
+    }
+
+    /// The names of a pattern's groups in order, `None` for a group without one; nothing where there is no such pattern.
+    #[inline]
+    pub fn pattern_names(&self, pid: PatternID) -> GroupInfoPatternNames<'_, A>
+        ensures { result ≡ groups_of self.now pid }
+    {
+        GroupInfoPatternNames::new(self, pid)
+    }
+
+    /// All groups by pattern and then by group, each with its pattern, its number and its name, if it has one.
+    #[inline]
+    pub fn all_names(&self) -> GroupInfoAllNames<'_, A>
+        ensures { result ≡ all_names_of self.now }
+    {
+        GroupInfoAllNames::new(self)
+    }
+
+    /// The same groups, sharing the memory.
+    ///
+    /// # Errors
+    ///
+    /// Where one more owner is refused; the source stays as it is.
+    pub fn clone(&self) -> Result<GroupInfo<A>, AllocError>
+        ensures { IfOk result (λ copy. copy ≡ self.now) }
+    {
+        Ok(GroupInfo {
+            inner: self.inner.clone()?,
+        })
+    }
+
+    /// How many patterns there are.
+    #[inline]
+    pub fn pattern_len(&self) -> usize
+        ensures value { result ≡ length self.now }
+        ensures indices { result ≤ LIMIT_OF_IDS + 1 }
+    {
+        let inner: &Inner<A> = &self.inner;
+        inner.patterns.len()
+    }
+
+    /// How many groups a pattern has: none where there is no such pattern.
+    #[inline]
+    pub fn group_len(&self, pid: PatternID) -> usize
+        ensures { result ≡ group_count self.now pid }
+    {
+        let inner: &Inner<A> = &self.inner;
+        match inner.patterns.get(pid.as_usize()) {
+            Some(groups) => groups.len(),
+            None => 0,
+        }
+    }
+
+    /// The name of a group, or `None` where it has none, or where there is no such group.
+    #[inline]
+    pub fn to_name(&self, pid: PatternID, group_index: usize) -> Option<&str>
+        ensures { option_copied result ≡ name_of self.now pid group_index }
+    {
+        let inner: &Inner<A> = &self.inner;
+        let groups = inner.patterns.get(pid.as_usize())?;
+        groups.name(group_index)
+    }
+
+    /// The group of a pattern that has the name, or `None` where there is none. Names are local to each pattern.
+    pub fn to_index(&self, pid: PatternID, name: &str) -> Option<usize>
+        ensures index { result ≡ index_of (groups_of self.now pid) name.now }
+        ensures named { (g : ℕ) → (result ≡ Some g) ↔ (name_of self.now pid g ≡ Some name.now) }
+    {
+        let inner: &Inner<A> = &self.inner;
+        let groups = inner.patterns.get(pid.as_usize())?;
+        groups.index(name)
+    }
+
+    /// The slot of a group's start, or `None` where there is no such group.
+    #[inline]
+    pub fn slot(&self, pid: PatternID, group_index: usize) -> Option<usize>
+        ensures { result ≡ slot_of self.now pid group_index }
+    {
+        let inner: &Inner<A> = &self.inner;
+        let p = pid.as_usize();
+        let groups = inner.patterns.get(p)?;
+        if group_index >= groups.len() {
+            None
+        } else if group_index == 0 {
+            Some(2 * p)
+        } else {
+            Some(inner.starts[p] + 2 * (group_index - 1))
+        }
+    }
+
+    /// The slots of a group's start and of its end, or `None` where there is no such group.
+    #[inline]
+    pub fn slots(&self, pid: PatternID, group_index: usize) -> Option<(usize, usize)>
+        ensures { result ≡ slots_of self.now pid group_index }
+    {
+        let slot = self.slot(pid, group_index)?;
+        Some((slot, slot + 1))
+    }
+
+    /// How many slots there are: two for each group. Each of them is a slot of exactly one group.
+    #[inline]
+    pub fn slot_len(&self) -> usize
+        ensures value { result ≡ 2 * all_groups self.now }
+        ensures owned { (s : ℕ) → s < result → IsOwned self.now s }
+        ensures once { (s p g q h : ℕ) → IsSlotOf self.now p g s → IsSlotOf self.now q h s → (p ≡ q) × (g ≡ h) }
+    {
+        let inner: &Inner<A> = &self.inner;
+        inner.starts[inner.patterns.len()]
+    }
+
+    /// How many groups all patterns have.
+    #[inline]
+    pub fn all_group_len(&self) -> usize
+        ensures { result ≡ all_groups self.now }
+    {
+        self.slot_len() / 2
+    }
+
+    /// How many slots the first groups have: two for each pattern. They come before all others.
+    #[inline]
+    pub fn implicit_slot_len(&self) -> usize
+        ensures value { result ≡ 2 * length self.now }
+        ensures within { result ≤ 2 * all_groups self.now }
+    {
+        let inner: &Inner<A> = &self.inner;
+        2 * inner.patterns.len()
+    }
+
+    /// How many slots all other groups have.
+    #[inline]
+    pub fn explicit_slot_len(&self) -> usize
+        ensures { result ≡ 2 * all_groups self.now - 2 * length self.now }
+    {
+        let inner: &Inner<A> = &self.inner;
+        inner.starts[inner.patterns.len()] - 2 * inner.patterns.len()
+    }
+}

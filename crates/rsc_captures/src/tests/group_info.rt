@@ -1,0 +1,204 @@
+//! What no contract says: worked values from outside, shown texts, and each request for memory refused in turn.
+ghost use Rattle.std.specs.Prelude.{◌≤◌};
+
+use crate::{GroupInfo, GroupInfoErrorKind, laws};
+use linked_list_allocator::LocalHeap;
+use rsc_primitives::PatternID;
+use std::alloc::Global;
+use std::test::Fail;
+
+fn pattern(p: usize) -> PatternID
+    requires { p ≤ 2147483646 }
+{
+    PatternID::must(p)
+}
+
+#[test]
+fn numbers_groups_and_slots(rt: HostRuntime) -> Result<(), Fail> {
+    let info = GroupInfo::new(rt.alloc(), &[&[None, Some("x")], &[None, None, Some("x")]])?;
+    let (first, second, unknown) = (pattern(0), pattern(1), pattern(2));
+    assert_eq!(rt; info.pattern_len(), 2);
+    for (pid, want) in [(first, 2), (second, 3), (unknown, 0)] {
+        assert_eq!(rt; info.group_len(pid), want, "of {pid:?}");
+    }
+    let rows = [
+        (first, 0, Some(0)),
+        (first, 1, Some(4)),
+        (first, 2, None),
+        (second, 0, Some(2)),
+        (second, 1, Some(6)),
+        (second, 2, Some(8)),
+        (unknown, 0, None),
+        (first, 18446744073709551615, None),
+    ];
+    for (pid, group, want) in rows {
+        assert_eq!(rt; info.slot(pid, group), want, "group {group} of {pid:?}");
+    }
+    assert!(rt; info.slots(second, 2) == Some((8, 9)));
+    assert_eq!(rt; info.slot_len(), 10);
+    assert_eq!(rt; info.implicit_slot_len(), 4);
+    assert_eq!(rt; info.explicit_slot_len(), 6);
+    assert_eq!(rt; info.all_group_len(), 5);
+    laws::one_first_fault();
+    Ok(())
+}
+
+#[test]
+fn names_are_local_to_their_pattern(rt: HostRuntime) -> Result<(), Fail> {
+    let info = GroupInfo::new(rt.alloc(), &[&[None, Some("x")], &[None, None, Some("x")]])?;
+    let (first, second, unknown) = (pattern(0), pattern(1), pattern(2));
+    for (pid, name, want) in [
+        (first, "x", Some(1)),
+        (second, "x", Some(2)),
+        (unknown, "x", None),
+        (first, "", None),
+    ] {
+        assert_eq!(rt; info.to_index(pid, name), want, "{name} in {pid:?}");
+    }
+    assert!(rt; info.to_name(second, 2) == Some("x"));
+    assert!(rt; info.to_name(second, 1) == None);
+    assert!(rt; info.to_name(second, 18446744073709551615) == None);
+    let mut names = info.pattern_names(second);
+    assert!(rt; names.size_hint() == (3, Some(3)) && names.len() == 3);
+    assert!(rt; names.next() == Some(None));
+    assert!(rt; names.next() == Some(None));
+    assert!(rt; names.next() == Some(Some("x")));
+    assert!(rt; names.next() == None && names.next() == None && names.len() == 0);
+    assert!(rt; info.pattern_names(unknown).next() == None);
+    let mut all = info.all_names();
+    assert!(rt; all.next() == Some((first, 0, None)));
+    assert!(rt; all.next() == Some((first, 1, Some("x"))));
+    assert!(rt; all.next() == Some((second, 0, None)));
+    assert!(rt; all.next() == Some((second, 1, None)));
+    assert!(rt; all.next() == Some((second, 2, Some("x"))));
+    assert!(rt; all.next() == None && all.next() == None);
+    Ok(())
+}
+
+// Whether the list is refused with that text.
+fn refused_as(alloc: Global, lists: &[&[Option<&str>]], want: &str) -> Result<bool, Fail> {
+    match GroupInfo::new(alloc, lists) {
+        Ok(_) => Ok(false),
+        Err(error) => Ok(error.to_string(alloc)?.as_str() == want),
+    }
+}
+
+#[test]
+fn refuses_the_first_fault(rt: HostRuntime) -> Result<(), Fail> {
+    let alloc = rt.alloc();
+    let missing =
+        "no capturing groups found for pattern 1 (either all patterns have zero groups or all patterns have at least one group)";
+    assert!(rt; refused_as(alloc, &[&[None], &[]], missing)?);
+    let missing =
+        "no capturing groups found for pattern 0 (either all patterns have zero groups or all patterns have at least one group)";
+    assert!(rt; refused_as(alloc, &[&[], &[None, Some("x"), Some("x")]], missing)?);
+    let named = "first capture group (at index 0) for pattern 0 has a name (it must be unnamed)";
+    assert!(rt; refused_as(alloc, &[&[Some("x")]], named)?);
+    assert!(rt; refused_as(alloc, &[&[Some("x")], &[]], named)?);
+    let duplicate = "duplicate capture group name 'x' found for pattern 0";
+    assert!(rt; refused_as(alloc, &[&[None, Some("x"), Some("x")], &[None]], duplicate)?);
+    assert!(rt; refused_as(alloc, &[&[None, Some("x"), Some("x")], &[]], duplicate)?);
+    let duplicate = "duplicate capture group name 'y' found for pattern 1";
+    assert!(rt;
+        refused_as(
+            alloc,
+            &[&[None, Some("x")], &[None, Some("y"), None, Some("y")]],
+            duplicate
+        )?
+    );
+    let duplicate = "duplicate capture group name '' found for pattern 1";
+    assert!(rt;
+        refused_as(
+            alloc,
+            &[&[None, Some("")], &[None, Some(""), Some("")]],
+            duplicate
+        )?
+    );
+    Ok(())
+}
+
+#[test]
+fn has_no_groups_without_patterns(rt: HostRuntime) -> Result<(), Fail> {
+    let info = GroupInfo::empty(rt.alloc())?;
+    assert_eq!(rt;
+        info.slot_len() + info.pattern_len() + info.all_group_len(),
+        0
+    );
+    assert!(rt; info.all_names().next() == None);
+    Ok(())
+}
+
+// What a budget of memory allows: whether a group info could be made, and whether a clone of it could too.
+fn made_and_cloned(heap: &LocalHeap) -> (bool, bool) {
+    let info = match GroupInfo::new(heap, &[&[None, Some("first")], &[None, None, Some("last")]]) {
+        Ok(info) => info,
+        Err(_) => return (false, false),
+    };
+    let cloned = match info.clone() {
+        Ok(copy) => copy.to_index(PatternID::must(1), "last") == Some(2),
+        Err(_) => false,
+    };
+    (
+        info.to_index(PatternID::must(0), "first") == Some(1),
+        cloned,
+    )
+}
+
+#[test]
+fn memory_is_refused_until_there_is_enough(rt: HostRuntime) -> Result<(), Fail> {
+    let mut answered = 0u32;
+    for size in 0..512usize {
+        let heap = LocalHeap::new(rt.alloc(), 8 * size)?;
+        let (made, cloned) = made_and_cloned(&heap);
+        assert!(rt; made == cloned && (made || answered == 0), "at {size}");
+        if made {
+            answered = answered.saturating_add(1);
+        }
+    }
+    assert!(rt; 0 < answered && answered < 512, "{answered}");
+    Ok(())
+}
+
+// Whether the list is refused for want of memory, where there is so much.
+fn wants_memory(alloc: Global, size: usize, lists: &[&[Option<&str>]]) -> Result<bool, Fail> {
+    let heap = LocalHeap::new(alloc, size)?;
+    match GroupInfo::new(&heap, lists) {
+        Ok(_) => Ok(false),
+        Err(error) => Ok(matches!(error.kind(), GroupInfoErrorKind::OutOfMemory)),
+    }
+}
+
+#[test]
+fn faults_come_before_any_request(rt: HostRuntime) -> Result<(), Fail> {
+    let alloc = rt.alloc();
+    assert!(rt; wants_memory(alloc, 0, &[&[None, Some("x")]])?);
+    assert!(rt; wants_memory(alloc, 0, &[&[None, Some("x"), Some("x")]])?);
+    assert!(rt; !wants_memory(alloc, 0, &[&[None, Some("x")], &[Some("x")]])?);
+    assert!(rt; !wants_memory(alloc, 0, &[&[None, Some("x")], &[]])?);
+    assert!(rt; !wants_memory(alloc, 0, &[&[], &[None, Some("x"), Some("x")]])?);
+    Ok(())
+}
+
+// Whether a name that stands twice is refused as such, or for want of memory, where there is so much.
+fn names_the_duplicate(alloc: Global, size: usize) -> Result<(bool, bool), Fail> {
+    let heap = LocalHeap::new(alloc, size)?;
+    match GroupInfo::new(&heap, &[&[None, Some("x"), Some("x")]]) {
+        Ok(_) => Ok((false, false)),
+        Err(error) => Ok((
+            matches!(error.kind(), GroupInfoErrorKind::Duplicate { .. }),
+            matches!(error.kind(), GroupInfoErrorKind::OutOfMemory),
+        )),
+    }
+}
+
+#[test]
+fn a_name_twice_is_refused_at_every_size(rt: HostRuntime) -> Result<(), Fail> {
+    let mut named = 0u32;
+    for size in 0..256usize {
+        let (duplicate, out_of_memory) = names_the_duplicate(rt.alloc(), 8 * size)?;
+        assert!(rt; duplicate || (out_of_memory && named == 0), "at {size}");
+        named = named.saturating_add(u32::from(duplicate));
+    }
+    assert!(rt; 0 < named && named < 256, "{named}");
+    Ok(())
+}
