@@ -1,0 +1,18 @@
+//! Assertions about the position between two bytes of a haystack, and the classes of bytes that they can't tell apart.
+#![tactic(auto)]
+
+mod assertion;
+mod error;
+pub mod laws;
+mod look_set;
+mod matcher;
+mod side;
+#[cfg(test)]
+mod tests;
+mod word;
+
+pub use assertion::Look;
+pub use error::UnicodeWordBoundaryError;
+pub use look_set::{LookSet, LookSetIter};
+pub use matcher::LookMatcher;
+pub use word::{AsciiWord, UnicodeWord, WordClass};

@@ -1,0 +1,3 @@
+//! The Rust's own tests, and worked rows.
+mod carried;
+mod rows;
