@@ -5,6 +5,12 @@
 pub enum Command {
     /// The classes of a list of byte ranges.
     Ranges,
+    /// The classes of a list of assertions.
+    Looks,
+    /// Whether an assertion holds at a position of a haystack.
+    Look,
+    /// The slots of a list of groups.
+    Groups,
 }
 
 impl Command {
@@ -12,6 +18,9 @@ impl Command {
     pub fn from_name(name: &[u8]) -> Option<Command> {
         match name {
             b"ranges" => Some(Command::Ranges),
+            b"looks" => Some(Command::Looks),
+            b"look" => Some(Command::Look),
+            b"groups" => Some(Command::Groups),
             _ => None,
         }
     }

@@ -4,7 +4,9 @@
 mod classes;
 mod command;
 mod error;
+mod groups;
 mod input;
+mod looks;
 mod ranges;
 mod run;
 #[cfg(test)]

@@ -3,8 +3,8 @@
 use crate::command::Command;
 use crate::error::BenchError;
 use crate::input::read_all;
-use crate::ranges;
 use crate::tokens::tokens_of;
+use crate::{groups, looks, ranges};
 use std::alloc::{AllocError, Allocator};
 use std::io::{Read, Write};
 
@@ -59,6 +59,9 @@ fn answer_tokens<A: Allocator + Copy + Drop>(
     };
     match Command::from_name(name) {
         Some(Command::Ranges) => ranges::answer(alloc, arguments),
+        Some(Command::Looks) => looks::answer_classes(alloc, arguments),
+        Some(Command::Look) => looks::answer_at(alloc, arguments),
+        Some(Command::Groups) => groups::answer(alloc, arguments),
         None => Ok(None),
     }
 }

@@ -1,10 +1,14 @@
+//! The answers as texts, and what stands where reading, writing or memory fails.
 use crate::error::BenchError;
-use crate::input::MAX_READS;
 use crate::run::run;
-use std::alloc::Global;
-use std::io;
-use std::io::{Read, Write};
+use linked_list_allocator::LocalHeap;
 use std::test::Fail;
+
+const MISSING: &str =
+    "no capturing groups found for pattern 0 (either all patterns have zero groups or all patterns have at least one group)\n";
+
+const NAMED: &str =
+    "first capture group (at index 0) for pattern 0 has a name (it must be unnamed)\n";
 
 #[test]
 fn answers_ranges(rt: HostRuntime) -> Result<(), Fail> {
@@ -15,6 +19,7 @@ fn answers_ranges(rt: HostRuntime) -> Result<(), Fail> {
         ("ranges 80-ff", "alphabet 3: 00 80\n"),
         ("ranges 7f-80", "alphabet 4: 00 7f 81\n"),
         ("ranges 00-ff", "alphabet 2: 00\n"),
+        ("ranges 00-7f", "alphabet 3: 00 80\n"),
         ("ranges 7A-7a", "alphabet 4: 00 7a 7b\n"),
         ("ranges 7a-61", "bad line\n"),
         ("ranges ", "bad line\n"),
@@ -41,6 +46,100 @@ fn answers_ranges(rt: HostRuntime) -> Result<(), Fail> {
 }
 
 #[test]
+fn answers_classes_of_assertions(rt: HostRuntime) -> Result<(), Fail> {
+    let rows = [
+        (
+            "looks 0a StartLF WordAscii",
+            "alphabet 12: 00 0a 0b 30 3a 41 5b 5f 60 61 7b\n",
+        ),
+        ("looks 0a StartCRLF", "alphabet 6: 00 0a 0b 0d 0e\n"),
+        (
+            "looks 0a WordUnicode",
+            "alphabet 10: 00 30 3a 41 5b 5f 60 61 7b\n",
+        ),
+        ("looks 0a", "alphabet 2: 00\n"),
+        ("looks 0a Start End", "alphabet 2: 00\n"),
+        ("looks 00 EndLF", "alphabet 3: 00 01\n"),
+        ("looks ff StartLF", "alphabet 3: 00 ff\n"),
+        ("looks 0a EndLF EndCRLF", "alphabet 6: 00 0a 0b 0d 0e\n"),
+        (
+            "looks 0a WordStartHalfUnicode WordEndHalfAscii",
+            "alphabet 10: 00 30 3a 41 5b 5f 60 61 7b\n",
+        ),
+        ("looks 0a startlf", "bad line\n"),
+        ("looks", "bad line\n"),
+        ("looks 0", "bad line\n"),
+        ("looks 0a ", "bad line\n"),
+    ];
+    for (input, want) in rows {
+        let mut reader = input.as_bytes();
+        let mut writer = Vec::new(rt.alloc());
+        assert_eq!(rt; run(rt.alloc(), &mut reader, &mut writer), Ok(()));
+        assert_eq!(rt; writer.as_slice(), want.as_bytes(), "at {input:?}");
+    }
+    Ok(())
+}
+
+#[test]
+fn answers_assertions_at_positions(rt: HostRuntime) -> Result<(), Fail> {
+    let rows = [
+        ("look Start 0a - 0", "true\n"),
+        ("look StartLF 0a 0a61 1", "true\n"),
+        ("look StartLF 00 0a61 1", "false\n"),
+        ("look StartCRLF 00 0a61 1", "true\n"),
+        ("look WordUnicode 0a f09d9b83f0908680 4", "true\n"),
+        ("look WordUnicodeNegate 0a F09D9B83F0908680 5", "false\n"),
+        ("look WordUnicodeNegate 0a f09d9b83f0908680 8", "true\n"),
+        ("look WordUnicode 0a 6180 2", "false\n"),
+        ("look WordUnicode 0a 6180 1", "true\n"),
+        ("look WordUnicode 0a 6180 0000000001", "true\n"),
+        ("look End 0a 61 2", "bad line\n"),
+        ("look End 0a 6 0", "bad line\n"),
+        ("look End 0a  0", "bad line\n"),
+        ("look End 0a 61 +0", "bad line\n"),
+        ("look End 0a 61 0x0", "bad line\n"),
+        ("look End 0a 61 00000000001", "bad line\n"),
+        ("look End 0a 61", "bad line\n"),
+        ("look End 0a 61 0 0", "bad line\n"),
+    ];
+    for (input, want) in rows {
+        let mut reader = input.as_bytes();
+        let mut writer = Vec::new(rt.alloc());
+        assert_eq!(rt; run(rt.alloc(), &mut reader, &mut writer), Ok(()));
+        assert_eq!(rt; writer.as_slice(), want.as_bytes(), "at {input:?}");
+    }
+    Ok(())
+}
+
+#[test]
+fn answers_groups(rt: HostRuntime) -> Result<(), Fail> {
+    let rows = [
+        ("groups -,x;-,-,x", "slots 10: 0,4;2,6,8\n"),
+        ("groups -,-", "slots 4: 0,2\n"),
+        ("groups -,x;-,x", "slots 8: 0,4;2,6\n"),
+        ("groups", "slots 0:\n"),
+        ("groups ;-,x,x", MISSING),
+        ("groups ", MISSING),
+        ("groups x", NAMED),
+        ("groups x;", NAMED),
+        (
+            "groups -,x,x;",
+            "duplicate capture group name 'x' found for pattern 0\n",
+        ),
+        ("groups -,", "bad line\n"),
+        ("groups -,a.b", "bad line\n"),
+        ("groups - -", "bad line\n"),
+    ];
+    for (input, want) in rows {
+        let mut reader = input.as_bytes();
+        let mut writer = Vec::new(rt.alloc());
+        assert_eq!(rt; run(rt.alloc(), &mut reader, &mut writer), Ok(()));
+        assert_eq!(rt; writer.as_slice(), want.as_bytes(), "at {input:?}");
+    }
+    Ok(())
+}
+
+#[test]
 fn displays_errors(rt: HostRuntime) -> Result<(), Fail> {
     let rows = [
         (BenchError::Read, "rsc_bench: read failed"),
@@ -51,5 +150,27 @@ fn displays_errors(rt: HostRuntime) -> Result<(), Fail> {
         let text = error.to_string(rt.alloc())?;
         assert_eq!(rt; text.as_str(), want);
     }
+    Ok(())
+}
+
+#[test]
+fn memory_is_refused_until_there_is_enough(rt: HostRuntime) -> Result<(), Fail> {
+    let mut answered = 0u32;
+    for size in 0..192usize {
+        let heap = LocalHeap::new(rt.alloc(), 64 * size)?;
+        let mut reader = "groups -,x;-,-,x".as_bytes();
+        let mut writer = Vec::new(rt.alloc());
+        match run(&heap, &mut reader, &mut writer) {
+            Ok(()) => {
+                assert_eq!(rt; writer.as_slice(), b"slots 10: 0,4;2,6,8\n".as_slice());
+                answered = answered.saturating_add(1);
+            }
+            Err(error) => {
+                assert_eq!(rt; error, BenchError::OutOfMemory);
+                assert!(rt; writer.is_empty() && answered == 0, "at {size}");
+            }
+        }
+    }
+    assert!(rt; 0 < answered && answered < 192, "{answered}");
     Ok(())
 }

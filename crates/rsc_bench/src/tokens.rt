@@ -44,3 +44,41 @@ pub fn parse_byte(digits: &[u8]) -> Option<u8>
         Err(_) => None,
     }
 }
+
+/// The bytes that `-` writes, which are none, or that a positive even number of hexadecimal digits write; `None` where
+/// nothing is written so.
+pub fn parse_hay<A: Allocator + Copy + Drop>(
+    alloc: A,
+    token: &[u8],
+) -> Result<Option<Vec<u8, A>>, AllocError> {
+    let mut bytes = Vec::new(alloc);
+    match token {
+        [] => return Ok(None),
+        b"-" => return Ok(Some(bytes)),
+        _ => {}
+    }
+    for digits in token.chunks(2) {
+        match parse_byte(digits) {
+            Some(byte) => bytes.push(byte)?,
+            None => return Ok(None),
+        }
+    }
+    Ok(Some(bytes))
+}
+
+/// The number that one to ten decimal digits write.
+pub fn parse_number(token: &[u8]) -> Option<usize> {
+    if token.is_empty() || token.len() > 10 {
+        return None;
+    }
+    let mut number = 0usize;
+    for digit in token {
+        if !digit.is_ascii_digit() {
+            return None;
+        }
+        number = number
+            .checked_mul(10)?
+            .checked_add(usize::from(*digit - b'0'))?;
+    }
+    Some(number)
+}

@@ -1,0 +1,141 @@
+//! The command `groups`: the slots of a list of groups, or why it is refused.
+
+use rsc_captures::{GroupInfo, GroupInfoError, GroupInfoErrorKind};
+use rsc_primitives::PatternID;
+use rsc_primitives::utf8::is_word_byte;
+use std::alloc::{AllocError, Allocator};
+use std::fmt::Write;
+
+/// The answer to the arguments of `groups`, or `None` where they aren't lists of groups.
+///
+/// Patterns are split at `;`, and groups at `,`; `-` is a group without a name, and a name is one or more word bytes. With no
+/// argument there is no pattern.
+pub fn answer<A: Allocator + Copy + Drop>(
+    alloc: A,
+    arguments: &[&[u8]],
+) -> Result<Option<String<A>>, AllocError> {
+    let patterns = match arguments {
+        [] => Vec::new(alloc),
+        [lists] => match parse_patterns(alloc, lists)? {
+            Some(patterns) => patterns,
+            None => return Ok(None),
+        },
+        _ => return Ok(None),
+    };
+    let lists = lists_of(alloc, patterns.as_slice())?;
+    match GroupInfo::new(alloc, lists.as_slice()) {
+        Ok(info) => Ok(Some(describe(alloc, &info)?)),
+        Err(error) => Ok(Some(describe_refusal(alloc, &error)?)),
+    }
+}
+
+// `slots`, how many there are, and the first slot of each group.
+fn describe<A: Allocator + Copy + Drop>(
+    alloc: A,
+    info: &GroupInfo<A>,
+) -> Result<String<A>, AllocError> {
+    let mut text = String::new(alloc);
+    let count = info.slot_len();
+    write!(text, "slots {count}:")?;
+    for (pattern, group, _) in info.all_names() {
+        let separator = separator_before(pattern, group);
+        let slot = info.slot(pattern, group).unwrap_or(0);
+        write!(text, "{separator}{slot}")?;
+    }
+    Ok(text)
+}
+
+// What stands before a group's slot: a space before the first of all, `;` before the first of a pattern, `,` before any other.
+fn separator_before(pattern: PatternID, group: usize) -> char {
+    if group > 0 {
+        ','
+    } else if pattern.as_usize() > 0 {
+        ';'
+    } else {
+        ' '
+    }
+}
+
+// The displayed refusal, but for want of memory, which stops the run.
+fn describe_refusal<A: Allocator + Copy + Drop>(
+    alloc: A,
+    error: &GroupInfoError<A>,
+) -> Result<String<A>, AllocError> {
+    if let GroupInfoErrorKind::OutOfMemory = error.kind() {
+        return Err(AllocError);
+    }
+    let mut text = String::new(alloc);
+    write!(text, "{error}")?;
+    Ok(text)
+}
+
+// The groups of each pattern, lent as slices.
+fn lists_of<'a, A: Allocator + Copy + Drop>(
+    alloc: A,
+    patterns: &'a [Vec<Option<&'a str>, A>],
+) -> Result<Vec<&'a [Option<&'a str>], A>, AllocError> {
+    let mut lists = Vec::new(alloc);
+    for groups in patterns {
+        lists.push(groups.as_slice())?;
+    }
+    Ok(lists)
+}
+
+// The patterns that a token writes, or `None` where one of its groups isn't written rightly.
+fn parse_patterns<'a, A: Allocator + Copy + Drop>(
+    alloc: A,
+    token: &'a [u8],
+) -> Result<Option<Vec<Vec<Option<&'a str>, A>, A>>, AllocError> {
+    let mut patterns = Vec::new(alloc);
+    for pattern in token.split(|byte| *byte == b';') {
+        match parse_groups(alloc, pattern)? {
+            Some(groups) => patterns.push(groups)?,
+            None => return Ok(None),
+        }
+    }
+    Ok(Some(patterns))
+}
+
+// The groups of a pattern; an empty one has none.
+fn parse_groups<'a, A: Allocator + Copy + Drop>(
+    alloc: A,
+    pattern: &'a [u8],
+) -> Result<Option<Vec<Option<&'a str>, A>>, AllocError> {
+    let mut groups = Vec::new(alloc);
+    if pattern.is_empty() {
+        return Ok(Some(groups));
+    }
+    for group in pattern.split(|byte| *byte == b',') {
+        match parse_group(group) {
+            Some(name) => groups.push(name)?,
+            None => return Ok(None),
+        }
+    }
+    Ok(Some(groups))
+}
+
+// The optional name of a group, or `None` where it isn't written rightly.
+fn parse_group(group: &[u8]) -> Option<Option<&str>> {
+    match group {
+        [] => None,
+        b"-" => Some(None),
+        _ => {
+            if !all_word_bytes(group) {
+                return None;
+            }
+            match std::str::from_utf8(group) {
+                Ok(name) => Some(Some(name)),
+                Err(_) => None,
+            }
+        }
+    }
+}
+
+fn all_word_bytes(name: &[u8]) -> bool {
+    for byte in name {
+        if !is_word_byte(*byte) {
+            return false;
+        }
+    }
+    true
+}
