@@ -178,6 +178,7 @@ impl<A: Allocator> Eq for PatternSet<A> {
 }
 
 // The first set flag from `start` on and before `end`, or `end`.
+#[inline]
 fn first_set(which: &[bool], start: usize, end: usize) -> usize
     requires order { start ≤ end }
     requires within { end ≤ length which.now }
@@ -195,6 +196,7 @@ fn first_set(which: &[bool], start: usize, end: usize) -> usize
 }
 
 // The place after the last set flag from `start` on and before `end`, or `start`.
+#[inline]
 fn after_last_set(which: &[bool], start: usize, end: usize) -> usize
     requires order { start ≤ end }
     requires within { end ≤ length which.now }

@@ -1,11 +1,12 @@
 //! What no contract says: worked values from outside, shown texts, and each request for memory refused in turn.
-ghost use Rattle.std.specs.Prelude.{◌≡◌};
+ghost use Rattle.std.specs.Prelude.{◌≡◌, ◌↔◌, IsTrue, IfOk, IsOk};
 
 use crate::{
     Anchored, HalfMatch, Input, Match, MatchError, MatchErrorKind, MatchKind, PatternSet, Span,
 };
 use linked_list_allocator::LocalHeap;
 use rsc_primitives::PatternID;
+use std::alloc::AllocError;
 use std::ops::{Bound, Range};
 use std::test::Fail;
 
@@ -67,6 +68,21 @@ fn slices(rt: HostRuntime) {
     assert_eq!(rt; bytes, [1, 9, 9, 4]);
 }
 
+// A clone of an input takes no memory, so it is always there, and it is the same.
+fn input_again<'h>(input: &Input<'h>) -> Result<Input<'h>, AllocError>
+    ensures same { IfOk result (λ copy. copy ≡ input.now) }
+    ensures always { IsOk result }
+{
+    input.clone()
+}
+
+// Equality of sets is equality of capacity and members.
+fn are_same(one: &PatternSet, two: &PatternSet) -> bool
+    ensures { IsTrue result ↔ (one.now ≡ two.now) }
+{
+    one == two
+}
+
 // The slice lives as long as the haystack, and so beyond the input that it came from.
 fn slice_after_its_input(haystack: &[u8]) -> &[u8] {
     let kept;
@@ -102,7 +118,7 @@ fn inputs_by_builders(rt: HostRuntime) -> Result<(), Fail> {
         .earliest(true);
     assert!(rt; input.get_span() == span(0, 2));
     assert!(rt; input.get_anchored() == Anchored::Yes && input.get_earliest());
-    let mut again = input.clone()?.span(span(1, 1));
+    let mut again = input_again(&input)?.span(span(1, 1));
     again.set_anchored(Anchored::No);
     again.set_earliest(false);
     assert!(rt; again.haystack() == abc && !again.is_done() && !again.get_earliest());
@@ -244,7 +260,7 @@ fn clones_are_sets_of_their_own(rt: HostRuntime) -> Result<(), Fail> {
     let mut set = PatternSet::new(rt.alloc(), 2)?;
     assert!(rt; set.insert(PatternID::must(0)));
     let copy = set.clone()?;
-    assert!(rt; copy == set);
+    assert!(rt; are_same(&copy, &set));
     assert!(rt; set.try_insert(PatternID::must(1)).is_ok_and(|new| new) && set.is_full());
     assert!(rt; copy != set && copy.len() == 1);
     set.clear();
