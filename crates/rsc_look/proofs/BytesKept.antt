@@ -1,0 +1,156 @@
+-- The twelve assertions on bytes are kept by a partition that has their boundaries.
+use Rattle.std.proofs.Common.{◌≡◌, ℕ, zero, suc, ◌-◌, ◌<◌, ◌≤◌, min, max, Bool, true, false, not, ◌&&◌, ◌||◌, eqb, leb, List, length, Option, Some, None, refl, sym, ◌∙◌, arith, is_none, ◌⊎◌, ⊎_elim}
+use Rattle.std.specs.Prelude.{slice_get}
+use Rattle.std.proofs.lemmas.Bool.Decides.{nat_tests}
+use Rattle.std.proofs.lemmas.Option.{slice_get-get_or, slice_get_past}
+use Rattle.rsc_primitives.specs.Utf8.{is_word_byte}
+use Rattle.rsc_look.specs.declared.assertion.Look.{Look}
+use Rattle.rsc_look.specs.declared.assertion.Look.TheVariants.{Start, End, StartLF, EndLF, StartCRLF, EndCRLF, WordAscii, WordAsciiNegate, WordStartAscii, WordEndAscii, WordStartHalfAscii, WordEndHalfAscii}
+use Rattle.rsc_look.specs.Holds.{byte_before, is_byte, is_word_at, holds_at_bytes}
+use Rattle.rsc_alphabet.specs.Partitions.{Together}
+use Rattle.rsc_look.specs.Keeping.{AreInterchanged}
+use Rattle.rsc_look.proofs.Marks.{is_edge, is_word_mark, is_mark}
+
+-- the partition has these boundaries
+abbrev pub HasMarks : (ℕ → Bool) → (ℕ → Bool) → Type 0
+HasMarks p m = (b : ℕ) → b < 255 → m b ≡ true → p b ≡ true
+
+-- two bytes that are together lie on one side of each boundary
+pub Together-leb : (p : ℕ → Bool) (a b x : ℕ) → Together p a b → p x ≡ true → leb a x ≡ leb b x
+Together-leb p a b x t h =
+    let f : min a b ≤ x → x < max a b → ⊥ = λ u v. t x u v h in
+    grind (arith, nat_tests)
+
+Together-leb-mark : (p m : ℕ → Bool) (a b x : ℕ) → HasMarks p m → Together p a b → x < 255 → m x ≡ true → leb a x ≡ leb b x
+Together-leb-mark p m a b x s t l h = Together-leb p a b x t (s x l h)
+
+mark_at : (t : ℕ) → t < 255 → is_edge t t ≡ true
+mark_at t h = grind (arith, nat_tests)
+
+mark_before : (t : ℕ) → 0 < t → t < 256 → is_edge t (t - 1) ≡ true
+mark_before t h k = grind (arith, nat_tests)
+
+same_eqb : (a b t : ℕ) → a < 256 → b < 256 → (t < 255 → leb a t ≡ leb b t) → (0 < t → t < 256 → leb a (t - 1) ≡ leb b (t - 1)) → eqb a t ≡ eqb b t
+same_eqb a b t la lb f g = grind (arith, nat_tests)
+
+pub Together-eqb : (p : ℕ → Bool) (a b t : ℕ) → a < 256 → b < 256 → HasMarks p (is_edge t) → Together p a b → eqb a t ≡ eqb b t
+Together-eqb p a b t la lb s h =
+    same_eqb a b t la lb (λ l. Together-leb-mark p (is_edge t) a b t s h l (mark_at t l))
+    (λ l lt. Together-leb-mark p (is_edge t) a b (t - 1) s h (omega arith) (mark_before t l lt))
+
+-- the word bytes, by the boundaries that they lie between
+abbrev word_between : Bool → Bool → Bool → Bool → Bool → Bool → Bool → Bool → Bool
+word_between x1 x2 x3 x4 x5 x6 x7 x8 = ((not x1 && x2) || (not x3 && x4) || (x6 && not x5)) || (not x7 && x8)
+
+above : (x a : ℕ) → leb (suc x) a ≡ not (leb a x)
+above x a = grind (arith, nat_tests)
+
+at_low_line : (a : ℕ) → eqb a 0x5F ≡ (leb a 0x5F && not (leb a 0x5E))
+at_low_line a = grind (arith, nat_tests)
+
+is_word_byte-between : (a : ℕ) → is_word_byte a ≡ word_between (leb a 0x2F) (leb a 0x39) (leb a 0x40) (leb a 0x5A) (leb a 0x5E) (leb a 0x5F) (leb a 0x60) (leb a 0x7A)
+is_word_byte-between a =
+    let e1 : leb 0x30 a ≡ not (leb a 0x2F) = above 0x2F a in
+    let e2 : leb 0x41 a ≡ not (leb a 0x40) = above 0x40 a in
+    let e3 : leb 0x61 a ≡ not (leb a 0x60) = above 0x60 a in
+    let e4 = at_low_line a in
+    rw (e1, e2, e3, e4)
+
+pub Together-is_word_byte : (p : ℕ → Bool) (a b : ℕ) → HasMarks p is_word_mark → Together p a b → is_word_byte a ≡ is_word_byte b
+Together-is_word_byte p a b s h =
+    let go : (x : ℕ) → x < 255 → is_word_mark x ≡ true → leb a x ≡ leb b x = λ x l m. Together-leb-mark p is_word_mark a b x s h l m in
+    let e1 = go 0x2F (omega arith) refl in
+    let e2 = go 0x39 (omega arith) refl in
+    let e3 = go 0x40 (omega arith) refl in
+    let e4 = go 0x5A (omega arith) refl in
+    let e5 = go 0x5E (omega arith) refl in
+    let e6 = go 0x5F (omega arith) refl in
+    let e7 = go 0x60 (omega arith) refl in
+    let e8 = go 0x7A (omega arith) refl in
+    is_word_byte-between a ∙ rw (e1, e2, e3, e4, e5, e6, e7, e8) (sym (is_word_byte-between b))
+
+-- neighbours that may replace each other: both absent, or both there and together
+abbrev pub TogetherAt : (ℕ → Bool) → Option ℕ → Option ℕ → Type 0
+TogetherAt p None None = Unit {0}
+TogetherAt p (Some a) (Some b) = (a < 256) × (b < 256) × Together p a b
+TogetherAt p _ _ = ⊥
+
+pub TogetherAt-slice_get : (p : ℕ → Bool) (h k : List ℕ) (i : ℕ) → AreInterchanged p h k → TogetherAt p (slice_get h i) (slice_get k i)
+TogetherAt-slice_get p h k i s =
+    let e = s.same_length in
+    ⊎_elim
+    (λ (l : i < length h).
+    let lk : i < length k = omega arith in
+    let a = slice_get-get_or h i 0 l in
+    let b = slice_get-get_or k i 0 lk in
+    rw (a, b) (s.first i 0 l, s.second i 0 lk, s.together i l))
+    (λ (l : length h ≤ i).
+    let a = slice_get_past h i l in
+    let b = slice_get_past k i (omega arith) in
+    rw (a, b) tt)
+    (side i (length h))
+  where
+    side : (m n : ℕ) → (m < n) ⊎ (n ≤ m)
+    side m n = grind arith
+
+pub TogetherAt-before : (p : ℕ → Bool) (h k : List ℕ) (i : ℕ) → AreInterchanged p h k → TogetherAt p (byte_before h i) (byte_before k i)
+TogetherAt-before p h k zero s = tt
+TogetherAt-before p h k (suc i) s = TogetherAt-slice_get p h k i s
+
+same_none : (p : ℕ → Bool) (a b : Option ℕ) → TogetherAt p a b → is_none a ≡ is_none b
+same_none p None None t = refl
+same_none p (Some a) (Some b) t = refl
+same_none p None (Some b) t = absurd t
+same_none p (Some a) None t = absurd t
+
+same_byte : (p : ℕ → Bool) (a b : Option ℕ) (t : ℕ) → HasMarks p (is_edge t) → TogetherAt p a b → is_byte t a ≡ is_byte t b
+same_byte p None None t s h = refl
+same_byte p (Some a) (Some b) t s h = Together-eqb p a b t h.0 h.1 s h.2
+same_byte p None (Some b) t s h = absurd h
+same_byte p (Some a) None t s h = absurd h
+
+same_word : (p : ℕ → Bool) (a b : Option ℕ) → HasMarks p is_word_mark → TogetherAt p a b → is_word_at a ≡ is_word_at b
+same_word p None None s h = refl
+same_word p (Some a) (Some b) s h = Together-is_word_byte p a b s h.2
+same_word p None (Some b) s h = absurd h
+same_word p (Some a) None s h = absurd h
+
+or_left : (x y : Bool) → x ≡ true → (x || y) ≡ true
+or_left x y e = rw e
+
+or_right : (x y : Bool) → y ≡ true → (x || y) ≡ true
+or_right true y e = refl
+or_right false y e = e
+
+crlf_cr : (p : ℕ → Bool) → HasMarks p (λ b. is_edge 13 b || is_edge 10 b) → HasMarks p (is_edge 13)
+crlf_cr p s b l e = s b l (or_left (is_edge 13 b) (is_edge 10 b) e)
+
+crlf_lf : (p : ℕ → Bool) → HasMarks p (λ b. is_edge 13 b || is_edge 10 b) → HasMarks p (is_edge 10)
+crlf_lf p s b l e = s b l (or_right (is_edge 13 b) (is_edge 10 b) e)
+
+-- the table gives the same at neighbours that are together
+pub holds_at_bytes-same : (p : ℕ → Bool) (l : Look) (t : ℕ) → HasMarks p (is_mark l t) → (a b x y : Option ℕ) → TogetherAt p a b → TogetherAt p x y
+    → holds_at_bytes l t a x ≡ holds_at_bytes l t b y
+holds_at_bytes-same p Start t s a b x y h k = same_none p a b h
+holds_at_bytes-same p End t s a b x y h k = same_none p x y k
+holds_at_bytes-same p StartLF t s a b x y h k = let e = same_none p a b h in let f = same_byte p a b t s h in rw (e, f)
+holds_at_bytes-same p EndLF t s a b x y h k = let e = same_none p x y k in let f = same_byte p x y t s k in rw (e, f)
+holds_at_bytes-same p StartCRLF t s a b x y h k =
+    let e = same_none p a b h in
+    let f = same_byte p a b 13 (crlf_cr p s) h in
+    let g = same_byte p a b 10 (crlf_lf p s) h in
+    let n = same_byte p x y 10 (crlf_lf p s) k in
+    rw (e, f, g, n)
+holds_at_bytes-same p EndCRLF t s a b x y h k =
+    let e = same_none p x y k in
+    let f = same_byte p x y 13 (crlf_cr p s) k in
+    let g = same_byte p x y 10 (crlf_lf p s) k in
+    let n = same_byte p a b 13 (crlf_cr p s) h in
+    rw (e, f, g, n)
+holds_at_bytes-same p WordAscii t s a b x y h k = let e = same_word p a b s h in let f = same_word p x y s k in rw (e, f)
+holds_at_bytes-same p WordAsciiNegate t s a b x y h k = let e = same_word p a b s h in let f = same_word p x y s k in rw (e, f)
+holds_at_bytes-same p WordStartAscii t s a b x y h k = let e = same_word p a b s h in let f = same_word p x y s k in rw (e, f)
+holds_at_bytes-same p WordEndAscii t s a b x y h k = let e = same_word p a b s h in let f = same_word p x y s k in rw (e, f)
+holds_at_bytes-same p WordStartHalfAscii t s a b x y h k = let e = same_word p a b s h in rw e
+holds_at_bytes-same p WordEndHalfAscii t s a b x y h k = let e = same_word p x y s k in rw e
+holds_at_bytes-same p _ t s a b x y h k = refl

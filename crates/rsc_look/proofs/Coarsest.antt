@@ -1,0 +1,126 @@
+-- The boundaries of a list's members make the coarsest partition that keeps them.
+use Rattle.std.proofs.Common.{◌≡◌, ◌↔◌, ℕ, zero, suc, ◌+◌, ◌<◌, ◌≤◌, min, max, Bool, true, false, List, [], ◌∷◌, length, take, refl, sym, ap, ◌∙◌, arith, ◌⊎◌, ⊎_elim, true≢false}
+use Rattle.std.specs.Prelude.{slice_index}
+use Rattle.std.specs.List.{Contains, Any}
+use Rattle.std.specs.FinSet as sets
+use Rattle.std.proofs.lemmas.Bool.Decides.{nat_tests}
+use Rattle.std.proofs.lemmas.List.Folds.{list_any_at, Any-from_list_any}
+use Rattle.std.proofs.lemmas.List.Elements.{All-cons, All-nil}
+use Rattle.rsc_alphabet.specs.Partitions.{Together, class_map}
+use Rattle.rsc_look.specs.declared.assertion.Look.{Look}
+use Rattle.rsc_look.specs.declared.assertion.Look.TheVariants.{Start, End, StartLF, EndLF, StartCRLF, EndCRLF}
+use Rattle.rsc_look.specs.Looks.{is_unicode}
+use Rattle.rsc_look.specs.Holds.{byte_before, byte_after, holds_at_bytes, Holds}
+use Rattle.rsc_look.specs.Boundaries.{boundaries_of_each}
+use Rattle.rsc_look.specs.Keeping.{IsHaystack, AreInterchanged, DifferInAscii, Keeps, IsCoarsest, AgreesWithAscii, AgreesWhereAsked, Tells, IsNeeded, IsCoarsestMap}
+use Rattle.rsc_look.proofs.Marks.{is_word_mark, is_mark, marks_of, contains-boundaries_of_each}
+use Rattle.rsc_look.proofs.BytesKept.{HasMarks, TogetherAt-slice_get, TogetherAt-before, holds_at_bytes-same}
+use Rattle.rsc_look.proofs.Sides.{Holds-bytes, Holds-sides, HoldsAtSides-moves, Interchange, Interchange-from, Interchange-sym}
+use Rattle.rsc_look.proofs.Needed.{place_of, place_of_le, Tells-mark, below_127}
+
+-- the six have the boundaries of the word bytes
+pub is_mark-unicode : (l : Look) (t b : ℕ) → is_unicode l ≡ true → is_mark l t b ≡ is_word_mark b
+is_mark-unicode Start t b e = absurd (true≢false (sym e))
+is_mark-unicode End t b e = absurd (true≢false (sym e))
+is_mark-unicode StartLF t b e = absurd (true≢false (sym e))
+is_mark-unicode EndLF t b e = absurd (true≢false (sym e))
+is_mark-unicode StartCRLF t b e = absurd (true≢false (sym e))
+is_mark-unicode EndCRLF t b e = absurd (true≢false (sym e))
+is_mark-unicode _ t b e = refl
+
+-- ---- one assertion is kept by every partition that has its boundaries
+
+pub kept_at_bytes : (p : ℕ → Bool) (l : Look) (t : ℕ) (W : ℕ → Bool) → HasMarks p (is_mark l t) → is_unicode l ≡ false → (h k : List ℕ) → AreInterchanged p h k
+    → (i : ℕ) → Holds l t W h i ↔ Holds l t W k i
+kept_at_bytes p l t W m e h k s i =
+    let same : holds_at_bytes l t (byte_before h i) (byte_after h i) ≡ holds_at_bytes l t (byte_before k i) (byte_after k i) =
+    holds_at_bytes-same p l t m (byte_before h i) (byte_before k i) (byte_after h i) (byte_after k i) (TogetherAt-before p h k i s) (TogetherAt-slice_get p h k i s) in
+    let a = Holds-bytes l t W h i e in
+    let b = Holds-bytes l t W k i e in
+    ((λ x. b.1 (sym same ∙ a.0 x)), (λ x. a.1 (same ∙ b.0 x)))
+
+pub kept_at_characters : (p : ℕ → Bool) (l : Look) (t : ℕ) (W : ℕ → Bool) → AgreesWithAscii W → HasMarks p (is_mark l t) → is_unicode l ≡ true → (h k : List ℕ) → AreInterchanged p h k → DifferInAscii h k
+    → (i : ℕ) → Holds l t W h i ↔ Holds l t W k i
+kept_at_characters p l t W ascii m e h k s d i =
+    let words : HasMarks p is_word_mark = λ b q x. m b q (is_mark-unicode l t b e ∙ x) in
+    let w : Interchange W h k = Interchange-from p W h k ascii words s d in
+    let a = Holds-sides l t W h i e in
+    let b = Holds-sides l t W k i e in
+    ((λ x. b.1 (HoldsAtSides-moves l W h k i w (a.0 x))), (λ x. a.1 (HoldsAtSides-moves l W k h i (Interchange-sym W h k w) (b.0 x))))
+
+-- a partition with the boundaries of a list has those of each member
+members_marks : (p : ℕ → Bool) (looks : List Look) (l : Look) (t : ℕ) → HasMarks p (marks_of looks t) → Contains looks l → HasMarks p (is_mark l t)
+members_marks p looks l t has c b lt m = has b lt (list_any_at (λ x. is_mark x t b) looks c.0 l c.1 (ap (λ x. is_mark x t b) c.2 ∙ m))
+
+pub Keeps-from : (p : ℕ → Bool) (looks : List Look) (t : ℕ) (W : ℕ → Bool) → HasMarks p (marks_of looks t) → AgreesWhereAsked W looks → Keeps p looks t W
+Keeps-from p looks t W has a = record {
+  at_bytes = λ l c e h k s i r. kept_at_bytes p l t W (members_marks p looks l t has c) e h k s i;
+  at_characters = λ l c e h k s d i r. kept_at_characters p l t W (a l c e) (members_marks p looks l t has c) e h k s d i;
+}
+
+-- ---- each boundary is needed
+
+one_byte_haystack : (b : ℕ) → b < 256 → IsHaystack (b ∷ [])
+one_byte_haystack b h = All-cons (λ x. x < 256) b [] h (All-nil (λ x. x < 256))
+
+alike_alone : (q : ℕ → Bool) (b : ℕ) → b < 255 → q b ≡ false → AreInterchanged q (b ∷ []) ((b + 1) ∷ [])
+alike_alone q b h e = record {
+  first = one_byte_haystack b (omega arith);
+  second = one_byte_haystack (b + 1) (omega arith);
+  same_length = refl;
+  together = go;
+}
+  where
+    apart : (x : ℕ) → min b (b + 1) ≤ x → x < max b (b + 1) → q x ≡ true → ⊥
+    apart x l u t = let s : b ≡ x = omega arith in true≢false (sym t ∙ ap q (sym s) ∙ e)
+
+    go : (i : ℕ) → i < 1 → Together q (slice_index (b ∷ []) i) (slice_index ((b + 1) ∷ []) i)
+    go zero l = apart
+    go (suc i) l = absurd (omega arith)
+
+differ_alone : (b : ℕ) → b + 1 < 128 → DifferInAscii (b ∷ []) ((b + 1) ∷ [])
+differ_alone b h zero l n = (omega arith, h)
+differ_alone b h (suc i) l n = absurd (omega arith)
+
+not_told : (A B : Type 0) → A ↔ B → (A × (B → ⊥)) ⊎ ((A → ⊥) × B) → ⊥
+not_told A B e t = ⊎_elim (λ p. p.1 (e.0 p.0)) (λ p. p.0 (e.1 p.1)) t
+
+-- a partition that keeps an assertion has each boundary of it
+pub mark_is_needed : (q : ℕ → Bool) (looks : List Look) (l : Look) (t : ℕ) (W : ℕ → Bool) (b : ℕ) → (is_unicode l ≡ true → AgreesWithAscii W) → Keeps q looks t W → Contains looks l → b < 255 → is_mark l t b ≡ true → q b ≡ true
+mark_is_needed q looks l t W b a keeps c lt m = go (q b) refl (is_unicode l) refl
+  where
+    told : Tells l t W (b ∷ []) ((b + 1) ∷ []) (place_of l)
+    told = Tells-mark l t W b a m
+
+    go : (x : Bool) → q b ≡ x → (u : Bool) → is_unicode l ≡ u → q b ≡ true
+    go true e u f = e
+    go false e false f = absurd (not_told _ _ (keeps.at_bytes l c f (b ∷ []) ((b + 1) ∷ []) (alike_alone q b lt e) (place_of l) (place_of_le l)) told)
+    go false e true f = absurd (not_told _ _ (keeps.at_characters l c f (b ∷ []) ((b + 1) ∷ []) (alike_alone q b lt e) (differ_alone b (below_127 b (sym (is_mark-unicode l t b f) ∙ m))) (place_of l) (place_of_le l)) told)
+
+-- the member whose boundary it is
+member_with : (looks : List Look) (t b : ℕ) → sets.contains (boundaries_of_each looks t) b ≡ true → Any (λ l. is_mark l t b ≡ true) looks
+member_with looks t b m = Any-from_list_any (λ l. is_mark l t b) looks (sym (contains-boundaries_of_each looks t b) ∙ m)
+
+boundaries-IsCoarsest : (looks : List Look) (t : ℕ) (W : ℕ → Bool) → AgreesWhereAsked W looks → IsCoarsest (sets.contains (boundaries_of_each looks t)) looks t W
+boundaries-IsCoarsest looks t W a = record {
+  keeps = Keeps-from (sets.contains (boundaries_of_each looks t)) looks t W (λ b lt m. contains-boundaries_of_each looks t b ∙ m) a;
+  least = λ q keeps b lt m.
+      let y : Any (λ l. is_mark l t b ≡ true) looks = member_with looks t b m in
+      let c : Contains looks y.1 = (y.0, y.2, y.3) in
+      mark_is_needed q looks y.1 t W b (a y.1 c) keeps c lt y.4;
+}
+
+boundaries-IsNeeded : (looks : List Look) (t : ℕ) (W : ℕ → Bool) (b : ℕ) → AgreesWhereAsked W looks → sets.contains (boundaries_of_each looks t) b ≡ true → IsNeeded b looks t W
+boundaries-IsNeeded looks t W b a m =
+    let y : Any (λ l. is_mark l t b ≡ true) looks = member_with looks t b m in
+    let c : Contains looks y.1 = (y.0, y.2, y.3) in
+    record { look = y.1; listed = c; position = place_of y.1; at_an_end = place_of_le y.1; tells = Tells-mark y.1 t W b (a y.1 c) y.4 }
+
+-- the class map of the members' boundaries is that of the coarsest partition
+pub IsCoarsestMap-from : (m : List ℕ) (looks : List Look) (t : ℕ) (W : ℕ → Bool) → m ≡ class_map (sets.contains (boundaries_of_each looks t)) → AgreesWhereAsked W looks → IsCoarsestMap m looks t W
+IsCoarsestMap-from m looks t W is a = record {
+  boundaries = sets.contains (boundaries_of_each looks t);
+  classes = is;
+  coarsest = boundaries-IsCoarsest looks t W a;
+  needed = λ b lt e. boundaries-IsNeeded looks t W b a e;
+}

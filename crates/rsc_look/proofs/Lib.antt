@@ -1,0 +1,11 @@
+pub mod AsciiWords
+pub mod BytesKept
+pub mod Coarsest
+pub mod Inside
+pub mod Marks
+pub mod Mirrored
+pub mod Needed
+pub mod Sides
+pub mod Single
+pub mod UnicodeWords
+pub mod WordMarks

@@ -1,0 +1,232 @@
+-- An assertion at a place is the reversed one at the same place of the mirror.
+use Rattle.std.proofs.Common.{◌≡◌, ◌↔◌, ℕ, zero, suc, ◌+◌, ◌-◌, ◌<◌, ◌≤◌, ◌⊎◌, Bool, true, false, not, ◌&&◌, cond, eqb, List, [], ◌∷◌, length, get_or, map, reverse, Option, Some, None, is_none, refl, sym, ap, ◌∙◌, arith, ⊎_elim, true≢false}
+use Rattle.std.specs.Prelude.{slice_get, IsTrue}
+use mathlib.Core.List.{reverse_aux}
+use lib.Utf8.{scalar}
+use Rattle.std.specs.Option.{option_map}
+use Rattle.std.specs.Str.{encode_utf8_all, all_scalars}
+use Rattle.std.proofs.lemmas.Bool.Decides.{nat_tests}
+use Rattle.std.proofs.lemmas.List.{get_or-reverse, length-reverse, take_all}
+use Rattle.std.proofs.lemmas.Option.{slice_get-get_or, slice_get_past, slice_get-map}
+use Rattle.rsc_primitives.proofs.Texts.{place, BeginsAt-place, EndsAt-place}
+use Rattle.rsc_look.specs.declared.assertion.Look.{Look}
+use Rattle.rsc_look.specs.declared.assertion.Look.TheVariants.{Start, End, StartLF, EndLF, StartCRLF, EndCRLF, WordAscii, WordAsciiNegate, WordUnicode, WordUnicodeNegate, WordStartAscii, WordEndAscii, WordStartUnicode, WordEndUnicode, WordStartHalfAscii, WordEndHalfAscii, WordStartHalfUnicode, WordEndHalfUnicode}
+use Rattle.rsc_look.specs.declared.side.Side.{Side}
+use Rattle.rsc_look.specs.declared.side.Side.TheVariants.{Absent, Word, Other}
+use Rattle.rsc_look.specs.Holds.{byte_before, byte_after, is_byte, is_word_at, exactly_one, holds_at_bytes, holds_at_sides, is_bad, is_word_side, IsBefore, IsAfter, Holds}
+use Rattle.rsc_look.specs.Looks.{is_unicode, reversed}
+use Rattle.rsc_look.specs.Mirrors.{is_crlf, exchanged, mirror, IsTextMirrored}
+use Rattle.rsc_look.proofs.Sides.{Holds-bytes, Holds-sides, HoldsAtSides-is, HoldsAtSides-from}
+
+-- ---- neighbours in a list read from the other end
+
+side : (m n : ℕ) → (m < n) ⊎ (n ≤ m)
+side m n = grind arith
+
+slice_get-reverse : (h : List ℕ) (k j : ℕ) → k + j + 1 ≡ length h → slice_get (reverse h) k ≡ slice_get h j
+slice_get-reverse h k j e =
+    let n = length-reverse h in
+    let a = slice_get-get_or (reverse h) k 0 (omega arith) in
+    let b = slice_get-get_or h j 0 (omega arith) in
+    let r = get_or-reverse h k 0 (omega arith) in
+    let i : length h - 1 - k ≡ j = omega arith in
+    a ∙ ap Some (r ∙ ap (λ x. get_or h x 0) i) ∙ sym b
+
+pub before-reverse : (h : List ℕ) (i m : ℕ) → m + i ≡ length h → byte_before (reverse h) m ≡ byte_after h i
+before-reverse h i zero e = sym (slice_get_past h i (omega arith))
+before-reverse h i (suc m) e = slice_get-reverse h m i (omega arith)
+
+pub after-reverse : (h : List ℕ) (i m : ℕ) → m + i ≡ length h → byte_after (reverse h) m ≡ byte_before h i
+after-reverse h zero m e = slice_get_past (reverse h) m (let n = length-reverse h in omega arith)
+after-reverse h (suc i) m e = slice_get-reverse h m i (omega arith)
+
+before-map : (h : List ℕ) (m : ℕ) → byte_before (map exchanged h) m ≡ option_map exchanged (byte_before h m)
+before-map h zero = refl
+before-map h (suc m) = slice_get-map exchanged h m
+
+-- ---- the tables
+
+exactly_one_comm : (x y : Bool) → exactly_one x y ≡ exactly_one y x
+exactly_one_comm true true = refl
+exactly_one_comm true false = refl
+exactly_one_comm false true = refl
+exactly_one_comm false false = refl
+
+is_none-map : (o : Option ℕ) → is_none (option_map exchanged o) ≡ is_none o
+is_none-map None = refl
+is_none-map (Some x) = refl
+
+cr_is_lf : (x : ℕ) → eqb (exchanged x) 13 ≡ eqb x 10
+cr_is_lf x = grind (arith, nat_tests)
+
+lf_is_cr : (x : ℕ) → eqb (exchanged x) 10 ≡ eqb x 13
+lf_is_cr x = grind (arith, nat_tests)
+
+is_cr-map : (o : Option ℕ) → is_byte 13 (option_map exchanged o) ≡ is_byte 10 o
+is_cr-map None = refl
+is_cr-map (Some x) = cr_is_lf x
+
+is_lf-map : (o : Option ℕ) → is_byte 10 (option_map exchanged o) ≡ is_byte 13 o
+is_lf-map None = refl
+is_lf-map (Some x) = lf_is_cr x
+
+bytes_reversed : (l : Look) (t : ℕ) (p n : Option ℕ) → is_crlf l ≡ false → holds_at_bytes (reversed l) t n p ≡ holds_at_bytes l t p n
+bytes_reversed Start t p n e = refl
+bytes_reversed End t p n e = refl
+bytes_reversed StartLF t p n e = refl
+bytes_reversed EndLF t p n e = refl
+bytes_reversed StartCRLF t p n e = absurd (true≢false e)
+bytes_reversed EndCRLF t p n e = absurd (true≢false e)
+bytes_reversed WordAscii t p n e = exactly_one_comm (is_word_at n) (is_word_at p)
+bytes_reversed WordAsciiNegate t p n e = ap not (exactly_one_comm (is_word_at n) (is_word_at p))
+bytes_reversed WordStartAscii t p n e = refl
+bytes_reversed WordEndAscii t p n e = refl
+bytes_reversed WordStartHalfAscii t p n e = refl
+bytes_reversed WordEndHalfAscii t p n e = refl
+bytes_reversed _ t p n e = refl
+
+crlf_reversed : (l : Look) (t : ℕ) (p n : Option ℕ) → is_crlf l ≡ true → holds_at_bytes (reversed l) t (option_map exchanged n) (option_map exchanged p) ≡ holds_at_bytes l t p n
+crlf_reversed StartCRLF t p n e = let a = is_none-map p in let b = is_cr-map p in let d = is_lf-map p in let f = is_cr-map n in rw (a, b, d, f)
+crlf_reversed EndCRLF t p n e = let a = is_none-map n in let b = is_cr-map n in let d = is_lf-map n in let f = is_lf-map p in rw (a, b, d, f)
+crlf_reversed Start t p n e = absurd (true≢false (sym e))
+crlf_reversed End t p n e = absurd (true≢false (sym e))
+crlf_reversed StartLF t p n e = absurd (true≢false (sym e))
+crlf_reversed EndLF t p n e = absurd (true≢false (sym e))
+crlf_reversed _ t p n e = absurd (true≢false (sym e))
+
+is_unicode-reversed : (l : Look) → is_unicode (reversed l) ≡ is_unicode l
+is_unicode-reversed WordUnicode = refl
+is_unicode-reversed WordUnicodeNegate = refl
+is_unicode-reversed WordStartUnicode = refl
+is_unicode-reversed WordEndUnicode = refl
+is_unicode-reversed WordStartHalfUnicode = refl
+is_unicode-reversed WordEndHalfUnicode = refl
+is_unicode-reversed Start = refl
+is_unicode-reversed End = refl
+is_unicode-reversed StartLF = refl
+is_unicode-reversed EndLF = refl
+is_unicode-reversed StartCRLF = refl
+is_unicode-reversed EndCRLF = refl
+is_unicode-reversed WordAscii = refl
+is_unicode-reversed WordAsciiNegate = refl
+is_unicode-reversed WordStartAscii = refl
+is_unicode-reversed WordEndAscii = refl
+is_unicode-reversed WordStartHalfAscii = refl
+is_unicode-reversed WordEndHalfAscii = refl
+
+and_comm : (x y : Bool) → (x && y) ≡ (y && x)
+and_comm true true = refl
+and_comm true false = refl
+and_comm false true = refl
+and_comm false false = refl
+
+negate_comm : (x y u v : Bool) → (not x && not y && not (exactly_one u v)) ≡ (not y && not x && not (exactly_one v u))
+negate_comm x y u v = let e = and_comm (not x) (not y) in let f = exactly_one_comm u v in rw (e, f)
+
+sides_reversed : (l : Look) (a b : Side) → holds_at_sides (reversed l) b a ≡ holds_at_sides l a b
+sides_reversed WordUnicode a b = exactly_one_comm (is_word_side b) (is_word_side a)
+sides_reversed WordUnicodeNegate a b = negate_comm (is_bad b) (is_bad a) (is_word_side b) (is_word_side a)
+sides_reversed WordStartUnicode a b = refl
+sides_reversed WordEndUnicode a b = refl
+sides_reversed WordStartHalfUnicode a b = refl
+sides_reversed WordEndHalfUnicode a b = refl
+sides_reversed Start a b = refl
+sides_reversed End a b = refl
+sides_reversed StartLF a b = refl
+sides_reversed EndLF a b = refl
+sides_reversed StartCRLF a b = refl
+sides_reversed EndCRLF a b = refl
+sides_reversed WordAscii a b = refl
+sides_reversed WordAsciiNegate a b = refl
+sides_reversed WordStartAscii a b = refl
+sides_reversed WordEndAscii a b = refl
+sides_reversed WordStartHalfAscii a b = refl
+sides_reversed WordEndHalfAscii a b = refl
+
+-- ---- the assertions on bytes
+
+same_tests : (A B : Type 0) (x y : Bool) → A ↔ IsTrue x → B ↔ IsTrue y → x ≡ y → A ↔ B
+same_tests A B x y f g e = ((λ a. g.1 (sym e ∙ f.0 a)), (λ b. f.1 (e ∙ g.0 b)))
+
+bytes_mirrored : (l : Look) (t : ℕ) (h : List ℕ) (i : ℕ) → i ≤ length h → holds_at_bytes l t (byte_before h i) (byte_after h i) ≡ holds_at_bytes (reversed l) t (byte_before (mirror l h) (length h - i)) (byte_after (mirror l h) (length h - i))
+bytes_mirrored l t h i o = go (is_crlf l) refl
+  where
+    e : (length h - i) + i ≡ length h
+    e = omega arith
+
+    go : (x : Bool) → is_crlf l ≡ x → holds_at_bytes l t (byte_before h i) (byte_after h i) ≡ holds_at_bytes (reversed l) t (byte_before (cond x (map exchanged (reverse h)) (reverse h)) (length h - i)) (byte_after (cond x (map exchanged (reverse h)) (reverse h)) (length h - i))
+    go true c =
+        let p = before-map (reverse h) (length h - i) ∙ ap (option_map exchanged) (before-reverse h i (length h - i) e) in
+        let q = slice_get-map exchanged (reverse h) (length h - i) ∙ ap (option_map exchanged) (after-reverse h i (length h - i) e) in
+        rw (p, q) (sym (crlf_reversed l t (byte_before h i) (byte_after h i) c))
+    go false c =
+        let p = before-reverse h i (length h - i) e in
+        let q = after-reverse h i (length h - i) e in
+        rw (p, q) (sym (bytes_reversed l t (byte_before h i) (byte_after h i) c))
+
+pub Holds-mirror : (l : Look) (t : ℕ) (W : ℕ → Bool) (h : List ℕ) (i : ℕ) → is_unicode l ≡ false → i ≤ length h → Holds l t W h i ↔ Holds (reversed l) t W (mirror l h) (length h - i)
+Holds-mirror l t W h i u o = same_tests _ _ _ _ (Holds-bytes l t W h i u) (Holds-bytes (reversed l) t W (mirror l h) (length h - i) (is_unicode-reversed l ∙ u)) (bytes_mirrored l t h i o)
+
+-- ---- the assertions on characters, at the places of a text
+
+side_by : (ℕ → Bool) → Option ℕ → Side
+side_by W None = Absent
+side_by W (Some c) = cond (W c) Word Other
+
+before_place : (W : ℕ → Bool) (cs : List ℕ) (k : ℕ) → all_scalars cs ≡ true → k ≤ length cs → IsBefore W (encode_utf8_all cs) (place cs k) (side_by W (byte_before cs k))
+unfolding side_by
+before_place W cs zero s l = refl
+before_place W cs (suc k) s l = let g = slice_get-get_or cs k 0 l in rw g (go (W (get_or cs k 0)) refl)
+  where
+    go : (x : Bool) → W (get_or cs k 0) ≡ x → IsBefore W (encode_utf8_all cs) (place cs (suc k)) (cond x Word Other)
+    go true e = (get_or cs k 0, EndsAt-place cs k s l, e)
+    go false e = (get_or cs k 0, EndsAt-place cs k s l, e)
+
+after_place : (W : ℕ → Bool) (cs : List ℕ) (k : ℕ) → all_scalars cs ≡ true → k ≤ length cs → IsAfter W (encode_utf8_all cs) (place cs k) (side_by W (byte_after cs k))
+unfolding side_by
+after_place W cs k s l =
+    ⊎_elim
+    (λ (i : k < length cs). let g = slice_get-get_or cs k 0 i in rw g (go i (W (get_or cs k 0)) refl))
+    (λ (i : length cs ≤ k). let g = slice_get_past cs k i in rw g (ap (λ (x : List ℕ). length (encode_utf8_all x)) (take_all k cs i)))
+    (side k (length cs))
+  where
+    go : k < length cs → (x : Bool) → W (get_or cs k 0) ≡ x → IsAfter W (encode_utf8_all cs) (place cs k) (cond x Word Other)
+    go i true e = (get_or cs k 0, BeginsAt-place cs k s i, e)
+    go i false e = (get_or cs k 0, BeginsAt-place cs k s i, e)
+
+Holds-place : (l : Look) (t : ℕ) (W : ℕ → Bool) (cs : List ℕ) (k : ℕ) → is_unicode l ≡ true → all_scalars cs ≡ true → k ≤ length cs → Holds l t W (encode_utf8_all cs) (place cs k) ↔ IsTrue (holds_at_sides l (side_by W (byte_before cs k)) (side_by W (byte_after cs k)))
+Holds-place l t W cs k u s o =
+    let h = Holds-sides l t W (encode_utf8_all cs) (place cs k) u in
+    let p = before_place W cs k s o in
+    let q = after_place W cs k s o in
+    ((λ x. HoldsAtSides-is l W (encode_utf8_all cs) (place cs k) _ _ p q (h.0 x)), (λ x. h.1 (HoldsAtSides-from l W (encode_utf8_all cs) (place cs k) _ _ p q x)))
+
+both : (x y : Bool) → (x && y) ≡ true → (x ≡ true) × (y ≡ true)
+both true y e = (refl, e)
+both false y e = absurd (true≢false (sym e))
+
+scalars_reversed : (xs ys : List ℕ) → all_scalars xs ≡ true → all_scalars ys ≡ true → all_scalars (reverse_aux xs ys) ≡ true
+scalars_reversed [] ys p q = q
+scalars_reversed (x ∷ xs) ys p q = let b = both (scalar x) (all_scalars xs) p in let e = b.0 in scalars_reversed xs (x ∷ ys) b.1 (rw (e, q))
+
+-- the answer of `matches`, and the mirrors
+pub matches_mirror : (l : Look) (t : ℕ) (W : ℕ → Bool) (h : List ℕ) (i : ℕ) (r : Bool) → i ≤ length h → IsTrue r ↔ Holds l t W h i → is_unicode l ≡ false → IsTrue r ↔ Holds (reversed l) t W (mirror l h) (length h - i)
+matches_mirror l t W h i r o e u = let m = Holds-mirror l t W h i u o in ((λ x. m.0 (e.0 x)), (λ x. e.1 (m.1 x)))
+
+pub Holds-text_mirror : (l : Look) (t : ℕ) (W : ℕ → Bool) (cs : List ℕ) (k : ℕ) → is_unicode l ≡ true → all_scalars cs ≡ true → k ≤ length cs
+    → Holds l t W (encode_utf8_all cs) (place cs k) ↔ Holds (reversed l) t W (encode_utf8_all (reverse cs)) (place (reverse cs) (length cs - k))
+Holds-text_mirror l t W cs k u s o =
+    let r = scalars_reversed cs [] s refl in
+    let n = length-reverse cs in
+    let e : (length cs - k) + k ≡ length cs = omega arith in
+    let p = before-reverse cs k (length cs - k) e in
+    let q = after-reverse cs k (length cs - k) e in
+    let i : length cs - k ≤ length (reverse cs) = omega arith in
+    let m = Holds-place (reversed l) t W (reverse cs) (length cs - k) (is_unicode-reversed l ∙ u) r i in
+    same_tests _ _ _ _ (Holds-place l t W cs k u s o) m (rw (p, q) (sym (sides_reversed l (side_by W (byte_before cs k)) (side_by W (byte_after cs k)))))
+
+pub matches_text_mirror : (l : Look) (t : ℕ) (W : ℕ → Bool) (h : List ℕ) (i : ℕ) (r : Bool) → IsTrue r ↔ Holds l t W h i → is_unicode l ≡ true → IsTextMirrored l t W h i (IsTrue r)
+matches_text_mirror l t W h i r e u cs k s o f g =
+    let m = Holds-text_mirror l t W cs k u s o in
+    let d = rw (f, g) at e in
+    ((λ x. m.0 (d.0 x)), (λ x. d.1 (m.1 x)))

@@ -1,0 +1,237 @@
+-- The sides of a place: each place has one on either hand, and bytes below 128 may replace one another.
+use Rattle.std.specs.Bool.{beq}
+use Rattle.std.proofs.Common.{not, ◌&&◌, ap₂, ◌≡◌, ◌↔◌, ℕ, ◌<◌, ◌≤◌, Bool, true, false, List, length, get_or, refl, sym, ap, ◌∙◌, subst, arith, ◌⊎◌, inl, inr, ⊎_elim, true≢false}
+use Rattle.std.specs.Prelude.{IsTrue}
+use Rattle.std.proofs.lemmas.Bool.{cases_eq}
+use Rattle.rsc_primitives.specs.Utf8.{is_word_byte, BeginsAt, EndsAt, EncodedFrom}
+use Rattle.rsc_primitives.proofs.Utf8Lemmas.{AgreePastAscii, EncodedFrom-agree, BeginsAt-same, EndsAt-same, Placed-from}
+use Rattle.rsc_look.specs.declared.assertion.Look.{Look}
+use Rattle.rsc_look.specs.declared.side.Side.{Side}
+use Rattle.rsc_look.specs.declared.side.Side.TheVariants.{Absent, Bad, Word, Other}
+use Rattle.rsc_look.specs.Holds.{IsBefore, IsAfter, HoldsAtSides, holds_at_sides, exactly_one, is_bad, is_word_side, is_absent_or_other, Holds}
+use Rattle.rsc_look.specs.declared.assertion.Look.TheVariants.{WordUnicode, WordUnicodeNegate, WordStartUnicode, WordEndUnicode, WordStartHalfUnicode, WordEndHalfUnicode}
+use Rattle.rsc_primitives.proofs.Decided.{BeginsAt-decided, EndsAt-decided}
+use Rattle.rsc_look.specs.SideLayout.{IsSideOf}
+use Rattle.rsc_look.specs.Looks.{is_unicode}
+use Rattle.rsc_look.specs.Keeping.{AreInterchanged, DifferInAscii, AgreesWithAscii}
+use Rattle.rsc_look.proofs.Marks.{is_word_mark}
+use Rattle.rsc_look.proofs.BytesKept.{HasMarks, Together-is_word_byte}
+
+-- a place has one side before it, and one after it
+ends_after_start : (h : List ℕ) (c : ℕ) → EndsAt h 0 c → ⊥
+ends_after_start h c e = let p = Placed-from h e.0 0 c e.1 in let s = p.some in omega arith
+
+begins_before_end : (h : List ℕ) (c : ℕ) → BeginsAt h (length h) c → ⊥
+begins_before_end h c e = let p = Placed-from h (length h) e.0 c e.1 in let s = p.some in let w = p.within in omega arith
+
+not_both : (W : ℕ → Bool) (c d : ℕ) → c ≡ d → W c ≡ true → W d ≡ false → ⊥
+not_both W c d e t f = true≢false (sym t ∙ ap W e ∙ f)
+
+pub IsBefore-same : (W : ℕ → Bool) (h : List ℕ) (i : ℕ) (a b : Side) → IsBefore W h i a → IsBefore W h i b → a ≡ b
+IsBefore-same W h i Absent Absent p q = refl
+IsBefore-same W h i Absent Bad p q = absurd (omega arith)
+IsBefore-same W h i Absent Word p q = absurd (ends_after_start h q.0 (subst (λ x. EndsAt h x q.0) p q.1))
+IsBefore-same W h i Absent Other p q = absurd (ends_after_start h q.0 (subst (λ x. EndsAt h x q.0) p q.1))
+IsBefore-same W h i Bad Absent p q = absurd (omega arith)
+IsBefore-same W h i Bad Bad p q = refl
+IsBefore-same W h i Bad Word p q = absurd (p.1 q.0 q.1)
+IsBefore-same W h i Bad Other p q = absurd (p.1 q.0 q.1)
+IsBefore-same W h i Word Absent p q = absurd (ends_after_start h p.0 (subst (λ x. EndsAt h x p.0) q p.1))
+IsBefore-same W h i Word Bad p q = absurd (q.1 p.0 p.1)
+IsBefore-same W h i Word Word p q = refl
+IsBefore-same W h i Word Other p q = absurd (not_both W p.0 q.0 (EndsAt-same h i p.0 q.0 p.1 q.1) p.2 q.2)
+IsBefore-same W h i Other Absent p q = absurd (ends_after_start h p.0 (subst (λ x. EndsAt h x p.0) q p.1))
+IsBefore-same W h i Other Bad p q = absurd (q.1 p.0 p.1)
+IsBefore-same W h i Other Word p q = absurd (not_both W q.0 p.0 (EndsAt-same h i q.0 p.0 q.1 p.1) q.2 p.2)
+IsBefore-same W h i Other Other p q = refl
+
+pub IsAfter-same : (W : ℕ → Bool) (h : List ℕ) (i : ℕ) (a b : Side) → IsAfter W h i a → IsAfter W h i b → a ≡ b
+IsAfter-same W h i Absent Absent p q = refl
+IsAfter-same W h i Absent Bad p q = absurd (omega arith)
+IsAfter-same W h i Absent Word p q = absurd (begins_before_end h q.0 (subst (λ x. BeginsAt h x q.0) p q.1))
+IsAfter-same W h i Absent Other p q = absurd (begins_before_end h q.0 (subst (λ x. BeginsAt h x q.0) p q.1))
+IsAfter-same W h i Bad Absent p q = absurd (omega arith)
+IsAfter-same W h i Bad Bad p q = refl
+IsAfter-same W h i Bad Word p q = absurd (p.1 q.0 q.1)
+IsAfter-same W h i Bad Other p q = absurd (p.1 q.0 q.1)
+IsAfter-same W h i Word Absent p q = absurd (begins_before_end h p.0 (subst (λ x. BeginsAt h x p.0) q p.1))
+IsAfter-same W h i Word Bad p q = absurd (q.1 p.0 p.1)
+IsAfter-same W h i Word Word p q = refl
+IsAfter-same W h i Word Other p q = absurd (not_both W p.0 q.0 (BeginsAt-same h i p.0 q.0 p.1 q.1) p.2 q.2)
+IsAfter-same W h i Other Absent p q = absurd (begins_before_end h p.0 (subst (λ x. BeginsAt h x p.0) q p.1))
+IsAfter-same W h i Other Bad p q = absurd (q.1 p.0 p.1)
+IsAfter-same W h i Other Word p q = absurd (not_both W q.0 p.0 (BeginsAt-same h i q.0 p.0 q.1 p.1) q.2 p.2)
+IsAfter-same W h i Other Other p q = refl
+
+-- at known sides the assertion is its entry in the table
+pub HoldsAtSides-is : (l : Look) (W : ℕ → Bool) (h : List ℕ) (i : ℕ) (a b : Side) → IsBefore W h i a → IsAfter W h i b → HoldsAtSides l W h i → holds_at_sides l a b ≡ true
+HoldsAtSides-is l W h i a b p q s =
+    let e : a ≡ s.before = IsBefore-same W h i a s.before p s.is_before in
+    let f : b ≡ s.after = IsAfter-same W h i b s.after q s.is_after in
+    rw (e, f) s.holds
+
+pub HoldsAtSides-from : (l : Look) (W : ℕ → Bool) (h : List ℕ) (i : ℕ) (a b : Side) → IsBefore W h i a → IsAfter W h i b → holds_at_sides l a b ≡ true → HoldsAtSides l W h i
+HoldsAtSides-from l W h i a b p q s = record { before = a; after = b; is_before = p; is_after = q; holds = s }
+
+-- `Holds` by the kind of the assertion
+pub Holds-bytes : (l : Look) (t : ℕ) (W : ℕ → Bool) (h : List ℕ) (i : ℕ) → is_unicode l ≡ false
+    → Holds l t W h i ↔ IsTrue (Rattle.rsc_look.specs.Holds.holds_at_bytes l t (Rattle.rsc_look.specs.Holds.byte_before h i) (Rattle.rsc_look.specs.Holds.byte_after h i))
+Holds-bytes l t W h i e = rw e ((λ x. x), (λ x. x))
+
+pub Holds-sides : (l : Look) (t : ℕ) (W : ℕ → Bool) (h : List ℕ) (i : ℕ) → is_unicode l ≡ true → Holds l t W h i ↔ HoldsAtSides l W h i
+Holds-sides l t W h i e = rw e ((λ x. x), (λ x. x))
+
+-- bytes below 128 in the place of one another leave the sides as they are
+pub AgreePastAscii-from : (h k : List ℕ) → length h ≡ length k → DifferInAscii h k → AgreePastAscii h k
+AgreePastAscii-from h k e d = record { same_length = e; each = λ i l. ⊎_elim (λ s. inl s) (λ n. inr (d i l n)) (cases_eq (get_or h i 0) (get_or k i 0)) }
+
+pub AgreePastAscii-sym : (h k : List ℕ) → AgreePastAscii h k → AgreePastAscii k h
+AgreePastAscii-sym h k s = let e = s.same_length in record { same_length = sym s.same_length; each = λ i l. ⊎_elim (λ q. inl (sym q)) (λ q. inr (q.1, q.0)) (s.each i (omega arith)) }
+
+-- what two haystacks have in common for the six assertions
+pub record Interchange (W : ℕ → Bool) (h k : List ℕ) : Type 0 where
+  pub agree : AgreePastAscii h k
+  pub ascii : AgreesWithAscii W
+  pub words : (i : ℕ) → i < length h → is_word_byte (get_or h i 0) ≡ is_word_byte (get_or k i 0)
+
+pub Interchange-sym : (W : ℕ → Bool) (h k : List ℕ) → Interchange W h k → Interchange W k h
+Interchange-sym W h k s = let e = s.agree.same_length in record { agree = AgreePastAscii-sym h k s.agree; ascii = s.ascii; words = λ i l. sym (s.words i (omega arith)) }
+
+encoded_moves : (W : ℕ → Bool) (h k : List ℕ) (i j c : ℕ) → Interchange W h k → EncodedFrom h i j c → (d : ℕ) × EncodedFrom k i j d × (W d ≡ W c)
+encoded_moves W h k i j c s e =
+    ⊎_elim
+    (λ q. (c, q.0, refl))
+    (λ q.
+    let w = e.within in
+    let one = q.0 in
+    let here : i < length h = omega arith in
+    let low : get_or h i 0 < 128 = subst (λ x. x < 128) q.1 q.2 in
+    (get_or k i 0, q.4, s.ascii (get_or k i 0) q.3 ∙ sym (s.words i here) ∙ sym (s.ascii (get_or h i 0) low) ∙ ap W (sym q.1)))
+    (EncodedFrom-agree h k i j c s.agree e)
+
+ends_moves : (W : ℕ → Bool) (h k : List ℕ) (i c : ℕ) → Interchange W h k → EndsAt h i c → (d : ℕ) × EndsAt k i d × (W d ≡ W c)
+ends_moves W h k i c s e = let m = encoded_moves W h k e.0 i c s e.1 in (m.0, (e.0, m.1), m.2)
+
+begins_moves : (W : ℕ → Bool) (h k : List ℕ) (i c : ℕ) → Interchange W h k → BeginsAt h i c → (d : ℕ) × BeginsAt k i d × (W d ≡ W c)
+begins_moves W h k i c s e = let m = encoded_moves W h k i e.0 c s e.1 in (m.0, (e.0, m.1), m.2)
+
+pub IsBefore-moves : (W : ℕ → Bool) (h k : List ℕ) (i : ℕ) (a : Side) → Interchange W h k → IsBefore W h i a → IsBefore W k i a
+IsBefore-moves W h k i Absent s p = p
+IsBefore-moves W h k i Bad s p = (p.0, λ c e. let m = ends_moves W k h i c (Interchange-sym W h k s) e in p.1 m.0 m.1)
+IsBefore-moves W h k i Word s p = let m = ends_moves W h k i p.0 s p.1 in (m.0, m.1, m.2 ∙ p.2)
+IsBefore-moves W h k i Other s p = let m = ends_moves W h k i p.0 s p.1 in (m.0, m.1, m.2 ∙ p.2)
+
+pub IsAfter-moves : (W : ℕ → Bool) (h k : List ℕ) (i : ℕ) (a : Side) → Interchange W h k → IsAfter W h i a → IsAfter W k i a
+IsAfter-moves W h k i Absent s p = p ∙ s.agree.same_length
+IsAfter-moves W h k i Bad s p = let e = s.agree.same_length in (omega arith, λ c e. let m = begins_moves W k h i c (Interchange-sym W h k s) e in p.1 m.0 m.1)
+IsAfter-moves W h k i Word s p = let m = begins_moves W h k i p.0 s p.1 in (m.0, m.1, m.2 ∙ p.2)
+IsAfter-moves W h k i Other s p = let m = begins_moves W h k i p.0 s p.1 in (m.0, m.1, m.2 ∙ p.2)
+
+pub HoldsAtSides-moves : (l : Look) (W : ℕ → Bool) (h k : List ℕ) (i : ℕ) → Interchange W h k → HoldsAtSides l W h i → HoldsAtSides l W k i
+HoldsAtSides-moves l W h k i s p =
+    record { before = p.before; after = p.after; is_before = IsBefore-moves W h k i p.before s p.is_before; is_after = IsAfter-moves W h k i p.after s p.is_after; holds = p.holds }
+
+pub Interchange-from : (p : ℕ → Bool) (W : ℕ → Bool) (h k : List ℕ) → AgreesWithAscii W → HasMarks p is_word_mark → AreInterchanged p h k → DifferInAscii h k → Interchange W h k
+Interchange-from p W h k a m s d =
+    record { agree = AgreePastAscii-from h k s.same_length d; ascii = a; words = λ i l. Together-is_word_byte p (get_or h i 0) (get_or k i 0) m (s.together i l) }
+
+-- ---- for the readers of the two sides: a part of a haystack has the places of the whole
+
+pub IsBefore-from_char : (W : ℕ → Bool) (h : List ℕ) (i c : ℕ) (a : Side) → EndsAt h i c → IsSideOf W c a → IsBefore W h i a
+IsBefore-from_char W h i c Absent e s = absurd s
+IsBefore-from_char W h i c Bad e s = absurd s
+IsBefore-from_char W h i c Word e s = (c, e, s)
+IsBefore-from_char W h i c Other e s = (c, e, s)
+
+pub IsAfter-from_char : (W : ℕ → Bool) (h : List ℕ) (i c : ℕ) (a : Side) → BeginsAt h i c → IsSideOf W c a → IsAfter W h i a
+IsAfter-from_char W h i c Absent e s = absurd s
+IsAfter-from_char W h i c Bad e s = absurd s
+IsAfter-from_char W h i c Word e s = (c, e, s)
+IsAfter-from_char W h i c Other e s = (c, e, s)
+
+pub sides_decide : (l : Look) (W : ℕ → Bool) (h : List ℕ) (i : ℕ) (a b : Side) (r : Bool) → IsBefore W h i a → IsAfter W h i b → r ≡ holds_at_sides l a b → IsTrue r ↔ HoldsAtSides l W h i
+sides_decide l W h i a b r p q e = ((λ t. HoldsAtSides-from l W h i a b p q (sym e ∙ t)), (λ s. e ∙ HoldsAtSides-is l W h i a b p q s))
+
+pub Holds-decided : (l : Look) (t : ℕ) (W : ℕ → Bool) (h : List ℕ) (i : ℕ) (a b : Side) (r : Bool) → is_unicode l ≡ true → IsBefore W h i a → IsAfter W h i b → r ≡ holds_at_sides l a b → IsTrue r ↔ Holds l t W h i
+Holds-decided l t W h i a b r u p q e = let s = sides_decide l W h i a b r p q e in let k = Holds-sides l t W h i u in ((λ x. k.1 (s.0 x)), (λ x. s.1 (k.0 x)))
+
+-- ---- each place has a side before it and one after it
+
+by_word : (W : ℕ → Bool) (c : ℕ) → (W c ≡ true) ⊎ (W c ≡ false)
+by_word W c = go (W c) refl
+  where
+    go : (x : Bool) → W c ≡ x → (W c ≡ true) ⊎ (W c ≡ false)
+    go true e = inl e
+    go false e = inr e
+
+order : (i n : ℕ) → i ≤ n → (i ≡ n) ⊎ (i < n)
+order i n l = grind arith
+
+zero_or : (i : ℕ) → (i ≡ 0) ⊎ (0 < i)
+zero_or i = grind arith
+
+pub has_before : (W : ℕ → Bool) (h : List ℕ) (i : ℕ) → (a : Side) × IsBefore W h i a
+has_before W h i =
+    ⊎_elim (λ e. (Absent, e))
+    (λ l. ⊎_elim (λ p. ⊎_elim (λ w. (Word, (p.0, p.1, w))) (λ w. (Other, (p.0, p.1, w))) (by_word W p.0)) (λ n. (Bad, (l, n))) (EndsAt-decided h i))
+    (zero_or i)
+
+pub has_after : (W : ℕ → Bool) (h : List ℕ) (i : ℕ) → i ≤ length h → (a : Side) × IsAfter W h i a
+has_after W h i o =
+    ⊎_elim (λ e. (Absent, e))
+    (λ l. ⊎_elim (λ p. ⊎_elim (λ w. (Word, (p.0, p.1, w))) (λ w. (Other, (p.0, p.1, w))) (by_word W p.0)) (λ n. (Bad, (l, n))) (BeginsAt-decided h i))
+    (order i (length h) o)
+
+pub half_before : (t : ℕ) (W : ℕ → Bool) (h : List ℕ) (i : ℕ) (a : Side) (r : Bool) → i ≤ length h → IsBefore W h i a → r ≡ is_absent_or_other a → IsTrue r ↔ Holds WordStartHalfUnicode t W h i
+half_before t W h i a r o p e = let q = has_after W h i o in sides_decide WordStartHalfUnicode W h i a q.0 r p q.1 e
+
+pub half_after : (t : ℕ) (W : ℕ → Bool) (h : List ℕ) (i : ℕ) (b : Side) (r : Bool) → IsAfter W h i b → r ≡ is_absent_or_other b → IsTrue r ↔ Holds WordEndHalfUnicode t W h i
+half_after t W h i b r p e = let q = has_before W h i in sides_decide WordEndHalfUnicode W h i q.0 b r q.1 p e
+
+-- ---- what a call may answer when it has read one side
+
+pub Holds-after : (l : Look) (t : ℕ) (W : ℕ → Bool) (h : List ℕ) (i : ℕ) (b : Side) (r : Bool) → is_unicode l ≡ true → IsAfter W h i b → ((a : Side) → r ≡ holds_at_sides l a b) → IsTrue r ↔ Holds l t W h i
+Holds-after l t W h i b r u q e = let p = has_before W h i in Holds-decided l t W h i p.0 b r u p.1 q (e p.0)
+
+pub Holds-before : (l : Look) (t : ℕ) (W : ℕ → Bool) (h : List ℕ) (i : ℕ) (a : Side) (r : Bool) → i ≤ length h → is_unicode l ≡ true → IsBefore W h i a → ((b : Side) → r ≡ holds_at_sides l a b) → IsTrue r ↔ Holds l t W h i
+Holds-before l t W h i a r o u p e = let q = has_after W h i o in Holds-decided l t W h i a q.0 r u p q.1 (e q.0)
+
+and_with : (x y z : Bool) → x ≡ true → z ≡ not y → z ≡ (x && not y)
+and_with x y z e f = rw e f
+
+pub starts_there : (t : ℕ) (W : ℕ → Bool) (h : List ℕ) (i : ℕ) (a b : Side) (w x r : Bool) → IsBefore W h i a → IsAfter W h i b → w ≡ is_word_side b → w ≡ true → x ≡ is_word_side a → r ≡ not x → IsTrue r ↔ Holds WordStartUnicode t W h i
+starts_there t W h i a b w x r p q e f g k = Holds-decided WordStartUnicode t W h i a b r refl p q (and_with (is_word_side b) (is_word_side a) r (sym e ∙ f) (k ∙ ap not g))
+
+pub starts_nowhere : (t : ℕ) (W : ℕ → Bool) (h : List ℕ) (i : ℕ) (b : Side) (r : Bool) → IsAfter W h i b → r ≡ is_word_side b → r ≡ false → IsTrue r ↔ Holds WordStartUnicode t W h i
+starts_nowhere t W h i b r q e f = Holds-after WordStartUnicode t W h i b r refl q (λ a. let z : is_word_side b ≡ false = sym e ∙ f in rw (z, f))
+
+pub ends_there : (t : ℕ) (W : ℕ → Bool) (h : List ℕ) (i : ℕ) (a b : Side) (w x r : Bool) → IsBefore W h i a → IsAfter W h i b → w ≡ is_word_side a → w ≡ true → x ≡ is_word_side b → r ≡ not x → IsTrue r ↔ Holds WordEndUnicode t W h i
+ends_there t W h i a b w x r p q e f g k = Holds-decided WordEndUnicode t W h i a b r refl p q (and_with (is_word_side a) (is_word_side b) r (sym e ∙ f) (k ∙ ap not g))
+
+pub ends_nowhere : (t : ℕ) (W : ℕ → Bool) (h : List ℕ) (i : ℕ) (a : Side) (r : Bool) → i ≤ length h → IsBefore W h i a → r ≡ is_word_side a → r ≡ false → IsTrue r ↔ Holds WordEndUnicode t W h i
+ends_nowhere t W h i a r o p e f = Holds-before WordEndUnicode t W h i a r o refl p (λ b. let z : is_word_side a ≡ false = sym e ∙ f in rw (z, f))
+
+-- `==` of the program on two tests, as `exactly_one`
+not_exactly_one : (x y : Bool) → beq x y ≡ not (exactly_one x y)
+not_exactly_one true true = refl
+not_exactly_one true false = refl
+not_exactly_one false true = refl
+not_exactly_one false false = refl
+
+exactly_one-ne : (x y : Bool) → not (beq x y) ≡ exactly_one x y
+exactly_one-ne true true = refl
+exactly_one-ne true false = refl
+exactly_one-ne false true = refl
+exactly_one-ne false false = refl
+
+pub differs : (t : ℕ) (W : ℕ → Bool) (h : List ℕ) (i : ℕ) (a b : Side) (x y : Bool) → IsBefore W h i a → IsAfter W h i b → x ≡ is_word_side a → y ≡ is_word_side b → IsTrue (not (beq x y)) ↔ Holds WordUnicode t W h i
+differs t W h i a b x y p q e f = Holds-decided WordUnicode t W h i a b (not (beq x y)) refl p q (exactly_one-ne x y ∙ ap₂ exactly_one e f)
+
+pub bad_is_none : (t : ℕ) (W : ℕ → Bool) (h : List ℕ) (i : ℕ) (a : Side) (w : Bool) → i ≤ length h → IsBefore W h i a → w ≡ is_bad a → w ≡ true → IsTrue false ↔ Holds WordUnicodeNegate t W h i
+bad_is_none t W h i a w o p e f = Holds-before WordUnicodeNegate t W h i a false o refl p (λ b. let z : is_bad a ≡ true = sym e ∙ f in rw z)
+
+pub agrees : (t : ℕ) (W : ℕ → Bool) (h : List ℕ) (i : ℕ) (a b : Side) (w v x y : Bool) → IsBefore W h i a → IsAfter W h i b → w ≡ is_bad a → w ≡ false → v ≡ is_bad b → x ≡ is_word_side a → y ≡ is_word_side b
+    → IsTrue (not v && beq x y) ↔ Holds WordUnicodeNegate t W h i
+agrees t W h i a b w v x y p q e f g k m =
+    let z : is_bad a ≡ false = sym e ∙ f in
+    Holds-decided WordUnicodeNegate t W h i a b (not v && beq x y) refl p q (rw (z, g, k, m) (ap (λ n. not (is_bad b) && n) (not_exactly_one (is_word_side a) (is_word_side b))))

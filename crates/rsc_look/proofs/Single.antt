@@ -1,0 +1,43 @@
+-- One assertion and its boundaries.
+use Rattle.std.proofs.Common.{◌≡◌, ◌↔◌, ℕ, zero, suc, Bool, true, false, ◌||◌, [], ◌∷◌, refl, sym, ap, ◌∙◌, subst, arith}
+use Rattle.std.specs.List.{Contains}
+use Rattle.rsc_look.specs.declared.assertion.Look.{Look}
+use Rattle.rsc_look.specs.Holds.{Holds}
+use Rattle.rsc_look.specs.Looks.{is_unicode}
+use Rattle.rsc_look.specs.Keeping.{IsExactFor, AgreesWithAscii}
+use Rattle.rsc_look.proofs.Marks.{is_mark, contains-boundaries_of}
+use Rattle.std.specs.FinSet as sets
+use Rattle.rsc_alphabet.specs.ByteSets.{Numbers}
+use Rattle.rsc_alphabet.proofs.PartitionsLemmas.{c-union}
+use Rattle.rsc_look.specs.Boundaries.{boundaries_of}
+use Rattle.rsc_look.proofs.BytesKept.{HasMarks}
+use Rattle.rsc_look.proofs.Needed.{place_of, place_of_le, Tells-mark}
+use Rattle.rsc_look.proofs.Coarsest.{kept_at_bytes, kept_at_characters, mark_is_needed}
+
+only : (l m : Look) → Contains (l ∷ []) m → l ≡ m
+only l m (zero, p, e) = e
+only l m (suc k, p, e) = absurd (omega arith)
+
+here : (l : Look) → Contains (l ∷ []) l
+here l = (0, omega arith, refl)
+
+or_is_true : (x y : Bool) → y ≡ true → (x || y) ≡ true
+or_is_true true y e = refl
+or_is_true false y e = e
+
+-- a set that got the boundaries of an assertion has them
+has_marks : (old new : Numbers) (l : Look) (t : ℕ) → new ≡ sets.union old (boundaries_of l t) → HasMarks (sets.contains new) (is_mark l t)
+has_marks old new l t e b lt m =
+    ap (λ s. sets.contains s b) e ∙ c-union old (boundaries_of l t) b ∙ or_is_true (sets.contains old b) (sets.contains (boundaries_of l t) b) (contains-boundaries_of l t b ∙ m)
+
+pub IsExactFor-from : (old new : Numbers) (l : Look) (t : ℕ) (W : ℕ → Bool) → new ≡ sets.union old (boundaries_of l t) → (is_unicode l ≡ true → AgreesWithAscii W) → IsExactFor (sets.contains new) l t W
+IsExactFor-from old new l t W e a = record {
+  kept = λ q f.
+      let m : HasMarks q (is_mark l t) = λ b lt x. f b lt (has_marks old new l t e b lt x) in
+      record {
+        at_bytes = λ k c u h j s i r. let z = only l k c in let v : is_unicode l ≡ false = ap is_unicode z ∙ u in subst (λ x. Holds x t W h i ↔ Holds x t W j i) z (kept_at_bytes q l t W m v h j s i);
+        at_characters = λ k c u h j s d i r. let z = only l k c in let v : is_unicode l ≡ true = ap is_unicode z ∙ u in subst (λ x. Holds x t W h i ↔ Holds x t W j i) z (kept_at_characters q l t W (a v) m v h j s d i);
+      };
+  least = λ q keeps b lt m. mark_is_needed q (l ∷ []) l t W b a keeps (here l) lt (sym (contains-boundaries_of l t b) ∙ m);
+  needed = λ b lt m. record { look = l; listed = here l; position = place_of l; at_an_end = place_of_le l; tells = Tells-mark l t W b a (sym (contains-boundaries_of l t b) ∙ m) };
+}

@@ -1,0 +1,95 @@
+-- Where an assertion holds: the table of neighbouring bytes, and the table of neighbouring characters.
+use Rattle.std.specs.Prelude.{◌≡◌, ℕ, zero, suc, ◌<◌, Bool, true, false, not, ◌&&◌, ◌||◌, ◌==◌, List, length, IsTrue, is_none, slice_get, MatchBool, Option, Some, None}
+use Rattle.rsc_primitives.specs.Utf8.{is_word_byte, BeginsAt, EndsAt}
+use Rattle.rsc_look.specs.declared.assertion.Look.{Look}
+use Rattle.rsc_look.specs.declared.assertion.Look.TheVariants.{Start, End, StartLF, EndLF, StartCRLF, EndCRLF, WordAscii, WordAsciiNegate, WordUnicode, WordUnicodeNegate, WordStartAscii, WordEndAscii, WordStartUnicode, WordEndUnicode, WordStartHalfAscii, WordEndHalfAscii, WordStartHalfUnicode, WordEndHalfUnicode}
+use Rattle.rsc_look.specs.declared.side.Side.{Side}
+use Rattle.rsc_look.specs.declared.side.Side.TheVariants.{Absent, Bad, Word, Other}
+use Rattle.rsc_look.specs.Looks.{is_unicode}
+
+-- the byte before a position of a haystack, and the byte after it
+abbrev pub byte_before : List ℕ → ℕ → Option ℕ
+byte_before h zero = None
+byte_before h (suc i) = slice_get h i
+
+abbrev pub byte_after : List ℕ → ℕ → Option ℕ
+byte_after h i = slice_get h i
+
+-- there is a byte, and it is b; there is one, and it is a word byte
+abbrev pub is_byte : ℕ → Option ℕ → Bool
+is_byte b None = false
+is_byte b (Some x) = x == b
+
+abbrev pub is_word_at : Option ℕ → Bool
+is_word_at None = false
+is_word_at (Some x) = is_word_byte x
+
+-- one of two tests passes, and the other doesn't
+abbrev pub exactly_one : Bool → Bool → Bool
+exactly_one true b = not b
+exactly_one false b = b
+
+-- the table of the twelve: t is the line terminator, p the byte before and n the byte after; 10 is `\n` and 13 is `\r`
+abbrev pub holds_at_bytes : Look → ℕ → Option ℕ → Option ℕ → Bool
+holds_at_bytes Start t p n = is_none p
+holds_at_bytes End t p n = is_none n
+holds_at_bytes StartLF t p n = is_none p || is_byte t p
+holds_at_bytes EndLF t p n = is_none n || is_byte t n
+holds_at_bytes StartCRLF t p n = is_none p || is_byte 10 p || (is_byte 13 p && not (is_byte 10 n))
+holds_at_bytes EndCRLF t p n = is_none n || is_byte 13 n || (is_byte 10 n && not (is_byte 13 p))
+holds_at_bytes WordAscii t p n = exactly_one (is_word_at p) (is_word_at n)
+holds_at_bytes WordAsciiNegate t p n = not (exactly_one (is_word_at p) (is_word_at n))
+holds_at_bytes WordStartAscii t p n = is_word_at n && not (is_word_at p)
+holds_at_bytes WordEndAscii t p n = is_word_at p && not (is_word_at n)
+holds_at_bytes WordStartHalfAscii t p n = not (is_word_at p)
+holds_at_bytes WordEndHalfAscii t p n = not (is_word_at n)
+holds_at_bytes _ t p n = false
+
+-- the side before a position, for the word characters W: no byte; bytes that no character ends; a character that W accepts, or rejects
+abbrev pub IsBefore : (ℕ → Bool) → List ℕ → ℕ → Side → Type 0
+IsBefore W h i Absent = i ≡ 0
+IsBefore W h i Bad = (0 < i) × ((c : ℕ) → ¬ (EndsAt h i c))
+IsBefore W h i Word = (c : ℕ) × EndsAt h i c × (W c ≡ true)
+IsBefore W h i Other = (c : ℕ) × EndsAt h i c × (W c ≡ false)
+
+-- and the side after it
+abbrev pub IsAfter : (ℕ → Bool) → List ℕ → ℕ → Side → Type 0
+IsAfter W h i Absent = i ≡ length h
+IsAfter W h i Bad = (i < length h) × ((c : ℕ) → ¬ (BeginsAt h i c))
+IsAfter W h i Word = (c : ℕ) × BeginsAt h i c × (W c ≡ true)
+IsAfter W h i Other = (c : ℕ) × BeginsAt h i c × (W c ≡ false)
+
+abbrev pub is_bad : Side → Bool
+is_bad Bad = true
+is_bad _ = false
+
+abbrev pub is_word_side : Side → Bool
+is_word_side Word = true
+is_word_side _ = false
+
+abbrev pub is_absent_or_other : Side → Bool
+is_absent_or_other Absent = true
+is_absent_or_other Other = true
+is_absent_or_other _ = false
+
+-- the table of the six: a is the side before and b the side after
+abbrev pub holds_at_sides : Look → Side → Side → Bool
+holds_at_sides WordUnicode a b = exactly_one (is_word_side a) (is_word_side b)
+holds_at_sides WordUnicodeNegate a b = not (is_bad a) && not (is_bad b) && not (exactly_one (is_word_side a) (is_word_side b))
+holds_at_sides WordStartUnicode a b = is_word_side b && not (is_word_side a)
+holds_at_sides WordEndUnicode a b = is_word_side a && not (is_word_side b)
+holds_at_sides WordStartHalfUnicode a b = is_absent_or_other a
+holds_at_sides WordEndHalfUnicode a b = is_absent_or_other b
+holds_at_sides _ a b = false
+
+-- the sides of a position are such that the assertion holds there
+pub record HoldsAtSides (l : Look) (W : ℕ → Bool) (h : List ℕ) (i : ℕ) : Type 0 where
+  pub before : Side
+  pub after : Side
+  pub is_before : IsBefore W h i before
+  pub is_after : IsAfter W h i after
+  pub holds : holds_at_sides l before after ≡ true
+
+-- the assertion l holds at the position i of the haystack h, where t is the line terminator and W the word characters
+abbrev pub Holds : Look → ℕ → (ℕ → Bool) → List ℕ → ℕ → Type 0
+Holds l t W h i = MatchBool (is_unicode l) (HoldsAtSides l W h i) (IsTrue (holds_at_bytes l t (byte_before h i) (byte_after h i)))

@@ -1,0 +1,73 @@
+-- What it is for a partition of the bytes to keep assertions, and to be the coarsest one that does.
+-- A partition is given by the test of its boundaries, which is asked of 0 to 254 alone.
+use Rattle.std.specs.Prelude.{◌≡◌, ◌≢◌, ◌↔◌, ℕ, ◌+◌, ◌<◌, ◌≤◌, Bool, true, false, ◌⊎◌, List, [], ◌∷◌, length, slice_index}
+use Rattle.std.specs.List.{All, Contains}
+use Rattle.std.specs.FinSet as sets
+use Rattle.rsc_primitives.specs.Utf8.{is_word_byte}
+use Rattle.rsc_alphabet.specs.Partitions.{Together, class_map}
+use Rattle.rsc_look.specs.declared.assertion.Look.{Look}
+use Rattle.rsc_look.specs.Looks.{is_unicode}
+use Rattle.rsc_look.specs.Holds.{Holds}
+use Rattle.rsc_look.specs.Boundaries.{boundaries_of}
+
+-- a list of bytes
+abbrev pub IsHaystack : List ℕ → Type 0
+IsHaystack h = All (λ b. b < 256) h
+
+-- two haystacks of one length, whose bytes at each index are together
+pub record AreInterchanged (p : ℕ → Bool) (h k : List ℕ) : Type 0 where
+  pub first : IsHaystack h
+  pub second : IsHaystack k
+  pub same_length : length h ≡ length k
+  pub together : (i : ℕ) → i < length h → Together p (slice_index h i) (slice_index k i)
+
+-- wherever two haystacks differ, both bytes are below 128
+abbrev pub DifferInAscii : List ℕ → List ℕ → Type 0
+DifferInAscii h k = (i : ℕ) → i < length h → slice_index h i ≢ slice_index k i → (slice_index h i < 128) × (slice_index k i < 128)
+
+-- the partition keeps a list of assertions: to replace bytes by bytes that are together with them changes none of them at any
+-- position of any haystack, where a Unicode assertion asks for this of replacements within ASCII alone
+pub record Keeps (p : ℕ → Bool) (looks : List Look) (t : ℕ) (W : ℕ → Bool) : Type 0 where
+  pub at_bytes : (l : Look) → Contains looks l → is_unicode l ≡ false → (h k : List ℕ) → AreInterchanged p h k
+      → (i : ℕ) → i ≤ length h → Holds l t W h i ↔ Holds l t W k i
+  pub at_characters : (l : Look) → Contains looks l → is_unicode l ≡ true → (h k : List ℕ) → AreInterchanged p h k → DifferInAscii h k
+      → (i : ℕ) → i ≤ length h → Holds l t W h i ↔ Holds l t W k i
+
+-- it keeps them, and each of its boundaries belongs to every partition that does
+pub record IsCoarsest (p : ℕ → Bool) (looks : List Look) (t : ℕ) (W : ℕ → Bool) : Type 0 where
+  pub keeps : Keeps p looks t W
+  pub least : (q : ℕ → Bool) → Keeps q looks t W → (b : ℕ) → b < 255 → p b ≡ true → q b ≡ true
+
+-- the word characters below 128 are the word bytes
+abbrev pub AgreesWithAscii : (ℕ → Bool) → Type 0
+AgreesWithAscii W = (c : ℕ) → c < 128 → W c ≡ is_word_byte c
+
+-- and so they are, if a listed assertion asks for them
+abbrev pub AgreesWhereAsked : (ℕ → Bool) → List Look → Type 0
+AgreesWhereAsked W looks = (l : Look) → Contains looks l → is_unicode l ≡ true → AgreesWithAscii W
+
+-- the assertion holds at i of one haystack and not of the other
+abbrev pub Tells : Look → ℕ → (ℕ → Bool) → List ℕ → List ℕ → ℕ → Type 0
+Tells l t W h k i = (Holds l t W h i × ¬ (Holds l t W k i)) ⊎ (¬ (Holds l t W h i) × Holds l t W k i)
+
+-- a listed assertion tells the byte b from the next one, at the position 0 or 1 of a haystack of that byte alone
+pub record IsNeeded (b : ℕ) (looks : List Look) (t : ℕ) (W : ℕ → Bool) : Type 0 where
+  pub look : Look
+  pub listed : Contains looks look
+  pub position : ℕ
+  pub at_an_end : position ≤ 1
+  pub tells : Tells look t W (b ∷ []) ((b + 1) ∷ []) position
+
+-- the map is the class map of the coarsest partition that keeps the list, and each boundary of that partition is needed
+pub record IsCoarsestMap (m : List ℕ) (looks : List Look) (t : ℕ) (W : ℕ → Bool) : Type 0 where
+  pub boundaries : ℕ → Bool
+  pub classes : m ≡ class_map boundaries
+  pub coarsest : IsCoarsest boundaries looks t W
+  pub needed : (b : ℕ) → b < 255 → boundaries b ≡ true → IsNeeded b looks t W
+
+-- every partition with the boundaries of p keeps the assertion l, each boundary of l belongs to every partition that keeps l,
+-- and l tells the bytes on both sides of it
+pub record IsExactFor (p : ℕ → Bool) (l : Look) (t : ℕ) (W : ℕ → Bool) : Type 0 where
+  pub kept : (q : ℕ → Bool) → ((b : ℕ) → b < 255 → p b ≡ true → q b ≡ true) → Keeps q (l ∷ []) t W
+  pub least : (q : ℕ → Bool) → Keeps q (l ∷ []) t W → (b : ℕ) → b < 255 → sets.contains (boundaries_of l t) b ≡ true → q b ≡ true
+  pub needed : (b : ℕ) → b < 255 → sets.contains (boundaries_of l t) b ≡ true → IsNeeded b (l ∷ []) t W

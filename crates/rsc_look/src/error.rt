@@ -1,0 +1,34 @@
+//! The error of the Unicode assertions.
+ghost use Rattle.std.specs.Prelude.{IsOk};
+
+use std::error::Error;
+use std::fmt;
+
+/// The tables of word characters are missing. They are always there, so that no call answers this.
+#[derive(Clone, Debug, Drop)]
+pub struct UnicodeWordBoundaryError(());
+
+impl UnicodeWordBoundaryError {
+    /// Whether the Unicode assertions can be asked, which is always `Ok`.
+    pub fn check() -> Result<(), UnicodeWordBoundaryError>
+        ensures { IsOk result }
+    {
+        Ok(())
+    }
+}
+
+impl fmt::Display for UnicodeWordBoundaryError {
+    ghost use Rattle.std.specs.Prelude.{Some};
+    ghost use Rattle.rsc_look.specs.ErrorTexts.{missing_tables};
+
+    ghost output = { λ _. Some missing_tables };
+
+    fn fmt<W: fmt::Write>(&self, f: &mut fmt::Formatter<W>) -> fmt::Result {
+        write!(
+            f,
+            "Unicode-aware \\b and \\B are unavailable because the requisite data tables are missing, please enable the unicode-word-boundary feature"
+        )
+    }
+}
+
+impl Error for UnicodeWordBoundaryError {}

@@ -1,0 +1,15 @@
+//! Assertions about the position between two bytes of a haystack, and the classes of bytes that they can't tell apart.
+#![tactic(auto)]
+
+mod assertion;
+mod error;
+mod matcher;
+mod side;
+#[cfg(test)]
+mod tests;
+mod word;
+
+pub use assertion::Look;
+pub use error::UnicodeWordBoundaryError;
+pub use matcher::LookMatcher;
+pub use word::{AsciiWord, UnicodeWord, WordClass};

@@ -1,0 +1,86 @@
+//! The sides of a position: the neighbouring bytes, and what stands there as a character.
+ghost use Rattle.std.specs.Prelude.{◌≡◌, ◌≤◌, length};
+ghost use Rattle.rsc_look.specs.Holds.{byte_before, byte_after, is_byte, is_word_at};
+
+use rsc_primitives::utf8;
+
+/// What stands on one side of a position.
+#[derive(Clone, Copy)]
+pub(crate) enum Side {
+    /// No byte.
+    Absent,
+    /// Bytes, but no encoded character ends or begins here.
+    Bad,
+    /// A word character.
+    Word,
+    /// Another character.
+    Other,
+}
+
+impl Side {
+    ghost use Rattle.rsc_look.specs.Holds.{is_bad, is_word_side, is_absent_or_other};
+
+    #[inline(always)]
+    pub(crate) fn is_word(self) -> bool
+        ensures { result ≡ is_word_side self }
+    {
+        matches!(self, Side::Word)
+    }
+
+    #[inline(always)]
+    pub(crate) fn is_bad(self) -> bool
+        ensures { result ≡ is_bad self }
+    {
+        matches!(self, Side::Bad)
+    }
+
+    #[inline(always)]
+    pub(crate) fn is_absent_or_other(self) -> bool
+        ensures { result ≡ is_absent_or_other self }
+    {
+        matches!(self, Side::Absent | Side::Other)
+    }
+}
+
+/// The byte before a position.
+#[inline(always)]
+pub(crate) fn byte_before(haystack: &[u8], at: usize) -> Option<u8>
+    requires { at ≤ length haystack.now }
+    ensures { result ≡ byte_before haystack.now at }
+{
+    if at == 0 {
+        None
+    } else {
+        Some(haystack[at - 1])
+    }
+}
+
+/// The byte after a position.
+#[inline(always)]
+pub(crate) fn byte_after(haystack: &[u8], at: usize) -> Option<u8>
+    ensures { result ≡ byte_after haystack.now at }
+{
+    haystack.get(at).copied()
+}
+
+/// Whether a neighbour is there, and is this byte.
+#[inline(always)]
+pub(crate) fn is_byte(byte: u8, neighbor: Option<u8>) -> bool
+    ensures { result ≡ is_byte byte neighbor }
+{
+    match neighbor {
+        Some(b) => b == byte,
+        None => false,
+    }
+}
+
+/// Whether a neighbour is there, and is a word byte.
+#[inline(always)]
+pub(crate) fn is_word_at(neighbor: Option<u8>) -> bool
+    ensures { result ≡ is_word_at neighbor }
+{
+    match neighbor {
+        Some(b) => utf8::is_word_byte(b),
+        None => false,
+    }
+}

@@ -1,0 +1,55 @@
+//! What counts as a word character.
+ghost use Rattle.std.specs.Prelude.{◌≡◌, ℕ, Bool};
+ghost use Rattle.rsc_primitives.specs.Utf8.{is_word_byte};
+ghost use Rattle.rsc_look.specs.Words.{is_unicode_word};
+
+use rsc_primitives::utf8;
+use unicode::perl;
+
+/// A choice of word characters, which the six Unicode assertions ask for.
+///
+/// A contract names the choice that a value makes by `word_chars`, the test of the characters that it accepts.
+pub trait WordClass: Drop {
+    /// The word characters that the value stands for.
+    ghost word_chars: { Self → ℕ → Bool };
+
+    /// Whether a character is a word character.
+    fn is_word(&self, c: char) -> bool
+        ensures { result ≡ word_chars self.now c };
+}
+
+/// The word bytes `0-9`, `A-Z`, `_` and `a-z`, and no character past ASCII.
+#[derive(Clone, Copy, Debug, Default)]
+pub struct AsciiWord;
+
+impl WordClass for AsciiWord {
+    ghost word_chars = { λ _ c. is_word_byte c };
+
+    #[inline(always)]
+    fn is_word(&self, c: char) -> bool {
+        match u8::try_from(c as u32) {
+            Ok(b) => utf8::is_word_byte(b),
+            Err(_) => false,
+        }
+    }
+}
+
+/// The word characters of Unicode, by Unicode Technical Standard 18, Annex C: below 128 the word bytes, which no table is
+/// asked for; from 128 on what is alphabetic, a mark, a decimal number, connector punctuation or a joiner, by one look-up
+/// in the tables of the crate `unicode`.
+#[derive(Clone, Copy, Debug, Default)]
+pub struct UnicodeWord;
+
+impl WordClass for UnicodeWord {
+    ghost word_chars = { λ _ c. is_unicode_word c };
+
+    #[inline(always)]
+    fn is_word(&self, c: char) -> bool {
+        let number = c as u32;
+        if number < 128 {
+            utf8::is_word_byte(number as u8)
+        } else {
+            perl::is_word_character(c)
+        }
+    }
+}
