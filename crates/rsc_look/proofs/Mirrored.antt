@@ -1,5 +1,5 @@
 -- An assertion at a place is the reversed one at the same place of the mirror.
-use Rattle.std.proofs.Common.{◌≡◌, ◌↔◌, ℕ, zero, suc, ◌+◌, ◌-◌, ◌<◌, ◌≤◌, ◌⊎◌, Bool, true, false, not, ◌&&◌, cond, eqb, List, [], ◌∷◌, length, get_or, map, reverse, Option, Some, None, is_none, refl, sym, ap, ◌∙◌, arith, ⊎_elim, true≢false}
+use Rattle.std.proofs.Common.{◌≡◌, ◌↔◌, ℕ, zero, suc, ◌+◌, ◌-◌, ◌<◌, ◌≤◌, ◌⊎◌, Bool, true, false, not, ◌&&◌, cond, eqb, List, [], ◌∷◌, length, take, get_or, map, reverse, Option, Some, None, is_none, refl, sym, ap, ◌∙◌, arith, ⊎_elim, true≢false}
 use Rattle.std.specs.Prelude.{slice_get, IsTrue}
 use mathlib.Core.List.{reverse_aux}
 use lib.Utf8.{scalar}
@@ -8,6 +8,7 @@ use Rattle.std.specs.Str.{encode_utf8_all, all_scalars}
 use Rattle.std.proofs.lemmas.Bool.Decides.{nat_tests}
 use Rattle.std.proofs.lemmas.List.{get_or-reverse, length-reverse, take_all}
 use Rattle.std.proofs.lemmas.Option.{slice_get-get_or, slice_get_past, slice_get-map}
+use Rattle.rsc_primitives.proofs.EncodingsLemmas.{EncodesAll-std}
 use Rattle.rsc_primitives.proofs.Texts.{place, BeginsAt-place, EndsAt-place}
 use Rattle.rsc_look.specs.declared.assertion.Look.{Look}
 use Rattle.rsc_look.specs.declared.assertion.Look.TheVariants.{Start, End, StartLF, EndLF, StartCRLF, EndCRLF, WordAscii, WordAsciiNegate, WordUnicode, WordUnicodeNegate, WordStartAscii, WordEndAscii, WordStartUnicode, WordEndUnicode, WordStartHalfAscii, WordEndHalfAscii, WordStartHalfUnicode, WordEndHalfUnicode}
@@ -15,7 +16,7 @@ use Rattle.rsc_look.specs.declared.side.Side.{Side}
 use Rattle.rsc_look.specs.declared.side.Side.TheVariants.{Absent, Word, Other}
 use Rattle.rsc_look.specs.Holds.{byte_before, byte_after, is_byte, is_word_at, exactly_one, holds_at_bytes, holds_at_sides, is_bad, is_word_side, IsBefore, IsAfter, Holds}
 use Rattle.rsc_look.specs.Looks.{is_unicode, reversed}
-use Rattle.rsc_look.specs.Mirrors.{is_crlf, exchanged, mirror, IsTextMirrored}
+use Rattle.rsc_look.specs.Mirrors.{is_crlf, exchanged, mirror, EndsFirst, IsTextMirrored}
 use Rattle.rsc_look.proofs.Sides.{Holds-bytes, Holds-sides, HoldsAtSides-is, HoldsAtSides-from}
 
 -- ---- neighbours in a list read from the other end
@@ -225,8 +226,17 @@ Holds-text_mirror l t W cs k u s o =
     let m = Holds-place (reversed l) t W (reverse cs) (length cs - k) (is_unicode-reversed l ∙ u) r i in
     same_tests _ _ _ _ (Holds-place l t W cs k u s o) m (rw (p, q) (sym (sides_reversed l (side_by W (byte_before cs k)) (side_by W (byte_after cs k)))))
 
+-- in the words of the encodings
+ends_first : (h : List ℕ) (i : ℕ) (cs : List ℕ) (k : ℕ) → EndsFirst h i cs k → (all_scalars cs ≡ true) × (h ≡ encode_utf8_all cs) × (i ≡ place cs k)
+ends_first h i cs k e =
+    let whole = (EncodesAll-std h cs).0 e.text in
+    let front = (EncodesAll-std e.front (take k cs)).0 e.front_text in
+    (whole.0, whole.1, e.front_length ∙ ap (λ (x : List ℕ). length x) front.1)
+
 pub matches_text_mirror : (l : Look) (t : ℕ) (W : ℕ → Bool) (h : List ℕ) (i : ℕ) (r : Bool) → IsTrue r ↔ Holds l t W h i → is_unicode l ≡ true → IsTextMirrored l t W h i (IsTrue r)
-matches_text_mirror l t W h i r e u cs k s o f g =
-    let m = Holds-text_mirror l t W cs k u s o in
-    let d = rw (f, g) at e in
-    ((λ x. m.0 (d.0 x)), (λ x. d.1 (m.1 x)))
+matches_text_mirror l t W h i r e u cs k m j s o =
+    let here = ends_first h i cs k s in
+    let there = ends_first m j (reverse cs) (length cs - k) o in
+    let d = rw (here.1, here.2) at e in
+    let q = Holds-text_mirror l t W cs k u here.0 s.within in
+    rw (there.1, there.2) ((λ x. q.0 (d.0 x)), (λ x. d.1 (q.1 x)))

@@ -1,6 +1,6 @@
 -- Haystacks read from the other end.
 use Rattle.std.specs.Prelude.{ℕ, Bool, true, false, ◌==◌, ◌≡◌, ◌↔◌, ◌≤◌, ◌-◌, if◌then◌else◌, List, length, take, reverse, map}
-use Rattle.std.specs.Str.{encode_utf8_all, all_scalars}
+use Rattle.rsc_primitives.specs.Utf8.{EncodesAll}
 use Rattle.rsc_look.specs.declared.assertion.Look.{Look}
 use Rattle.rsc_look.specs.declared.assertion.Look.TheVariants.{StartCRLF, EndCRLF}
 use Rattle.rsc_look.specs.Looks.{reversed}
@@ -20,9 +20,16 @@ exchanged b = if b == 13 then 10 else if b == 10 then 13 else b
 abbrev pub mirror : Look → List ℕ → List ℕ
 mirror l h = if is_crlf l then map exchanged (reverse h) else reverse h
 
--- where h is the text of the characters cs, and i is where the first k of them end, P says what the reversed assertion
--- says of the text of the characters in reverse, where all but the first k of cs end
+-- the haystack encodes the characters cs one after the other, and the first k of them end at i
+pub record EndsFirst (h : List ℕ) (i : ℕ) (cs : List ℕ) (k : ℕ) : Type 0 where
+  pub text : EncodesAll h cs
+  pub within : k ≤ length cs
+  pub front : List ℕ
+  pub front_text : EncodesAll front (take k cs)
+  pub front_length : i ≡ length front
+
+-- where i stands after the first k characters of a text, P says what the reversed assertion says of the text of the same
+-- characters in reverse, after all but k of them
 abbrev pub IsTextMirrored : Look → ℕ → (ℕ → Bool) → List ℕ → ℕ → Type 0 → Type 0
 IsTextMirrored l t W h i P =
-    (cs : List ℕ) (k : ℕ) → all_scalars cs ≡ true → k ≤ length cs → h ≡ encode_utf8_all cs → i ≡ length (encode_utf8_all (take k cs))
-    → P ↔ Holds (reversed l) t W (encode_utf8_all (reverse cs)) (length (encode_utf8_all (take (length cs - k) (reverse cs))))
+    (cs : List ℕ) (k : ℕ) (m : List ℕ) (j : ℕ) → EndsFirst h i cs k → EndsFirst m j (reverse cs) (length cs - k) → P ↔ Holds (reversed l) t W m j
