@@ -2,7 +2,11 @@ pub mod Boundaries
 pub mod ErrorTexts
 pub mod Holds
 pub mod Keeping
+pub mod LookSetLaws
+pub mod LookSetLayout
+pub mod LookSets
 pub mod Looks
 pub mod Mirrors
+pub mod SameLooks
 pub mod SideLayout
 pub mod Words

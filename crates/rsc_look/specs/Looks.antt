@@ -46,7 +46,7 @@ char_of WordStartHalfUnicode = 0x25C0
 char_of WordEndHalfUnicode = 0x25B6
 
 -- all of them, by ascending number
-abbrev pub every_look : List Look
+unfoldable pub every_look : List Look
 every_look =
     Start ∷ End ∷ StartLF ∷ EndLF ∷ StartCRLF ∷ EndCRLF ∷ WordAscii ∷ WordAsciiNegate ∷ WordUnicode ∷ WordUnicodeNegate
     ∷ WordStartAscii ∷ WordEndAscii ∷ WordStartUnicode ∷ WordEndUnicode ∷ WordStartHalfAscii ∷ WordEndHalfAscii

@@ -3,6 +3,7 @@
 
 mod assertion;
 mod error;
+mod look_set;
 mod matcher;
 mod side;
 #[cfg(test)]
@@ -11,5 +12,6 @@ mod word;
 
 pub use assertion::Look;
 pub use error::UnicodeWordBoundaryError;
+pub use look_set::{LookSet, LookSetIter};
 pub use matcher::LookMatcher;
 pub use word::{AsciiWord, UnicodeWord, WordClass};

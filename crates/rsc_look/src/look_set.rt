@@ -1,0 +1,385 @@
+//! Sets of assertions, and the walk over their members.
+ghost use Rattle.std.specs.Prelude.{◌≡◌, ◌↔◌, ◌++◌, ◌^◌, ◌<◌, ◌≤◌, [], ◌∷◌, Some, IsTrue, IsOk, IsNone, length, slice_get};
+ghost use Rattle.std.specs.FinSet as sets;
+ghost use Rattle.std.specs.Iterator.{YieldsFirst, item_count};
+ghost use Rattle.rsc_look.specs.declared.assertion.Look.{Look};
+ghost use Rattle.rsc_look.specs.Looks.{every_look};
+ghost use Rattle.rsc_look.specs.LookSets.{Looks, members, bits_of, has_one_of, anchors, line_anchors, ascii_words, unicode_words};
+
+use crate::{Look, UnicodeWordBoundaryError};
+use std::fmt;
+use std::marker::Model;
+
+// The bits of all eighteen assertions.
+const ALL_BITS: u32 = (1 << 18) - 1;
+
+/// A set of assertions, held as eighteen bits.
+///
+/// A contract sees it as the finite set of its members.
+#[derive(Clone, Copy)]
+pub struct LookSet {
+    bits: u32,
+}
+
+impl Model for LookSet {
+    ghost use Rattle.std.specs.Prelude.{◌^◌, ◌<◌};
+    ghost use Rattle.std.specs.FinSet as sets;
+    ghost use Rattle.rsc_look.specs.LookSets.{Looks, bits_of};
+    ghost use Rattle.rsc_look.specs.LookSetLayout.{looks_of, look_code};
+    ghost use Rattle.rsc_look.specs.LookSetLaws.{bits_of-looks_of};
+
+    ghost Value = { Looks };
+
+    ghost coded = { sets.code look_code };
+
+    ghost view = { λ s. looks_of s.bits };
+
+    ghost invariant = { λ s. s.bits < 2 ^ 18 };
+
+    ghost inverse = { λ s. record { bits = bits_of s } };
+
+    ghost inverse_ok = { λ s h i. record { bits = bits_of-looks_of s.bits h i } };
+}
+
+impl PartialEq for LookSet {
+    ghost use Rattle.rsc_look.specs.SameLooks.{same_members, same_members_partial};
+
+    ghost eq = { same_members };
+
+    ghost laws = { same_members_partial };
+
+    fn eq(&self, other: &Self) -> bool {
+        self.bits == other.bits
+    }
+}
+
+impl Eq for LookSet {
+    ghost use Rattle.rsc_look.specs.SameLooks.{same_members_equiv};
+
+    ghost laws = { same_members_equiv };
+}
+
+impl Default for LookSet {
+    ghost use Rattle.std.specs.Prelude.{◌≡◌};
+    ghost use Rattle.std.specs.FinSet as sets;
+
+    ghost is_default = { λ s. s ≡ sets.empty };
+
+    fn default() -> Self {
+        Self::empty()
+    }
+}
+
+impl fmt::Debug for LookSet {
+    fn fmt<W: fmt::Write>(&self, f: &mut fmt::Formatter<W>) -> fmt::Result {
+        if self.is_empty() {
+            return f.write_char('∅');
+        }
+        for look in self.iter() {
+            f.write_char(look.as_char())?;
+        }
+        Ok(())
+    }
+}
+
+impl LookSet {
+    /// The set with no member.
+    #[inline]
+    pub fn empty() -> LookSet
+        ensures { result ≡ sets.empty }
+    {
+        LookSet { bits: 0 }
+    }
+
+    /// The set of all eighteen assertions.
+    #[inline]
+    pub fn full() -> LookSet
+        ensures { result ≡ sets.from_list every_look }
+    {
+        LookSet { bits: ALL_BITS }
+    }
+
+    /// The set with one member.
+    #[inline]
+    pub fn singleton(look: Look) -> LookSet
+        ensures { result ≡ sets.insert sets.empty look }
+    {
+        LookSet::empty().insert(look)
+    }
+
+    /// The set of the assertions that a number's bits stand for, by [`Look::as_repr`], or `None` if a bit above the
+    /// eighteenth is set.
+    #[inline]
+    pub fn from_bits(bits: u32) -> Option<LookSet>
+        ensures exact { (set : Looks) → (result ≡ Some set) ↔ (bits_of set ≡ bits) }
+        ensures none { IsNone result ↔ (2 ^ 18 ≤ bits) }
+    {
+        if bits <= ALL_BITS {
+            Some(LookSet { bits })
+        } else {
+            None
+        }
+    }
+
+    /// The sum of the numbers of the members, by [`Look::as_repr`].
+    #[inline]
+    pub fn bits(self) -> u32
+        ensures value { result ≡ bits_of self }
+        ensures small { result < 2 ^ 18 }
+    {
+        self.bits
+    }
+
+    /// How many members there are.
+    #[inline]
+    pub fn len(self) -> usize
+        ensures { result ≡ length (members self) }
+    {
+        self.bits.count_ones() as usize
+    }
+
+    /// Whether there is no member.
+    #[inline]
+    pub fn is_empty(self) -> bool
+        ensures { IsTrue result ↔ (self ≡ sets.empty) }
+    {
+        self.bits == 0
+    }
+
+    /// Whether an assertion is a member.
+    #[inline]
+    pub fn contains(self, look: Look) -> bool
+        ensures { result ≡ sets.contains self look }
+    {
+        self.bits & look.as_repr() != 0
+    }
+
+    /// Whether a member looks for the haystack's ends or for a line's, that is, for no word.
+    #[inline]
+    pub fn contains_anchor(self) -> bool
+        ensures { result ≡ has_one_of self anchors }
+    {
+        self.contains_anchor_haystack() || self.contains_anchor_line()
+    }
+
+    /// Whether `Start` or `End` is a member.
+    #[inline]
+    pub fn contains_anchor_haystack(self) -> bool
+        ensures { result ≡ has_one_of self (Look.Start ∷ Look.End ∷ []) }
+    {
+        self.contains(Look::Start)
+            || self.contains(Look::End)
+    }
+
+    /// Whether one of the four assertions about lines is a member.
+    #[inline]
+    pub fn contains_anchor_line(self) -> bool
+        ensures { result ≡ has_one_of self line_anchors }
+    {
+        self.contains_anchor_lf() || self.contains_anchor_crlf()
+    }
+
+    /// Whether `StartLF` or `EndLF` is a member, the two that look for the line terminator.
+    #[inline]
+    pub fn contains_anchor_lf(self) -> bool
+        ensures { result ≡ has_one_of self (Look.StartLF ∷ Look.EndLF ∷ []) }
+    {
+        self.contains(Look::StartLF)
+            || self.contains(Look::EndLF)
+    }
+
+    /// Whether `StartCRLF` or `EndCRLF` is a member.
+    #[inline]
+    pub fn contains_anchor_crlf(self) -> bool
+        ensures { result ≡ has_one_of self (Look.StartCRLF ∷ Look.EndCRLF ∷ []) }
+    {
+        self.contains(Look::StartCRLF)
+            || self.contains(Look::EndCRLF)
+    }
+
+    /// Whether one of the twelve assertions about words is a member.
+    #[inline]
+    pub fn contains_word(self) -> bool
+        ensures { result ≡ has_one_of self (unicode_words ++ ascii_words) }
+    {
+        self.contains_word_unicode() || self.contains_word_ascii()
+    }
+
+    /// Whether one of the six Unicode assertions is a member.
+    #[inline]
+    pub fn contains_word_unicode(self) -> bool
+        ensures { result ≡ has_one_of self unicode_words }
+    {
+        self.contains(Look::WordUnicode)
+            || self.contains(Look::WordUnicodeNegate)
+            || self.contains(Look::WordStartUnicode)
+            || self.contains(Look::WordEndUnicode)
+            || self.contains(Look::WordStartHalfUnicode)
+            || self.contains(Look::WordEndHalfUnicode)
+    }
+
+    /// Whether one of the six assertions about words of ASCII is a member.
+    #[inline]
+    pub fn contains_word_ascii(self) -> bool
+        ensures { result ≡ has_one_of self ascii_words }
+    {
+        self.contains(Look::WordAscii)
+            || self.contains(Look::WordAsciiNegate)
+            || self.contains(Look::WordStartAscii)
+            || self.contains(Look::WordEndAscii)
+            || self.contains(Look::WordStartHalfAscii)
+            || self.contains(Look::WordEndHalfAscii)
+    }
+
+    /// The members, by ascending number.
+    #[inline]
+    pub fn iter(self) -> LookSetIter
+        ensures { result ≡ members self }
+    {
+        LookSetIter { set: self }
+    }
+
+    /// The set with an assertion as one more member.
+    #[inline]
+    pub fn insert(self, look: Look) -> LookSet
+        ensures { result ≡ sets.insert self look }
+    {
+        LookSet {
+            bits: self.bits | look.as_repr(),
+        }
+    }
+
+    /// Makes an assertion a member.
+    #[inline]
+    pub fn set_insert(&mut self, look: Look)
+        ensures { self.new ≡ sets.insert self.old look }
+    {
+        *self = self.insert(look);
+    }
+
+    /// The set without an assertion.
+    #[inline]
+    pub fn remove(self, look: Look) -> LookSet
+        ensures { result ≡ sets.remove self look }
+    {
+        LookSet {
+            bits: self.bits & !look.as_repr(),
+        }
+    }
+
+    /// Makes an assertion no member.
+    #[inline]
+    pub fn set_remove(&mut self, look: Look)
+        ensures { self.new ≡ sets.remove self.old look }
+    {
+        *self = self.remove(look);
+    }
+
+    /// The members that aren't members of another set.
+    #[inline]
+    pub fn subtract(self, other: LookSet) -> LookSet
+        ensures { result ≡ sets.difference self other }
+    {
+        LookSet {
+            bits: self.bits & !other.bits,
+        }
+    }
+
+    /// Takes the members of another set out.
+    #[inline]
+    pub fn set_subtract(&mut self, other: LookSet)
+        ensures { self.new ≡ sets.difference self.old other }
+    {
+        *self = self.subtract(other);
+    }
+
+    /// The members of both sets.
+    #[inline]
+    pub fn union(self, other: LookSet) -> LookSet
+        ensures { result ≡ sets.union self other }
+    {
+        LookSet {
+            bits: self.bits | other.bits,
+        }
+    }
+
+    /// Adds the members of another set.
+    #[inline]
+    pub fn set_union(&mut self, other: LookSet)
+        ensures { self.new ≡ sets.union self.old other }
+    {
+        *self = self.union(other);
+    }
+
+    /// The common members of both sets.
+    #[inline]
+    pub fn intersect(self, other: LookSet) -> LookSet
+        ensures { result ≡ sets.intersection self other }
+    {
+        LookSet {
+            bits: self.bits & other.bits,
+        }
+    }
+
+    /// Keeps the members that are members of another set too.
+    #[inline]
+    pub fn set_intersect(&mut self, other: LookSet)
+        ensures { self.new ≡ sets.intersection self.old other }
+    {
+        *self = self.intersect(other);
+    }
+
+    /// Whether the members can be asked, which is always `Ok`: the tables of word characters are always there.
+    pub fn available(self) -> Result<(), UnicodeWordBoundaryError>
+        ensures { IsOk result }
+    {
+        if self.contains_word_unicode() {
+            UnicodeWordBoundaryError::check()
+        } else {
+            Ok(())
+        }
+    }
+
+    // The first member, of the lowest bit.
+    #[inline]
+    fn first(self) -> Option<Look>
+        ensures { result ≡ slice_get (members self) 0 }
+    {
+        if self.bits == 0 {
+            None
+        } else {
+            Look::from_repr(1 << self.bits.trailing_zeros())
+        }
+    }
+}
+
+/// The walk over a set's members, made by [`LookSet::iter`]. A contract sees it as the list of those that are left.
+#[derive(Clone, Debug, Drop)]
+pub struct LookSetIter {
+    set: LookSet,
+}
+
+impl Model for LookSetIter {
+    ghost use Rattle.std.specs.Prelude.{List};
+    ghost use Rattle.rsc_look.specs.declared.assertion.Look.{Look};
+    ghost use Rattle.rsc_look.specs.LookSets.{members};
+
+    ghost Value = { List Look };
+
+    ghost view = { λ it. members it.set };
+}
+
+impl Iterator for LookSetIter {
+    type Item = Look;
+
+    ghost next_gives = { YieldsFirst (λ rest. rest) };
+
+    ghost remaining = { item_count (λ rest. rest) };
+
+    #[inline]
+    fn next(&mut self) -> Option<Look> {
+        let look = self.set.first()?;
+        self.set.set_remove(look);
+        Some(look)
+    }
+}
