@@ -2,6 +2,7 @@ pub mod AsciiWords
 pub mod BytesKept
 pub mod Coarsest
 pub mod Inside
+pub mod LookSetLemmas
 pub mod Marks
 pub mod Mirrored
 pub mod Needed

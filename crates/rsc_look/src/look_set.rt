@@ -1,5 +1,5 @@
 //! Sets of assertions, and the walk over their members.
-ghost use Rattle.std.specs.Prelude.{◌≡◌, ◌↔◌, ◌++◌, ◌^◌, ◌<◌, ◌≤◌, [], ◌∷◌, Some, IsTrue, IsOk, IsNone, length, slice_get};
+ghost use Rattle.std.specs.Prelude.{◌≡◌, ◌↔◌, ◌++◌, ◌^◌, ◌<◌, ◌≤◌, [], ◌∷◌, Some, IsTrue, IsOk, IsNone, MatchOption, length};
 ghost use Rattle.std.specs.FinSet as sets;
 ghost use Rattle.std.specs.Iterator.{YieldsFirst, item_count};
 ghost use Rattle.rsc_look.specs.declared.assertion.Look.{Look};
@@ -343,7 +343,7 @@ impl LookSet {
     // The first member, of the lowest bit.
     #[inline]
     fn first(self) -> Option<Look>
-        ensures { result ≡ slice_get (members self) 0 }
+        ensures { MatchOption result (members self ≡ []) (λ look. members self ≡ look ∷ members (sets.remove self look)) }
     {
         if self.bits == 0 {
             None

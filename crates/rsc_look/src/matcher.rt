@@ -3,6 +3,7 @@ ghost use Rattle.std.specs.Prelude.{◌≡◌, ◌≤◌, ◌-◌, ◌↔◌, tr
 ghost use Rattle.std.specs.FinSet as sets;
 ghost use Rattle.rsc_primitives.specs.Utf8.{IsInside};
 ghost use Rattle.rsc_alphabet.specs.Partitions.{class_map};
+ghost use Rattle.rsc_look.specs.declared.assertion.Look.{Look};
 ghost use Rattle.rsc_look.specs.Looks.{is_unicode, reversed};
 ghost use Rattle.rsc_look.specs.Holds.{Holds, IsBefore, IsAfter};
 ghost use Rattle.rsc_look.specs.SideLayout.{IsSideOf};
@@ -11,7 +12,7 @@ ghost use Rattle.rsc_look.specs.Keeping.{AgreesWithAscii, AgreesWhereAsked, IsCo
 ghost use Rattle.rsc_look.specs.Mirrors.{mirror, IsTextMirrored};
 
 use crate::side::{Side, byte_after, byte_before, is_byte, is_word_at};
-use crate::{Look, UnicodeWord, UnicodeWordBoundaryError, WordClass};
+use crate::{Look, LookSet, UnicodeWord, UnicodeWordBoundaryError, WordClass};
 use rsc_alphabet::{ByteClassSet, ByteClasses};
 use rsc_primitives::utf8;
 use std::alloc::AllocError;
@@ -108,6 +109,21 @@ impl<W: WordClass> LookMatcher<W> {
             IsTextMirrored look self.now.0 (W.word_chars self.now.1) haystack.now at (IsTrue result) }
     {
         self.holds_at(look, haystack, at)
+    }
+
+    /// Whether every assertion of a set holds at a position of a haystack; so it is where the set has no member.
+    #[inline]
+    pub fn matches_set(&self, set: LookSet, haystack: &[u8], at: usize) -> bool
+        requires { at ≤ length haystack.now }
+        ensures { IsTrue result ↔ ((look : Look) → sets.contains set look ≡ true →
+            Holds look self.now.0 (W.word_chars self.now.1) haystack.now at) }
+    {
+        for look in set.iter() {
+            if !self.matches(look, haystack, at) {
+                return false;
+            }
+        }
+        true
     }
 
     /// Whether the position is the start of the haystack.

@@ -1,0 +1,376 @@
+-- What the operations on eighteen bits do to the set that they stand for.
+use Rattle.std.proofs.Common.{◌≡◌, ◌≢◌, ◌↔◌, ℕ, zero, suc, ◌+◌, ◌-◌, ◌*◌, ◌^◌, ◌%◌, ◌<◌, ◌≤◌, Bool, true, false, not, ◌&&◌, ◌||◌, cond, List, [], ◌∷◌, ◌++◌, length, get_or, map, filter, Option, Some, None, min, max, refl, sym, ap, ap₂, ◌∙◌, subst, arith, nat_eq, bit_and, bit_or, w32, ⊎_elim, true≢false}
+use Rattle.std.specs.Prelude.{count_ones, IsTrue, MatchOption}
+use Rattle.std.specs.List.{list_any, count_by}
+use Rattle.std.specs.Int.{bit_at, trailing_zeros}
+use Rattle.std.specs.Ordering.{eq_by_cmp}
+use Rattle.std.specs.Cmp.{unsigned_tied}
+use Rattle.std.specs.FinSet as sets
+use Rattle.std.specs.FinSet.{contains-empty, contains-from_list, contains-insert, contains-remove, contains-union, contains-intersection, contains-difference}
+use Rattle.std.proofs.lemmas.Bool.{cases_eq, cases_lt, eq-eqb, ne_eqb}
+use Rattle.std.proofs.lemmas.Bool.Decides.{nat_tests}
+use Rattle.std.proofs.lemmas.List.{get_or-map, length-map}
+use Rattle.std.proofs.lemmas.List.Elements.{filter-append}
+use Rattle.std.proofs.lemmas.List.Sums.{length-filter}
+use Rattle.std.proofs.lemmas.Nat.{or_lt}
+use Rattle.std.proofs.lemmas.Nat.Bits.{and_pow, bit_at_and, bit_at_or, bit_at_not, bit_at-zero, bit_at-lt, bit_at-pow_same, bit_at-pow_other, bit_at_above, bit_at-trailing_zeros, same_from_bits_below}
+use Rattle.std.proofs.lemmas.Simd.{mask_l-lt, bit_mask_l, ones-mask_l}
+use lib.Lanes.{mask_l}
+use Rattle.rsc_alphabet.specs.Bytes.{from_to}
+use Rattle.rsc_alphabet.specs.BytesLaws.{from_to_parts, from_to_first, filter_none, filter_first, filter_same}
+use Rattle.rsc_look.specs.declared.assertion.Look.{Look}
+use Rattle.rsc_look.specs.declared.assertion.Look.TheVariants.{Start, End, StartLF, EndLF, StartCRLF, EndCRLF, WordAscii, WordAsciiNegate, WordUnicode, WordUnicodeNegate, WordStartAscii, WordEndAscii, WordStartUnicode, WordEndUnicode, WordStartHalfAscii, WordEndHalfAscii, WordStartHalfUnicode, WordEndHalfUnicode}
+use Rattle.rsc_look.specs.Looks.{repr_of, every_look}
+use Rattle.rsc_look.specs.LookSets.{look_cmp, Looks, members, bits_of}
+use Rattle.rsc_look.specs.LookSetLayout.{place_of, has_bit, looks_of, look_at, look_at-place_of}
+use Rattle.rsc_look.specs.LookSetLaws.{look_cmp_total, same_looks, repr_of-injective, repr_of-look_at, repr_of-pow, place_of-look_at, place_of-lt, every_look-is, contains-looks_of, bits_of-looks_of, looks_of-bits_of, bits_of-lt}
+use Rattle.rsc_look.specs.SameLooks.{same_members, same_bools, same_from, same_to}
+
+-- ---- single assertions
+
+tied : (l m : Look) → eq_by_cmp look_cmp l m ≡ nat_eq (repr_of l) (repr_of m)
+tied l m = unsigned_tied (repr_of l) (repr_of m)
+
+place_of-injective : (l m : Look) → place_of l ≡ place_of m → l ≡ m
+place_of-injective l m e = sym (look_at-place_of l) ∙ ap look_at e ∙ look_at-place_of m
+
+-- the bit of an assertion alone
+single_bit : (l m : Look) → has_bit (repr_of l) m ≡ nat_eq (repr_of m) (repr_of l)
+single_bit l m = ⊎_elim
+    (λ (e : place_of m ≡ place_of l).
+    let same : m ≡ l = place_of-injective m l e in
+    ap (λ n. nat_eq (bit_at n (place_of m)) 1) (repr_of-pow l) ∙ ap (λ k. nat_eq (bit_at (2 ^ place_of l) k) 1) e ∙ ap (λ n. nat_eq n 1) (bit_at-pow_same (place_of l))
+    ∙ sym (eq-eqb (repr_of m) (repr_of l) (ap repr_of same)))
+    (λ (ne : place_of m ≢ place_of l).
+    ap (λ n. nat_eq (bit_at n (place_of m)) 1) (repr_of-pow l) ∙ ap (λ n. nat_eq n 1) (bit_at-pow_other (place_of l) (place_of m) ne)
+    ∙ sym (ne_eqb (repr_of m) (repr_of l) (λ e. ne (ap place_of (repr_of-injective m l e)))))
+    (cases_eq (place_of m) (place_of l))
+
+repr_of-lt : (l : Look) → repr_of l < 2 ^ 18
+repr_of-lt Start = omega arith
+repr_of-lt End = omega arith
+repr_of-lt StartLF = omega arith
+repr_of-lt EndLF = omega arith
+repr_of-lt StartCRLF = omega arith
+repr_of-lt EndCRLF = omega arith
+repr_of-lt WordAscii = omega arith
+repr_of-lt WordAsciiNegate = omega arith
+repr_of-lt WordUnicode = omega arith
+repr_of-lt WordUnicodeNegate = omega arith
+repr_of-lt WordStartAscii = omega arith
+repr_of-lt WordEndAscii = omega arith
+repr_of-lt WordStartUnicode = omega arith
+repr_of-lt WordEndUnicode = omega arith
+repr_of-lt WordStartHalfAscii = omega arith
+repr_of-lt WordEndHalfAscii = omega arith
+repr_of-lt WordStartHalfUnicode = omega arith
+repr_of-lt WordEndHalfUnicode = omega arith
+
+repr_of-nonzero : (l : Look) → nat_eq (repr_of l) 0 ≡ false
+repr_of-nonzero Start = refl
+repr_of-nonzero End = refl
+repr_of-nonzero StartLF = refl
+repr_of-nonzero EndLF = refl
+repr_of-nonzero StartCRLF = refl
+repr_of-nonzero EndCRLF = refl
+repr_of-nonzero WordAscii = refl
+repr_of-nonzero WordAsciiNegate = refl
+repr_of-nonzero WordUnicode = refl
+repr_of-nonzero WordUnicodeNegate = refl
+repr_of-nonzero WordStartAscii = refl
+repr_of-nonzero WordEndAscii = refl
+repr_of-nonzero WordStartUnicode = refl
+repr_of-nonzero WordEndUnicode = refl
+repr_of-nonzero WordStartHalfAscii = refl
+repr_of-nonzero WordEndHalfAscii = refl
+repr_of-nonzero WordStartHalfUnicode = refl
+repr_of-nonzero WordEndHalfUnicode = refl
+
+-- ---- bits as tests
+
+max_is : (x y : ℕ) → x < 2 → y < 2 → nat_eq (max x y) 1 ≡ (nat_eq x 1 || nat_eq y 1)
+max_is x y lx ly = grind (arith, nat_tests)
+
+min_is : (x y : ℕ) → x < 2 → y < 2 → nat_eq (min x y) 1 ≡ (nat_eq x 1 && nat_eq y 1)
+min_is x y lx ly = grind (arith, nat_tests)
+
+minus_is : (x : ℕ) → x < 2 → nat_eq (1 - x) 1 ≡ not (nat_eq x 1)
+minus_is x l = grind (arith, nat_tests)
+
+has_bit-or : (a b : ℕ) (l : Look) → has_bit (bit_or a b) l ≡ (has_bit a l || has_bit b l)
+has_bit-or a b l = ap (λ n. nat_eq n 1) (bit_at_or a b (place_of l)) ∙ max_is _ _ (bit_at-lt a (place_of l)) (bit_at-lt b (place_of l))
+
+has_bit-and : (a b : ℕ) (l : Look) → has_bit (bit_and a b) l ≡ (has_bit a l && has_bit b l)
+has_bit-and a b l = ap (λ n. nat_eq n 1) (bit_at_and a b (place_of l)) ∙ min_is _ _ (bit_at-lt a (place_of l)) (bit_at-lt b (place_of l))
+
+has_bit-not : (b : ℕ) (l : Look) → b < 2 ^ 32 → has_bit (4294967295 - b) l ≡ not (has_bit b l)
+has_bit-not b l h =
+    ap (λ n. nat_eq n 1) (bit_at_not w32 b (place_of l) h (let p = place_of-lt l in omega arith)) ∙ minus_is (bit_at b (place_of l)) (bit_at-lt b (place_of l))
+
+-- ---- the operations
+
+pub looks_of-none : looks_of 0 ≡ sets.empty
+looks_of-none = same_looks (looks_of 0) sets.empty (λ l. contains-looks_of 0 l ∙ ap (λ n. nat_eq n 1) (bit_at-zero (place_of l)) ∙ sym (contains-empty look_cmp l))
+
+all_bits : (l : Look) → has_bit 262143 l ≡ true
+all_bits Start = refl
+all_bits End = refl
+all_bits StartLF = refl
+all_bits EndLF = refl
+all_bits StartCRLF = refl
+all_bits EndCRLF = refl
+all_bits WordAscii = refl
+all_bits WordAsciiNegate = refl
+all_bits WordUnicode = refl
+all_bits WordUnicodeNegate = refl
+all_bits WordStartAscii = refl
+all_bits WordEndAscii = refl
+all_bits WordStartUnicode = refl
+all_bits WordEndUnicode = refl
+all_bits WordStartHalfAscii = refl
+all_bits WordEndHalfAscii = refl
+all_bits WordStartHalfUnicode = refl
+all_bits WordEndHalfUnicode = refl
+
+listed : (l : Look) → list_any (λ m. nat_eq (repr_of l) (repr_of m)) every_look ≡ true
+unfolding every_look
+listed Start = refl
+listed End = refl
+listed StartLF = refl
+listed EndLF = refl
+listed StartCRLF = refl
+listed EndCRLF = refl
+listed WordAscii = refl
+listed WordAsciiNegate = refl
+listed WordUnicode = refl
+listed WordUnicodeNegate = refl
+listed WordStartAscii = refl
+listed WordEndAscii = refl
+listed WordStartUnicode = refl
+listed WordEndUnicode = refl
+listed WordStartHalfAscii = refl
+listed WordEndHalfAscii = refl
+listed WordStartHalfUnicode = refl
+listed WordEndHalfUnicode = refl
+
+pub looks_of-all : looks_of 262143 ≡ sets.from_list every_look
+looks_of-all = same_looks (looks_of 262143) (sets.from_list every_look) (λ l.
+    contains-looks_of 262143 l ∙ all_bits l
+    ∙ sym (contains-from_list look_cmp_total every_look l ∙ ap (λ (t : Look → Bool). list_any t every_look) (λ i m. tied l m i) ∙ listed l))
+
+pub looks_of-insert : (n : ℕ) (l : Look) → looks_of (bit_or n (repr_of l)) ≡ sets.insert (looks_of n) l
+looks_of-insert n l = same_looks (looks_of (bit_or n (repr_of l))) (sets.insert (looks_of n) l) (λ m.
+    contains-looks_of (bit_or n (repr_of l)) m ∙ has_bit-or n (repr_of l) m ∙ or_comm (has_bit n m) (has_bit (repr_of l) m)
+    ∙ sym (contains-insert look_cmp_total (looks_of n) l m ∙ ap₂ (λ x y. x || y) (tied m l ∙ sym (single_bit l m)) (contains-looks_of n m)))
+  where
+    or_comm : (x y : Bool) → (x || y) ≡ (y || x)
+    or_comm true true = refl
+    or_comm true false = refl
+    or_comm false true = refl
+    or_comm false false = refl
+
+pub insert_fits : (n : ℕ) (l : Look) → n < 2 ^ 18 → bit_or n (repr_of l) < 2 ^ 18
+insert_fits n l h = or_lt 18 n (repr_of l) h (repr_of-lt l)
+
+pub looks_of-remove : (n : ℕ) (l : Look) → looks_of (bit_and n (4294967295 - repr_of l)) ≡ sets.remove (looks_of n) l
+looks_of-remove n l = same_looks (looks_of (bit_and n (4294967295 - repr_of l))) (sets.remove (looks_of n) l) (λ m.
+    let small = repr_of-lt l in
+    contains-looks_of (bit_and n (4294967295 - repr_of l)) m ∙ has_bit-and n (4294967295 - repr_of l) m
+    ∙ ap (λ b. has_bit n m && b) (has_bit-not (repr_of l) m (omega arith) ∙ ap not (single_bit l m))
+    ∙ and_comm (has_bit n m) (not (nat_eq (repr_of m) (repr_of l)))
+    ∙ sym (contains-remove look_cmp_total (looks_of n) l m ∙ ap₂ (λ x y. not x && y) (tied m l) (contains-looks_of n m)))
+  where
+    and_comm : (x y : Bool) → (x && y) ≡ (y && x)
+    and_comm true true = refl
+    and_comm true false = refl
+    and_comm false true = refl
+    and_comm false false = refl
+
+pub looks_of-union : (a b : ℕ) → looks_of (bit_or a b) ≡ sets.union (looks_of a) (looks_of b)
+looks_of-union a b = same_looks (looks_of (bit_or a b)) (sets.union (looks_of a) (looks_of b)) (λ m.
+    contains-looks_of (bit_or a b) m ∙ has_bit-or a b m
+    ∙ sym (contains-union look_cmp_total (looks_of a) (looks_of b) m ∙ ap₂ (λ x y. x || y) (contains-looks_of a m) (contains-looks_of b m)))
+
+pub looks_of-intersection : (a b : ℕ) → looks_of (bit_and a b) ≡ sets.intersection (looks_of a) (looks_of b)
+looks_of-intersection a b = same_looks (looks_of (bit_and a b)) (sets.intersection (looks_of a) (looks_of b)) (λ m.
+    contains-looks_of (bit_and a b) m ∙ has_bit-and a b m
+    ∙ sym (contains-intersection look_cmp_total (looks_of a) (looks_of b) m ∙ ap₂ (λ x y. x && y) (contains-looks_of a m) (contains-looks_of b m)))
+
+pub looks_of-difference : (a b : ℕ) → b < 2 ^ 18 → looks_of (bit_and a (4294967295 - b)) ≡ sets.difference (looks_of a) (looks_of b)
+looks_of-difference a b h = same_looks (looks_of (bit_and a (4294967295 - b))) (sets.difference (looks_of a) (looks_of b)) (λ m.
+    contains-looks_of (bit_and a (4294967295 - b)) m ∙ has_bit-and a (4294967295 - b) m ∙ ap (λ x. has_bit a m && x) (has_bit-not b m (omega arith))
+    ∙ sym (contains-difference look_cmp_total (looks_of a) (looks_of b) m ∙ ap₂ (λ x y. x && not y) (contains-looks_of a m) (contains-looks_of b m)))
+
+-- ---- the questions
+
+pub contains_by_and : (n : ℕ) (l : Look) → not (nat_eq (bit_and n (repr_of l)) 0) ≡ sets.contains (looks_of n) l
+contains_by_and n l =
+    ap (λ r. not (nat_eq (bit_and n r) 0)) (repr_of-pow l) ∙ ap (λ x. not (nat_eq x 0)) (and_pow n (place_of l))
+    ∙ by_bit (bit_at n (place_of l)) (bit_at-lt n (place_of l)) ∙ sym (contains-looks_of n l)
+  where
+    by_bit : (x : ℕ) → x < 2 → not (nat_eq (x * 2 ^ place_of l) 0) ≡ nat_eq x 1
+    by_bit zero h = let e : 0 * 2 ^ place_of l ≡ 0 = grind arith in rw e
+    by_bit (suc zero) h = let e : 1 * 2 ^ place_of l ≡ 2 ^ place_of l = omega arith in rw (e, ← repr_of-pow l) (ap not (repr_of-nonzero l))
+    by_bit (suc (suc x)) h = absurd (omega arith)
+
+zero_test : (n : ℕ) → IsTrue (nat_eq n 0) ↔ (n ≡ 0)
+zero_test n = ((λ h. grind (arith, nat_tests)), (λ h. eq-eqb n 0 h))
+
+pub none_by_bits : (n : ℕ) → n < 2 ^ 18 → IsTrue (nat_eq n 0) ↔ (looks_of n ≡ sets.empty)
+none_by_bits n h = (
+      (λ t. ap looks_of ((zero_test n).0 t) ∙ looks_of-none),
+      (λ e. (zero_test n).1 (sym (bits_of-looks_of n h) ∙ ap bits_of (e ∙ sym looks_of-none) ∙ bits_of-looks_of 0 (omega arith))),
+    )
+
+pub same_by_bits : (a b : ℕ) → a < 2 ^ 18 → b < 2 ^ 18 → nat_eq a b ≡ same_members (looks_of a) (looks_of b)
+same_by_bits a b la lb = same_bools (nat_eq a b) (same_members (looks_of a) (looks_of b))
+    (λ t. same_to (looks_of a) (looks_of b) (ap looks_of (test a b t)))
+    (λ t. eq-eqb a b (sym (bits_of-looks_of a la) ∙ ap bits_of (same_from (looks_of a) (looks_of b) t) ∙ bits_of-looks_of b lb))
+  where
+    test : (a b : ℕ) → nat_eq a b ≡ true → a ≡ b
+    test a b t = grind (arith, nat_tests)
+
+eighteen : length every_look ≡ 18
+unfolding every_look
+eighteen = refl
+
+at : (k : ℕ) → k < 18 → place_of (get_or every_look k Start) ≡ k
+unfolding look_at
+at k l = place_of-look_at k l
+
+-- a number below 2 ^ 18 is the mask of its eighteen bits
+as_mask : (n : ℕ) → n < 2 ^ 18 → n ≡ mask_l (map (has_bit n) every_look)
+as_mask n h = same_from_bits_below 18 n (mask_l (map (has_bit n) every_look)) h fits (λ k l.
+    sym (bit_mask_l (map (has_bit n) every_look) k
+    ∙ ap (λ b. cond b 1 0) (get_or-map (has_bit n) every_look k Start false (let e = eighteen in omega arith) ∙ ap (λ p. nat_eq (bit_at n p) 1) (at k l))
+    ∙ as_bit (bit_at n k) (bit_at-lt n k)))
+  where
+    fits : mask_l (map (has_bit n) every_look) < 2 ^ 18
+    fits = let e = mask_l-lt (map (has_bit n) every_look) in let f = length-map every_look (has_bit n) ∙ eighteen in rw f at e
+
+    as_bit : (x : ℕ) → x < 2 → cond (nat_eq x 1) 1 0 ≡ x
+    as_bit x l = grind (arith, nat_tests)
+
+members-looks_of : (n : ℕ) → members (looks_of n) ≡ filter (has_bit n) every_look
+members-looks_of n = ap (λ (p : Look → Bool). filter p every_look) (λ i l. contains-looks_of n l i)
+
+pub count_by_bits : (n : ℕ) → n < 2 ^ 18 → count_ones n ≡ length (members (looks_of n))
+count_by_bits n h =
+    ap count_ones (as_mask n h) ∙ ones-mask_l (has_bit n) every_look ∙ sym (length-filter (has_bit n) every_look) ∙ sym (ap (λ (x : List Look). length x) (members-looks_of n))
+
+-- ---- the first member
+
+filter-map : (p : Look → Bool) (ks : List ℕ) → filter p (map look_at ks) ≡ map look_at (filter (λ k. p (look_at k)) ks)
+filter-map p [] = refl
+filter-map p (k ∷ ks) =
+    elim (p (look_at k)) as (λ v. cond v (look_at k ∷ filter p (map look_at ks)) (filter p (map look_at ks)) ≡ map look_at (cond v (k ∷ filter (λ j. p (look_at j)) ks) (filter (λ j. p (look_at j)) ks))) [
+      | true ↦ ap (λ t. look_at k ∷ t) (filter-map p ks)
+      | false ↦ filter-map p ks
+    ]
+
+members-at : (s : Looks) → members s ≡ map look_at (filter (λ k. sets.contains s (look_at k)) (from_to 0 18))
+members-at s = ap (λ (x : List Look). filter (λ l. sets.contains s l) x) every_look-is ∙ filter-map (λ l. sets.contains s l) (from_to 0 18)
+
+from_place : (p : ℕ → Bool) (k : ℕ) → k ≤ 18 → ((j : ℕ) → j < k → p j ≡ false) → filter p (from_to 0 18) ≡ filter p (from_to k 18)
+from_place p k l none =
+    ap (filter p) (from_to_parts 0 k 18 (omega arith) l) ∙ filter-append p (from_to 0 k) (from_to k 18)
+    ∙ ap (λ x. x ++ filter p (from_to k 18)) (filter_none p 0 k (λ j low high. none j high))
+
+-- the member of the lowest bit comes first, and the others are those of the set without it
+pub first_member : (s : Looks) (k : ℕ) → k < 18 → sets.contains s (look_at k) ≡ true → ((j : ℕ) → j < k → sets.contains s (look_at j) ≡ false)
+    → members s ≡ look_at k ∷ members (sets.remove s (look_at k))
+first_member s k l is none =
+    members-at s ∙ ap (map look_at) (from_place p k (omega arith) none ∙ filter_first p k 18 l is)
+    ∙ ap (λ x. look_at k ∷ map look_at x) (sym (from_place q (k + 1) (omega arith) gone ∙ filter_same q p (k + 1) 18 kept))
+    ∙ ap (λ x. look_at k ∷ x) (sym (members-at (sets.remove s (look_at k))))
+  where
+    p : ℕ → Bool
+    p j = sets.contains s (look_at j)
+
+    q : ℕ → Bool
+    q j = sets.contains (sets.remove s (look_at k)) (look_at j)
+
+    and_none : (b : Bool) → (b && false) ≡ false
+    and_none true = refl
+    and_none false = refl
+
+    without : (j : ℕ) → sets.contains (sets.remove s (look_at k)) (look_at j) ≡ (not (nat_eq (repr_of (look_at j)) (repr_of (look_at k))) && sets.contains s (look_at j))
+    without j = contains-remove look_cmp_total s (look_at k) (look_at j) ∙ ap (λ b. not b && sets.contains s (look_at j)) (tied (look_at j) (look_at k))
+
+    gone : (j : ℕ) → j < k + 1 → q j ≡ false
+    gone j h = without j ∙ ⊎_elim
+        (λ (e : j ≡ k). ap (λ b. not b && p j) (eq-eqb (repr_of (look_at j)) (repr_of (look_at k)) (ap (λ i. repr_of (look_at i)) e)))
+        (λ (ne : j ≢ k). ap (λ b. not (nat_eq (repr_of (look_at j)) (repr_of (look_at k))) && b) (none j (omega arith)) ∙ and_none (not (nat_eq (repr_of (look_at j)) (repr_of (look_at k)))))
+        (cases_eq j k)
+
+    kept : (j : ℕ) → k + 1 ≤ j → j < 18 → q j ≡ p j
+    kept j low high = without j ∙ ap (λ b. not b && p j) (ne_eqb (repr_of (look_at j)) (repr_of (look_at k)) (λ e.
+        let same : j ≡ k = sym (place_of-look_at j high) ∙ ap place_of (repr_of-injective (look_at j) (look_at k) e) ∙ place_of-look_at k l in omega arith))
+
+pub no_member : (s : Looks) → s ≡ sets.empty → members s ≡ []
+no_member s e = members-at s ∙ ap (map look_at) (filter_none (λ k. sets.contains s (look_at k)) 0 18 (λ k low high. ap (λ t. sets.contains t (look_at k)) e ∙ contains-empty look_cmp (look_at k)))
+
+-- the bit found by `trailing_zeros`
+pub first_by_bits : (n : ℕ) → 0 < n → n < 2 ^ 18 → (k : ℕ) → k ≡ trailing_zeros w32 n
+    → (k < 18) × (members (looks_of n) ≡ look_at k ∷ members (sets.remove (looks_of n) (look_at k)))
+first_by_bits n pos h k e =
+    let found = bit_at-trailing_zeros w32 n pos (omega arith) in
+    let one : bit_at n k ≡ 1 = ap (bit_at n) e ∙ found.1 in
+    let small : k < 18 = below n k h one in (
+      small,
+      first_member (looks_of n) k small
+      (contains-looks_of n (look_at k) ∙ ap (λ p. nat_eq (bit_at n p) 1) (place_of-look_at k small) ∙ ap (λ x. nat_eq x 1) one)
+      (λ j l. contains-looks_of n (look_at j) ∙ ap (λ p. nat_eq (bit_at n p) 1) (place_of-look_at j (omega arith)) ∙ ap (λ x. nat_eq x 1) (found.2 j (rw e at l))),
+    )
+  where
+    below : (n k : ℕ) → n < 2 ^ 18 → bit_at n k ≡ 1 → k < 18
+    below n k h one = ⊎_elim (λ (l : k < 18). l) (λ (l : 18 ≤ k). let z = bit_at_above n 18 k h l in absurd (omega arith)) (cases_lt k 18)
+
+-- ---- a set from its bits
+
+pub some_exact : (n : ℕ) (s : Looks) → n < 2 ^ 18 → (Some (looks_of n) ≡ Some s) ↔ (bits_of s ≡ n)
+some_exact n s h = (
+      (λ e. ap bits_of (sym (some_same (looks_of n) s e)) ∙ bits_of-looks_of n h),
+      (λ e. ap Some (ap looks_of (sym e) ∙ looks_of-bits_of s)),
+    )
+  where
+    inside : Looks → Option Looks → Looks
+    inside d None = d
+    inside d (Some s) = s
+
+    some_same : (s t : Looks) → Some s ≡ Some t → s ≡ t
+    some_same s t e = ap (inside s) e
+
+pub none_exact : (n : ℕ) (s : Looks) → 2 ^ 18 ≤ n → (None ≡ Some s) ↔ (bits_of s ≡ n)
+none_exact n s h = ((λ e. absurd (none_some s e)), (λ e. let l = bits_of-lt s in absurd (omega arith)))
+  where
+    is_none : Option Looks → Bool
+    is_none None = true
+    is_none (Some s) = false
+
+    none_some : (s : Looks) → None ≡ Some s → ⊥
+    none_some s e = true≢false (ap is_none e)
+
+-- ---- what the walk takes
+
+abbrev pub IsFirstMember : Looks → Option Look → Type 0
+IsFirstMember s r = MatchOption r (members s ≡ []) (λ l. members s ≡ l ∷ members (sets.remove s l))
+
+pub first_none : (n : ℕ) → n ≡ 0 → members (looks_of n) ≡ []
+first_none n e = no_member (looks_of n) (ap looks_of e ∙ looks_of-none)
+
+below_mod : (x : ℕ) → x < 2 ^ 32 → x % 2 ^ 32 ≡ x
+below_mod x l = omega arith
+
+shifted : (k : ℕ) → k < 18 → 1 * 2 ^ k % 2 ^ 32 ≡ 2 ^ k
+shifted k l =
+    let one : 1 * 2 ^ k ≡ 2 ^ k = omega arith in
+    let small : 2 ^ k < 2 ^ 32 = subst (λ x. x < 2 ^ 32) (repr_of-look_at k l) (let m = repr_of-lt (look_at k) in omega arith) in
+    rw one (below_mod (2 ^ k) small)
+
+pub first_some : (n : ℕ) (r : Option Look) → (n ≡ 0 → ⊥) → n < 2 ^ 18 → ((l : Look) → (r ≡ Some l) ↔ (repr_of l ≡ 1 * 2 ^ trailing_zeros w32 n % 2 ^ 32)) → IsFirstMember (looks_of n) r
+first_some n r some h is =
+    let k = trailing_zeros w32 n in
+    let found = first_by_bits n (omega arith) h k refl in
+    let first : r ≡ Some (look_at k) = (is (look_at k)).1 (repr_of-look_at k found.0 ∙ sym (shifted k found.0)) in
+    rw first found.1
