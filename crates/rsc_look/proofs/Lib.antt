@@ -1,4 +1,5 @@
 pub mod AsciiWords
+pub mod Asked
 pub mod BytesKept
 pub mod Coarsest
 pub mod Inside
