@@ -124,3 +124,12 @@ IsCoarsestMap-from m looks t W is a = record {
   coarsest = boundaries-IsCoarsest looks t W a;
   needed = λ b lt e. boundaries-IsNeeded looks t W b a e;
 }
+
+same_bools : (x y : Bool) → (x ≡ true → y ≡ true) → (y ≡ true → x ≡ true) → x ≡ y
+same_bools true y f g = sym (f refl)
+same_bools false true f g = g refl
+same_bools false false f g = refl
+
+-- two coarsest partitions have the same boundaries
+pub IsCoarsest-same : (p q : ℕ → Bool) (looks : List Look) (t : ℕ) (W : ℕ → Bool) → IsCoarsest p looks t W → IsCoarsest q looks t W → (b : ℕ) → b < 255 → p b ≡ q b
+IsCoarsest-same p q looks t W f g b l = same_bools (p b) (q b) (f.least q g.keeps b l) (g.least p f.keeps b l)

@@ -7,6 +7,7 @@ pub mod LookSetLemmas
 pub mod Marks
 pub mod Mirrored
 pub mod Needed
+mod Rows
 pub mod Sides
 pub mod Single
 pub mod UnicodeWords

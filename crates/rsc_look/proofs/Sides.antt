@@ -1,10 +1,10 @@
 -- The sides of a place: each place has one on either hand, and bytes below 128 may replace one another.
 use Rattle.std.specs.Bool.{beq}
-use Rattle.std.proofs.Common.{not, ◌&&◌, ap₂, ◌≡◌, ◌↔◌, ℕ, ◌<◌, ◌≤◌, Bool, true, false, List, length, get_or, refl, sym, ap, ◌∙◌, subst, arith, ◌⊎◌, inl, inr, ⊎_elim, true≢false}
+use Rattle.std.proofs.Common.{not, ◌&&◌, ap₂, ◌≡◌, ◌↔◌, ℕ, ◌-◌, ◌<◌, ◌≤◌, Bool, true, false, List, length, get_or, refl, sym, ap, ◌∙◌, subst, arith, ◌⊎◌, inl, inr, ⊎_elim, true≢false}
 use Rattle.std.specs.Prelude.{IsTrue}
 use Rattle.std.proofs.lemmas.Bool.{cases_eq}
 use Rattle.rsc_primitives.specs.Utf8.{is_word_byte, BeginsAt, EndsAt, EncodedFrom}
-use Rattle.rsc_primitives.proofs.Utf8Lemmas.{AgreePastAscii, EncodedFrom-agree, BeginsAt-same, EndsAt-same, Placed-from}
+use Rattle.rsc_primitives.proofs.Utf8Lemmas.{AgreePastAscii, EncodedFrom-agree, BeginsAt-same, EndsAt-same}
 use Rattle.rsc_look.specs.declared.assertion.Look.{Look}
 use Rattle.rsc_look.specs.declared.side.Side.{Side}
 use Rattle.rsc_look.specs.declared.side.Side.TheVariants.{Absent, Bad, Word, Other}
@@ -18,11 +18,14 @@ use Rattle.rsc_look.proofs.Marks.{is_word_mark}
 use Rattle.rsc_look.proofs.BytesKept.{HasMarks, Together-is_word_byte}
 
 -- a place has one side before it, and one after it
+some_bytes : (h : List ℕ) (i j c : ℕ) → EncodedFrom h i j c → j ≤ i → ⊥
+some_bytes h i j c e l = let none : j - i ≡ 0 = omega arith in rw none at e.encoded
+
 ends_after_start : (h : List ℕ) (c : ℕ) → EndsAt h 0 c → ⊥
-ends_after_start h c e = let p = Placed-from h e.0 0 c e.1 in let s = p.some in omega arith
+ends_after_start h c e = let o = e.1.ordered in some_bytes h e.0 0 c e.1 (omega arith)
 
 begins_before_end : (h : List ℕ) (c : ℕ) → BeginsAt h (length h) c → ⊥
-begins_before_end h c e = let p = Placed-from h (length h) e.0 c e.1 in let s = p.some in let w = p.within in omega arith
+begins_before_end h c e = let w = e.1.within in some_bytes h (length h) e.0 c e.1 w
 
 not_both : (W : ℕ → Bool) (c d : ℕ) → c ≡ d → W c ≡ true → W d ≡ false → ⊥
 not_both W c d e t f = true≢false (sym t ∙ ap W e ∙ f)

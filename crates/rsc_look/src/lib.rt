@@ -3,6 +3,7 @@
 
 mod assertion;
 mod error;
+pub mod laws;
 mod look_set;
 mod matcher;
 mod side;

@@ -66,8 +66,9 @@ impl<W: WordClass> LookMatcher<W> {
     pub fn clone(&self) -> Result<Self, AllocError>
     where
         W: Clone,
-        ensures ok { ((v : W) → W.is_clone self.now.1 v → v ≡ self.now.1) → IfOk result (λ m. m ≡ self.now) }
-        ensures err { W.is_infallible self.now.1 → IsOk result }
+        ensures parts { IfOk result (λ m. (m.0 ≡ self.now.0) × W.is_clone self.now.1 m.1) }
+        ensures same { ((v : W) → W.is_clone self.now.1 v → v ≡ self.now.1) → IfOk result (λ m. m ≡ self.now) }
+        ensures accepted { W.is_infallible self.now.1 → IsOk result }
     {
         Ok(LookMatcher {
             line_terminator: self.line_terminator,
