@@ -460,7 +460,7 @@ fn coarsest_classes(rt: HostRuntime) {
             }
             assert_eq!(rt; usize::from(classes.get(byte)), class, "{looks:?} at {byte}");
         }
-        assert_eq!(rt; classes.alphabet_len(), first_bytes.len() + 1, "{looks:?}");
+        assert_eq!(rt; classes.alphabet_len() - 1, first_bytes.len(), "{looks:?}");
     }
 }
 
