@@ -1,7 +1,7 @@
 -- What the operations on eighteen bits do to the set that they stand for.
 use Rattle.std.proofs.Common.{◌≡◌, ◌≢◌, ◌↔◌, ℕ, zero, suc, ◌+◌, ◌-◌, ◌*◌, ◌^◌, ◌%◌, ◌<◌, ◌≤◌, Bool, true, false, not, ◌&&◌, ◌||◌, cond, List, [], ◌∷◌, ◌++◌, length, get_or, map, filter, Option, Some, None, min, max, refl, sym, ap, ap₂, ◌∙◌, subst, arith, nat_eq, bit_and, bit_or, w32, ⊎_elim, true≢false}
 use Rattle.std.specs.Prelude.{count_ones, IsTrue, MatchOption}
-use Rattle.std.specs.List.{list_any, count_by}
+use Rattle.std.specs.List.{list_any}
 use Rattle.std.specs.Int.{bit_at, trailing_zeros}
 use Rattle.std.specs.Ordering.{eq_by_cmp}
 use Rattle.std.specs.Cmp.{unsigned_tied}
@@ -17,7 +17,7 @@ use Rattle.std.proofs.lemmas.Nat.Bits.{and_pow, bit_at_and, bit_at_or, bit_at_no
 use Rattle.std.proofs.lemmas.Simd.{mask_l-lt, bit_mask_l, ones-mask_l}
 use lib.Lanes.{mask_l}
 use Rattle.rsc_alphabet.specs.Bytes.{from_to}
-use Rattle.rsc_alphabet.specs.BytesLaws.{from_to_parts, from_to_first, filter_none, filter_first, filter_same}
+use Rattle.rsc_alphabet.specs.BytesLaws.{from_to_parts, filter_none, filter_first, filter_same}
 use Rattle.rsc_look.specs.declared.assertion.Look.{Look}
 use Rattle.rsc_look.specs.declared.assertion.Look.TheVariants.{Start, End, StartLF, EndLF, StartCRLF, EndCRLF, WordAscii, WordAsciiNegate, WordUnicode, WordUnicodeNegate, WordStartAscii, WordEndAscii, WordStartUnicode, WordEndUnicode, WordStartHalfAscii, WordEndHalfAscii, WordStartHalfUnicode, WordEndHalfUnicode}
 use Rattle.rsc_look.specs.Looks.{repr_of, every_look}
@@ -218,9 +218,9 @@ zero_test n = ((λ h. grind (arith, nat_tests)), (λ h. eq-eqb n 0 h))
 
 pub none_by_bits : (n : ℕ) → n < 2 ^ 18 → IsTrue (nat_eq n 0) ↔ (looks_of n ≡ sets.empty)
 none_by_bits n h = (
-      (λ t. ap looks_of ((zero_test n).0 t) ∙ looks_of-none),
-      (λ e. (zero_test n).1 (sym (bits_of-looks_of n h) ∙ ap bits_of (e ∙ sym looks_of-none) ∙ bits_of-looks_of 0 (omega arith))),
-    )
+  (λ t. ap looks_of ((zero_test n).0 t) ∙ looks_of-none),
+  (λ e. (zero_test n).1 (sym (bits_of-looks_of n h) ∙ ap bits_of (e ∙ sym looks_of-none) ∙ bits_of-looks_of 0 (omega arith))),
+)
 
 pub same_by_bits : (a b : ℕ) → a < 2 ^ 18 → b < 2 ^ 18 → nat_eq a b ≡ same_members (looks_of a) (looks_of b)
 same_by_bits a b la lb = same_bools (nat_eq a b) (same_members (looks_of a) (looks_of b))
@@ -319,8 +319,8 @@ first_by_bits n pos h k e =
     let small : k < 18 = below n k h one in (
       small,
       first_member (looks_of n) k small
-      (contains-looks_of n (look_at k) ∙ ap (λ p. nat_eq (bit_at n p) 1) (place_of-look_at k small) ∙ ap (λ x. nat_eq x 1) one)
-      (λ j l. contains-looks_of n (look_at j) ∙ ap (λ p. nat_eq (bit_at n p) 1) (place_of-look_at j (omega arith)) ∙ ap (λ x. nat_eq x 1) (found.2 j (rw e at l))),
+          (contains-looks_of n (look_at k) ∙ ap (λ p. nat_eq (bit_at n p) 1) (place_of-look_at k small) ∙ ap (λ x. nat_eq x 1) one)
+          (λ j l. contains-looks_of n (look_at j) ∙ ap (λ p. nat_eq (bit_at n p) 1) (place_of-look_at j (omega arith)) ∙ ap (λ x. nat_eq x 1) (found.2 j (rw e at l))),
     )
   where
     below : (n k : ℕ) → n < 2 ^ 18 → bit_at n k ≡ 1 → k < 18
@@ -330,9 +330,9 @@ first_by_bits n pos h k e =
 
 pub some_exact : (n : ℕ) (s : Looks) → n < 2 ^ 18 → (Some (looks_of n) ≡ Some s) ↔ (bits_of s ≡ n)
 some_exact n s h = (
-      (λ e. ap bits_of (sym (some_same (looks_of n) s e)) ∙ bits_of-looks_of n h),
-      (λ e. ap Some (ap looks_of (sym e) ∙ looks_of-bits_of s)),
-    )
+  (λ e. ap bits_of (sym (some_same (looks_of n) s e)) ∙ bits_of-looks_of n h),
+  (λ e. ap Some (ap looks_of (sym e) ∙ looks_of-bits_of s)),
+)
   where
     inside : Looks → Option Looks → Looks
     inside d None = d

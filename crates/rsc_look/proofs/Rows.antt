@@ -3,9 +3,9 @@ use Rattle.std.proofs.Common.{◌≡◌, ℕ, Bool, true, false, List, [], ◌�
 use Rattle.std.specs.FinSet as sets
 use Rattle.rsc_look.specs.declared.assertion.Look.{Look}
 use Rattle.rsc_look.specs.declared.assertion.Look.TheVariants.{StartLF, EndLF, StartCRLF, EndCRLF, WordAscii, WordUnicode, WordUnicodeNegate, WordStartHalfUnicode}
-use Rattle.rsc_look.specs.declared.side.Side.TheVariants.{Absent, Bad, Word, Other}
+use Rattle.rsc_look.specs.declared.side.Side.TheVariants.{Bad, Word, Other}
 use Rattle.rsc_look.specs.Looks.{every_look}
-use Rattle.rsc_look.specs.LookSets.{bits_of, members}
+use Rattle.rsc_look.specs.LookSets.{bits_of}
 use Rattle.rsc_look.specs.LookSetLaws.{bits_of-looks_of}
 use Rattle.rsc_look.specs.Holds.{byte_before, byte_after, holds_at_bytes, holds_at_sides}
 use Rattle.rsc_look.specs.Boundaries.{boundaries_of}

@@ -167,8 +167,7 @@ impl LookSet {
     pub fn contains_anchor_haystack(self) -> bool
         ensures { result ≡ has_one_of self (Look.Start ∷ Look.End ∷ []) }
     {
-        self.contains(Look::Start)
-            || self.contains(Look::End)
+        self.contains(Look::Start) || self.contains(Look::End)
     }
 
     /// Whether one of the four assertions about lines is a member.
@@ -184,8 +183,7 @@ impl LookSet {
     pub fn contains_anchor_lf(self) -> bool
         ensures { result ≡ has_one_of self (Look.StartLF ∷ Look.EndLF ∷ []) }
     {
-        self.contains(Look::StartLF)
-            || self.contains(Look::EndLF)
+        self.contains(Look::StartLF) || self.contains(Look::EndLF)
     }
 
     /// Whether `StartCRLF` or `EndCRLF` is a member.
@@ -193,8 +191,7 @@ impl LookSet {
     pub fn contains_anchor_crlf(self) -> bool
         ensures { result ≡ has_one_of self (Look.StartCRLF ∷ Look.EndCRLF ∷ []) }
     {
-        self.contains(Look::StartCRLF)
-            || self.contains(Look::EndCRLF)
+        self.contains(Look::StartCRLF) || self.contains(Look::EndCRLF)
     }
 
     /// Whether one of the twelve assertions about words is a member.

@@ -19,6 +19,7 @@ use std::alloc::AllocError;
 use std::marker::Model;
 
 const LINE_FEED: u8 = b'\n';
+
 const CARRIAGE_RETURN: u8 = b'\r';
 
 /// Tests assertions at the positions of a haystack, for a line terminator and a choice of word characters.

@@ -3,24 +3,39 @@ ghost use Rattle.std.specs.Prelude.{◌≡◌, true};
 ghost use Rattle.rsc_look.specs.Keeping.{IsCoarsestMap};
 ghost use Rattle.rsc_look.specs.Words.{is_unicode_word};
 
-use crate::{AsciiWord, Look, LookMatcher, LookSet, UnicodeWord, UnicodeWordBoundaryError, WordClass};
+use crate::{
+    AsciiWord, Look, LookMatcher, LookSet, UnicodeWord, UnicodeWordBoundaryError, WordClass,
+};
 use rsc_alphabet::{ByteClassSet, ByteClasses};
 use std::process::Abort;
 use std::test::Fail;
 
 const EMPTY: &str = "";
+
 const A: &str = "a";
+
 const AB: &str = "ab";
+
 const A_SPACE: &str = "a ";
+
 const SPACE_A_SPACE: &str = " a ";
+
 const BETA: &str = "𝛃";
+
 const BETA_SPACE: &str = "𝛃 ";
+
 const SPACE_BETA_SPACE: &str = " 𝛃 ";
+
 const BETA_OTHER: &str = "𝛃𐆀";
+
 const BETA_B: &str = "𝛃b";
+
 const B_BETA: &str = "b𝛃";
+
 const LINE: &str = "\n";
+
 const LINE_A: &str = "\na";
+
 const A_LINE_A: &str = "a\na";
 
 // Asserts that an assertion holds at these positions and at none of those.
@@ -36,7 +51,11 @@ fn tells<W: WordClass>(
             for at in *positions {
                 let haystack = text.as_bytes();
                 assert!(rt; *at <= haystack.len());
-                assert_eq!(rt; matcher.matches(look, haystack, *at), want, "{look:?} of {text:?} at {at}");
+                assert_eq!(rt;
+                    matcher.matches(look, haystack, *at),
+                    want,
+                    "{look:?} of {text:?} at {at}"
+                );
             }
         }
     }
@@ -63,12 +82,23 @@ fn look_matches_start_line(rt: HostRuntime) {
     let holds: &[(&str, &[usize])] = &[(EMPTY, &[0]), (A, &[0]), (LINE, &[0, 1]), (LINE_A, &[1])];
     let fails: &[(&str, &[usize])] = &[(A, &[1]), (A_LINE_A, &[1])];
     tells(&rt, &LookMatcher::default(), Look::StartLF, holds, fails);
-    tells(&rt, &LookMatcher::new(AsciiWord), Look::StartLF, holds, fails);
+    tells(
+        &rt,
+        &LookMatcher::new(AsciiWord),
+        Look::StartLF,
+        holds,
+        fails,
+    );
 }
 
 #[test]
 fn look_matches_end_line(rt: HostRuntime) {
-    let holds: &[(&str, &[usize])] = &[(EMPTY, &[0]), (LINE, &[1]), (LINE_A, &[0, 2]), (A_LINE_A, &[1])];
+    let holds: &[(&str, &[usize])] = &[
+        (EMPTY, &[0]),
+        (LINE, &[1]),
+        (LINE_A, &[0, 2]),
+        (A_LINE_A, &[1]),
+    ];
     let fails: &[(&str, &[usize])] = &[(A, &[0]), (LINE_A, &[1]), (A_LINE_A, &[0, 2])];
     tells(&rt, &LookMatcher::default(), Look::EndLF, holds, fails);
     tells(&rt, &LookMatcher::new(AsciiWord), Look::EndLF, holds, fails);
@@ -76,92 +106,395 @@ fn look_matches_end_line(rt: HostRuntime) {
 
 #[test]
 fn look_matches_word_ascii(rt: HostRuntime) {
-    let holds: &[(&str, &[usize])] = &[(A, &[0, 1]), (A_SPACE, &[1]), (SPACE_A_SPACE, &[1, 2]), (BETA_B, &[4]), (B_BETA, &[1])];
-    let fails: &[(&str, &[usize])] = &[(EMPTY, &[0]), (AB, &[1]), (A_SPACE, &[2]), (SPACE_A_SPACE, &[0, 3]), (BETA, &[0, 1, 2, 3, 4]), (BETA_SPACE, &[4, 5]), (SPACE_BETA_SPACE, &[0, 1, 5, 6]), (BETA_OTHER, &[0, 1, 2, 3, 4, 5, 6, 7, 8])];
+    let holds: &[(&str, &[usize])] = &[
+        (A, &[0, 1]),
+        (A_SPACE, &[1]),
+        (SPACE_A_SPACE, &[1, 2]),
+        (BETA_B, &[4]),
+        (B_BETA, &[1]),
+    ];
+    let fails: &[(&str, &[usize])] = &[
+        (EMPTY, &[0]),
+        (AB, &[1]),
+        (A_SPACE, &[2]),
+        (SPACE_A_SPACE, &[0, 3]),
+        (BETA, &[0, 1, 2, 3, 4]),
+        (BETA_SPACE, &[4, 5]),
+        (SPACE_BETA_SPACE, &[0, 1, 5, 6]),
+        (BETA_OTHER, &[0, 1, 2, 3, 4, 5, 6, 7, 8]),
+    ];
     tells(&rt, &LookMatcher::default(), Look::WordAscii, holds, fails);
-    tells(&rt, &LookMatcher::new(AsciiWord), Look::WordAscii, holds, fails);
+    tells(
+        &rt,
+        &LookMatcher::new(AsciiWord),
+        Look::WordAscii,
+        holds,
+        fails,
+    );
 }
 
 #[test]
 fn look_matches_word_unicode(rt: HostRuntime) {
-    let holds: &[(&str, &[usize])] = &[(A, &[0, 1]), (A_SPACE, &[1]), (SPACE_A_SPACE, &[1, 2]), (BETA, &[0, 4]), (BETA_SPACE, &[4]), (SPACE_BETA_SPACE, &[1, 5]), (BETA_OTHER, &[0, 4])];
-    let fails: &[(&str, &[usize])] = &[(EMPTY, &[0]), (AB, &[1]), (A_SPACE, &[2]), (SPACE_A_SPACE, &[0, 3]), (BETA, &[1, 2, 3]), (BETA_SPACE, &[5]), (SPACE_BETA_SPACE, &[0, 6]), (BETA_OTHER, &[1, 2, 3, 5, 6, 7, 8]), (BETA_B, &[4]), (B_BETA, &[1])];
-    tells(&rt, &LookMatcher::default(), Look::WordUnicode, holds, fails);
+    let holds: &[(&str, &[usize])] = &[
+        (A, &[0, 1]),
+        (A_SPACE, &[1]),
+        (SPACE_A_SPACE, &[1, 2]),
+        (BETA, &[0, 4]),
+        (BETA_SPACE, &[4]),
+        (SPACE_BETA_SPACE, &[1, 5]),
+        (BETA_OTHER, &[0, 4]),
+    ];
+    let fails: &[(&str, &[usize])] = &[
+        (EMPTY, &[0]),
+        (AB, &[1]),
+        (A_SPACE, &[2]),
+        (SPACE_A_SPACE, &[0, 3]),
+        (BETA, &[1, 2, 3]),
+        (BETA_SPACE, &[5]),
+        (SPACE_BETA_SPACE, &[0, 6]),
+        (BETA_OTHER, &[1, 2, 3, 5, 6, 7, 8]),
+        (BETA_B, &[4]),
+        (B_BETA, &[1]),
+    ];
+    tells(
+        &rt,
+        &LookMatcher::default(),
+        Look::WordUnicode,
+        holds,
+        fails,
+    );
 }
 
 #[test]
 fn look_matches_word_ascii_negate(rt: HostRuntime) {
-    let holds: &[(&str, &[usize])] = &[(EMPTY, &[0]), (AB, &[1]), (A_SPACE, &[2]), (SPACE_A_SPACE, &[0, 3]), (BETA, &[0, 1, 2, 3, 4]), (BETA_SPACE, &[4, 5]), (SPACE_BETA_SPACE, &[0, 1, 5, 6]), (BETA_OTHER, &[0, 1, 2, 3, 4, 5, 6, 7, 8])];
-    let fails: &[(&str, &[usize])] = &[(A, &[0, 1]), (A_SPACE, &[1]), (SPACE_A_SPACE, &[1, 2]), (BETA_B, &[4]), (B_BETA, &[1])];
-    tells(&rt, &LookMatcher::default(), Look::WordAsciiNegate, holds, fails);
-    tells(&rt, &LookMatcher::new(AsciiWord), Look::WordAsciiNegate, holds, fails);
+    let holds: &[(&str, &[usize])] = &[
+        (EMPTY, &[0]),
+        (AB, &[1]),
+        (A_SPACE, &[2]),
+        (SPACE_A_SPACE, &[0, 3]),
+        (BETA, &[0, 1, 2, 3, 4]),
+        (BETA_SPACE, &[4, 5]),
+        (SPACE_BETA_SPACE, &[0, 1, 5, 6]),
+        (BETA_OTHER, &[0, 1, 2, 3, 4, 5, 6, 7, 8]),
+    ];
+    let fails: &[(&str, &[usize])] = &[
+        (A, &[0, 1]),
+        (A_SPACE, &[1]),
+        (SPACE_A_SPACE, &[1, 2]),
+        (BETA_B, &[4]),
+        (B_BETA, &[1]),
+    ];
+    tells(
+        &rt,
+        &LookMatcher::default(),
+        Look::WordAsciiNegate,
+        holds,
+        fails,
+    );
+    tells(
+        &rt,
+        &LookMatcher::new(AsciiWord),
+        Look::WordAsciiNegate,
+        holds,
+        fails,
+    );
 }
 
 #[test]
 fn look_matches_word_unicode_negate(rt: HostRuntime) {
-    let holds: &[(&str, &[usize])] = &[(EMPTY, &[0]), (AB, &[1]), (A_SPACE, &[2]), (SPACE_A_SPACE, &[0, 3]), (BETA_SPACE, &[5]), (SPACE_BETA_SPACE, &[0, 6]), (BETA_OTHER, &[8]), (BETA_B, &[4]), (B_BETA, &[1])];
-    let fails: &[(&str, &[usize])] = &[(A, &[0, 1]), (A_SPACE, &[1]), (SPACE_A_SPACE, &[1, 2]), (BETA, &[0, 1, 2, 3, 4]), (BETA_SPACE, &[4]), (SPACE_BETA_SPACE, &[1, 5]), (BETA_OTHER, &[0, 1, 2, 3, 4, 5, 6, 7])];
-    tells(&rt, &LookMatcher::default(), Look::WordUnicodeNegate, holds, fails);
+    let holds: &[(&str, &[usize])] = &[
+        (EMPTY, &[0]),
+        (AB, &[1]),
+        (A_SPACE, &[2]),
+        (SPACE_A_SPACE, &[0, 3]),
+        (BETA_SPACE, &[5]),
+        (SPACE_BETA_SPACE, &[0, 6]),
+        (BETA_OTHER, &[8]),
+        (BETA_B, &[4]),
+        (B_BETA, &[1]),
+    ];
+    let fails: &[(&str, &[usize])] = &[
+        (A, &[0, 1]),
+        (A_SPACE, &[1]),
+        (SPACE_A_SPACE, &[1, 2]),
+        (BETA, &[0, 1, 2, 3, 4]),
+        (BETA_SPACE, &[4]),
+        (SPACE_BETA_SPACE, &[1, 5]),
+        (BETA_OTHER, &[0, 1, 2, 3, 4, 5, 6, 7]),
+    ];
+    tells(
+        &rt,
+        &LookMatcher::default(),
+        Look::WordUnicodeNegate,
+        holds,
+        fails,
+    );
 }
 
 #[test]
 fn look_matches_word_start_ascii(rt: HostRuntime) {
     let holds: &[(&str, &[usize])] = &[(A, &[0]), (SPACE_A_SPACE, &[1]), (BETA_B, &[4])];
-    let fails: &[(&str, &[usize])] = &[(EMPTY, &[0]), (A, &[1]), (AB, &[1]), (A_SPACE, &[1, 2]), (SPACE_A_SPACE, &[0, 2, 3]), (BETA, &[0, 1, 2, 3, 4]), (BETA_SPACE, &[4, 5]), (SPACE_BETA_SPACE, &[0, 1, 5, 6]), (BETA_OTHER, &[0, 1, 2, 3, 4, 5, 6, 7, 8]), (B_BETA, &[1])];
-    tells(&rt, &LookMatcher::default(), Look::WordStartAscii, holds, fails);
-    tells(&rt, &LookMatcher::new(AsciiWord), Look::WordStartAscii, holds, fails);
+    let fails: &[(&str, &[usize])] = &[
+        (EMPTY, &[0]),
+        (A, &[1]),
+        (AB, &[1]),
+        (A_SPACE, &[1, 2]),
+        (SPACE_A_SPACE, &[0, 2, 3]),
+        (BETA, &[0, 1, 2, 3, 4]),
+        (BETA_SPACE, &[4, 5]),
+        (SPACE_BETA_SPACE, &[0, 1, 5, 6]),
+        (BETA_OTHER, &[0, 1, 2, 3, 4, 5, 6, 7, 8]),
+        (B_BETA, &[1]),
+    ];
+    tells(
+        &rt,
+        &LookMatcher::default(),
+        Look::WordStartAscii,
+        holds,
+        fails,
+    );
+    tells(
+        &rt,
+        &LookMatcher::new(AsciiWord),
+        Look::WordStartAscii,
+        holds,
+        fails,
+    );
 }
 
 #[test]
 fn look_matches_word_end_ascii(rt: HostRuntime) {
-    let holds: &[(&str, &[usize])] = &[(A, &[1]), (A_SPACE, &[1]), (SPACE_A_SPACE, &[2]), (B_BETA, &[1])];
-    let fails: &[(&str, &[usize])] = &[(EMPTY, &[0]), (A, &[0]), (AB, &[1]), (A_SPACE, &[2]), (SPACE_A_SPACE, &[0, 1, 3]), (BETA, &[0, 1, 2, 3, 4]), (BETA_SPACE, &[4, 5]), (SPACE_BETA_SPACE, &[0, 1, 5, 6]), (BETA_OTHER, &[0, 1, 2, 3, 4, 5, 6, 7, 8]), (BETA_B, &[4])];
-    tells(&rt, &LookMatcher::default(), Look::WordEndAscii, holds, fails);
-    tells(&rt, &LookMatcher::new(AsciiWord), Look::WordEndAscii, holds, fails);
+    let holds: &[(&str, &[usize])] = &[
+        (A, &[1]),
+        (A_SPACE, &[1]),
+        (SPACE_A_SPACE, &[2]),
+        (B_BETA, &[1]),
+    ];
+    let fails: &[(&str, &[usize])] = &[
+        (EMPTY, &[0]),
+        (A, &[0]),
+        (AB, &[1]),
+        (A_SPACE, &[2]),
+        (SPACE_A_SPACE, &[0, 1, 3]),
+        (BETA, &[0, 1, 2, 3, 4]),
+        (BETA_SPACE, &[4, 5]),
+        (SPACE_BETA_SPACE, &[0, 1, 5, 6]),
+        (BETA_OTHER, &[0, 1, 2, 3, 4, 5, 6, 7, 8]),
+        (BETA_B, &[4]),
+    ];
+    tells(
+        &rt,
+        &LookMatcher::default(),
+        Look::WordEndAscii,
+        holds,
+        fails,
+    );
+    tells(
+        &rt,
+        &LookMatcher::new(AsciiWord),
+        Look::WordEndAscii,
+        holds,
+        fails,
+    );
 }
 
 #[test]
 fn look_matches_word_start_unicode(rt: HostRuntime) {
-    let holds: &[(&str, &[usize])] = &[(A, &[0]), (SPACE_A_SPACE, &[1]), (BETA, &[0]), (SPACE_BETA_SPACE, &[1]), (BETA_OTHER, &[0])];
-    let fails: &[(&str, &[usize])] = &[(EMPTY, &[0]), (A, &[1]), (AB, &[1]), (A_SPACE, &[1, 2]), (SPACE_A_SPACE, &[0, 2, 3]), (BETA, &[1, 2, 3, 4]), (BETA_SPACE, &[4, 5]), (SPACE_BETA_SPACE, &[0, 5, 6]), (BETA_OTHER, &[1, 2, 3, 4, 5, 6, 7, 8]), (BETA_B, &[4]), (B_BETA, &[1])];
-    tells(&rt, &LookMatcher::default(), Look::WordStartUnicode, holds, fails);
+    let holds: &[(&str, &[usize])] = &[
+        (A, &[0]),
+        (SPACE_A_SPACE, &[1]),
+        (BETA, &[0]),
+        (SPACE_BETA_SPACE, &[1]),
+        (BETA_OTHER, &[0]),
+    ];
+    let fails: &[(&str, &[usize])] = &[
+        (EMPTY, &[0]),
+        (A, &[1]),
+        (AB, &[1]),
+        (A_SPACE, &[1, 2]),
+        (SPACE_A_SPACE, &[0, 2, 3]),
+        (BETA, &[1, 2, 3, 4]),
+        (BETA_SPACE, &[4, 5]),
+        (SPACE_BETA_SPACE, &[0, 5, 6]),
+        (BETA_OTHER, &[1, 2, 3, 4, 5, 6, 7, 8]),
+        (BETA_B, &[4]),
+        (B_BETA, &[1]),
+    ];
+    tells(
+        &rt,
+        &LookMatcher::default(),
+        Look::WordStartUnicode,
+        holds,
+        fails,
+    );
 }
 
 #[test]
 fn look_matches_word_end_unicode(rt: HostRuntime) {
-    let holds: &[(&str, &[usize])] = &[(A, &[1]), (A_SPACE, &[1]), (SPACE_A_SPACE, &[2]), (BETA, &[4]), (BETA_SPACE, &[4]), (SPACE_BETA_SPACE, &[5]), (BETA_OTHER, &[4])];
-    let fails: &[(&str, &[usize])] = &[(EMPTY, &[0]), (A, &[0]), (AB, &[1]), (A_SPACE, &[2]), (SPACE_A_SPACE, &[0, 1, 3]), (BETA, &[0, 1, 2, 3]), (BETA_SPACE, &[5]), (SPACE_BETA_SPACE, &[0, 1, 6]), (BETA_OTHER, &[0, 1, 2, 3, 5, 6, 7, 8]), (BETA_B, &[4]), (B_BETA, &[1])];
-    tells(&rt, &LookMatcher::default(), Look::WordEndUnicode, holds, fails);
+    let holds: &[(&str, &[usize])] = &[
+        (A, &[1]),
+        (A_SPACE, &[1]),
+        (SPACE_A_SPACE, &[2]),
+        (BETA, &[4]),
+        (BETA_SPACE, &[4]),
+        (SPACE_BETA_SPACE, &[5]),
+        (BETA_OTHER, &[4]),
+    ];
+    let fails: &[(&str, &[usize])] = &[
+        (EMPTY, &[0]),
+        (A, &[0]),
+        (AB, &[1]),
+        (A_SPACE, &[2]),
+        (SPACE_A_SPACE, &[0, 1, 3]),
+        (BETA, &[0, 1, 2, 3]),
+        (BETA_SPACE, &[5]),
+        (SPACE_BETA_SPACE, &[0, 1, 6]),
+        (BETA_OTHER, &[0, 1, 2, 3, 5, 6, 7, 8]),
+        (BETA_B, &[4]),
+        (B_BETA, &[1]),
+    ];
+    tells(
+        &rt,
+        &LookMatcher::default(),
+        Look::WordEndUnicode,
+        holds,
+        fails,
+    );
 }
 
 #[test]
 fn look_matches_word_start_half_ascii(rt: HostRuntime) {
-    let holds: &[(&str, &[usize])] = &[(EMPTY, &[0]), (A, &[0]), (A_SPACE, &[2]), (SPACE_A_SPACE, &[0, 1, 3]), (BETA, &[0, 1, 2, 3, 4]), (BETA_SPACE, &[4, 5]), (SPACE_BETA_SPACE, &[0, 1, 5, 6]), (BETA_OTHER, &[0, 1, 2, 3, 4, 5, 6, 7, 8]), (BETA_B, &[4])];
-    let fails: &[(&str, &[usize])] = &[(A, &[1]), (AB, &[1]), (A_SPACE, &[1]), (SPACE_A_SPACE, &[2]), (B_BETA, &[1])];
-    tells(&rt, &LookMatcher::default(), Look::WordStartHalfAscii, holds, fails);
-    tells(&rt, &LookMatcher::new(AsciiWord), Look::WordStartHalfAscii, holds, fails);
+    let holds: &[(&str, &[usize])] = &[
+        (EMPTY, &[0]),
+        (A, &[0]),
+        (A_SPACE, &[2]),
+        (SPACE_A_SPACE, &[0, 1, 3]),
+        (BETA, &[0, 1, 2, 3, 4]),
+        (BETA_SPACE, &[4, 5]),
+        (SPACE_BETA_SPACE, &[0, 1, 5, 6]),
+        (BETA_OTHER, &[0, 1, 2, 3, 4, 5, 6, 7, 8]),
+        (BETA_B, &[4]),
+    ];
+    let fails: &[(&str, &[usize])] = &[
+        (A, &[1]),
+        (AB, &[1]),
+        (A_SPACE, &[1]),
+        (SPACE_A_SPACE, &[2]),
+        (B_BETA, &[1]),
+    ];
+    tells(
+        &rt,
+        &LookMatcher::default(),
+        Look::WordStartHalfAscii,
+        holds,
+        fails,
+    );
+    tells(
+        &rt,
+        &LookMatcher::new(AsciiWord),
+        Look::WordStartHalfAscii,
+        holds,
+        fails,
+    );
 }
 
 #[test]
 fn look_matches_word_end_half_ascii(rt: HostRuntime) {
-    let holds: &[(&str, &[usize])] = &[(EMPTY, &[0]), (A, &[1]), (A_SPACE, &[1, 2]), (SPACE_A_SPACE, &[0, 2, 3]), (BETA, &[0, 1, 2, 3, 4]), (BETA_SPACE, &[4, 5]), (SPACE_BETA_SPACE, &[0, 1, 5, 6]), (BETA_OTHER, &[0, 1, 2, 3, 4, 5, 6, 7, 8]), (B_BETA, &[1])];
-    let fails: &[(&str, &[usize])] = &[(A, &[0]), (AB, &[1]), (SPACE_A_SPACE, &[1]), (BETA_B, &[4])];
-    tells(&rt, &LookMatcher::default(), Look::WordEndHalfAscii, holds, fails);
-    tells(&rt, &LookMatcher::new(AsciiWord), Look::WordEndHalfAscii, holds, fails);
+    let holds: &[(&str, &[usize])] = &[
+        (EMPTY, &[0]),
+        (A, &[1]),
+        (A_SPACE, &[1, 2]),
+        (SPACE_A_SPACE, &[0, 2, 3]),
+        (BETA, &[0, 1, 2, 3, 4]),
+        (BETA_SPACE, &[4, 5]),
+        (SPACE_BETA_SPACE, &[0, 1, 5, 6]),
+        (BETA_OTHER, &[0, 1, 2, 3, 4, 5, 6, 7, 8]),
+        (B_BETA, &[1]),
+    ];
+    let fails: &[(&str, &[usize])] = &[
+        (A, &[0]),
+        (AB, &[1]),
+        (SPACE_A_SPACE, &[1]),
+        (BETA_B, &[4]),
+    ];
+    tells(
+        &rt,
+        &LookMatcher::default(),
+        Look::WordEndHalfAscii,
+        holds,
+        fails,
+    );
+    tells(
+        &rt,
+        &LookMatcher::new(AsciiWord),
+        Look::WordEndHalfAscii,
+        holds,
+        fails,
+    );
 }
 
 #[test]
 fn look_matches_word_start_half_unicode(rt: HostRuntime) {
-    let holds: &[(&str, &[usize])] = &[(EMPTY, &[0]), (A, &[0]), (A_SPACE, &[2]), (SPACE_A_SPACE, &[0, 1, 3]), (BETA, &[0]), (BETA_SPACE, &[5]), (SPACE_BETA_SPACE, &[0, 1, 6]), (BETA_OTHER, &[0, 8])];
-    let fails: &[(&str, &[usize])] = &[(A, &[1]), (AB, &[1]), (A_SPACE, &[1]), (SPACE_A_SPACE, &[2]), (BETA, &[1, 2, 3, 4]), (BETA_SPACE, &[4]), (SPACE_BETA_SPACE, &[5]), (BETA_OTHER, &[1, 2, 3, 4, 5, 6, 7]), (BETA_B, &[4]), (B_BETA, &[1])];
-    tells(&rt, &LookMatcher::default(), Look::WordStartHalfUnicode, holds, fails);
+    let holds: &[(&str, &[usize])] = &[
+        (EMPTY, &[0]),
+        (A, &[0]),
+        (A_SPACE, &[2]),
+        (SPACE_A_SPACE, &[0, 1, 3]),
+        (BETA, &[0]),
+        (BETA_SPACE, &[5]),
+        (SPACE_BETA_SPACE, &[0, 1, 6]),
+        (BETA_OTHER, &[0, 8]),
+    ];
+    let fails: &[(&str, &[usize])] = &[
+        (A, &[1]),
+        (AB, &[1]),
+        (A_SPACE, &[1]),
+        (SPACE_A_SPACE, &[2]),
+        (BETA, &[1, 2, 3, 4]),
+        (BETA_SPACE, &[4]),
+        (SPACE_BETA_SPACE, &[5]),
+        (BETA_OTHER, &[1, 2, 3, 4, 5, 6, 7]),
+        (BETA_B, &[4]),
+        (B_BETA, &[1]),
+    ];
+    tells(
+        &rt,
+        &LookMatcher::default(),
+        Look::WordStartHalfUnicode,
+        holds,
+        fails,
+    );
 }
 
 #[test]
 fn look_matches_word_end_half_unicode(rt: HostRuntime) {
-    let holds: &[(&str, &[usize])] = &[(EMPTY, &[0]), (A, &[1]), (A_SPACE, &[1, 2]), (SPACE_A_SPACE, &[0, 2, 3]), (BETA, &[4]), (BETA_SPACE, &[4, 5]), (SPACE_BETA_SPACE, &[0, 5, 6]), (BETA_OTHER, &[4, 8])];
-    let fails: &[(&str, &[usize])] = &[(A, &[0]), (AB, &[1]), (SPACE_A_SPACE, &[1]), (BETA, &[0, 1, 2, 3]), (SPACE_BETA_SPACE, &[1]), (BETA_OTHER, &[0, 1, 2, 3, 5, 6, 7]), (BETA_B, &[4]), (B_BETA, &[1])];
-    tells(&rt, &LookMatcher::default(), Look::WordEndHalfUnicode, holds, fails);
+    let holds: &[(&str, &[usize])] = &[
+        (EMPTY, &[0]),
+        (A, &[1]),
+        (A_SPACE, &[1, 2]),
+        (SPACE_A_SPACE, &[0, 2, 3]),
+        (BETA, &[4]),
+        (BETA_SPACE, &[4, 5]),
+        (SPACE_BETA_SPACE, &[0, 5, 6]),
+        (BETA_OTHER, &[4, 8]),
+    ];
+    let fails: &[(&str, &[usize])] = &[
+        (A, &[0]),
+        (AB, &[1]),
+        (SPACE_A_SPACE, &[1]),
+        (BETA, &[0, 1, 2, 3]),
+        (SPACE_BETA_SPACE, &[1]),
+        (BETA_OTHER, &[0, 1, 2, 3, 5, 6, 7]),
+        (BETA_B, &[4]),
+        (B_BETA, &[1]),
+    ];
+    tells(
+        &rt,
+        &LookMatcher::default(),
+        Look::WordEndHalfUnicode,
+        holds,
+        fails,
+    );
 }
 
 // Each assertion, its number, its character and its reversed one.
@@ -182,8 +515,18 @@ const LOOKS: [(Look, u32, char, Look); 18] = [
     (Look::WordEndUnicode, 8192, '〉', Look::WordStartUnicode),
     (Look::WordStartHalfAscii, 16384, '◁', Look::WordEndHalfAscii),
     (Look::WordEndHalfAscii, 32768, '▷', Look::WordStartHalfAscii),
-    (Look::WordStartHalfUnicode, 65536, '◀', Look::WordEndHalfUnicode),
-    (Look::WordEndHalfUnicode, 131072, '▶', Look::WordStartHalfUnicode),
+    (
+        Look::WordStartHalfUnicode,
+        65536,
+        '◀',
+        Look::WordEndHalfUnicode,
+    ),
+    (
+        Look::WordEndHalfUnicode,
+        131072,
+        '▶',
+        Look::WordStartHalfUnicode,
+    ),
 ];
 
 #[test]
@@ -216,12 +559,19 @@ fn look_set_iter(rt: HostRuntime) -> Result<(), Fail> {
     for (set, want) in [
         (LookSet::empty(), 0),
         (LookSet::full(), 18),
-        (LookSet::singleton(Look::StartLF).insert(Look::WordUnicode), 2),
+        (
+            LookSet::singleton(Look::StartLF).insert(Look::WordUnicode),
+            2,
+        ),
         (LookSet::singleton(Look::StartLF), 1),
         (LookSet::singleton(Look::WordAsciiNegate), 1),
         (LookSet::singleton(Look::WordEndHalfUnicode), 1),
     ] {
-        assert_eq!(rt; set.iter().collect::<Vec<Look>>(rt.alloc())?.len(), want, "{set:?}");
+        assert_eq!(rt;
+            set.iter().collect::<Vec<Look>>(rt.alloc())?.len(),
+            want,
+            "{set:?}"
+        );
         assert_eq!(rt; set.len(), want, "{set:?}");
     }
     let mut walk = LookSet::full().iter();
@@ -238,7 +588,10 @@ fn look_set_debug(rt: HostRuntime) -> Result<(), Fail> {
     for (set, want) in [
         (LookSet::empty(), "∅"),
         (LookSet::full(), "Az^$rRbB𝛃𝚩<>〈〉◁▷◀▶"),
-        (LookSet::singleton(Look::WordUnicode).insert(Look::End), "z𝛃"),
+        (
+            LookSet::singleton(Look::WordUnicode).insert(Look::End),
+            "z𝛃",
+        ),
     ] {
         assert_eq!(rt; format!(in rt.alloc(); "{set:?}")?.as_str(), want);
     }
@@ -302,10 +655,22 @@ fn questions_of_sets(rt: HostRuntime) {
 fn lines_that_end_in_two_bytes(rt: HostRuntime) {
     let holds: &[(&str, &[usize])] = &[("\r\n", &[0, 2]), ("\r\na", &[2])];
     let fails: &[(&str, &[usize])] = &[("\r\n", &[1]), ("\r\na", &[1])];
-    tells(&rt, &LookMatcher::new(AsciiWord), Look::StartCRLF, holds, fails);
+    tells(
+        &rt,
+        &LookMatcher::new(AsciiWord),
+        Look::StartCRLF,
+        holds,
+        fails,
+    );
     let holds: &[(&str, &[usize])] = &[("\r\n", &[0, 2]), ("a\r\n", &[1]), ("a\n\r", &[2])];
     let fails: &[(&str, &[usize])] = &[("\r\n", &[1]), ("a\r\n", &[2])];
-    tells(&rt, &LookMatcher::new(AsciiWord), Look::EndCRLF, holds, fails);
+    tells(
+        &rt,
+        &LookMatcher::new(AsciiWord),
+        Look::EndCRLF,
+        holds,
+        fails,
+    );
 }
 
 #[test]
@@ -347,16 +712,32 @@ fn bytes_that_are_no_characters(rt: HostRuntime) {
         (b"a\x80b", 3, [true, false, false, true, false, true]),
         (b" \x80", 1, [false, false, false, false, true, false]),
         (b" \x80", 2, [false, false, false, false, false, true]),
-        (b"\xF0\x9D\x9B\x83\x80", 2, [false, false, false, false, false, false]),
-        (b"\xF0\x9D\x9B\x83\x80", 4, [true, false, false, true, false, false]),
-        (b"\xF0\x9D\x9B\x83\x80", 5, [false, false, false, false, false, true]),
+        (
+            b"\xF0\x9D\x9B\x83\x80",
+            2,
+            [false, false, false, false, false, false],
+        ),
+        (
+            b"\xF0\x9D\x9B\x83\x80",
+            4,
+            [true, false, false, true, false, false],
+        ),
+        (
+            b"\xF0\x9D\x9B\x83\x80",
+            5,
+            [false, false, false, false, false, true],
+        ),
         (b"a\x80", 1, [true, false, false, true, false, false]),
         (b"a\x80", 2, [false, false, false, false, false, true]),
     ];
     for (haystack, at, wants) in rows {
         assert!(rt; at <= haystack.len());
         for (look, want) in UNICODE_LOOKS.into_iter().zip(wants) {
-            assert_eq!(rt; matcher.matches(look, haystack, at), want, "{look:?} of {haystack:?} at {at}");
+            assert_eq!(rt;
+                matcher.matches(look, haystack, at),
+                want,
+                "{look:?} of {haystack:?} at {at}"
+            );
         }
     }
     let word = b"\xFFabc\xFF";
@@ -379,19 +760,50 @@ fn calls_by_assertion(rt: HostRuntime) -> Result<(), Fail> {
             (Look::StartCRLF, matcher.is_start_crlf(haystack, at)),
             (Look::EndCRLF, matcher.is_end_crlf(haystack, at)),
             (Look::WordAscii, matcher.is_word_ascii(haystack, at)),
-            (Look::WordAsciiNegate, matcher.is_word_ascii_negate(haystack, at)),
+            (
+                Look::WordAsciiNegate,
+                matcher.is_word_ascii_negate(haystack, at),
+            ),
             (Look::WordUnicode, matcher.is_word_unicode(haystack, at)?),
-            (Look::WordUnicodeNegate, matcher.is_word_unicode_negate(haystack, at)?),
-            (Look::WordStartAscii, matcher.is_word_start_ascii(haystack, at)),
+            (
+                Look::WordUnicodeNegate,
+                matcher.is_word_unicode_negate(haystack, at)?,
+            ),
+            (
+                Look::WordStartAscii,
+                matcher.is_word_start_ascii(haystack, at),
+            ),
             (Look::WordEndAscii, matcher.is_word_end_ascii(haystack, at)),
-            (Look::WordStartUnicode, matcher.is_word_start_unicode(haystack, at)?),
-            (Look::WordEndUnicode, matcher.is_word_end_unicode(haystack, at)?),
-            (Look::WordStartHalfAscii, matcher.is_word_start_half_ascii(haystack, at)),
-            (Look::WordEndHalfAscii, matcher.is_word_end_half_ascii(haystack, at)),
-            (Look::WordStartHalfUnicode, matcher.is_word_start_half_unicode(haystack, at)?),
-            (Look::WordEndHalfUnicode, matcher.is_word_end_half_unicode(haystack, at)?),
+            (
+                Look::WordStartUnicode,
+                matcher.is_word_start_unicode(haystack, at)?,
+            ),
+            (
+                Look::WordEndUnicode,
+                matcher.is_word_end_unicode(haystack, at)?,
+            ),
+            (
+                Look::WordStartHalfAscii,
+                matcher.is_word_start_half_ascii(haystack, at),
+            ),
+            (
+                Look::WordEndHalfAscii,
+                matcher.is_word_end_half_ascii(haystack, at),
+            ),
+            (
+                Look::WordStartHalfUnicode,
+                matcher.is_word_start_half_unicode(haystack, at)?,
+            ),
+            (
+                Look::WordEndHalfUnicode,
+                matcher.is_word_end_half_unicode(haystack, at)?,
+            ),
         ] {
-            assert_eq!(rt; answer, matcher.matches(look, haystack, at), "{look:?} at {at}");
+            assert_eq!(rt;
+                answer,
+                matcher.matches(look, haystack, at),
+                "{look:?} at {at}"
+            );
         }
     }
     Ok(())
@@ -445,11 +857,33 @@ fn coarsest_classes(rt: HostRuntime) {
         (0, &[Look::EndLF], &[0, 1]),
         (255, &[Look::StartLF], &[0, 255]),
         (b'\n', &[Look::StartCRLF], &[0, 0x0A, 0x0B, 0x0D, 0x0E]),
-        (b'\n', &[Look::EndLF, Look::EndCRLF], &[0, 0x0A, 0x0B, 0x0D, 0x0E]),
-        (b'\n', &[Look::WordUnicode], &[0, 0x30, 0x3A, 0x41, 0x5B, 0x5F, 0x60, 0x61, 0x7B]),
-        (b'\n', &[Look::WordEndHalfAscii, Look::WordEndHalfAscii], &[0, 0x30, 0x3A, 0x41, 0x5B, 0x5F, 0x60, 0x61, 0x7B]),
-        (b'\n', &[Look::StartLF, Look::WordAscii], &[0, 0x0A, 0x0B, 0x30, 0x3A, 0x41, 0x5B, 0x5F, 0x60, 0x61, 0x7B]),
-        (b'A', &[Look::StartLF, Look::WordAscii], &[0, 0x30, 0x3A, 0x41, 0x42, 0x5B, 0x5F, 0x60, 0x61, 0x7B]),
+        (
+            b'\n',
+            &[Look::EndLF, Look::EndCRLF],
+            &[0, 0x0A, 0x0B, 0x0D, 0x0E],
+        ),
+        (
+            b'\n',
+            &[Look::WordUnicode],
+            &[0, 0x30, 0x3A, 0x41, 0x5B, 0x5F, 0x60, 0x61, 0x7B],
+        ),
+        (
+            b'\n',
+            &[Look::WordEndHalfAscii, Look::WordEndHalfAscii],
+            &[0, 0x30, 0x3A, 0x41, 0x5B, 0x5F, 0x60, 0x61, 0x7B],
+        ),
+        (
+            b'\n',
+            &[Look::StartLF, Look::WordAscii],
+            &[
+                0, 0x0A, 0x0B, 0x30, 0x3A, 0x41, 0x5B, 0x5F, 0x60, 0x61, 0x7B,
+            ],
+        ),
+        (
+            b'A',
+            &[Look::StartLF, Look::WordAscii],
+            &[0, 0x30, 0x3A, 0x41, 0x42, 0x5B, 0x5F, 0x60, 0x61, 0x7B],
+        ),
     ];
     for (terminator, looks, first_bytes) in rows {
         let classes = unicode_classes(terminator, looks);
@@ -458,7 +892,11 @@ fn coarsest_classes(rt: HostRuntime) {
             if byte > 0 && first_bytes.contains(&byte) {
                 class = class.saturating_add(1);
             }
-            assert_eq!(rt; usize::from(classes.get(byte)), class, "{looks:?} at {byte}");
+            assert_eq!(rt;
+                usize::from(classes.get(byte)),
+                class,
+                "{looks:?} at {byte}"
+            );
         }
         assert_eq!(rt; classes.alphabet_len() - 1, first_bytes.len(), "{looks:?}");
     }

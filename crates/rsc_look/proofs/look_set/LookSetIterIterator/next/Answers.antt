@@ -9,6 +9,6 @@ pub returns-clause-steps : goal.returns-clause-steps
 returns-clause-steps c = rw (c.set_remove.ensures, ← c.self.view_is) (c.in_ok-look.ensures)
 
 pub returns-clause-goes : goal.returns-clause-goes
-returns-clause-goes c = 
+returns-clause-goes c =
     let steps : c.args.self.now ≡ c.in_ok-look.look ∷ members c.set_remove.new.self = sym c.self.view_is ∙ c.in_ok-look.ensures ∙ ap (λ s. c.in_ok-look.look ∷ members s) (sym c.set_remove.ensures) in
     search rules
