@@ -1,5 +1,5 @@
 -- Sets of assertions, and their members in order.
-use Rattle.std.specs.Prelude.{ℕ, Bool, List, [], ◌∷◌, filter}
+use Rattle.std.specs.Prelude.{ℕ, Bool, List, [], ◌∷◌, ◌++◌, filter}
 use Rattle.std.specs.List.{sum_by, list_any}
 use Rattle.std.specs.Ordering.{nat_cmp, on}
 use Rattle.std.specs.declared.cmp.Ordering.{Ordering}
@@ -43,3 +43,7 @@ ascii_words = WordAscii ∷ WordAsciiNegate ∷ WordStartAscii ∷ WordEndAscii 
 -- and those about words of Unicode
 abbrev pub unicode_words : List Look
 unicode_words = WordUnicode ∷ WordUnicodeNegate ∷ WordStartUnicode ∷ WordEndUnicode ∷ WordStartHalfUnicode ∷ WordEndHalfUnicode ∷ []
+
+-- all twelve about words
+abbrev pub words : List Look
+words = unicode_words ++ ascii_words

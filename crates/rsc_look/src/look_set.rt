@@ -1,10 +1,10 @@
 //! Sets of assertions, and the walk over their members.
-ghost use Rattle.std.specs.Prelude.{◌≡◌, ◌↔◌, ◌++◌, ◌^◌, ◌<◌, ◌≤◌, [], ◌∷◌, Some, IsTrue, IsOk, IsNone, MatchOption, length};
+ghost use Rattle.std.specs.Prelude.{◌≡◌, ◌↔◌, ◌^◌, ◌<◌, ◌≤◌, [], ◌∷◌, Some, IsTrue, IsOk, IsNone, MatchOption, length};
 ghost use Rattle.std.specs.FinSet as sets;
 ghost use Rattle.std.specs.Iterator.{YieldsFirst, item_count};
 ghost use Rattle.rsc_look.specs.declared.assertion.Look.{Look};
 ghost use Rattle.rsc_look.specs.Looks.{every_look};
-ghost use Rattle.rsc_look.specs.LookSets.{Looks, members, bits_of, has_one_of, anchors, line_anchors, ascii_words, unicode_words};
+ghost use Rattle.rsc_look.specs.LookSets.{Looks, members, bits_of, has_one_of, anchors, line_anchors, ascii_words, unicode_words, words};
 
 use crate::{Look, UnicodeWordBoundaryError};
 use std::fmt;
@@ -197,7 +197,7 @@ impl LookSet {
     /// Whether one of the twelve assertions about words is a member.
     #[inline]
     pub fn contains_word(self) -> bool
-        ensures { result ≡ has_one_of self (unicode_words ++ ascii_words) }
+        ensures { result ≡ has_one_of self words }
     {
         self.contains_word_unicode() || self.contains_word_ascii()
     }
