@@ -97,15 +97,9 @@ impl<W: WordClass> LookMatcher<W> {
 
     /// Whether an assertion holds at a position of a haystack, by its own call below.
     ///
-<<<<<<< HEAD
-    /// No Unicode assertion holds inside an encoded character. What an assertion says, its reversed one says of the
-    /// haystack read from the other end, with `\r` and `\n` exchanged for the two that look at `\r\n`; a Unicode assertion
-    /// so reads a text by its characters.
-=======
     /// No Unicode assertion holds inside an encoded character. What an assertion says of a haystack, its reversed one says
     /// of the haystack read from the other end, with `\r` and `\n` exchanged for the two that look at `\r\n`; what a Unicode
     /// assertion says of a text, its reversed one says of the same characters in reverse.
->>>>>>> dbc3d825204b02d92db50a443060678cdaa29b0c
     #[inline(always)]
     pub fn matches(&self, look: Look, haystack: &[u8], at: usize) -> bool
         requires { at ≤ length haystack.now }
