@@ -14,18 +14,32 @@ pub fn answer<A: Allocator + Copy + Drop>(
     alloc: A,
     arguments: &[&[u8]],
 ) -> Result<Option<String<A>>, AllocError> {
-    let patterns = match arguments {
-        [] => Vec::new(alloc),
+    match arguments {
+        [] => Ok(Some(answer_lists(alloc, &[])?)),
         [lists] => match parse_patterns(alloc, lists)? {
-            Some(patterns) => patterns,
-            None => return Ok(None),
+            Some(patterns) => Ok(Some(answer_patterns(alloc, patterns.as_slice())?)),
+            None => Ok(None),
         },
-        _ => return Ok(None),
-    };
-    let lists = lists_of(alloc, patterns.as_slice())?;
-    match GroupInfo::new(alloc, lists.as_slice()) {
-        Ok(info) => Ok(Some(describe(alloc, &info)?)),
-        Err(error) => Ok(Some(describe_refusal(alloc, &error)?)),
+        _ => Ok(None),
+    }
+}
+
+fn answer_patterns<A: Allocator + Copy + Drop>(
+    alloc: A,
+    patterns: &[Vec<Option<&str>, A>],
+) -> Result<String<A>, AllocError> {
+    let lists = lists_of(alloc, patterns)?;
+    answer_lists(alloc, lists.as_slice())
+}
+
+// The slots of the groups, or the displayed refusal.
+fn answer_lists<A: Allocator + Copy + Drop>(
+    alloc: A,
+    lists: &[&[Option<&str>]],
+) -> Result<String<A>, AllocError> {
+    match GroupInfo::new(alloc, lists) {
+        Ok(info) => describe(alloc, &info),
+        Err(error) => describe_refusal(alloc, &error),
     }
 }
 
@@ -70,10 +84,10 @@ fn describe_refusal<A: Allocator + Copy + Drop>(
 }
 
 // The groups of each pattern, lent as slices.
-fn lists_of<'a, A: Allocator + Copy + Drop>(
+fn lists_of<'a, 'b, A: Allocator + Copy + Drop>(
     alloc: A,
-    patterns: &'a [Vec<Option<&'a str>, A>],
-) -> Result<Vec<&'a [Option<&'a str>], A>, AllocError> {
+    patterns: &'a [Vec<Option<&'b str>, A>],
+) -> Result<Vec<&'a [Option<&'b str>], A>, AllocError> {
     let mut lists = Vec::new(alloc);
     for groups in patterns {
         lists.push(groups.as_slice())?;
