@@ -1,14 +1,20 @@
 //! Reads commands from standard input, one a line, and answers each with a line on standard output.
 #![tactic(auto)]
 
+mod alphabet;
 mod answers;
 mod error;
+mod groups;
 mod indices;
+mod look;
+mod look_sets;
+mod maps;
 mod primitives;
 mod run;
 #[cfg(test)]
 mod tests;
 mod tokens;
+mod words;
 
 use run::run;
 use std::io;
