@@ -4,7 +4,6 @@
 mod alphabet;
 mod answers;
 mod error;
-mod groups;
 mod indices;
 mod look;
 mod look_sets;
