@@ -15,26 +15,12 @@ sys.dont_write_bytecode = True
 from generator.exhaustive import MODES  # noqa: E402
 from generator.families import FAMILIES  # noqa: E402
 
-# Names that the port has no call for.
-LEFT_OUT = {"limited_port"}
-
-
-def is_answered(command):
-    return command.partition(" ")[0] not in LEFT_OUT
-
 
 def random_commands(seed, count):
     draw = random.Random(seed)
     weights, families = zip(*FAMILIES)
-    while count > 0:
-        command = draw.choices(families, weights)[0](draw)
-        if is_answered(command):
-            yield command
-            count -= 1
-
-
-def exhaustive_commands(mode):
-    return filter(is_answered, MODES[mode]())
+    for _ in range(count):
+        yield draw.choices(families, weights)[0](draw)
 
 
 def main():
@@ -42,7 +28,7 @@ def main():
     if args == ["--modes"]:
         lines = MODES
     elif len(args) == 2 and args[0] == "--exhaustive" and args[1] in MODES:
-        lines = exhaustive_commands(args[1])
+        lines = MODES[args[1]]()
     elif len(args) == 2 and all(arg.isdigit() for arg in args):
         lines = random_commands(int(args[0]), int(args[1]))
     else:

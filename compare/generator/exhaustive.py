@@ -102,12 +102,6 @@ def group_lists(most_patterns, most_groups):
         yield from map(list, itertools.product(patterns, repeat=count))
 
 
-def limit_lines():
-    for lists in group_lists(2, 3):
-        for limit in range(14):
-            yield f"limited_port {limit} {show_lists(lists)}"
-
-
 def pattern_set_lines():
     for capacity in range(5):
         for size in range(capacity + 1):
@@ -171,5 +165,4 @@ MODES = {
     "inputs": input_lines,
     "pattern_sets": pattern_set_lines,
     "groups": lambda: (f"groups {show_lists(lists)}" for lists in group_lists(3, 3)),
-    "limits": limit_lines,
 }

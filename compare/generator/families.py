@@ -351,8 +351,6 @@ def groups_command(draw):
     lists = group_lists(draw)
     if draw.random() < 0.3:
         return f"groups {show_lists(lists)}"
-    if draw.random() < 0.3:
-        return f"limited_port {draw.choice([*range(16), 100, MAX])} {show_lists(lists)}"
     if draw.random() < 0.5:
         lists = group_lists(draw, faults=False)
     if draw.random() < 0.05:

@@ -178,53 +178,6 @@ pub fn cut_text(h: &str, start: usize, end: usize) -> Option<&str> {
     std::str::from_utf8(bytes).ok()
 }
 
-/// Why a group list is refused, as displayed, where it may have `limit` slots.
-pub fn group_fault(limit: usize, lists: &Lists) -> Option<String> {
-    let mut explicit = 0;
-    for (p, groups) in lists.iter().enumerate() {
-        match groups.first() {
-            None => {
-                return Some(format!(
-                    "no capturing groups found for pattern {p} (either all patterns \
-                     have zero groups or all patterns have at least one group)"
-                ))
-            }
-            Some(Some(_)) => {
-                return Some(format!(
-                    "first capture group (at index 0) for pattern {p} has a name \
-                     (it must be unnamed)"
-                ))
-            }
-            Some(None) => {}
-        }
-        for (g, name) in groups.iter().enumerate().skip(1) {
-            explicit += 1;
-            if 2 * explicit > limit {
-                return Some(too_many_groups(p, g));
-            }
-            if let Some(name) = name {
-                if groups[..g].iter().flatten().any(|earlier| earlier == name) {
-                    return Some(format!(
-                        "duplicate capture group name '{name}' found for pattern {p}"
-                    ));
-                }
-            }
-        }
-    }
-    let mut explicit = 0;
-    for (p, groups) in lists.iter().enumerate() {
-        explicit += groups.len() - 1;
-        if 2 * explicit + 2 * lists.len() > limit {
-            return Some(too_many_groups(p, groups.len()));
-        }
-    }
-    None
-}
-
-fn too_many_groups(p: usize, minimum: usize) -> String {
-    format!("too many capture groups (at least {minimum}) were found for pattern {p}")
-}
-
 /// The slot of a group: implicit slots first, then the explicit ones by pattern.
 pub fn slot(lists: &Lists, p: usize, g: usize) -> Option<usize> {
     if g >= lists.get(p)?.len() {

@@ -40,24 +40,6 @@ fn groups(lists: &Lists) -> String {
     }
 }
 
-/// The same as stated, with a limit.
-fn limited(limit: usize, lists: &Lists) -> String {
-    if let Some(fault) = stated::group_fault(limit, lists) {
-        return format!("err {fault}");
-    }
-    let all: usize = lists.iter().map(|groups| groups.len()).sum();
-    let implicit = 2 * lists.len();
-    format!(
-        "ok {}:{}:{}:{}:{} {}",
-        lists.len(),
-        all,
-        2 * all,
-        implicit,
-        2 * all - implicit,
-        first_slots(lists, |p, g| stated::slot(lists, p, g))
-    )
-}
-
 fn pattern_and_group(s: &str) -> Read<(PatternID, usize)> {
     let (p, g) = two(s)?;
     Ok((pattern(p)?, num(g)?))
@@ -225,10 +207,6 @@ fn captures_script(
 pub fn answer(name: &str, port: bool, args: &[&str]) -> Read<String> {
     match (name, port, args) {
         ("groups", false, [l]) => Ok(groups(&lists(l)?)),
-        ("limited", true, [limit, l]) => match num(limit)? {
-            limit @ 0..=2147483646 => Ok(limited(limit, &lists(l)?)),
-            _ => Err(Bad),
-        },
         ("gi", false, [l, ops @ ..]) => match group_info(&lists(l)?) {
             Ok(info) => group_info_script(info, ops),
             Err(err) => Ok(format!("err {err}")),
