@@ -2,10 +2,19 @@
 #![tactic(auto)]
 
 mod answers;
+mod captures;
 mod error;
+mod extractions;
+mod group_lists;
+mod groups;
 mod indices;
+mod inputs;
+mod matches;
+mod pattern_sets;
 mod primitives;
 mod run;
+mod search;
+mod spans;
 #[cfg(test)]
 mod tests;
 mod tokens;

@@ -1,8 +1,8 @@
 //! The run: each line of the input is answered by a line of the output.
 
 use crate::error::{CommandError, CompareError};
-use crate::primitives;
 use crate::tokens::tokens_of;
+use crate::{captures, primitives, search};
 use std::alloc::{AllocError, Allocator};
 use std::io;
 use std::io::{BufRead, BufReader, BufWriter, ErrorKind, Read, Write};
@@ -105,5 +105,13 @@ fn answer_command<A: Allocator + Copy + Drop>(
     name: &[u8],
     arguments: &[&[u8]],
 ) -> Result<String<A>, CommandError> {
-    primitives::answer(alloc, name, arguments)
+    match primitives::answer(alloc, name, arguments) {
+        Err(CommandError::UnknownName) => {}
+        answer => return answer,
+    }
+    match search::answer(alloc, name, arguments) {
+        Err(CommandError::UnknownName) => {}
+        answer => return answer,
+    }
+    captures::answer(alloc, name, arguments)
 }
