@@ -3,13 +3,22 @@
 
 mod alphabet;
 mod answers;
+mod captures;
 mod error;
+mod extractions;
+mod group_lists;
+mod groups;
 mod indices;
+mod inputs;
 mod look;
 mod look_sets;
 mod maps;
+mod matches;
+mod pattern_sets;
 mod primitives;
 mod run;
+mod search;
+mod spans;
 #[cfg(test)]
 mod tests;
 mod tokens;

@@ -2,7 +2,7 @@
 
 use crate::error::{CommandError, CompareError};
 use crate::tokens::tokens_of;
-use crate::{alphabet, look, primitives};
+use crate::{alphabet, captures, look, primitives, search};
 use std::alloc::{AllocError, Allocator};
 use std::io;
 use std::io::{BufRead, BufReader, BufWriter, ErrorKind, Read, Write};
@@ -113,5 +113,13 @@ fn answer_command<A: Allocator + Copy + Drop>(
         Err(CommandError::UnknownName) => {}
         answer => return answer,
     }
-    look::answer(alloc, name, arguments)
+    match look::answer(alloc, name, arguments) {
+        Err(CommandError::UnknownName) => {}
+        answer => return answer,
+    }
+    match search::answer(alloc, name, arguments) {
+        Err(CommandError::UnknownName) => {}
+        answer => return answer,
+    }
+    captures::answer(alloc, name, arguments)
 }

@@ -70,7 +70,10 @@ fn answers_of_alphabet(rt: HostRuntime) -> Result<(), Fail> {
         ("unit e257", "bad command\n"),
         ("unit_is_byte e97 61", "F\n"),
         ("unit_cmp bff e0", "lt\n"),
-        ("byteset a61 a62 a7a c61 R6163 i g e", "T F 61,62,7a 61-62,7a-7a F\n"),
+        (
+            "byteset a61 a62 a7a c61 R6163 i g e",
+            "T F 61,62,7a 61-62,7a-7a F\n",
+        ),
         ("byteset R0503", "T\n"),
         ("byteset a7f a80 g", "7f-80\n"),
         ("byteset", ".\n"),
@@ -91,7 +94,10 @@ fn answers_of_alphabet(rt: HostRuntime) -> Result<(), Fail> {
         ("map_reps empty:6101 i60 x63", "b60 b61 b62\n"),
         ("map_reps empty:0007 u u", "b00 b01 e1\n"),
         ("map_elems empty:6101 b01", "b61\n"),
-        ("map_debug empty", "ByteClasses(0 => [\\x00-\\xFF], 1 => [EOI])\n"),
+        (
+            "map_debug empty",
+            "ByteClasses(0 => [\\x00-\\xFF], 1 => [EOI])\n",
+        ),
     ];
     for (command, want) in rows {
         let answer = answer_to(rt.alloc(), command)?;
@@ -145,6 +151,101 @@ fn answers_of_look(rt: HostRuntime) -> Result<(), Fail> {
         ("sets 0a 64 6120", "TTF\n"),
         ("looks_with_port 0a 32-32 20", "119189 188842\n"),
         ("looks_with_port 0a 32 20", "bad command\n"),
+    ];
+    for (command, want) in rows {
+        let answer = answer_to(rt.alloc(), command)?;
+        assert_eq!(rt; answer.as_str(), want, "at {command:?}");
+    }
+    Ok(())
+}
+
+#[test]
+fn answers_of_search(rt: HostRuntime) -> Result<(), Fail> {
+    let rows = [
+        ("span 4 2", "T 0 4 2 4..2\n"),
+        ("span_contains 2 4 4", "F\n"),
+        ("span_offset 2 4 3", "5 7\n"),
+        ("span_offset 2 4 18446744073709551615", "bad command\n"),
+        ("span_eq 1 2 1 3", "F\n"),
+        ("span_get_port 1 3 616263", "6263\n"),
+        ("span_get_port 3 2 616263", "_\n"),
+        ("span_str_port 1 2 c3a9", "_\n"),
+        ("span_str_port 0 1 ff", "bad command\n"),
+        ("span_mut_port 1 2 616263 00", "610063\n"),
+        (
+            "input 6162 s2:1",
+            "0,2,0,2,0,2,no,F,F 2,1,2,1,2,1,no,F,T 6162\n",
+        ),
+        (
+            "input 616263 rx0:i1",
+            "0,3,0,3,0,3,no,F,F 1,2,1,2,1,2,no,F,F 616263\n",
+        ),
+        ("input 6162 s0:3", "bad command\n"),
+        ("input 6162 a4", "bad command\n"),
+        (
+            "input_debug 61 myes",
+            "Input { haystack: \"a\", span: 0..1, anchored: Yes, earliest: false }\n",
+        ),
+        ("input_boundary c3a9 1", "F\n"),
+        ("half 1 2", "1 2\n"),
+        ("half_eq 1 2 1 2", "T\n"),
+        ("match 1 2 5", "1 2 5 2 5 2 5 F 3\n"),
+        ("match 1 5 2", "bad command\n"),
+        ("match_eq 1 2 3 1 2 4", "F\n"),
+        ("anchored p3", "T 3\n"),
+        ("anchored_eq yes p0", "F\n"),
+        ("match_kind default", "F leftmost\n"),
+        ("match_err gaveup 3", "T gave up searching at offset 3\n"),
+        (
+            "match_err quit 20 0",
+            "T quit search after observing byte ' ' at offset 0\n",
+        ),
+        ("pset_port 3 i0 i2 t3 q whbhff", "T T ! 2:F:F:3 2,2,1,0,_\n"),
+        ("pset 3 i3", "bad command\n"),
+        ("pset 2147483648 q", "bad command\n"),
+        (
+            "pset_err 3 4",
+            "failed to insert pattern ID 4 into pattern set with insufficient capacity of 3\n",
+        ),
+        ("pset_eq 3 0,2 3 2,0", "T\n"),
+    ];
+    for (command, want) in rows {
+        let answer = answer_to(rt.alloc(), command)?;
+        assert_eq!(rt; answer.as_str(), want, "at {command:?}");
+    }
+    Ok(())
+}
+
+#[test]
+fn answers_of_captures(rt: HostRuntime) -> Result<(), Fail> {
+    let rows = [
+        ("groups _,=78;_,_,=78", "ok 2:5:10:4:6 0,4;2,6,8\n"),
+        (
+            "groups _,=78,=78",
+            "err duplicate capture group name 'x' found for pattern 0\n",
+        ),
+        (
+            "gi _,=78;_ i0:78 n0:1 s1:0 S0:1 g0 P0 A",
+            "1 =78 2 4:5 2 _,=78/2:1:0 0:0:_,0:1:=78,1:0:_\n",
+        ),
+        (
+            "gi _,=78;_,_,=78 g0 g1 g2 q s0:2 s2:0 S1:2 n1:1",
+            "2 3 0 2:5:10:4:6 _ _ 8:9 _\n",
+        ),
+        ("gi_empty q", "0:0:0:0:0\n"),
+        (
+            "caps all _,=78 =0 w0:0 w1:3 w2:1 w3:2 g1 n78 i M x1:616263",
+            "1..2 1..2 0..3,1..2/2:1:0 0:0..3 616263/62\n",
+        ),
+        ("caps all _ =7 w0:3 w1:5 g0 l i", "3..5 0 ./0\n"),
+        ("caps all _ =0 w0:5 w1:3 M", "bad command\n"),
+        ("caps all _ w2:0", "bad command\n"),
+        (
+            "caps matches _,=78;_ s =0 w0:0 w1:3 i",
+            "_,_,_,_ 0..3,_/2:1:0\n",
+        ),
+        ("caps_port all _ =0 x0:61", "_\n"),
+        ("caps_debug all _", "Captures { pid: None }\n"),
     ];
     for (command, want) in rows {
         let answer = answer_to(rt.alloc(), command)?;

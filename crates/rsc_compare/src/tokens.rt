@@ -272,3 +272,11 @@ pub fn looks<A: Allocator + Copy + Drop>(
 pub fn look_set(token: &[u8]) -> Result<LookSet, CommandError> {
     LookSet::from_bits(number_u32(token)?).ok_or(BadCommand)
 }
+
+/// The argument of a command that takes one.
+pub fn one<'a>(arguments: &[&'a [u8]]) -> Result<&'a [u8], CommandError> {
+    match arguments {
+        [first] => Ok(first),
+        _ => Err(BadCommand),
+    }
+}

@@ -1,0 +1,1 @@
+"""Makes commands of the line protocol of compare/README.md."""

@@ -1,0 +1,216 @@
+//! What the port states where it departs from the original or has a call of its own, computed
+//! slowly and plainly. Nothing here calls the original but for the types that it answers in.
+
+use crate::tokens::Lists;
+use crate::util::look::Look;
+
+/// The encoding of a character, by the arithmetic of RFC 3629.
+pub fn enc(c: char) -> Vec<u8> {
+    let n = u32::from(c);
+    let tail = |shift: u32| (0x80 + (n >> shift) % 64) as u8;
+    match n {
+        0..0x80 => vec![n as u8],
+        0x80..0x800 => vec![(0xC0 + (n >> 6)) as u8, tail(0)],
+        0x800..0x10000 => vec![(0xE0 + (n >> 12)) as u8, tail(6), tail(0)],
+        _ => vec![(0xF0 + (n >> 18)) as u8, tail(12), tail(6), tail(0)],
+    }
+}
+
+/// The character whose encoding is all of these bytes.
+fn encoded(bytes: &[u8]) -> Option<char> {
+    let digits = bytes.iter().skip(1).fold(0u32, |n, b| n * 64 + u32::from(b % 64));
+    let first = u32::from(*bytes.first()?);
+    let number = match bytes.len() {
+        1 => first,
+        2 => (first % 32) * 64 + digits,
+        3 => (first % 16) * 4096 + digits,
+        _ => (first % 8) * 262144 + digits,
+    };
+    char::from_u32(number).filter(|&c| enc(c) == bytes)
+}
+
+/// The character whose encoding begins at `i`.
+pub fn begins(h: &[u8], i: usize) -> Option<char> {
+    (1..=4).filter(|n| i + n <= h.len()).find_map(|n| encoded(&h[i..i + n]))
+}
+
+/// The character whose encoding ends at `i`.
+pub fn ends(h: &[u8], i: usize) -> Option<char> {
+    (1..=4).filter(|&n| n <= i).find_map(|n| encoded(&h[i - n..i]))
+}
+
+/// The character at the end, else the last byte: an encoding must reach the end.
+pub fn decode_last(h: &[u8]) -> Option<Result<char, u8>> {
+    let last = *h.last()?;
+    Some(ends(h, h.len()).ok_or(last))
+}
+
+/// What `\w` accepts: any predicate on characters.
+pub type Word<'a> = &'a dyn Fn(char) -> bool;
+
+/// Letters, digits and `_` of ASCII.
+pub fn is_word_byte(b: u8) -> bool {
+    matches!(b, b'0'..=b'9' | b'A'..=b'Z' | b'_' | b'a'..=b'z')
+}
+
+/// The port's `AsciiWord`.
+pub fn ascii_word(c: char) -> bool {
+    u32::from(c) < 128 && is_word_byte(c as u8)
+}
+
+/// The port's `UnicodeWord`, here by the table that the build makes.
+pub fn unicode_word(c: char) -> bool {
+    regex_syntax::try_is_word_character(c).unwrap_or(false)
+}
+
+/// What stands on one side of a position.
+#[derive(Clone, Copy, PartialEq)]
+enum Side {
+    None,
+    Bad,
+    Word,
+    Other,
+}
+
+fn side(byte: Option<u8>, c: Option<char>, word: Word) -> Side {
+    match (byte, c) {
+        (None, _) => Side::None,
+        (Some(_), None) => Side::Bad,
+        (Some(_), Some(c)) if word(c) => Side::Word,
+        (Some(_), Some(_)) => Side::Other,
+    }
+}
+
+/// Whether an assertion holds at a position, by its neighbours.
+pub fn holds(look: Look, t: u8, word: Word, h: &[u8], at: usize) -> bool {
+    let p = at.checked_sub(1).map(|i| h[i]);
+    let n = h.get(at).copied();
+    let (word_p, word_n) = (p.is_some_and(is_word_byte), n.is_some_and(is_word_byte));
+    let before = || side(p, ends(h, at), word);
+    let after = || side(n, begins(h, at), word);
+    let is_word = |s: Side| s == Side::Word;
+    match look {
+        Look::Start => p.is_none(),
+        Look::End => n.is_none(),
+        Look::StartLF => p.is_none() || p == Some(t),
+        Look::EndLF => n.is_none() || n == Some(t),
+        Look::StartCRLF => {
+            p.is_none() || p == Some(b'\n') || (p == Some(b'\r') && n != Some(b'\n'))
+        }
+        Look::EndCRLF => n.is_none() || n == Some(b'\r') || (n == Some(b'\n') && p != Some(b'\r')),
+        Look::WordAscii => word_p != word_n,
+        Look::WordAsciiNegate => word_p == word_n,
+        Look::WordStartAscii => !word_p && word_n,
+        Look::WordEndAscii => word_p && !word_n,
+        Look::WordStartHalfAscii => !word_p,
+        Look::WordEndHalfAscii => !word_n,
+        Look::WordUnicode => is_word(before()) != is_word(after()),
+        Look::WordUnicodeNegate => {
+            before() != Side::Bad && after() != Side::Bad && is_word(before()) == is_word(after())
+        }
+        Look::WordStartUnicode => is_word(after()) && !is_word(before()),
+        Look::WordEndUnicode => is_word(before()) && !is_word(after()),
+        Look::WordStartHalfUnicode => matches!(before(), Side::None | Side::Other),
+        Look::WordEndHalfUnicode => matches!(after(), Side::None | Side::Other),
+    }
+}
+
+/// The class map of a set of boundaries: a byte's class is the number of boundaries below it.
+pub fn class_map(boundaries: &[bool; 256]) -> [u8; 256] {
+    std::array::from_fn(|b| boundaries[..b].iter().filter(|&&is| is).count() as u8)
+}
+
+/// The class map under which two bytes are alike exactly if the same ranges hold them.
+pub fn range_classes(ranges: &[(u8, u8)]) -> [u8; 256] {
+    let within =
+        |&(start, end): &(u8, u8), b: usize| usize::from(start) <= b && b <= usize::from(end);
+    let mut boundaries = [false; 256];
+    for b in 0..255 {
+        boundaries[b] = ranges.iter().any(|r| within(r, b) != within(r, b + 1));
+    }
+    class_map(&boundaries)
+}
+
+/// The boundaries that an assertion marks.
+pub fn look_boundaries(look: Look, t: u8) -> Vec<u8> {
+    let around = |b: u8| b.checked_sub(1).into_iter().chain([b]);
+    match look {
+        Look::Start | Look::End => vec![],
+        Look::StartLF | Look::EndLF => around(t).collect(),
+        Look::StartCRLF | Look::EndCRLF => around(0x0D).chain(around(0x0A)).collect(),
+        _ => vec![0x2F, 0x39, 0x40, 0x5A, 0x5E, 0x5F, 0x60, 0x7A],
+    }
+}
+
+/// The class map of a list of assertions, by the marks of its members.
+pub fn look_classes(t: u8, looks: &[Look]) -> [u8; 256] {
+    let mut boundaries = [false; 256];
+    for &look in looks {
+        for b in look_boundaries(look, t) {
+            boundaries[usize::from(b)] = true;
+        }
+    }
+    class_map(&boundaries)
+}
+
+/// The eighteen.
+pub fn all_looks() -> impl Iterator<Item = Look> + Clone {
+    (0..18).filter_map(|i| Look::from_repr(1 << i))
+}
+
+/// `LookSet::from_bits`: `None` exactly if a bit above the eighteenth is set.
+pub fn lookset_from_bits(bits: u32) -> Option<u32> {
+    (bits < 1 << 18).then_some(bits)
+}
+
+/// The bytes of a span, where it is one of the haystack.
+pub fn cut(h: &[u8], start: usize, end: usize) -> Option<&[u8]> {
+    (start <= end && end <= h.len()).then(|| &h[start..end])
+}
+
+/// The text of a span, whose ends must be character boundaries too.
+pub fn cut_text(h: &str, start: usize, end: usize) -> Option<&str> {
+    let boundary = |i: usize| h.as_bytes().get(i).is_none_or(|b| !matches!(b, 0x80..=0xBF));
+    let bytes = cut(h.as_bytes(), start, end)?;
+    if !boundary(start) || !boundary(end) {
+        return None;
+    }
+    std::str::from_utf8(bytes).ok()
+}
+
+/// The slot of a group: implicit slots first, then the explicit ones by pattern.
+pub fn slot(lists: &Lists, p: usize, g: usize) -> Option<usize> {
+    if g >= lists.get(p)?.len() {
+        return None;
+    }
+    if g == 0 {
+        return Some(2 * p);
+    }
+    let explicit: usize = lists[..p].iter().map(|groups| groups.len() - 1).sum();
+    Some(2 * lists.len() + 2 * explicit + 2 * (g - 1))
+}
+
+/// The spans of the groups that take part, as pairs of start and end.
+pub fn participating(
+    lists: &Lists,
+    pattern: Option<usize>,
+    slots: &[Option<usize>],
+) -> Vec<(usize, usize)> {
+    let Some(q) = pattern else { return vec![] };
+    let groups = lists.get(q).map_or(0, |groups| groups.len());
+    let span = |i: usize| {
+        let slot = if lists.len() == 1 { 2 * i } else { slot(lists, q, i)? };
+        let set = |slot: usize| slots.get(slot).copied().flatten();
+        Some((set(slot)?, set(slot + 1)?))
+    };
+    (0..groups).filter_map(span).collect()
+}
+
+/// The parts of an extraction of `n` groups: the whole match, then the groups.
+pub fn extract<T>(
+    n: usize,
+    participating: &[(usize, usize)],
+    cut: impl Fn(usize, usize) -> Option<T>,
+) -> Option<Vec<T>> {
+    participating.get(..n + 1)?.iter().map(|&(start, end)| cut(start, end)).collect()
+}
