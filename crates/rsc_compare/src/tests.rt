@@ -163,7 +163,7 @@ fn answers_of_look(rt: HostRuntime) -> Result<(), Fail> {
 fn answers_of_search(rt: HostRuntime) -> Result<(), Fail> {
     let rows = [
         ("span 4 2", "T 0 4 2 4..2\n"),
-        ("span_contains 2 4 4", "F\n"),
+        ("span_contains 2 4 4", "T\n"),
         ("span_offset 2 4 3", "5 7\n"),
         ("span_offset 2 4 18446744073709551615", "bad command\n"),
         ("span_eq 1 2 1 3", "F\n"),
