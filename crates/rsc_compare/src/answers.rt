@@ -1,5 +1,6 @@
 //! How answers are written.
 
+use rsc_alphabet::Unit;
 use rsc_search::{Anchored, Span};
 use std::alloc::{AllocError, Allocator};
 use std::cmp::Ordering;
@@ -154,6 +155,20 @@ impl fmt::Display for Mode {
                 let number = pattern.as_usize();
                 write!(f, "p{number}")
             }
+        }
+    }
+}
+
+/// A unit as it is read: `b` and a byte, or `e` and a number.
+#[derive(Clone, Copy)]
+pub struct Symbol(pub Unit);
+
+impl fmt::Display for Symbol {
+    fn fmt<W: fmt::Write>(&self, f: &mut fmt::Formatter<W>) -> fmt::Result {
+        match (self.0.as_u8(), self.0.as_eoi()) {
+            (Some(byte), None) => write!(f, "b{byte:02x}"),
+            (None, Some(sentinel)) => write!(f, "e{sentinel}"),
+            _ => f.write_str("neither"),
         }
     }
 }

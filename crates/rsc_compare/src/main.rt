@@ -1,6 +1,7 @@
 //! Reads commands from standard input, one a line, and answers each with a line on standard output.
 #![tactic(auto)]
 
+mod alphabet;
 mod answers;
 mod captures;
 mod error;
@@ -9,6 +10,9 @@ mod group_lists;
 mod groups;
 mod indices;
 mod inputs;
+mod look;
+mod look_sets;
+mod maps;
 mod matches;
 mod pattern_sets;
 mod primitives;
@@ -18,6 +22,7 @@ mod spans;
 #[cfg(test)]
 mod tests;
 mod tokens;
+mod words;
 
 use run::run;
 use std::io;

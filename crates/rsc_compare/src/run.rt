@@ -2,7 +2,7 @@
 
 use crate::error::{CommandError, CompareError};
 use crate::tokens::tokens_of;
-use crate::{captures, primitives, search};
+use crate::{alphabet, captures, look, primitives, search};
 use std::alloc::{AllocError, Allocator};
 use std::io;
 use std::io::{BufRead, BufReader, BufWriter, ErrorKind, Read, Write};
@@ -106,6 +106,14 @@ fn answer_command<A: Allocator + Copy + Drop>(
     arguments: &[&[u8]],
 ) -> Result<String<A>, CommandError> {
     match primitives::answer(alloc, name, arguments) {
+        Err(CommandError::UnknownName) => {}
+        answer => return answer,
+    }
+    match alphabet::answer(alloc, name, arguments) {
+        Err(CommandError::UnknownName) => {}
+        answer => return answer,
+    }
+    match look::answer(alloc, name, arguments) {
         Err(CommandError::UnknownName) => {}
         answer => return answer,
     }

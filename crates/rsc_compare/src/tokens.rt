@@ -3,6 +3,8 @@ ghost use Rattle.std.specs.Prelude.{◌<◌, IfSome};
 
 use crate::error::CommandError;
 use crate::error::CommandError::BadCommand;
+use rsc_alphabet::Unit;
+use rsc_look::{Look, LookSet};
 use rsc_primitives::PatternID;
 use rsc_search::Anchored;
 use std::alloc::{AllocError, Allocator};
@@ -231,7 +233,47 @@ pub fn mode(token: &[u8]) -> Result<Anchored, CommandError> {
     }
 }
 
-/// The arguments of a command that takes one.
+/// `b` with a byte behind it, or `e`, the end of the input, with a number behind it that is at most 256.
+pub fn unit(token: &[u8]) -> Result<Unit, CommandError> {
+    match token {
+        [b'b', rest @ ..] => Ok(Unit::u8(byte(rest)?)),
+        [b'e', rest @ ..] => end_of_input(number(rest)?),
+        _ => Err(BadCommand),
+    }
+}
+
+fn end_of_input(classes: usize) -> Result<Unit, CommandError> {
+    if classes <= 256 {
+        Ok(Unit::eoi(classes))
+    } else {
+        Err(BadCommand)
+    }
+}
+
+/// The assertion of a number.
+pub fn look(token: &[u8]) -> Result<Look, CommandError> {
+    Look::from_repr(number_u32(token)?).ok_or(BadCommand)
+}
+
+/// The assertions of numbers with `,` between; `.` for none.
+pub fn looks<A: Allocator + Copy + Drop>(
+    alloc: A,
+    token: &[u8],
+) -> Result<Vec<Look, A>, CommandError> {
+    let mut looks = Vec::new(alloc);
+    let parts = list_of(alloc, token, b',')?;
+    for part in parts.as_slice() {
+        looks.push(look(part)?)?;
+    }
+    Ok(looks)
+}
+
+/// The set of assertions of a sum of their numbers.
+pub fn look_set(token: &[u8]) -> Result<LookSet, CommandError> {
+    LookSet::from_bits(number_u32(token)?).ok_or(BadCommand)
+}
+
+/// The argument of a command that takes one.
 pub fn one<'a>(arguments: &[&'a [u8]]) -> Result<&'a [u8], CommandError> {
     match arguments {
         [first] => Ok(first),
