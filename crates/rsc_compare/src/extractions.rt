@@ -4,25 +4,8 @@ use crate::answers::{Bytes, Parts};
 use crate::error::CommandError;
 use crate::error::CommandError::BadCommand;
 use crate::tokens::{bytes, number, text, two_of};
-use rsc_captures::{Captures, Haystack};
+use rsc_captures::Captures;
 use std::alloc::{AllocError, Allocator};
-
-/// A part of a haystack that is shown as its bytes.
-trait Part: Haystack {
-    fn shown(&self) -> &[u8];
-}
-
-impl Part for &str {
-    fn shown(&self) -> &[u8] {
-        self.as_bytes()
-    }
-}
-
-impl Part for &[u8] {
-    fn shown(&self) -> &[u8] {
-        self
-    }
-}
 
 /// The whole match and the groups of an extraction, with `/` between, or `_`. The token has the number of groups, at most 8,
 /// and the haystack.
@@ -34,52 +17,71 @@ pub fn extraction<A: Allocator + Copy + Drop>(
 ) -> Result<String<A>, CommandError> {
     let (count, haystack) = two_of(token, b':')?;
     let count = number(count)?;
-    if count > 8 {
-        return Err(BadCommand);
-    }
     if as_text {
         let haystack = text(alloc, haystack)?;
-        Ok(extraction_of(alloc, captures, count, haystack.as_str())?)
+        extract_text(alloc, captures, count, haystack.as_str())
     } else {
         let haystack = bytes(alloc, haystack)?;
-        Ok(extraction_of(alloc, captures, count, haystack.as_slice())?)
+        extract_bytes(alloc, captures, count, haystack.as_slice())
     }
 }
 
-// The extraction of so many groups; the number is one of the constants.
-fn extraction_of<A: Allocator + Copy + Drop, H: Part>(
+// The extraction of a number of groups that is one of the literals: by the call at that constant.
+macro_rules! extract {
+    ($alloc:expr, $captures:expr, $haystack:expr, $kind:ty, $count:expr, $shown:ident, $($number:literal)*) => {
+        match $count {
+            $($number => {
+                let found: Option<($kind, [$kind; $number])> = $captures.extract_from($haystack);
+                match &found {
+                    Some(parts) => Ok($shown($alloc, parts.0, parts.1.as_slice())?),
+                    None => Ok(String::from_str($alloc, "_")?),
+                }
+            })*
+            _ => Err(BadCommand),
+        }
+    };
+}
+
+fn extract_text<A: Allocator + Copy + Drop>(
     alloc: A,
     captures: &Captures<A>,
     count: usize,
-    haystack: H,
-) -> Result<String<A>, AllocError> {
-    match count {
-        0 => extract::<A, H, 0>(alloc, captures, haystack),
-        1 => extract::<A, H, 1>(alloc, captures, haystack),
-        2 => extract::<A, H, 2>(alloc, captures, haystack),
-        3 => extract::<A, H, 3>(alloc, captures, haystack),
-        4 => extract::<A, H, 4>(alloc, captures, haystack),
-        5 => extract::<A, H, 5>(alloc, captures, haystack),
-        6 => extract::<A, H, 6>(alloc, captures, haystack),
-        7 => extract::<A, H, 7>(alloc, captures, haystack),
-        _ => extract::<A, H, 8>(alloc, captures, haystack),
-    }
+    haystack: &str,
+) -> Result<String<A>, CommandError> {
+    extract!(alloc, captures, haystack, &str, count, text_parts, 0 1 2 3 4 5 6 7 8)
 }
 
-fn extract<A: Allocator + Copy + Drop, H: Part, const N: usize>(
+fn extract_bytes<A: Allocator + Copy + Drop>(
     alloc: A,
     captures: &Captures<A>,
-    haystack: H,
+    count: usize,
+    haystack: &[u8],
+) -> Result<String<A>, CommandError> {
+    extract!(alloc, captures, haystack, &[u8], count, byte_parts, 0 1 2 3 4 5 6 7 8)
+}
+
+fn text_parts<A: Allocator + Copy + Drop>(
+    alloc: A,
+    whole: &str,
+    groups: &[&str],
 ) -> Result<String<A>, AllocError> {
-    match captures.extract_from::<H, N>(haystack) {
-        None => String::from_str(alloc, "_"),
-        Some((whole, groups)) => {
-            let mut parts = Parts::new(alloc, "/");
-            parts.push(Bytes(whole.shown()))?;
-            for group in groups.as_slice() {
-                parts.push(Bytes(group.shown()))?;
-            }
-            parts.finish()
-        }
+    let mut parts = Parts::new(alloc, "/");
+    parts.push(Bytes(whole.as_bytes()))?;
+    for group in groups {
+        parts.push(Bytes(group.as_bytes()))?;
     }
+    parts.finish()
+}
+
+fn byte_parts<A: Allocator + Copy + Drop>(
+    alloc: A,
+    whole: &[u8],
+    groups: &[&[u8]],
+) -> Result<String<A>, AllocError> {
+    let mut parts = Parts::new(alloc, "/");
+    parts.push(Bytes(whole))?;
+    for group in groups {
+        parts.push(Bytes(group))?;
+    }
+    parts.finish()
 }

@@ -5,7 +5,7 @@ use crate::error::CommandError;
 use crate::error::CommandError::BadCommand;
 use crate::spans::span_of;
 use crate::tokens::{byte, mode, number, one, pattern};
-use rsc_search::{Anchored, HalfMatch, Match, MatchError, MatchErrorKind, MatchKind};
+use rsc_search::{HalfMatch, Match, MatchError, MatchErrorKind, MatchKind};
 use std::alloc::Allocator;
 
 /// The pattern and the offset of a match's end, made of a number and an offset.
@@ -168,17 +168,14 @@ fn plain_error<A: Allocator + Copy + Drop>(
             let kind = MatchErrorKind::HaystackTooLong { len };
             error_answer(alloc, MatchError::haystack_too_long(len), kind)
         }
-        b"anchored" => anchored_error(alloc, mode(value)?),
+        b"anchored" => {
+            // Read twice: the checker doesn't cover a mode that goes into two values.
+            let made = MatchError::unsupported_anchored(mode(value)?);
+            let kind = MatchErrorKind::UnsupportedAnchored { mode: mode(value)? };
+            error_answer(alloc, made, kind)
+        }
         _ => Err(BadCommand),
     }
-}
-
-fn anchored_error<A: Allocator + Copy + Drop>(
-    alloc: A,
-    mode: Anchored,
-) -> Result<String<A>, CommandError> {
-    let made = MatchError::unsupported_anchored(mode);
-    error_answer(alloc, made, MatchErrorKind::UnsupportedAnchored { mode })
 }
 
 fn error_answer<A: Allocator + Copy + Drop>(
