@@ -179,6 +179,7 @@ impl<A: Allocator + Clone + Drop> PatternGroups<A> {
         })
     }
 
+    #[inline]
     pub(crate) fn len(&self) -> usize
         ensures { result ≡ length self.now }
     {
@@ -186,6 +187,7 @@ impl<A: Allocator + Clone + Drop> PatternGroups<A> {
     }
 
     /// The name of a group, if it has one.
+    #[inline]
     pub(crate) fn name(&self, group: usize) -> Option<&str>
         ensures { option_copied result ≡ slice_index_or self.now group None }
     {
@@ -213,6 +215,7 @@ impl<A: Allocator + Clone + Drop> PatternGroups<A> {
     }
 
     /// The first group with the name.
+    #[inline]
     pub(crate) fn index(&self, name: &str) -> Option<usize>
         ensures { result ≡ index_of self.now name.now }
     {
