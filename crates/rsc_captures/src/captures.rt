@@ -20,8 +20,12 @@ use std::marker::Model;
 fn span_at(slots: &[Option<NonMaxUsize>], slot: usize) -> Option<Span>
     ensures { result ≡ span_at slots.now slot }
 {
-    let start = slots.get(slot).copied().unwrap_or(None)?;
-    let end = slots.get(slot + 1).copied().unwrap_or(None)?;
+    let Some(Some(start)) = slots.get(slot) else {
+        return None;
+    };
+    let Some(Some(end)) = slots.get(slot + 1) else {
+        return None;
+    };
     Some(Span {
         start: start.get(),
         end: end.get(),
@@ -231,6 +235,7 @@ impl<A: Allocator + Clone + Drop> Captures<A> {
     }
 
     /// The span of the group that has the name in the pattern that matched.
+    #[inline]
     pub fn get_group_by_name(&self, name: &str) -> Option<Span>
         ensures { result ≡ named_span self.now name.now }
     {
@@ -295,6 +300,7 @@ impl<'a, A: Allocator> Model for CapturesPatternIter<'a, A> {
 
 impl<'a, A: Allocator + Clone + Drop> CapturesPatternIter<'a, A> {
     /// How many groups are left.
+    #[inline]
     pub fn len(&self) -> usize
         ensures { result ≡ length self.now }
     {

@@ -44,6 +44,7 @@ impl Haystack for &[u8] {
 
 impl<A: Allocator + Clone + Drop> Captures<A> {
     // The first group from `from` on that takes part, and the place after it.
+    #[inline]
     fn next_participating(&self, from: usize) -> Option<(Span, usize)>
         ensures { MatchOption result (participating_from self.now from ≡ [])
             (λ found. participating_from self.now from ≡ found.0 ∷ participating_from self.now found.1) }
@@ -59,6 +60,7 @@ impl<A: Allocator + Clone + Drop> Captures<A> {
     /// What the groups that take part in the match cut out of a text or of bytes: the first, which is the whole match, and
     /// the next `N`. Any after them are not looked at. `None` exactly if there are fewer than `N + 1` of them, or one of
     /// those doesn't cut the haystack. The parts live as long as the haystack.
+    #[inline]
     pub fn extract_from<H: Haystack, const N: usize>(&self, haystack: H) -> Option<(H, [H; N])>
         ensures { option_map (λ parts. H.bytes parts.0 ∷ map H.bytes parts.1) result
             ≡ pieces (H.cut_of (H.bytes haystack)) (N + 1) (participating self.now) }
@@ -77,6 +79,7 @@ impl<A: Allocator + Clone + Drop> Captures<A> {
 
 impl Captures {
     // `extract_from` over the usual allocator.
+    #[inline]
     fn extract_parts<H: Haystack, const N: usize>(&self, haystack: H) -> Option<(H, [H; N])>
         ensures { option_map (λ parts. H.bytes parts.0 ∷ map H.bytes parts.1) result
             ≡ pieces (H.cut_of (H.bytes haystack)) (N + 1) (participating self.now) }
@@ -86,6 +89,7 @@ impl Captures {
 
     /// What the groups that take part in the match cut out of a text: the first, which is the whole match, and the next
     /// `N`, as by [`Captures::extract_from`].
+    #[inline]
     pub fn extract<'h, const N: usize>(&self, haystack: &'h str) -> Option<(&'h str, [&'h str; N])>
         ensures { option_map (λ parts. parts.0.now ∷ map (λ p. p.now) parts.1) result
             ≡ pieces (cut_text haystack.now) (N + 1) (participating self.now) }
@@ -95,6 +99,7 @@ impl Captures {
 
     /// What the groups that take part in the match cut out of bytes: the first, which is the whole match, and the next `N`,
     /// as by [`Captures::extract_from`].
+    #[inline]
     pub fn extract_bytes<'h, const N: usize>(
         &self,
         haystack: &'h [u8],

@@ -21,7 +21,8 @@ pub(crate) enum Fault<'a> {
 }
 
 /// Whether the group has the name.
-fn is_named(group: Option<&str>, name: &str) -> bool
+#[inline]
+pub(crate) fn is_named(group: Option<&str>, name: &str) -> bool
     ensures { result ≡ has_name name.now (option_copied group.entry) }
 {
     match group {

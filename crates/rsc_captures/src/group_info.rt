@@ -253,6 +253,7 @@ impl<A: Allocator + Clone + Drop> GroupInfo<A> {
     }
 
     /// The group of a pattern that has the name, or `None` where there is none. Names are local to each pattern.
+    #[inline]
     pub fn to_index(&self, pid: PatternID, name: &str) -> Option<usize>
         ensures index { result ≡ index_of (groups_of self.now pid) name.now }
         ensures named { (g : ℕ) → (result ≡ Some g) ↔ (name_of self.now pid g ≡ Some name.now) }

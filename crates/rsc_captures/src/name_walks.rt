@@ -31,6 +31,7 @@ impl<'a, A: Allocator> Model for GroupInfoPatternNames<'a, A> {
 }
 
 impl<'a, A: Allocator + Clone + Drop> GroupInfoPatternNames<'a, A> {
+    #[inline]
     pub(crate) fn new(
         group_info: &'a GroupInfo<A>,
         pattern: PatternID,
@@ -45,6 +46,7 @@ impl<'a, A: Allocator + Clone + Drop> GroupInfoPatternNames<'a, A> {
     }
 
     /// How many groups are left.
+    #[inline]
     pub fn len(&self) -> usize
         ensures { result ≡ length self.now }
     {
@@ -61,6 +63,7 @@ impl<'a, A: Allocator + Clone + Drop> Iterator for GroupInfoPatternNames<'a, A> 
 
     ghost remaining = { item_count (λ rest. rest) };
 
+    #[inline]
     fn next(&mut self) -> Option<Option<&'a str>> {
         let group = self.next_group;
         if group >= self.group_info.group_len(self.pattern) {
@@ -100,6 +103,7 @@ impl<'a, A: Allocator> Model for GroupInfoAllNames<'a, A> {
 }
 
 impl<'a, A: Allocator + Clone + Drop> GroupInfoAllNames<'a, A> {
+    #[inline]
     pub(crate) fn new(group_info: &'a GroupInfo<A>) -> GroupInfoAllNames<'a, A>
         ensures { result ≡ all_names_of group_info.now }
     {
@@ -118,6 +122,7 @@ impl<'a, A: Allocator + Clone + Drop> Iterator for GroupInfoAllNames<'a, A> {
 
     ghost remaining = { item_count (λ rest. rest) };
 
+    #[inline]
     fn next(&mut self) -> Option<(PatternID, usize, Option<&'a str>)> {
         while self.next_pattern < self.group_info.pattern_len() {
             let pattern = PatternID::must(self.next_pattern);

@@ -1,5 +1,9 @@
 //! The names of one pattern's groups.
-ghost use Rattle.std.specs.Prelude.{◌≡◌, ℕ, ◌<◌, ◌+◌, ◌++◌, List, [], ◌∷◌, length, Some, IfOk, IfErr, OnOk, is_none, not, slice_index_or, None};
+//!
+//! A name is looked for in two steps. Its hash names a few places of a table, and each of these proposes a group: where that
+//! group has the name, it is the one. Nothing depends on what the table proposes, so no contract speaks of it. Where none has
+//! the name, the ordered index decides, and whatever the names are, its depth is the logarithm of their number.
+ghost use Rattle.std.specs.Prelude.{◌≡◌, ℕ, ◌<◌, ◌+◌, ◌++◌, List, [], ◌∷◌, length, Some, IfSome, IfOk, IfErr, OnOk, is_none, not, slice_index_or, None};
 ghost use Rattle.std.specs.Option.{option_copied};
 ghost use Rattle.std.specs.Map.{update};
 ghost use Rattle.std.specs.Str.{bytes_eq};
@@ -9,8 +13,10 @@ ghost use Rattle.rsc_captures.specs.Groups.{groups_in, index_of, contains_name, 
 ghost use Rattle.rsc_captures.specs.Names.{groups_held, IsIndexOf};
 ghost use Rattle.rsc_captures.specs.declared.names.NamesError.TheVariants.{OutOfMemory};
 
+use crate::faults::is_named;
 use std::alloc::{AllocError, AllocFailed, Allocator, Global};
 use std::collections::BTreeMap;
+use std::hash::{FoldHasher, Hasher};
 use std::marker::Model;
 
 /// The groups of one pattern: their names in order, and the group of each name.
@@ -19,17 +25,18 @@ use std::marker::Model;
 pub(crate) struct PatternGroups<A: Allocator = Global> {
     names: Vec<Option<String<A>>, A>,
     index: BTreeMap<String<A>, usize, A>,
+    proposals: Vec<u32, A>,
 }
 
 impl<A: Allocator> Model for PatternGroups<A> {
     ghost use Rattle.rsc_captures.specs.Groups.{Groups};
-    ghost use Rattle.rsc_captures.specs.Names.{groups_held, IsIndexOf};
+    ghost use Rattle.rsc_captures.specs.Names.{groups_held, IsIndexed};
 
     ghost Value = { Groups };
 
     ghost view = { λ p. groups_held p.names.items };
 
-    ghost invariant = { λ p. IsIndexOf p.index (groups_held p.names.items) };
+    ghost invariant = { λ p. IsIndexed p.index (groups_held p.names.items) };
 }
 
 /// Why the groups of a pattern are refused: the name of a group stands at a lesser one, or memory ran out.
@@ -94,6 +101,57 @@ fn push_group<A: Allocator + Clone + Drop>(
     Ok(true)
 }
 
+// How many places of the table a name has.
+const PLACES: u64 = 4;
+
+// Fewer groups than these need no table: the ordered index is one node.
+const FEW: usize = 10;
+
+// The place of the table where a name's places begin, before it is cut to the table's length.
+#[inline]
+fn first_place(name: &str) -> u64 {
+    let mut hasher = FoldHasher::default();
+    hasher.write(name.as_bytes());
+    hasher.finish()
+}
+
+// Puts the group into the first free place of the name.
+fn propose(proposals: &mut [u32], name: &str, group: u32) {
+    let mask = (proposals.len() as u64).wrapping_sub(1);
+    let first = first_place(name);
+    for i in 0..PLACES {
+        let place = first.wrapping_add(i) & mask;
+        if let Some(held) = proposals.get_mut(place as usize) {
+            if *held == 0 {
+                *held = group;
+                return;
+            }
+        }
+    }
+}
+
+// A table in which most names find their group: its length is a power of two, 0 stands for no proposal.
+fn proposals_of<A: Allocator>(
+    alloc: A,
+    groups: &[Option<&str>],
+) -> Result<Vec<u32, A>, AllocError> {
+    if groups.len() < FEW {
+        return Ok(Vec::new(alloc));
+    }
+    let length = groups
+        .len()
+        .checked_next_power_of_two()
+        .unwrap_or(1)
+        .saturating_mul(2);
+    let mut proposals: Vec<u32, A> = vec![in alloc; 0u32; length]?;
+    for (g, group) in groups.iter().enumerate() {
+        if let Some(name) = group {
+            propose(&mut proposals, name, u32::try_from(g).unwrap_or(0));
+        }
+    }
+    Ok(proposals)
+}
+
 impl<A: Allocator + Clone + Drop> PatternGroups<A> {
     ghost use Rattle.rsc_captures.specs.Names.{NamesRefused};
 
@@ -113,9 +171,15 @@ impl<A: Allocator + Clone + Drop> PatternGroups<A> {
                 return Err(NamesError::Repeats(g));
             }
         }
-        Ok(PatternGroups { names, index })
+        let proposals = proposals_of(alloc, groups)?;
+        Ok(PatternGroups {
+            names,
+            index,
+            proposals,
+        })
     }
 
+    #[inline]
     pub(crate) fn len(&self) -> usize
         ensures { result ≡ length self.now }
     {
@@ -123,6 +187,7 @@ impl<A: Allocator + Clone + Drop> PatternGroups<A> {
     }
 
     /// The name of a group, if it has one.
+    #[inline]
     pub(crate) fn name(&self, group: usize) -> Option<&str>
         ensures { option_copied result ≡ slice_index_or self.now group None }
     {
@@ -132,10 +197,31 @@ impl<A: Allocator + Clone + Drop> PatternGroups<A> {
         }
     }
 
+    // The group that the name's places propose, if it has the name.
+    #[inline]
+    fn proposed(&self, name: &str) -> Option<usize>
+        ensures { IfSome result (λ g. index_of self.now name.now ≡ Some g) }
+    {
+        let mask = (self.proposals.len() as u64).wrapping_sub(1);
+        let first = first_place(name);
+        for i in 0..PLACES {
+            let place = first.wrapping_add(i) & mask;
+            let group = *self.proposals.get(place as usize)? as usize;
+            if is_named(self.name(group), name) {
+                return Some(group);
+            }
+        }
+        None
+    }
+
     /// The first group with the name.
+    #[inline]
     pub(crate) fn index(&self, name: &str) -> Option<usize>
         ensures { result ≡ index_of self.now name.now }
     {
+        if let Some(group) = self.proposed(name) {
+            return Some(group);
+        }
         self.index.get(name).copied()
     }
 }

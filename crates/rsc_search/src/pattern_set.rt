@@ -57,7 +57,7 @@ impl<A: Allocator> PatternSet<A> {
     pub fn contains(&self, pid: PatternID) -> bool
         ensures { result ≡ has_member self.now.members pid }
     {
-        self.which.get(pid.as_usize()).copied().unwrap_or(false)
+        is_set(self.which.as_slice(), pid.as_usize())
     }
 
     /// Makes a pattern below the capacity a member, and says whether it is new.
@@ -175,6 +175,14 @@ impl<A: Allocator> Eq for PatternSet<A> {
     ghost use Rattle.rsc_search.specs.PatternSetsLaws.{same_patterns_equiv};
 
     ghost laws = { same_patterns_equiv };
+}
+
+// Whether the flag of `p` is there and set.
+#[inline]
+fn is_set(which: &[bool], p: usize) -> bool
+    ensures { result ≡ is_set which.now p }
+{
+    p < which.len() && which[p]
 }
 
 // The first set flag from `start` on and before `end`, or `end`.

@@ -1,0 +1,195 @@
+//! Kernels over captures.
+
+use crate::groups;
+use crate::repeat::repeat;
+use rsc_captures::{Captures, GroupInfo};
+use rsc_primitives::{NonMaxUsize, PatternID};
+use std::alloc::{AllocError, Global};
+
+// What the kernels 64 and 65 cut.
+const EXTRACT_HAYSTACK: &str = "0123456789abcdef";
+
+/// The sum of a kernel over group infos and captures, numbers 50 to 67. `data` is lists of groups, as [`groups::lists_of`]
+/// reads them.
+pub fn run(alloc: Global, kernel: u32, data: &[u8], reps: u64) -> Result<u64, AllocError> {
+    let held = groups::lists_of(alloc, data)?;
+    let lists = groups::slices_of(alloc, held.as_slice())?;
+    if kernel == 50 {
+        return Ok(repeat(reps, |sum| slots_of_new(alloc, &lists, sum)));
+    }
+    let Ok(info) = GroupInfo::new(alloc, &lists) else {
+        return Ok(0);
+    };
+    if kernel < 60 {
+        return groups::run(alloc, kernel, &lists, &info, reps);
+    }
+    match lists.first() {
+        Some(first) => over_captures(alloc, kernel, first, info, reps),
+        None => Ok(0),
+    }
+}
+
+fn over_captures(
+    alloc: Global,
+    kernel: u32,
+    first: &[Option<&str>],
+    info: GroupInfo,
+    reps: u64,
+) -> Result<u64, AllocError> {
+    let mut captures = filled(alloc, info.clone()?, first.len())?;
+    Ok(match kernel {
+        60 => repeat(reps, |sum| slots_of_all(alloc, &info, sum)),
+        61 => repeat(reps, |sum| spans_by_index(&captures, first.len(), sum)),
+        62 => repeat(reps, |sum| spans_by_name(&captures, first, sum)),
+        63 => repeat(reps, |sum| all_spans(&captures, sum)),
+        64 => repeat(reps, |sum| parts_of_text(&captures, EXTRACT_HAYSTACK, sum)),
+        65 => repeat(reps, |sum| {
+            parts_of_bytes(&captures, EXTRACT_HAYSTACK.as_bytes(), sum)
+        }),
+        66 => {
+            let mut sum = 0u64;
+            for _ in 0..reps {
+                sum = cleared(&mut captures, sum);
+            }
+            sum
+        }
+        67 => repeat(reps, |sum| slots_of_clone(&captures, sum)),
+        _ => 0,
+    })
+}
+
+// Captures of the first pattern, in which the group `g` spans one byte from `g` modulo 8 on.
+fn filled(alloc: Global, info: GroupInfo, groups: usize) -> Result<Captures, AllocError> {
+    let slots = slots_of(alloc, &info, groups)?;
+    let mut captures = Captures::all(alloc, info)?;
+    captures.set_pattern(Some(PatternID::ZERO));
+    for (g, slot) in slots.iter().enumerate() {
+        write_slot(&mut captures, *slot, g % 8);
+        write_slot(&mut captures, slot.saturating_add(1), g % 8 + 1);
+    }
+    Ok(captures)
+}
+
+// The first slot of each group of the first pattern.
+fn slots_of(alloc: Global, info: &GroupInfo, groups: usize) -> Result<Vec<usize>, AllocError> {
+    let mut slots = Vec::new(alloc);
+    for g in 0..groups {
+        if let Some(slot) = info.slot(PatternID::ZERO, g) {
+            slots.push(slot)?;
+        }
+    }
+    Ok(slots)
+}
+
+fn write_slot(captures: &mut Captures, slot: usize, offset: usize) {
+    if let Some(place) = captures.slots_mut().get_mut(slot) {
+        *place = NonMaxUsize::new(offset);
+    }
+}
+
+#[inline(never)]
+fn slots_of_new(alloc: Global, lists: &[&[Option<&str>]], sum: u64) -> u64 {
+    match GroupInfo::new(alloc, lists) {
+        Ok(info) => sum.wrapping_add(info.slot_len() as u64),
+        Err(_) => sum,
+    }
+}
+
+#[inline(never)]
+fn slots_of_all(alloc: Global, info: &GroupInfo, sum: u64) -> u64 {
+    match all_of(alloc, info) {
+        Ok(captures) => sum.wrapping_add(captures.slots().len() as u64),
+        Err(_) => sum,
+    }
+}
+
+#[inline(always)]
+fn all_of(alloc: Global, info: &GroupInfo) -> Result<Captures, AllocError> {
+    Captures::all(alloc, info.clone()?)
+}
+
+#[inline(never)]
+fn slots_of_clone(captures: &Captures, sum: u64) -> u64 {
+    match captures.clone() {
+        Ok(clone) => sum.wrapping_add(clone.slots().len() as u64),
+        Err(_) => sum,
+    }
+}
+
+#[inline(never)]
+fn spans_by_index(captures: &Captures, groups: usize, sum: u64) -> u64 {
+    let mut sum = sum;
+    for g in 0..groups {
+        if let Some(span) = captures.get_group(g) {
+            sum = sum.wrapping_add(span.start as u64).wrapping_add(span.end as u64);
+        }
+    }
+    sum
+}
+
+#[inline(never)]
+fn spans_by_name(captures: &Captures, names: &[Option<&str>], sum: u64) -> u64 {
+    let mut sum = sum;
+    for name in names {
+        if let Some(name) = *name {
+            if let Some(span) = captures.get_group_by_name(name) {
+                sum = sum.wrapping_add(span.start as u64).wrapping_add(span.end as u64);
+            }
+        }
+    }
+    sum
+}
+
+#[inline(never)]
+fn all_spans(captures: &Captures, sum: u64) -> u64 {
+    let mut sum = sum;
+    for found in captures.iter() {
+        if let Some(span) = found {
+            sum = sum.wrapping_add(span.start as u64).wrapping_add(span.end as u64);
+        }
+    }
+    sum
+}
+
+#[inline(never)]
+fn parts_of_text(captures: &Captures, haystack: &str, sum: u64) -> u64 {
+    let Some(parts) = captures.extract_from::<&str, 3>(haystack) else {
+        return sum;
+    };
+    let mut sum = sum.wrapping_add(first_byte(parts.0.as_bytes()));
+    let groups = parts.1;
+    for group in groups {
+        sum = sum.wrapping_add(first_byte(group.as_bytes()));
+    }
+    sum
+}
+
+#[inline(never)]
+fn parts_of_bytes(captures: &Captures, haystack: &[u8], sum: u64) -> u64 {
+    let Some(parts) = captures.extract_from::<&[u8], 3>(haystack) else {
+        return sum;
+    };
+    let mut sum = sum.wrapping_add(first_byte(parts.0));
+    let groups = parts.1;
+    for group in groups {
+        sum = sum.wrapping_add(first_byte(group));
+    }
+    sum
+}
+
+#[inline(always)]
+fn first_byte(bytes: &[u8]) -> u64 {
+    match bytes.first() {
+        Some(byte) => u64::from(*byte),
+        None => 0,
+    }
+}
+
+// Whether there is still a match after one was set and the captures were cleared.
+#[inline(never)]
+fn cleared(captures: &mut Captures, sum: u64) -> u64 {
+    captures.set_pattern(Some(PatternID::ZERO));
+    write_slot(captures, 0, 1);
+    captures.clear();
+    sum.wrapping_add(u64::from(captures.is_match()))
+}

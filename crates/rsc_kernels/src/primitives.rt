@@ -1,0 +1,154 @@
+//! Kernels over small indices, UTF-8 and bytes shown as text.
+ghost use Rattle.std.specs.Prelude.{◌≤◌};
+
+use crate::repeat::repeat;
+use rsc_primitives::escape::{byte_text, haystack_text};
+use rsc_primitives::utf8::{decode, decode_last, is_boundary, is_word_byte};
+use rsc_primitives::{PatternID, SmallIndex};
+use std::alloc::{AllocError, Global};
+
+/// The sum of a kernel of this layer, numbers 1 to 8.
+pub fn run(
+    alloc: Global,
+    kernel: u32,
+    data: &[u8],
+    param: u64,
+    reps: u64,
+) -> Result<u64, AllocError> {
+    Ok(match kernel {
+        1 => repeat(reps, |sum| word_bytes(data, sum)),
+        2 => repeat(reps, |sum| decoded(data, sum)),
+        3 => repeat(reps, |sum| decoded_last(data, sum)),
+        4 => repeat(reps, |sum| boundaries(data, sum)),
+        5 => repeat(reps, |sum| text_of_haystack(alloc, data, sum)),
+        6 => repeat(reps, |sum| texts_of_bytes(alloc, data, sum)),
+        7 => {
+            let numbers = numbers_of(alloc, data)?;
+            repeat(reps, |sum| small_indices(&numbers, sum))
+        }
+        8 => repeat(reps, |sum| pattern_ids(param as usize, sum)),
+        _ => 0,
+    })
+}
+
+// Numbers of eight bytes, the least significant first.
+fn numbers_of(alloc: Global, data: &[u8]) -> Result<Vec<usize>, AllocError> {
+    let mut numbers = Vec::new(alloc);
+    for bytes in data.chunks_exact(8) {
+        if let [a, b, c, d, e, f, g, h] = bytes {
+            numbers.push(u64::from_le_bytes([*a, *b, *c, *d, *e, *f, *g, *h]) as usize)?;
+        }
+    }
+    Ok(numbers)
+}
+
+// How many bytes are word bytes.
+#[inline(never)]
+fn word_bytes(data: &[u8], sum: u64) -> u64 {
+    let mut sum = sum;
+    for byte in data {
+        sum = sum.wrapping_add(u64::from(is_word_byte(*byte)));
+    }
+    sum
+}
+
+// The characters' numbers, and the bytes that are in no character, from the front.
+#[inline(never)]
+fn decoded(data: &[u8], sum: u64) -> u64 {
+    let mut sum = sum;
+    let mut rest = data;
+    'steps: while let Some(found) = decode(rest) {
+        let (number, size) = seen(found);
+        sum = sum.wrapping_add(number);
+        match rest.get(size..) {
+            Some(behind) => rest = behind,
+            None => return sum,
+        }
+    }
+    sum
+}
+
+// The same from the back.
+#[inline(never)]
+fn decoded_last(data: &[u8], sum: u64) -> u64 {
+    let mut sum = sum;
+    let mut rest = data;
+    'steps: while let Some(found) = decode_last(rest) {
+        let (number, size) = seen(found);
+        sum = sum.wrapping_add(number);
+        if size > rest.len() {
+            return sum;
+        }
+        rest = &rest[..rest.len() - size];
+    }
+    sum
+}
+
+// The number of what was read, and how many bytes it takes.
+#[inline(always)]
+fn seen(found: Result<char, u8>) -> (u64, usize)
+    ensures { 1 ≤ result.1 }
+{
+    match found {
+        Ok(c) => (u64::from(c as u32), c.len_utf8()),
+        Err(byte) => (u64::from(byte), 1),
+    }
+}
+
+// How many places are boundaries.
+#[inline(never)]
+fn boundaries(data: &[u8], sum: u64) -> u64 {
+    let mut sum = sum;
+    for at in 0..data.len() + 1 {
+        sum = sum.wrapping_add(u64::from(is_boundary(data, at)));
+    }
+    sum
+}
+
+// The length of the haystack's text.
+#[inline(never)]
+fn text_of_haystack(alloc: Global, data: &[u8], sum: u64) -> u64 {
+    match haystack_text(alloc, data) {
+        Ok(text) => sum.wrapping_add(text.len() as u64),
+        Err(_) => sum,
+    }
+}
+
+// The lengths of the texts of the bytes.
+#[inline(never)]
+fn texts_of_bytes(alloc: Global, data: &[u8], sum: u64) -> u64 {
+    let mut sum = sum;
+    for byte in data {
+        if let Ok(text) = byte_text(alloc, *byte) {
+            sum = sum.wrapping_add(text.len() as u64);
+        }
+    }
+    sum
+}
+
+// The indices of the numbers, and the lowest byte of each that is refused.
+#[inline(never)]
+fn small_indices(numbers: &[usize], sum: u64) -> u64 {
+    let mut sum = sum;
+    for number in numbers {
+        let added = match SmallIndex::new(*number) {
+            Ok(index) => index.as_u64(),
+            Err(error) => error.attempted() & 0xFF,
+        };
+        sum = sum.wrapping_add(added);
+    }
+    sum
+}
+
+// A mix of the first pattern numbers, in their order.
+#[inline(never)]
+fn pattern_ids(len: usize, sum: u64) -> u64 {
+    if len > PatternID::LIMIT {
+        return sum;
+    }
+    let mut mix = 0u64;
+    for id in PatternID::iter(len) {
+        mix = mix.rotate_left(1) ^ id.as_u64();
+    }
+    sum.wrapping_add(mix)
+}

@@ -1,0 +1,139 @@
+//! Kernels over pattern sets.
+
+use rsc_primitives::PatternID;
+use rsc_search::PatternSet;
+use std::alloc::{AllocError, Global};
+
+/// The sum of a kernel of this layer, numbers 40 to 45. `param` is the set's capacity.
+pub fn run(
+    alloc: Global,
+    kernel: u32,
+    data: &[u8],
+    param: u64,
+    reps: u64,
+) -> Result<u64, AllocError> {
+    let ids = ids_of(alloc, data)?;
+    let (Some(count), capacity) = (count_of(data), param as usize) else {
+        return Ok(0);
+    };
+    if count > ids.len() || capacity > PatternID::LIMIT {
+        return Ok(0);
+    }
+    let (members, queries) = ids.as_slice().split_at(count);
+    let mut set = PatternSet::new(alloc, capacity)?;
+    if kernel != 40 && kernel != 41 {
+        refused(&mut set, members, 0);
+    }
+    let mut sum = 0u64;
+    for _ in 0..reps {
+        sum = pass(kernel, &mut set, members, queries, sum);
+    }
+    Ok(sum)
+}
+
+// The first number of the input, which says how many of the others are members.
+fn count_of(data: &[u8]) -> Option<usize> {
+    match data {
+        [a, b, c, d, ..] => Some(u32::from_le_bytes([*a, *b, *c, *d]) as usize),
+        _ => None,
+    }
+}
+
+// All other numbers of the input.
+fn ids_of(alloc: Global, data: &[u8]) -> Result<Vec<PatternID>, AllocError> {
+    let mut ids = Vec::new(alloc);
+    for bytes in data.chunks_exact(4).skip(1) {
+        if let [a, b, c, d] = bytes {
+            if let Ok(id) = PatternID::from_le_bytes([*a, *b, *c, *d]) {
+                ids.push(id)?;
+            }
+        }
+    }
+    Ok(ids)
+}
+
+#[inline(always)]
+fn pass(
+    kernel: u32,
+    set: &mut PatternSet,
+    members: &[PatternID],
+    queries: &[PatternID],
+    sum: u64,
+) -> u64 {
+    match kernel {
+        40 => fill(set, members, sum),
+        41 => clear(set, members, sum),
+        42 => refused(set, members, sum),
+        43 => found(set, queries, sum),
+        44 => walk(set, sum),
+        _ => walk_back(set, sum),
+    }
+}
+
+// How many are new when all are put in; the set is empty before and after.
+#[inline(never)]
+fn fill(set: &mut PatternSet, members: &[PatternID], sum: u64) -> u64 {
+    let mut sum = sum;
+    for id in members {
+        sum = sum.wrapping_add(u64::from(is_new(set, *id)));
+    }
+    set.clear();
+    sum
+}
+
+// The same of the first alone.
+#[inline(never)]
+fn clear(set: &mut PatternSet, members: &[PatternID], sum: u64) -> u64 {
+    let mut sum = sum;
+    if let Some(id) = members.first() {
+        sum = sum.wrapping_add(u64::from(is_new(set, *id)));
+    }
+    set.clear();
+    sum
+}
+
+// How many aren't new when all are put in.
+#[inline(never)]
+fn refused(set: &mut PatternSet, members: &[PatternID], sum: u64) -> u64 {
+    let mut sum = sum;
+    for id in members {
+        sum = sum.wrapping_add(u64::from(!is_new(set, *id)));
+    }
+    sum
+}
+
+#[inline(always)]
+fn is_new(set: &mut PatternSet, id: PatternID) -> bool {
+    match set.try_insert(id) {
+        Ok(is_new) => is_new,
+        Err(_) => false,
+    }
+}
+
+// How many are members.
+#[inline(never)]
+fn found(set: &PatternSet, queries: &[PatternID], sum: u64) -> u64 {
+    let mut sum = sum;
+    for id in queries {
+        sum = sum.wrapping_add(u64::from(set.contains(*id)));
+    }
+    sum
+}
+
+#[inline(never)]
+fn walk(set: &PatternSet, sum: u64) -> u64 {
+    let mut sum = sum;
+    for id in set.iter() {
+        sum = sum.wrapping_add(id.as_u64());
+    }
+    sum
+}
+
+#[inline(never)]
+fn walk_back(set: &PatternSet, sum: u64) -> u64 {
+    let mut sum = sum;
+    for id in set.iter().rev() {
+        sum = sum.wrapping_add(id.as_u64());
+    }
+    sum
+}
