@@ -9,9 +9,7 @@ mod measure;
 #[cfg(not(ported))]
 #[allow(dead_code)]
 mod util {
-    include!(concat!(env!("BENCH_OUT"), "/original.rs"));
-    pub mod interpolate;
-    pub mod wire;
+    include!(env!("ORIGINAL_MODULES"));
 }
 mod workloads;
 
