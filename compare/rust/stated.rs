@@ -122,44 +122,6 @@ pub fn holds(look: Look, terminator: u8, word: Word, haystack: &[u8], at: usize)
     }
 }
 
-/// The class map of a set of boundaries: a byte's class is the number of boundaries below it.
-pub fn class_map(boundaries: &[bool; 256]) -> [u8; 256] {
-    std::array::from_fn(|b| boundaries[..b].iter().filter(|&&is| is).count() as u8)
-}
-
-/// The class map under which two bytes are alike exactly if the same ranges hold them.
-pub fn range_classes(ranges: &[(u8, u8)]) -> [u8; 256] {
-    let within =
-        |&(start, end): &(u8, u8), b: usize| usize::from(start) <= b && b <= usize::from(end);
-    let mut boundaries = [false; 256];
-    for b in 0..255 {
-        boundaries[b] = ranges.iter().any(|r| within(r, b) != within(r, b + 1));
-    }
-    class_map(&boundaries)
-}
-
-/// The boundaries that an assertion marks.
-pub fn look_boundaries(look: Look, terminator: u8) -> Vec<u8> {
-    let around = |b: u8| b.checked_sub(1).into_iter().chain([b]);
-    match look {
-        Look::Start | Look::End => vec![],
-        Look::StartLF | Look::EndLF => around(terminator).collect(),
-        Look::StartCRLF | Look::EndCRLF => around(0x0D).chain(around(0x0A)).collect(),
-        _ => vec![0x2F, 0x39, 0x40, 0x5A, 0x5E, 0x5F, 0x60, 0x7A],
-    }
-}
-
-/// The class map of a list of assertions, by the marks of its members.
-pub fn look_classes(terminator: u8, looks: &[Look]) -> [u8; 256] {
-    let mut boundaries = [false; 256];
-    for &look in looks {
-        for b in look_boundaries(look, terminator) {
-            boundaries[usize::from(b)] = true;
-        }
-    }
-    class_map(&boundaries)
-}
-
 /// The eighteen.
 pub fn all_looks() -> impl Iterator<Item = Look> + Clone {
     (0..18).filter_map(|i| Look::from_repr(1 << i))

@@ -1,6 +1,5 @@
 //! Units, byte sets, class sets, class maps.
 
-use crate::stated;
 use crate::tokens::*;
 use crate::util::alphabet::{ByteClassSet, ByteClasses, ByteSet};
 use crate::util::look::{Look, LookMatcher};
@@ -138,12 +137,8 @@ pub fn answer(name: &str, port: bool, args: &[&str]) -> Read<String> {
         }
         ("classset", false, [terminator, ops @ ..]) => classset(byte(terminator)?, ops),
         ("ranges", false, [ranges]) => Ok(show_map(&classes_of_ranges(&rising_pairs(ranges)?))),
-        ("ranges", true, [ranges]) => Ok(hex(&stated::range_classes(&rising_pairs(ranges)?))),
         ("classes_of", false, [terminator, looks]) => {
             Ok(show_map(&classes_of(byte(terminator)?, &list(looks, ',', look)?)))
-        }
-        ("classes_of", true, [terminator, looks]) => {
-            Ok(hex(&stated::look_classes(byte(terminator)?, &list(looks, ',', look)?)))
         }
         ("ranges_at", false, [ranges, at]) => {
             Ok(classes_at(&classes_of_ranges(&rising_pairs(ranges)?), &bytes(at)?))
