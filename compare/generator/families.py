@@ -1,6 +1,6 @@
 """Random commands, a family for each group of calls."""
 from .definitions import (
-    LOOKS, MAX, PLAIN, USIZE_MAX, WIDTHS, Captures, Refused, all_characters, begins, departs, departs_at, encode, join,
+    LOOKS, MAX, PLAIN, USIZE_MAX, WIDTHS, Captures, Refused, all_characters, departs, departs_at, encode, join,
     moved_span, read_map, show_byte, show_hex, show_lists, tagged)
 from .values import (
     any_bytes, any_character, group_lists, haystack, look_list, look_set, members, near_max, pieces, some_bound, some_byte,

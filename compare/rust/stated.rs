@@ -30,19 +30,19 @@ fn encoded(bytes: &[u8]) -> Option<char> {
 }
 
 /// The character whose encoding begins at `i`.
-pub fn begins(h: &[u8], i: usize) -> Option<char> {
-    (1..=4).filter(|n| i + n <= h.len()).find_map(|n| encoded(&h[i..i + n]))
+pub fn begins(haystack: &[u8], i: usize) -> Option<char> {
+    (1..=4).filter(|n| i + n <= haystack.len()).find_map(|n| encoded(&haystack[i..i + n]))
 }
 
 /// The character whose encoding ends at `i`.
-pub fn ends(h: &[u8], i: usize) -> Option<char> {
-    (1..=4).filter(|&n| n <= i).find_map(|n| encoded(&h[i - n..i]))
+pub fn ends(haystack: &[u8], i: usize) -> Option<char> {
+    (1..=4).filter(|&n| n <= i).find_map(|n| encoded(&haystack[i - n..i]))
 }
 
 /// The character at the end, else the last byte: an encoding must reach the end.
-pub fn decode_last(h: &[u8]) -> Option<Result<char, u8>> {
-    let last = *h.last()?;
-    Some(ends(h, h.len()).ok_or(last))
+pub fn decode_last(haystack: &[u8]) -> Option<Result<char, u8>> {
+    let last = *haystack.last()?;
+    Some(ends(haystack, haystack.len()).ok_or(last))
 }
 
 /// What `\w` accepts: any predicate on characters.
@@ -82,28 +82,35 @@ fn side(byte: Option<u8>, c: Option<char>, word: Word) -> Side {
 }
 
 /// Whether an assertion holds at a position, by its neighbours.
-pub fn holds(look: Look, t: u8, word: Word, h: &[u8], at: usize) -> bool {
-    let p = at.checked_sub(1).map(|i| h[i]);
-    let n = h.get(at).copied();
-    let (word_p, word_n) = (p.is_some_and(is_word_byte), n.is_some_and(is_word_byte));
-    let before = || side(p, ends(h, at), word);
-    let after = || side(n, begins(h, at), word);
+pub fn holds(look: Look, terminator: u8, word: Word, haystack: &[u8], at: usize) -> bool {
+    let previous = at.checked_sub(1).map(|i| haystack[i]);
+    let next = haystack.get(at).copied();
+    let (word_previous, word_next) =
+        (previous.is_some_and(is_word_byte), next.is_some_and(is_word_byte));
+    let before = || side(previous, ends(haystack, at), word);
+    let after = || side(next, begins(haystack, at), word);
     let is_word = |s: Side| s == Side::Word;
     match look {
-        Look::Start => p.is_none(),
-        Look::End => n.is_none(),
-        Look::StartLF => p.is_none() || p == Some(t),
-        Look::EndLF => n.is_none() || n == Some(t),
+        Look::Start => previous.is_none(),
+        Look::End => next.is_none(),
+        Look::StartLF => previous.is_none() || previous == Some(terminator),
+        Look::EndLF => next.is_none() || next == Some(terminator),
         Look::StartCRLF => {
-            p.is_none() || p == Some(b'\n') || (p == Some(b'\r') && n != Some(b'\n'))
+            previous.is_none()
+                || previous == Some(b'\n')
+                || (previous == Some(b'\r') && next != Some(b'\n'))
         }
-        Look::EndCRLF => n.is_none() || n == Some(b'\r') || (n == Some(b'\n') && p != Some(b'\r')),
-        Look::WordAscii => word_p != word_n,
-        Look::WordAsciiNegate => word_p == word_n,
-        Look::WordStartAscii => !word_p && word_n,
-        Look::WordEndAscii => word_p && !word_n,
-        Look::WordStartHalfAscii => !word_p,
-        Look::WordEndHalfAscii => !word_n,
+        Look::EndCRLF => {
+            next.is_none()
+                || next == Some(b'\r')
+                || (next == Some(b'\n') && previous != Some(b'\r'))
+        }
+        Look::WordAscii => word_previous != word_next,
+        Look::WordAsciiNegate => word_previous == word_next,
+        Look::WordStartAscii => !word_previous && word_next,
+        Look::WordEndAscii => word_previous && !word_next,
+        Look::WordStartHalfAscii => !word_previous,
+        Look::WordEndHalfAscii => !word_next,
         Look::WordUnicode => is_word(before()) != is_word(after()),
         Look::WordUnicodeNegate => {
             before() != Side::Bad && after() != Side::Bad && is_word(before()) == is_word(after())
@@ -113,44 +120,6 @@ pub fn holds(look: Look, t: u8, word: Word, h: &[u8], at: usize) -> bool {
         Look::WordStartHalfUnicode => matches!(before(), Side::None | Side::Other),
         Look::WordEndHalfUnicode => matches!(after(), Side::None | Side::Other),
     }
-}
-
-/// The class map of a set of boundaries: a byte's class is the number of boundaries below it.
-pub fn class_map(boundaries: &[bool; 256]) -> [u8; 256] {
-    std::array::from_fn(|b| boundaries[..b].iter().filter(|&&is| is).count() as u8)
-}
-
-/// The class map under which two bytes are alike exactly if the same ranges hold them.
-pub fn range_classes(ranges: &[(u8, u8)]) -> [u8; 256] {
-    let within =
-        |&(start, end): &(u8, u8), b: usize| usize::from(start) <= b && b <= usize::from(end);
-    let mut boundaries = [false; 256];
-    for b in 0..255 {
-        boundaries[b] = ranges.iter().any(|r| within(r, b) != within(r, b + 1));
-    }
-    class_map(&boundaries)
-}
-
-/// The boundaries that an assertion marks.
-pub fn look_boundaries(look: Look, t: u8) -> Vec<u8> {
-    let around = |b: u8| b.checked_sub(1).into_iter().chain([b]);
-    match look {
-        Look::Start | Look::End => vec![],
-        Look::StartLF | Look::EndLF => around(t).collect(),
-        Look::StartCRLF | Look::EndCRLF => around(0x0D).chain(around(0x0A)).collect(),
-        _ => vec![0x2F, 0x39, 0x40, 0x5A, 0x5E, 0x5F, 0x60, 0x7A],
-    }
-}
-
-/// The class map of a list of assertions, by the marks of its members.
-pub fn look_classes(t: u8, looks: &[Look]) -> [u8; 256] {
-    let mut boundaries = [false; 256];
-    for &look in looks {
-        for b in look_boundaries(look, t) {
-            boundaries[usize::from(b)] = true;
-        }
-    }
-    class_map(&boundaries)
 }
 
 /// The eighteen.
@@ -164,14 +133,14 @@ pub fn lookset_from_bits(bits: u32) -> Option<u32> {
 }
 
 /// The bytes of a span, where it is one of the haystack.
-pub fn cut(h: &[u8], start: usize, end: usize) -> Option<&[u8]> {
-    (start <= end && end <= h.len()).then(|| &h[start..end])
+pub fn cut(haystack: &[u8], start: usize, end: usize) -> Option<&[u8]> {
+    (start <= end && end <= haystack.len()).then(|| &haystack[start..end])
 }
 
 /// The text of a span, whose ends must be character boundaries too.
-pub fn cut_text(h: &str, start: usize, end: usize) -> Option<&str> {
-    let boundary = |i: usize| h.as_bytes().get(i).is_none_or(|b| !matches!(b, 0x80..=0xBF));
-    let bytes = cut(h.as_bytes(), start, end)?;
+pub fn cut_text(haystack: &str, start: usize, end: usize) -> Option<&str> {
+    let boundary = |i: usize| haystack.as_bytes().get(i).is_none_or(|b| !matches!(b, 0x80..=0xBF));
+    let bytes = cut(haystack.as_bytes(), start, end)?;
     if !boundary(start) || !boundary(end) {
         return None;
     }

@@ -1,6 +1,5 @@
 //! Units, byte sets, class sets, class maps.
 
-use crate::stated;
 use crate::tokens::*;
 use crate::util::alphabet::{ByteClassSet, ByteClasses, ByteSet};
 use crate::util::look::{Look, LookMatcher};
@@ -55,9 +54,9 @@ fn classes_of_ranges(ranges: &[(u8, u8)]) -> ByteClasses {
 }
 
 /// The classes after `add_to_byteset` of each assertion.
-fn classes_of(t: u8, looks: &[Look]) -> ByteClasses {
+fn classes_of(terminator: u8, looks: &[Look]) -> ByteClasses {
     let mut matcher = LookMatcher::new();
-    matcher.set_line_terminator(t);
+    matcher.set_line_terminator(terminator);
     let mut set = ByteClassSet::empty();
     for &look in looks {
         matcher.add_to_byteset(look, &mut set);
@@ -81,25 +80,25 @@ fn byteset(ops: &[&str]) -> Read<String> {
         match op {
             "a" => set.add(byte(rest)?),
             "r" => set.remove(byte(rest)?),
-            "c" => answers.push(tf(set.contains(byte(rest)?)).to_string()),
+            "c" => answers.push(show_truth(set.contains(byte(rest)?)).to_string()),
             "R" => {
                 let (start, end) = pair(rest, false)?;
-                answers.push(tf(set.contains_range(start, end)).to_string());
+                answers.push(show_truth(set.contains_range(start, end)).to_string());
             }
             "i" => answers.push(walk(set.iter(), ",", |b| format!("{b:02x}"))),
             "g" => answers.push(walk(set.iter_ranges(), ",", |(start, end)| {
                 format!("{start:02x}-{end:02x}")
             })),
-            "e" => answers.push(tf(set.is_empty()).to_string()),
+            "e" => answers.push(show_truth(set.is_empty()).to_string()),
             _ => return Err(Bad),
         }
     }
     Ok(join(answers, " "))
 }
 
-fn classset(t: u8, ops: &[&str]) -> Read<String> {
+fn classset(terminator: u8, ops: &[&str]) -> Read<String> {
     let mut matcher = LookMatcher::new();
-    matcher.set_line_terminator(t);
+    matcher.set_line_terminator(terminator);
     let mut set = ByteClassSet::default();
     for op in ops {
         let (op, rest) = op.split_at_checked(1).ok_or(Bad)?;
@@ -125,32 +124,28 @@ pub fn answer(name: &str, port: bool, args: &[&str]) -> Read<String> {
                 show_option(u.as_u8()),
                 show_option(u.as_eoi()),
                 u.as_usize(),
-                tf(u.is_eoi()),
-                tf(u.is_word_byte()),
+                show_truth(u.is_eoi()),
+                show_truth(u.is_word_byte()),
                 u
             ))
         }
-        ("unit_is_byte", false, [u, b]) => Ok(tf(unit(u)?.is_byte(byte(b)?)).to_string()),
+        ("unit_is_byte", false, [u, b]) => Ok(show_truth(unit(u)?.is_byte(byte(b)?)).to_string()),
         ("unit_cmp", false, [u, v]) => Ok(compare(unit(u)?, unit(v)?)),
         ("byteset", false, ops) => byteset(ops),
         ("byteset_eq", false, [a, b]) => {
-            Ok(tf(set_of(&bytes(a)?) == set_of(&bytes(b)?)).to_string())
+            Ok(show_truth(set_of(&bytes(a)?) == set_of(&bytes(b)?)).to_string())
         }
-        ("classset", false, [t, ops @ ..]) => classset(byte(t)?, ops),
+        ("classset", false, [terminator, ops @ ..]) => classset(byte(terminator)?, ops),
         ("ranges", false, [ranges]) => Ok(show_map(&classes_of_ranges(&rising_pairs(ranges)?))),
-        ("ranges", true, [ranges]) => Ok(hex(&stated::range_classes(&rising_pairs(ranges)?))),
-        ("classes_of", false, [t, looks]) => {
-            Ok(show_map(&classes_of(byte(t)?, &list(looks, ',', look)?)))
-        }
-        ("classes_of", true, [t, looks]) => {
-            Ok(hex(&stated::look_classes(byte(t)?, &list(looks, ',', look)?)))
+        ("classes_of", false, [terminator, looks]) => {
+            Ok(show_map(&classes_of(byte(terminator)?, &list(looks, ',', look)?)))
         }
         ("ranges_at", false, [ranges, at]) => {
             Ok(classes_at(&classes_of_ranges(&rising_pairs(ranges)?), &bytes(at)?))
         }
-        ("classes_at", false, [t, looks, at]) => {
+        ("classes_at", false, [terminator, looks, at]) => {
             let looks = list(looks, ',', look)?;
-            Ok(classes_at(&classes_of(byte(t)?, &looks), &bytes(at)?))
+            Ok(classes_at(&classes_of(byte(terminator)?, &looks), &bytes(at)?))
         }
         ("map_get", false, [m]) => Ok(show_map(&map(m)?)),
         ("map_info", false, [m]) => {
@@ -159,7 +154,7 @@ pub fn answer(name: &str, port: bool, args: &[&str]) -> Read<String> {
                 "{} {} {} {}",
                 classes.alphabet_len(),
                 classes.stride2(),
-                tf(classes.is_singleton()),
+                show_truth(classes.is_singleton()),
                 show_unit(classes.eoi())
             ))
         }

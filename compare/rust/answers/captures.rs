@@ -42,7 +42,7 @@ fn groups(lists: &Lists) -> String {
 
 fn pattern_and_group(s: &str) -> Read<(PatternID, usize)> {
     let (p, g) = two(s)?;
-    Ok((pattern(p)?, num(g)?))
+    Ok((pattern(p)?, number(g)?))
 }
 
 fn group_info_script(mut info: GroupInfo, ops: &[&str]) -> Read<String> {
@@ -85,7 +85,7 @@ fn group_info_script(mut info: GroupInfo, ops: &[&str]) -> Read<String> {
 }
 
 fn offset(s: &str) -> Read<Option<NonMaxUsize>> {
-    option(s, |s| NonMaxUsize::new(num(s)?).ok_or(Bad))
+    option(s, |s| NonMaxUsize::new(number(s)?).ok_or(Bad))
 }
 
 fn captures(kind: &str, lists: &Lists) -> Read<Captures> {
@@ -109,32 +109,37 @@ fn stated_extract(
     caps: &Captures,
     lists: &Lists,
     n: usize,
-    h: &[u8],
+    haystack: &[u8],
     as_text: bool,
 ) -> Read<Option<Vec<Vec<u8>>>> {
     let slots: Vec<Option<usize>> = caps.slots().iter().map(|s| s.map(|s| s.get())).collect();
     let pattern = caps.pattern().map(|pid| pid.as_usize());
     let participating = stated::participating(lists, pattern, &slots);
     if !as_text {
-        let cut = |start, end| stated::cut(h, start, end).map(|c| c.to_vec());
+        let cut = |start, end| stated::cut(haystack, start, end).map(|c| c.to_vec());
         return Ok(stated::extract(n, &participating, cut));
     }
-    let h = std::str::from_utf8(h).map_err(|_| Bad)?;
-    let cut = |start, end| stated::cut_text(h, start, end).map(|c| c.as_bytes().to_vec());
+    let haystack = std::str::from_utf8(haystack).map_err(|_| Bad)?;
+    let cut = |start, end| stated::cut_text(haystack, start, end).map(|c| c.as_bytes().to_vec());
     Ok(stated::extract(n, &participating, cut))
 }
 
-fn original_extract(caps: &Captures, n: usize, h: &[u8], as_text: bool) -> Read<Vec<Vec<u8>>> {
+fn original_extract(
+    caps: &Captures,
+    n: usize,
+    haystack: &[u8],
+    as_text: bool,
+) -> Read<Vec<Vec<u8>>> {
     macro_rules! by_number {
         ($($n:literal)*) => {
             match n {
                 $($n if as_text => {
-                    let h = std::str::from_utf8(h).map_err(|_| Bad)?;
-                    let (whole, groups) = caps.extract::<$n>(h);
+                    let haystack = std::str::from_utf8(haystack).map_err(|_| Bad)?;
+                    let (whole, groups) = caps.extract::<$n>(haystack);
                     [whole].iter().chain(&groups).map(|s| s.as_bytes().to_vec()).collect()
                 })*
                 $($n => {
-                    let (whole, groups) = caps.extract_bytes::<$n>(h);
+                    let (whole, groups) = caps.extract_bytes::<$n>(haystack);
                     [whole].iter().chain(&groups).map(|s| s.to_vec()).collect()
                 })*
                 _ => return Err(Bad),
@@ -155,14 +160,14 @@ fn captures_script(
     for op in ops {
         let (op, rest) = op.split_at_checked(1).ok_or(Bad)?;
         match op {
-            "m" => answers.push(tf(caps.is_match()).to_string()),
+            "m" => answers.push(show_truth(caps.is_match()).to_string()),
             "p" => answers.push(show_option(caps.pattern().map(|pid| pid.as_usize()))),
             "G" => answers.push(caps.group_info().pattern_len().to_string()),
             "s" => {
                 let slots = caps.slots().iter().map(|s| show_option(s.map(|s| s.get())));
                 answers.push(join(slots, ","));
             }
-            "g" => answers.push(show_span(caps.get_group(num(rest)?))),
+            "g" => answers.push(show_span(caps.get_group(number(rest)?))),
             "n" => answers.push(show_span(caps.get_group_by_name(&text(rest)?))),
             "l" => answers.push(caps.group_len().to_string()),
             "i" => {
@@ -180,21 +185,21 @@ fn captures_script(
                     })));
             }
             "x" | "y" => {
-                let (n, h) = two(rest)?;
-                let (n, h, as_text) = (num(n)?, bytes(h)?, op == "x");
-                let stated = stated_extract(&caps, lists, n, &h, as_text)?;
+                let (n, haystack) = two(rest)?;
+                let (n, haystack, as_text) = (number(n)?, bytes(haystack)?, op == "x");
+                let stated = stated_extract(&caps, lists, n, &haystack, as_text)?;
                 answers.push(match port {
                     true => show_extracted(stated),
                     // The original would panic where the port answers None.
                     false if stated.is_none() => return Err(Bad),
-                    false => show_extracted(Some(original_extract(&caps, n, &h, as_text)?)),
+                    false => show_extracted(Some(original_extract(&caps, n, &haystack, as_text)?)),
                 });
             }
             "c" => caps.clear(),
             "=" => caps.set_pattern(option(rest, pattern)?),
             "w" => {
                 let (index, value) = two(rest)?;
-                let slot = caps.slots_mut().get_mut(num::<usize>(index)?).ok_or(Bad)?;
+                let slot = caps.slots_mut().get_mut(number::<usize>(index)?).ok_or(Bad)?;
                 *slot = offset(value)?;
             }
             "k" => caps = caps.clone(),

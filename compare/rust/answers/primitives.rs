@@ -24,19 +24,19 @@ macro_rules! index_commands {
                     $index::SIZE,
                     $index::default().as_usize()
                 )),
-                ("idx_new", [n]) => Ok(show($index::new(num(n)?))),
-                ("idx_from", ["u8", n]) => Ok(show(Ok($index::from(num::<u8>(n)?)))),
-                ("idx_from", ["u16", n]) => Ok(show($index::try_from(num::<u16>(n)?))),
-                ("idx_from", ["u32", n]) => Ok(show($index::try_from(num::<u32>(n)?))),
-                ("idx_from", ["u64", n]) => Ok(show($index::try_from(num::<u64>(n)?))),
-                ("idx_from", ["usize", n]) => Ok(show($index::try_from(num::<usize>(n)?))),
-                ("idx_from_le", [h]) => {
-                    let le: [u8; 4] = bytes(h)?.try_into().map_err(|_| Bad)?;
+                ("idx_new", [n]) => Ok(show($index::new(number(n)?))),
+                ("idx_from", ["u8", n]) => Ok(show(Ok($index::from(number::<u8>(n)?)))),
+                ("idx_from", ["u16", n]) => Ok(show($index::try_from(number::<u16>(n)?))),
+                ("idx_from", ["u32", n]) => Ok(show($index::try_from(number::<u32>(n)?))),
+                ("idx_from", ["u64", n]) => Ok(show($index::try_from(number::<u64>(n)?))),
+                ("idx_from", ["usize", n]) => Ok(show($index::try_from(number::<usize>(n)?))),
+                ("idx_from_le", [haystack]) => {
+                    let le: [u8; 4] = bytes(haystack)?.try_into().map_err(|_| Bad)?;
                     let ne = u32::from_le_bytes(le).to_ne_bytes();
                     Ok(show($index::from_ne_bytes(ne)))
                 }
                 ("idx_get", [n]) => {
-                    let n: usize = num(n)?;
+                    let n: usize = number(n)?;
                     if n > $index::MAX.as_usize() {
                         return Err(Bad);
                     }
@@ -54,14 +54,14 @@ macro_rules! index_commands {
                     ))
                 }
                 ("idx_cmp", [a, b]) => {
-                    let a = $index::new(num(a)?).map_err(|_| Bad)?;
-                    let b = $index::new(num(b)?).map_err(|_| Bad)?;
+                    let a = $index::new(number(a)?).map_err(|_| Bad)?;
+                    let b = $index::new(number(b)?).map_err(|_| Bad)?;
                     Ok(compare(a, b))
                 }
                 ("idx_err_eq", [a, b]) => {
-                    let a = $index::new(num(a)?).err().ok_or(Bad)?;
-                    let b = $index::new(num(b)?).err().ok_or(Bad)?;
-                    Ok(tf(a == b).to_string())
+                    let a = $index::new(number(a)?).err().ok_or(Bad)?;
+                    let b = $index::new(number(b)?).err().ok_or(Bad)?;
+                    Ok(show_truth(a == b).to_string())
                 }
                 _ => Err(Bad),
             }
@@ -101,34 +101,38 @@ fn show_decoded(decoded: Option<Result<char, u8>>) -> String {
 
 pub fn answer(name: &str, port: bool, args: &[&str]) -> Read<String> {
     match (name, port, args) {
-        ("idx_iter", _, [kind, len, take]) => index_walk(kind, num(len)?, num(take)?, port),
+        ("idx_iter", _, [kind, len, take]) => index_walk(kind, number(len)?, number(take)?, port),
         (_, false, ["small", rest @ ..]) => small(name, rest),
         (_, false, ["pattern", rest @ ..]) => pattern_id(name, rest),
         (_, false, ["state", rest @ ..]) => state(name, rest),
-        ("nonmax", false, [n]) => Ok(match NonMaxUsize::new(num(n)?) {
+        ("nonmax", false, [n]) => Ok(match NonMaxUsize::new(number(n)?) {
             None => "_".to_string(),
             Some(x) => format!("{} {:?}", x.get(), x),
         }),
         ("nonmax_cmp", false, [a, b]) => {
-            let a = NonMaxUsize::new(num(a)?).ok_or(Bad)?;
-            let b = NonMaxUsize::new(num(b)?).ok_or(Bad)?;
+            let a = NonMaxUsize::new(number(a)?).ok_or(Bad)?;
+            let b = NonMaxUsize::new(number(b)?).ok_or(Bad)?;
             Ok(compare(a, b))
         }
-        ("decode", false, [h]) => Ok(show_decoded(utf8::decode(&bytes(h)?))),
-        ("decode_last", false, [h]) => Ok(show_decoded(utf8::decode_last(&bytes(h)?))),
-        ("decode_last", true, [h]) => Ok(show_decoded(stated::decode_last(&bytes(h)?))),
-        ("is_boundary", false, [h, i]) => {
-            Ok(tf(utf8::is_boundary(&bytes(h)?, num(i)?)).to_string())
+        ("decode", false, [haystack]) => Ok(show_decoded(utf8::decode(&bytes(haystack)?))),
+        ("decode_last", false, [haystack]) => {
+            Ok(show_decoded(utf8::decode_last(&bytes(haystack)?)))
         }
-        ("boundaries", false, [h]) => {
-            let h = bytes(h)?;
-            Ok(tfs((0..=h.len() + 1).map(|i| utf8::is_boundary(&h, i))))
+        ("decode_last", true, [haystack]) => {
+            Ok(show_decoded(stated::decode_last(&bytes(haystack)?)))
         }
-        ("is_word_byte", false, [b]) => Ok(tf(utf8::is_word_byte(byte(b)?)).to_string()),
+        ("is_boundary", false, [haystack, i]) => {
+            Ok(show_truth(utf8::is_boundary(&bytes(haystack)?, number(i)?)).to_string())
+        }
+        ("boundaries", false, [haystack]) => {
+            let haystack = bytes(haystack)?;
+            Ok(show_truths((0..=haystack.len() + 1).map(|i| utf8::is_boundary(&haystack, i))))
+        }
+        ("is_word_byte", false, [b]) => Ok(show_truth(utf8::is_word_byte(byte(b)?)).to_string()),
         ("byte_text", false, [b]) => Ok(format!("{:?}", DebugByte(byte(b)?))),
-        ("haystack_text", false, [h]) => {
+        ("haystack_text", false, [haystack]) => {
             let mut text = String::new();
-            write!(text, "{:?}", DebugHaystack(&bytes(h)?)).map_err(|_| Bad)?;
+            write!(text, "{:?}", DebugHaystack(&bytes(haystack)?)).map_err(|_| Bad)?;
             Ok(text)
         }
         _ => Err(Bad),

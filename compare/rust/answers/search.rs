@@ -8,7 +8,7 @@ use crate::util::primitives::PatternID;
 use crate::util::search::*;
 
 fn span(start: &str, end: &str) -> Read<Span> {
-    Ok(Span { start: num(start)?, end: num(end)? })
+    Ok(Span { start: number(start)?, end: number(end)? })
 }
 
 /// Refuses what the original would panic at.
@@ -31,8 +31,8 @@ fn input_state(input: &Input<'_>) -> String {
             range.start.to_string(),
             range.end.to_string(),
             show_mode(input.get_anchored()),
-            tf(input.get_earliest()).to_string(),
-            tf(input.is_done()).to_string(),
+            show_truth(input.get_earliest()).to_string(),
+            show_truth(input.is_done()).to_string(),
         ],
         ",",
     )
@@ -56,7 +56,7 @@ fn change<'h>(mut input: Input<'h>, op: &str) -> Read<Input<'h>> {
         "r" | "R" => {
             use std::ops::Bound::*;
             let (start, end) = two(rest)?;
-            let range = (bound(start, num::<usize>)?, bound(end, num::<usize>)?);
+            let range = (bound(start, number::<usize>)?, bound(end, number::<usize>)?);
             let start = match range.0 {
                 Unbounded => 0,
                 Included(i) => i,
@@ -74,12 +74,12 @@ fn change<'h>(mut input: Input<'h>, op: &str) -> Read<Input<'h>> {
             input.set_range(range);
         }
         "a" => {
-            let start = num(rest)?;
+            let start = number(rest)?;
             fits(Span { start, end: input.end() })?;
             input.set_start(start);
         }
         "z" => {
-            let end = num(rest)?;
+            let end = number(rest)?;
             fits(Span { start: input.start(), end })?;
             input.set_end(end);
         }
@@ -95,15 +95,15 @@ fn change<'h>(mut input: Input<'h>, op: &str) -> Read<Input<'h>> {
 fn match_error(args: &[&str]) -> Read<String> {
     let (made, kind) = match *args {
         ["quit", b, offset] => {
-            let (byte, offset) = (byte(b)?, num(offset)?);
+            let (byte, offset) = (byte(b)?, number(offset)?);
             (MatchError::quit(byte, offset), MatchErrorKind::Quit { byte, offset })
         }
         ["gaveup", offset] => {
-            let offset = num(offset)?;
+            let offset = number(offset)?;
             (MatchError::gave_up(offset), MatchErrorKind::GaveUp { offset })
         }
         ["toolong", len] => {
-            let len = num(len)?;
+            let len = number(len)?;
             (MatchError::haystack_too_long(len), MatchErrorKind::HaystackTooLong { len })
         }
         ["anchored", m] => {
@@ -114,11 +114,11 @@ fn match_error(args: &[&str]) -> Read<String> {
         _ => return Err(Bad),
     };
     let same = made == MatchError::new(kind.clone()) && *made.kind() == kind;
-    Ok(format!("{} {}", tf(same), made))
+    Ok(format!("{} {}", show_truth(same), made))
 }
 
 fn capacity(s: &str) -> Read<usize> {
-    let capacity = num(s)?;
+    let capacity = number(s)?;
     require(capacity <= PatternID::LIMIT)?;
     Ok(capacity)
 }
@@ -162,24 +162,24 @@ fn pattern_set_script(port: bool, cap: &str, ops: &[&str]) -> Read<String> {
             "i" => {
                 let pid = pattern(rest)?;
                 require(pid.as_usize() < set.capacity())?;
-                answers.push(tf(set.insert(pid)).to_string());
+                answers.push(show_truth(set.insert(pid)).to_string());
             }
             "t" => answers.push(match set.try_insert(pattern(rest)?) {
-                Ok(new) => tf(new).to_string(),
+                Ok(new) => show_truth(new).to_string(),
                 Err(_) => "!".to_string(),
             }),
-            "c" => answers.push(tf(set.contains(pattern(rest)?)).to_string()),
+            "c" => answers.push(show_truth(set.contains(pattern(rest)?)).to_string()),
             "x" => set.clear(),
             "k" => {
                 let clone = set.clone();
-                answers.push(tf(clone == set).to_string());
+                answers.push(show_truth(clone == set).to_string());
                 set = clone;
             }
             "q" => answers.push(format!(
                 "{}:{}:{}:{}",
                 set.len(),
-                tf(set.is_empty()),
-                tf(set.is_full()),
+                show_truth(set.is_empty()),
+                show_truth(set.is_full()),
                 set.capacity()
             )),
             "l" => answers.push(walk(set.iter(), ",", |p| p.as_usize().to_string())),
@@ -200,7 +200,7 @@ pub fn answer(name: &str, port: bool, args: &[&str]) -> Read<String> {
             require(back == span && there == range)?;
             Ok(format!(
                 "{} {} {} {} {:?}",
-                tf(span.is_empty()),
+                show_truth(span.is_empty()),
                 span.len(),
                 range.start,
                 range.end,
@@ -208,37 +208,37 @@ pub fn answer(name: &str, port: bool, args: &[&str]) -> Read<String> {
             ))
         }
         ("span_contains", false, [start, end, o]) => {
-            Ok(tf(span(start, end)?.contains(num(o)?)).to_string())
+            Ok(show_truth(span(start, end)?.contains(number(o)?)).to_string())
         }
         ("span_offset", false, [start, end, n]) => {
-            let (span, n) = (span(start, end)?, num::<usize>(n)?);
+            let (span, n) = (span(start, end)?, number::<usize>(n)?);
             require(span.start.checked_add(n).is_some() && span.end.checked_add(n).is_some())?;
             let moved = span.offset(n);
             Ok(format!("{} {}", moved.start, moved.end))
         }
-        ("span_eq", false, [a, b, c, d]) => Ok(tf(span(a, b)? == span(c, d)?).to_string()),
-        ("span_get", true, [start, end, h]) => {
-            let (span, h) = (span(start, end)?, bytes(h)?);
-            Ok(show_option(stated::cut(&h, span.start, span.end).map(hex)))
+        ("span_eq", false, [a, b, c, d]) => Ok(show_truth(span(a, b)? == span(c, d)?).to_string()),
+        ("span_get", true, [start, end, haystack]) => {
+            let (span, haystack) = (span(start, end)?, bytes(haystack)?);
+            Ok(show_option(stated::cut(&haystack, span.start, span.end).map(hex)))
         }
-        ("span_str", true, [start, end, h]) => {
-            let (span, h) = (span(start, end)?, text(h)?);
-            let cut = stated::cut_text(&h, span.start, span.end);
+        ("span_str", true, [start, end, haystack]) => {
+            let (span, haystack) = (span(start, end)?, text(haystack)?);
+            let cut = stated::cut_text(&haystack, span.start, span.end);
             Ok(show_option(cut.map(|s| hex(s.as_bytes()))))
         }
-        ("span_mut", true, [start, end, h, b]) => {
-            let (span, mut h) = (span(start, end)?, bytes(h)?);
-            Ok(match h.get_mut(span.start..span.end) {
+        ("span_mut", true, [start, end, haystack, b]) => {
+            let (span, mut haystack) = (span(start, end)?, bytes(haystack)?);
+            Ok(match haystack.get_mut(span.start..span.end) {
                 None => "_".to_string(),
                 Some(lent) => {
                     lent.fill(byte(b)?);
-                    hex(&h)
+                    hex(&haystack)
                 }
             })
         }
-        ("input", false, [h, ops @ ..]) => {
-            let h = bytes(h)?;
-            let mut input = Input::new(&h);
+        ("input", false, [haystack, ops @ ..]) => {
+            let haystack = bytes(haystack)?;
+            let mut input = Input::new(&haystack);
             let mut states = vec![input_state(&input)];
             for op in ops {
                 input = change(input.clone(), op)?;
@@ -246,26 +246,26 @@ pub fn answer(name: &str, port: bool, args: &[&str]) -> Read<String> {
             }
             Ok(format!("{} {}", join(states, " "), hex(input.haystack())))
         }
-        ("input_debug", false, [h, ops @ ..]) => {
-            let h = bytes(h)?;
-            let mut input = Input::new(&h);
+        ("input_debug", false, [haystack, ops @ ..]) => {
+            let haystack = bytes(haystack)?;
+            let mut input = Input::new(&haystack);
             for op in ops {
                 input = change(input, op)?;
             }
             Ok(format!("{input:?}"))
         }
-        ("input_boundary", false, [h, i]) => {
-            Ok(tf(Input::new(&bytes(h)?).is_char_boundary(num(i)?)).to_string())
+        ("input_boundary", false, [haystack, i]) => {
+            Ok(show_truth(Input::new(&bytes(haystack)?).is_char_boundary(number(i)?)).to_string())
         }
         ("half", false, [p, o]) => {
-            let half = HalfMatch::must(pattern(p)?.as_usize(), num(o)?);
+            let half = HalfMatch::must(pattern(p)?.as_usize(), number(o)?);
             require(half == HalfMatch::new(half.pattern(), half.offset()))?;
             Ok(format!("{} {}", half.pattern().as_usize(), half.offset()))
         }
         ("half_eq", false, [p, o, q, r]) => {
-            let a = HalfMatch::new(pattern(p)?, num(o)?);
-            let b = HalfMatch::new(pattern(q)?, num(r)?);
-            Ok(tf(a == b).to_string())
+            let a = HalfMatch::new(pattern(p)?, number(o)?);
+            let b = HalfMatch::new(pattern(q)?, number(r)?);
+            Ok(show_truth(a == b).to_string())
         }
         ("match", false, [p, start, end]) => {
             let (pid, span) = (pattern(p)?, span(start, end)?);
@@ -281,7 +281,7 @@ pub fn answer(name: &str, port: bool, args: &[&str]) -> Read<String> {
                 m.range().end,
                 m.span().start,
                 m.span().end,
-                tf(m.is_empty()),
+                show_truth(m.is_empty()),
                 m.len()
             ))
         }
@@ -289,14 +289,14 @@ pub fn answer(name: &str, port: bool, args: &[&str]) -> Read<String> {
             let (one, two) = (span(a, b)?, span(c, d)?);
             require(one.start <= one.end && two.start <= two.end)?;
             let same = Match::new(pattern(p)?, one) == Match::new(pattern(q)?, two);
-            Ok(tf(same).to_string())
+            Ok(show_truth(same).to_string())
         }
         ("anchored", false, [m]) => {
             let mode = mode(m)?;
             let pid = mode.pattern().map(|p| p.as_usize());
-            Ok(format!("{} {}", tf(mode.is_anchored()), show_option(pid)))
+            Ok(format!("{} {}", show_truth(mode.is_anchored()), show_option(pid)))
         }
-        ("anchored_eq", false, [m, n]) => Ok(tf(mode(m)? == mode(n)?).to_string()),
+        ("anchored_eq", false, [m, n]) => Ok(show_truth(mode(m)? == mode(n)?).to_string()),
         ("match_kind", false, [k]) => {
             let kind = match *k {
                 "all" => MatchKind::All,
@@ -305,7 +305,7 @@ pub fn answer(name: &str, port: bool, args: &[&str]) -> Read<String> {
                 _ => return Err(Bad),
             };
             let name = if kind == MatchKind::All { "all" } else { "leftmost" };
-            Ok(format!("{} {}", tf(kind.continue_past_first_match()), name))
+            Ok(format!("{} {}", show_truth(kind.continue_past_first_match()), name))
         }
         ("match_err", false, args) => match_error(args),
         ("pset", _, [cap, ops @ ..]) => pattern_set_script(port, cap, ops),
@@ -316,7 +316,7 @@ pub fn answer(name: &str, port: bool, args: &[&str]) -> Read<String> {
         }
         ("pset_eq", false, [cap, members, other_cap, other_members]) => {
             let (a, b) = (pattern_set(cap, members)?, pattern_set(other_cap, other_members)?);
-            Ok(tf(a == b).to_string())
+            Ok(show_truth(a == b).to_string())
         }
         _ => Err(Bad),
     }
