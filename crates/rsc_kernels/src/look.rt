@@ -88,10 +88,10 @@ fn classes_of_list(looks: &[Look], line_terminator: u8, sum: u64) -> u64 {
 #[inline(never)]
 fn places(matcher: &LookMatcher<UnicodeWord>, look: Look, haystack: &[u8], sum: u64) -> u64 {
     let mut sum = sum;
-    for at in 0..haystack.len() + 1 {
+    for at in 0..haystack.len() {
         sum = sum.wrapping_add(u64::from(matcher.matches(look, haystack, at)));
     }
-    sum
+    sum.wrapping_add(u64::from(matcher.matches(look, haystack, haystack.len())))
 }
 
 // At how many places every assertion of the set holds.
@@ -103,10 +103,10 @@ fn places_of_set(
     sum: u64,
 ) -> u64 {
     let mut sum = sum;
-    for at in 0..haystack.len() + 1 {
+    for at in 0..haystack.len() {
         sum = sum.wrapping_add(u64::from(matcher.matches_set(set, haystack, at)));
     }
-    sum
+    sum.wrapping_add(u64::from(matcher.matches_set(set, haystack, haystack.len())))
 }
 
 // The bits of the union of each two neighbouring sets.
