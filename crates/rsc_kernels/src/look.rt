@@ -38,12 +38,7 @@ pub fn run(
 }
 
 /// The sum of the kernel 12, the classes of a list of assertions; each byte of `data` is the number of one, from 0 to 17.
-pub fn classes_of(
-    alloc: Global,
-    data: &[u8],
-    param: u64,
-    reps: u64,
-) -> Result<u64, AllocError> {
+pub fn classes_of(alloc: Global, data: &[u8], param: u64, reps: u64) -> Result<u64, AllocError> {
     let looks = looks_of(alloc, data)?;
     let line_terminator = (param % 256) as u8;
     Ok(repeat(reps, |sum| classes_of_list(&looks, line_terminator, sum)))
