@@ -114,7 +114,7 @@ impl<W: WordClass> LookMatcher<W> {
     }
 
     /// Whether every assertion of a set holds at a position of a haystack; so it is where the set has no member.
-    #[inline]
+    #[inline(always)]
     pub fn matches_set(&self, set: LookSet, haystack: &[u8], at: usize) -> bool
         requires { at ≤ length haystack.now }
         ensures { IsTrue result ↔ ((look : Look) → sets.contains set look ≡ true →
