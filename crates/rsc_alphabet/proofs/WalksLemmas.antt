@@ -1,7 +1,6 @@
 -- The steps of the walks of a class map.
 use Rattle.std.proofs.Common.{◌≡◌, ℕ, ◌+◌, ◌-◌, ◌<◌, ◌≤◌, Bool, true, false, not, cond, List, [], ◌∷◌, ◌++◌, map, filter, refl, sym, ap, ◌∙◌, arith, nat_eq, slice_index, Option, Some, None}
-use Rattle.std.proofs.lemmas.Bool.{eq-eqb, ne_eqb, eqb-true, not-true, not-false, true≢false}
-use Rattle.std.specs.Option.{option_eq}
+use Rattle.std.proofs.lemmas.Bool.{eq-eqb, ne_eqb}
 use Rattle.rsc_alphabet.specs.Bytes.{from_to, bytes}
 use Rattle.rsc_alphabet.specs.BytesLaws.{from_to_none, from_to_first, length-from_to, get_or-from_to, filter_same, filter_first, filter_skip}
 use Rattle.rsc_alphabet.specs.Symbols.{Symbol, byte, end_of_input, byte_of}
@@ -50,14 +49,17 @@ representatives_left_old classes low high last with_end c l is was same =
 pub representatives_left_none : (classes : List ℕ) (low high : ℕ) (last : Option ℕ) (with_end : Bool) → high ≤ low → representatives_left classes low high last with_end ≡ cond with_end (end_of classes ∷ []) []
 representatives_left_none classes low high last with_end l = rw (from_to_none low high l) refl
 
--- what `last != Some(c)` says
-pub is_same : (o : Option ℕ) (c : ℕ) (r : Bool) → r ≡ not (option_eq nat_eq o (Some c)) → r ≡ false → o ≡ Some c
-is_same None c r is none = absurd (true≢false (sym is ∙ none))
-is_same (Some d) c r is none = ap Some (eqb-true d c (not-false _ (sym is ∙ none)))
-
-pub is_other : (o : Option ℕ) (c : ℕ) (r : Bool) → r ≡ not (option_eq nat_eq o (Some c)) → r ≡ true → o ≡ Some c → ⊥
-is_other None c r is one same = cc
-is_other (Some d) c r is one same = let e : d ≡ c = cc in true≢false (sym (eq-eqb d c e) ∙ not-true _ (sym is ∙ one))
+-- a representative, or the end, begins a walk of its own
+pub representatives_left_again : (classes : List ℕ) (low high c : ℕ) (with_end : Bool) → c ≡ slice_index classes (low - 1) → (low < high → slice_index classes low ≡ c → ⊥) →
+    representatives_left classes low high (Some c) with_end ≡ representatives_left classes low high None with_end
+representatives_left_again classes low high c with_end was other =
+    ⊎_elim
+    (λ (l : low < high).
+    representatives_left_new classes low high (Some c) with_end (slice_index classes low) l refl was (λ e. other l (let f : slice_index classes low ≡ c = cc in f))
+    ∙ sym (representatives_left_new classes low high None with_end (slice_index classes low) l refl tt (λ e. cc)))
+    (λ (l : high ≤ low).
+    representatives_left_none classes low high (Some c) with_end l ∙ sym (representatives_left_none classes low high None with_end l))
+    (cases_lt low high)
 
 -- ---- the classes
 

@@ -177,7 +177,6 @@ impl ByteClasses {
             classes: self,
             next_byte,
             end_byte,
-            last_class: None,
             with_end,
         }
     }
@@ -314,23 +313,22 @@ impl<'a> Iterator for ByteClassElements<'a> {
 #[derive(Debug, Drop)]
 pub struct ByteClassRepresentatives<'a> {
     classes: &'a ByteClasses,
+    // The next representative, if it is below `end_byte`.
     next_byte: usize,
     end_byte: usize,
-    // The class of the byte before `next_byte`, or `None` at the first byte of the range.
-    last_class: Option<u8>,
     with_end: bool,
 }
 
 impl<'a> Model for ByteClassRepresentatives<'a> {
-    ghost use Rattle.std.specs.Prelude.{◌≤◌, List};
+    ghost use Rattle.std.specs.Prelude.{◌≤◌, List, None};
     ghost use Rattle.rsc_alphabet.specs.Symbols.{Symbol};
-    ghost use Rattle.rsc_alphabet.specs.WalkLayout.{representatives_left, IsLastClass};
+    ghost use Rattle.rsc_alphabet.specs.WalkLayout.{representatives_left};
 
     ghost Value = { List Symbol };
 
-    ghost view = { λ it. representatives_left it.classes.now it.next_byte it.end_byte it.last_class it.with_end };
+    ghost view = { λ it. representatives_left it.classes.now it.next_byte it.end_byte None it.with_end };
 
-    ghost invariant = { λ it. (it.end_byte ≤ 256) × IsLastClass it.classes.now it.last_class it.next_byte };
+    ghost invariant = { λ it. it.end_byte ≤ 256 };
 }
 
 impl<'a> Iterator for ByteClassRepresentatives<'a> {
@@ -341,19 +339,19 @@ impl<'a> Iterator for ByteClassRepresentatives<'a> {
     ghost remaining = { item_count (λ rest. rest) };
 
     fn next(&mut self) -> Option<Unit> {
-        while self.next_byte < self.end_byte {
-            let byte = self.next_byte as u8;
-            let class = self.classes.get(byte);
-            self.next_byte += 1;
-            if self.last_class != Some(class) {
-                self.last_class = Some(class);
-                return Some(Unit::u8(byte));
+        if self.next_byte >= self.end_byte {
+            if !self.with_end {
+                return None;
             }
-        }
-        if self.with_end {
             self.with_end = false;
             return Some(self.classes.eoi());
         }
-        None
+        let byte = self.next_byte as u8;
+        let class = self.classes.get(byte);
+        self.next_byte += 1;
+        while self.next_byte < self.end_byte && self.classes.get(self.next_byte as u8) == class {
+            self.next_byte += 1;
+        }
+        Some(Unit::u8(byte))
     }
 }

@@ -107,8 +107,7 @@ fn add_range(members: &mut ByteSet, start: u8, end: u8) {
 /// The classes of `a` and of the last byte, which hang on all boundaries below them.
 #[inline(never)]
 pub fn last(classes: &ByteClasses, sum: u64) -> u64 {
-    sum
-        .wrapping_add(u64::from(classes.get(b'a')))
+    sum.wrapping_add(u64::from(classes.get(b'a')))
         .wrapping_add(u64::from(classes.get(255)))
 }
 
@@ -198,7 +197,9 @@ fn all_members(members: &ByteSet, sum: u64) -> u64 {
 fn all_runs(members: &ByteSet, sum: u64) -> u64 {
     let mut sum = sum;
     for (start, end) in members.iter_ranges() {
-        sum = sum.wrapping_add(u64::from(start)).wrapping_add(u64::from(end));
+        sum = sum
+            .wrapping_add(u64::from(start))
+            .wrapping_add(u64::from(end));
     }
     sum
 }

@@ -121,7 +121,9 @@ fn spans_by_index(captures: &Captures, groups: usize, sum: u64) -> u64 {
     let mut sum = sum;
     for g in 0..groups {
         if let Some(span) = captures.get_group(g) {
-            sum = sum.wrapping_add(span.start as u64).wrapping_add(span.end as u64);
+            sum = sum
+                .wrapping_add(span.start as u64)
+                .wrapping_add(span.end as u64);
         }
     }
     sum
@@ -133,7 +135,9 @@ fn spans_by_name(captures: &Captures, names: &[Option<&str>], sum: u64) -> u64 {
     for name in names {
         if let Some(name) = *name {
             if let Some(span) = captures.get_group_by_name(name) {
-                sum = sum.wrapping_add(span.start as u64).wrapping_add(span.end as u64);
+                sum = sum
+                    .wrapping_add(span.start as u64)
+                    .wrapping_add(span.end as u64);
             }
         }
     }
@@ -145,7 +149,9 @@ fn all_spans(captures: &Captures, sum: u64) -> u64 {
     let mut sum = sum;
     for found in captures.iter() {
         if let Some(span) = found {
-            sum = sum.wrapping_add(span.start as u64).wrapping_add(span.end as u64);
+            sum = sum
+                .wrapping_add(span.start as u64)
+                .wrapping_add(span.end as u64);
         }
     }
     sum

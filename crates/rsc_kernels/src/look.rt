@@ -38,12 +38,7 @@ pub fn run(
 }
 
 /// The sum of the kernel 12, the classes of a list of assertions; each byte of `data` is the number of one, from 0 to 17.
-pub fn classes_of(
-    alloc: Global,
-    data: &[u8],
-    param: u64,
-    reps: u64,
-) -> Result<u64, AllocError> {
+pub fn classes_of(alloc: Global, data: &[u8], param: u64, reps: u64) -> Result<u64, AllocError> {
     let looks = looks_of(alloc, data)?;
     let line_terminator = (param % 256) as u8;
     Ok(repeat(reps, |sum| classes_of_list(&looks, line_terminator, sum)))
@@ -88,10 +83,10 @@ fn classes_of_list(looks: &[Look], line_terminator: u8, sum: u64) -> u64 {
 #[inline(never)]
 fn places(matcher: &LookMatcher<UnicodeWord>, look: Look, haystack: &[u8], sum: u64) -> u64 {
     let mut sum = sum;
-    for at in 0..haystack.len() + 1 {
+    for at in 0..haystack.len() {
         sum = sum.wrapping_add(u64::from(matcher.matches(look, haystack, at)));
     }
-    sum
+    sum.wrapping_add(u64::from(matcher.matches(look, haystack, haystack.len())))
 }
 
 // At how many places every assertion of the set holds.
@@ -103,10 +98,10 @@ fn places_of_set(
     sum: u64,
 ) -> u64 {
     let mut sum = sum;
-    for at in 0..haystack.len() + 1 {
+    for at in 0..haystack.len() {
         sum = sum.wrapping_add(u64::from(matcher.matches_set(set, haystack, at)));
     }
-    sum
+    sum.wrapping_add(u64::from(matcher.matches_set(set, haystack, haystack.len())))
 }
 
 // The bits of the union of each two neighbouring sets.

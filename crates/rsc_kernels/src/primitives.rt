@@ -90,8 +90,22 @@ fn seen(found: Result<char, u8>) -> (u64, usize)
     ensures { 1 ≤ result.1 }
 {
     match found {
-        Ok(c) => (u64::from(c as u32), c.len_utf8()),
+        Ok(c) => (u64::from(c as u32), encoded_length(c)),
         Err(byte) => (u64::from(byte), 1),
+    }
+}
+
+// As many bytes as std's `len_utf8` says. That one is compiled alone first, to conditional moves, on which the place of the next
+// character then waits; the Rust's is compiled with its caller, and so is this one.
+#[inline(always)]
+fn encoded_length(c: char) -> usize
+    ensures { 1 ≤ result }
+{
+    match c as u32 {
+        0..=0x7F => 1,
+        0x80..=0x7FF => 2,
+        0x800..=0xFFFF => 3,
+        _ => 4,
     }
 }
 
@@ -99,10 +113,10 @@ fn seen(found: Result<char, u8>) -> (u64, usize)
 #[inline(never)]
 fn boundaries(data: &[u8], sum: u64) -> u64 {
     let mut sum = sum;
-    for at in 0..data.len() + 1 {
+    for at in 0..data.len() {
         sum = sum.wrapping_add(u64::from(is_boundary(data, at)));
     }
-    sum
+    sum.wrapping_add(u64::from(is_boundary(data, data.len())))
 }
 
 // The length of the haystack's text.

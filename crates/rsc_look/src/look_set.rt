@@ -337,16 +337,21 @@ impl LookSet {
         }
     }
 
-    // The first member, of the lowest bit.
+    // The first member, of the lowest bit, and the set without it. The bit is taken out as it is, and not by the member's
+    // number, which would be a jump for each member.
     #[inline]
-    fn first(self) -> Option<Look>
-        ensures { MatchOption result (members self ≡ []) (λ look. members self ≡ look ∷ members (sets.remove self look)) }
+    fn split_first(self) -> Option<(Look, LookSet)>
+        ensures { MatchOption result (members self ≡ []) (λ found. members self ≡ found.0 ∷ members found.1) }
     {
         if self.bits == 0 {
-            None
-        } else {
-            Look::from_repr(1 << self.bits.trailing_zeros())
+            return None;
         }
+        let bit = 1 << self.bits.trailing_zeros();
+        let look = Look::from_repr(bit)?;
+        let rest = LookSet {
+            bits: self.bits & !bit,
+        };
+        Some((look, rest))
     }
 }
 
@@ -375,8 +380,8 @@ impl Iterator for LookSetIter {
 
     #[inline]
     fn next(&mut self) -> Option<Look> {
-        let look = self.set.first()?;
-        self.set.set_remove(look);
+        let (look, rest) = self.set.split_first()?;
+        self.set = rest;
         Some(look)
     }
 }

@@ -114,7 +114,7 @@ impl<W: WordClass> LookMatcher<W> {
     }
 
     /// Whether every assertion of a set holds at a position of a haystack; so it is where the set has no member.
-    #[inline]
+    #[inline(always)]
     pub fn matches_set(&self, set: LookSet, haystack: &[u8], at: usize) -> bool
         requires { at ≤ length haystack.now }
         ensures { IsTrue result ↔ ((look : Look) → sets.contains set look ≡ true →
@@ -209,7 +209,7 @@ impl<W: WordClass> LookMatcher<W> {
     }
 
     /// Whether a word character stands on exactly one side.
-    #[inline(always)]
+    #[inline(never)]
     pub fn is_word_unicode(
         &self,
         haystack: &[u8],
@@ -224,7 +224,7 @@ impl<W: WordClass> LookMatcher<W> {
     }
 
     /// Whether no side has bytes that are no character, and a word character stands on both sides or on neither.
-    #[inline(always)]
+    #[inline(never)]
     pub fn is_word_unicode_negate(
         &self,
         haystack: &[u8],
@@ -255,7 +255,7 @@ impl<W: WordClass> LookMatcher<W> {
     }
 
     /// Whether a word character stands after the position, and none before it.
-    #[inline(always)]
+    #[inline(never)]
     pub fn is_word_start_unicode(
         &self,
         haystack: &[u8],
@@ -269,7 +269,7 @@ impl<W: WordClass> LookMatcher<W> {
     }
 
     /// Whether a word character stands before the position, and none after it.
-    #[inline(always)]
+    #[inline(never)]
     pub fn is_word_end_unicode(
         &self,
         haystack: &[u8],
@@ -301,7 +301,7 @@ impl<W: WordClass> LookMatcher<W> {
     }
 
     /// Whether the haystack begins at the position, or a character that is no word character ends there.
-    #[inline(always)]
+    #[inline(never)]
     pub fn is_word_start_half_unicode(
         &self,
         haystack: &[u8],
@@ -314,7 +314,7 @@ impl<W: WordClass> LookMatcher<W> {
     }
 
     /// Whether the haystack ends at the position, or a character that is no word character begins there.
-    #[inline(always)]
+    #[inline(never)]
     pub fn is_word_end_half_unicode(
         &self,
         haystack: &[u8],
@@ -357,7 +357,8 @@ impl<W: WordClass> LookMatcher<W> {
         set.byte_classes()
     }
 
-    // Whether an assertion holds, by its own call.
+    // Whether an assertion holds, by its own call. The calls of the Unicode assertions are never inlined, so that this, which a
+    // search asks at each byte, is small enough to be.
     #[inline(always)]
     fn holds_at(&self, look: Look, haystack: &[u8], at: usize) -> bool
         requires { at ≤ length haystack.now }
