@@ -1,5 +1,6 @@
 //! UTF-8 read from either end of any bytes: RFC 3629, section 4.
 ghost use Rattle.std.specs.Prelude.{◌≡◌, ◌↔◌, ℕ, ◌+◌, ◌-◌, ◌*◌, ◌≤◌, IsTrue, MatchOption};
+ghost use Rattle.std.specs.Char.{IsScalar};
 ghost use Rattle.rsc_primitives.specs.Utf8.{is_word_byte, IsTail, OpensThree, OpensFour, DecodesTo, DecodesLastTo, IsBoundary};
 ghost use Rattle.rsc_primitives.specs.Utf8Layout.{IsFirstNumber, IsLastNumber};
 
@@ -57,12 +58,10 @@ pub fn decode(bytes: &[u8]) -> Option<Result<char, u8>>
     if first < 0x80 {
         return Some(Ok(char::from(first)));
     }
-    if let Some(number) = first_number(bytes) {
-        if let Some(c) = char::from_u32(number) {
-            return Some(Ok(c));
-        }
+    match first_number(bytes) {
+        Some(number) => Some(Ok(char_of(number))),
+        None => Some(Err(first)),
     }
-    Some(Err(first))
 }
 
 /// The character whose encoding ends the bytes, or else the last byte. `None` is for no bytes.
@@ -76,12 +75,22 @@ pub fn decode_last(bytes: &[u8]) -> Option<Result<char, u8>>
     if last < 0x80 {
         return Some(Ok(char::from(last)));
     }
-    if let Some(number) = last_number(bytes) {
-        if let Some(c) = char::from_u32(number) {
-            return Some(Ok(c));
-        }
+    match last_number(bytes) {
+        Some(number) => Some(Ok(char_of(number))),
+        None => Some(Err(last)),
     }
-    Some(Err(last))
+}
+
+// The character of a number that is some character's.
+#[inline(always)]
+fn char_of(number: u32) -> char
+    requires { IsScalar number }
+    ensures { result ≡ number }
+{
+    match char::from_u32(number) {
+        Some(c) => c,
+        None => unreachable!(),
+    }
 }
 
 #[inline(always)]
@@ -114,22 +123,22 @@ fn first_number(bytes: &[u8]) -> Option<u32>
     if a <= 0xDF {
         return Some(number_of_two(a, b));
     }
-    if n < 3 {
+    if n < 3 || !is_tail(bytes[2]) {
         return None;
     }
     let c = bytes[2];
-    if !is_tail(c) {
+    if a <= 0xEF {
+        return if opens_three(a, b) {
+            Some(number_of_three(a, b, c))
+        } else {
+            None
+        };
+    }
+    if n < 4 || !is_tail(bytes[3]) {
         return None;
     }
-    if opens_three(a, b) {
-        return Some(number_of_three(a, b, c));
-    }
-    if n < 4 {
-        return None;
-    }
-    let d = bytes[3];
-    if is_tail(d) && opens_four(a, b) {
-        Some(number_of_four(a, b, c, d))
+    if opens_four(a, b) {
+        Some(number_of_four(a, b, c, bytes[3]))
     } else {
         None
     }
