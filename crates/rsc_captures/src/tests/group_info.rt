@@ -76,6 +76,42 @@ fn names_are_local_to_their_pattern(rt: HostRuntime) -> Result<(), Fail> {
 }
 
 // Whether the list is refused with that text.
+#[test]
+fn finds_each_of_many_names(rt: HostRuntime) -> Result<(), Fail> {
+    let groups = [
+        None,
+        Some("year"),
+        Some("month"),
+        Some("day"),
+        None,
+        Some("hour"),
+        Some("minute"),
+        Some("second"),
+        Some("fraction"),
+        Some("zone"),
+        Some("offset_hours"),
+        Some("offset_minutes"),
+        Some(""),
+    ];
+    let info = GroupInfo::new(rt.alloc(), &[&groups])?;
+    for (group, name) in groups.iter().enumerate() {
+        if let Some(name) = name {
+            assert_eq!(rt; info.to_index(pattern(0), name), Some(group), "{name}");
+        }
+    }
+    for name in [
+        "years",
+        "yea",
+        "Year",
+        "offset_hour",
+        "0",
+        "fractions of a second",
+    ] {
+        assert_eq!(rt; info.to_index(pattern(0), name), None, "{name}");
+    }
+    Ok(())
+}
+
 fn refused_as(alloc: Global, lists: &[&[Option<&str>]], want: &str) -> Result<bool, Fail> {
     match GroupInfo::new(alloc, lists) {
         Ok(_) => Ok(false),
