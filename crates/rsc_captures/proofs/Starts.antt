@@ -1,11 +1,12 @@
 -- The starts of a layout, as one more is pushed.
-use Rattle.std.proofs.Common.{◌≡◌, ℕ, zero, suc, ◌+◌, ◌-◌, ◌*◌, ◌<◌, ◌≤◌, List, [], ◌∷◌, ◌++◌, length, take, get_or, refl, ap, sym, ◌∙◌, arith, add-one}
+use Rattle.std.proofs.Common.{◌≡◌, ℕ, zero, suc, ◌+◌, ◌-◌, ◌*◌, ◌<◌, ◌≤◌, List, [], ◌∷◌, ◌++◌, length, take, get_or, Some, rules, refl, ap, sym, ◌∙◌, arith, add-one}
 use Rattle.std.specs.Prelude.{sum_by}
 use borrow.Author.Count.{below_more}
 use Rattle.std.proofs.lemmas.List.{length_push, get_or_append_left, get_or_default}
 use Rattle.std.proofs.Math.Seq.{get_or-append_seam, take-length}
 use Rattle.std.proofs.lemmas.List.Sums.{sum_by_more}
-use Rattle.rsc_captures.specs.Groups.{GroupLists, group_count, explicit_groups, explicit_before, all_groups, slots_start}
+use Rattle.rsc_captures.specs.Groups.{GroupLists, group_count, explicit_groups, explicit_before, all_groups, slots_start, slot_of}
+use Rattle.rsc_captures.specs.Faults.{slots_end}
 use Rattle.rsc_captures.specs.Checks.{IsChecked}
 use Rattle.rsc_captures.specs.Layout.{AreStarts, IsLaidOut}
 
@@ -49,13 +50,20 @@ last_start_or starts lists d laid_out =
     let in_starts : length lists < length starts = omega (arith, laid_out.slots.count) in
     get_or_default starts (length lists) d 0 in_starts ∙ last_start starts lists laid_out
 
--- each pattern has a group, and its explicit groups fill the slots from its start to the next
-pub slots_between : (starts : List ℕ) (lists : GroupLists) (p d e : ℕ) → IsLaidOut starts lists → p < length lists →
-    (0 < group_count lists p) × (get_or starts (p + 1) e ≡ get_or starts p d + 2 * (group_count lists p - 1))
-slots_between starts lists p d e laid_out lt =
+-- the slot of an explicit group is counted from its pattern's start
+pub slot_at : (starts : List ℕ) (lists : GroupLists) (p g d : ℕ) → IsLaidOut starts lists → p < length lists → g < group_count lists p → 0 < g →
+    Some (get_or starts p d + 2 * (g - 1)) ≡ slot_of lists p g
+slot_at starts lists p g d laid_out lt group explicit =
     let in_starts : p < length starts = omega (arith, laid_out.slots.count) in
-    let next_in_starts : p + 1 < length starts = omega (arith, laid_out.slots.count) in
     let start : get_or starts p d ≡ slots_start lists p = get_or_default starts p d 0 in_starts ∙ laid_out.slots.each p (omega arith) in
-    let end : get_or starts (p + 1) e ≡ slots_start lists (p + 1) = get_or_default starts (p + 1) e 0 next_in_starts ∙ laid_out.slots.each (p + 1) (omega arith) in
+    search rules
+
+-- the slots of a group lie within the limit
+pub slot_fits : (starts : List ℕ) (lists : GroupLists) (p g d : ℕ) → IsLaidOut starts lists → p < length lists → g < group_count lists p → 0 < g →
+    get_or starts p d + 2 * (g - 1) ≤ 2147483646
+slot_fits starts lists p g d laid_out lt group explicit =
+    let in_starts : p < length starts = omega (arith, laid_out.slots.count) in
+    let start : get_or starts p d ≡ slots_start lists p = get_or_default starts p d 0 in_starts ∙ laid_out.slots.each p (omega arith) in
     let more : explicit_before lists (p + 1) ≡ explicit_before lists p + (group_count lists p - 1) = sum_by_more explicit_groups lists p [] lt in
-    ((laid_out.faultless.clear p lt).groups, omega arith)
+    let within : slots_end lists p ≤ 2147483646 = laid_out.faultless.within p lt in
+    omega arith

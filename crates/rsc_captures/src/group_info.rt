@@ -270,14 +270,13 @@ impl<A: Allocator + Clone + Drop> GroupInfo<A> {
     {
         let inner: &Inner<A> = &self.inner;
         let p = pid.as_usize();
-        let start = *inner.starts.get(p)?;
-        let end = *inner.starts.get(p + 1)?;
-        if group_index == 0 {
-            Some(2 * p)
-        } else if group_index > (end - start) / 2 {
+        let groups = inner.patterns.get(p)?;
+        if group_index >= groups.len() {
             None
+        } else if group_index == 0 {
+            Some(2 * p)
         } else {
-            Some(start + 2 * (group_index - 1))
+            Some(inner.starts[p] + 2 * (group_index - 1))
         }
     }
 
