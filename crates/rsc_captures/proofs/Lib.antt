@@ -1,6 +1,7 @@
 pub mod Lists
 pub mod Places
 pub mod Indexed
+pub mod Ordered
 pub mod Checked
 pub mod FaultsLemmas
 pub mod Starts

@@ -1,8 +1,9 @@
 //! Looks for the first fault of a group list, and takes no memory.
-ghost use Rattle.std.specs.Prelude.{◌≡◌, ℕ, ◌+◌, ◌*◌, ◌<◌, ◌≤◌, length, IfOk, IfErr, OnOk};
-ghost use Rattle.rsc_captures.specs.Groups.{has_name, lists_in, explicit_before, group_count};
+ghost use Rattle.std.specs.Prelude.{◌≡◌, ℕ, ◌+◌, ◌*◌, ◌<◌, ◌≤◌, length, IfOk, IfErr, OnOk, MatchOption};
+ghost use Rattle.rsc_captures.specs.Groups.{has_name, groups_in, lists_in, AreDistinctBelow, explicit_before, group_count};
 ghost use Rattle.rsc_captures.specs.Faults.{pattern_fault, group_fault};
 ghost use Rattle.rsc_captures.specs.Checks.{IsCheckedPattern, FoundInPattern, AreChecked, IsChecked, IsFound, HasNoOtherFault};
+ghost use Rattle.rsc_captures.specs.Names.{IsFirstRepeat};
 ghost use Rattle.rsc_captures.specs.Found.{fault_found};
 ghost use Rattle.std.specs.Option.{option_copied};
 ghost use Rattle.std.specs.List.{list_any};
@@ -41,6 +42,20 @@ fn has_name(groups: &[Option<&str>], name: &str) -> bool
         }
     }
     false
+}
+
+/// The first group whose name stands at a lesser one. Names are compared one with another.
+pub(crate) fn first_repeat(groups: &[Option<&str>]) -> Option<usize>
+    ensures { MatchOption result (AreDistinctBelow (groups_in groups.now) (length groups.now)) (IsFirstRepeat (groups_in groups.now)) }
+{
+    for g in 0..groups.len() {
+        if let Some(name) = groups[g] {
+            if has_name(&groups[..g], name) {
+                return Some(g);
+            }
+        }
+    }
+    None
 }
 
 /// Looks at a pattern as a whole.

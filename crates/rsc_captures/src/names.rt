@@ -2,29 +2,27 @@
 //!
 //! A name is looked for in two steps. Its hash names a few places of a table, and each of these proposes a group: where that
 //! group has the name, it is the one. Nothing depends on what the table proposes, so no contract speaks of it. Where none has
-//! the name, the ordered index decides, and whatever the names are, its depth is the logarithm of their number.
-ghost use Rattle.std.specs.Prelude.{◌≡◌, ℕ, ◌<◌, ◌+◌, ◌++◌, List, [], ◌∷◌, length, Some, IfSome, IfOk, IfErr, OnOk, is_none, not, slice_index_or, None};
+//! the name, the groups in the order of their names decide, by halving.
+ghost use Rattle.std.specs.Prelude.{◌≡◌, ℕ, ◌<◌, length, Some, IfSome, IfOk, IfErr, OnOk, slice_index_or, None};
 ghost use Rattle.std.specs.Option.{option_copied};
-ghost use Rattle.std.specs.Map.{update};
-ghost use Rattle.std.specs.Str.{bytes_eq};
-ghost use Rattle.std.specs.BTreeMap.{get_by_text};
-ghost use Rattle.std.specs.Bool.{OnTrue};
-ghost use Rattle.rsc_captures.specs.Groups.{groups_in, index_of, contains_name, AreDistinctBelow};
-ghost use Rattle.rsc_captures.specs.Names.{groups_held, IsIndexOf};
+ghost use Rattle.std.specs.Bool.{OnFalse};
+ghost use Rattle.rsc_captures.specs.Groups.{groups_in, index_of, AreDistinctBelow};
+ghost use Rattle.std.specs.List.Sorted.{IsPermutation};
+ghost use Rattle.rsc_captures.specs.Names.{groups_held, name_cmp, HasNamed, IsSortedByName, AreNeighboursDistinct};
 ghost use Rattle.rsc_captures.specs.declared.names.NamesError.TheVariants.{OutOfMemory};
 
-use crate::faults::is_named;
+use crate::faults::{first_repeat, is_named};
 use std::alloc::{AllocError, AllocFailed, Allocator, Global};
-use std::collections::BTreeMap;
+use std::cmp::Ordering;
 use std::hash::{FoldHasher, Hasher};
 use std::marker::Model;
 
-/// The groups of one pattern: their names in order, and the group of each name.
+/// The groups of one pattern: their names, and the groups with a name in the order of the names.
 #[derive(Drop)]
 #[derive_where(Debug)]
 pub(crate) struct PatternGroups<A: Allocator = Global> {
     names: Vec<Option<String<A>>, A>,
-    index: BTreeMap<String<A>, usize, A>,
+    order: Vec<usize, A>,
     proposals: Vec<u32, A>,
 }
 
@@ -36,7 +34,7 @@ impl<A: Allocator> Model for PatternGroups<A> {
 
     ghost view = { λ p. groups_held p.names.items };
 
-    ghost invariant = { λ p. IsIndexed p.index (groups_held p.names.items) };
+    ghost invariant = { λ p. IsIndexed p.order.items (groups_held p.names.items) };
 }
 
 /// Why the groups of a pattern are refused: the name of a group stands at a lesser one, or memory ran out.
@@ -62,43 +60,93 @@ impl<T: Drop> From<AllocFailed<T>> for NamesError {
     }
 }
 
-// Puts the name into the index at group `g`, and says whether it is new there.
-fn insert_name<A: Allocator + Clone + Drop>(
+// The names, held in memory of their own.
+fn hold<A: Allocator + Clone + Drop>(
     alloc: A,
-    index: &mut BTreeMap<String<A>, usize, A>,
-    name: &str,
-    g: usize,
-) -> Result<bool, AllocError>
-    ensures new { IfOk result (λ b. b ≡ is_none (get_by_text index.old name.now)) }
-    ensures updates { OnOk result ((q : List ℕ) → get_by_text index.new q ≡ update bytes_eq (get_by_text index.old) name.now (Some g) q) }
+    groups: &[Option<&str>],
+) -> Result<Vec<Option<String<A>>, A>, AllocError>
+    ensures { IfOk result (λ names. groups_held names.items ≡ groups_in groups.now) }
 {
-    let key = String::from_str(alloc, name)?;
-    let old = index.insert(key, g)?;
-    Ok(old.is_none())
+    let mut names: Vec<Option<String<A>>, A> = Vec::with_capacity(alloc.clone()?, groups.len())?;
+    for group in groups {
+        let held = match group {
+            Some(name) => Some(String::from_str(alloc.clone()?, name)?),
+            None => None,
+        };
+        names.push(held)?;
+    }
+    Ok(names)
 }
 
-// Adds a group at the end, unless the index has its name already; says whether it was added.
-fn push_group<A: Allocator + Clone + Drop>(
-    alloc: A,
-    names: &mut Vec<Option<String<A>>, A>,
-    index: &mut BTreeMap<String<A>, usize, A>,
-    group: Option<&str>,
-) -> Result<bool, AllocError>
-    requires { IsIndexOf index.old (groups_held names.old.items) }
-    ensures new { IfOk result (λ new. new ≡ not (contains_name (groups_held names.old.items) (option_copied group.entry))) }
-    ensures added { IfOk result (λ new. OnTrue new (groups_held names.new.items ≡ groups_held names.old.items ++ option_copied group.entry ∷ [])) }
-    ensures index { IfOk result (λ new. OnTrue new (IsIndexOf index.new (groups_held names.new.items))) }
+// The name of a group, if it has one.
+#[inline]
+fn name_at<'a>(groups: &[Option<&'a str>], g: usize) -> Option<&'a str>
+    ensures { result ≡ slice_index_or groups.now g None }
 {
-    let Some(name) = group else {
-        names.push(None)?;
-        return Ok(true);
-    };
-    let held = String::from_str(alloc.clone()?, name)?;
-    if !insert_name(alloc, index, name, names.len())? {
-        return Ok(false);
+    match groups.get(g) {
+        Some(group) => *group,
+        None => None,
     }
-    names.push(Some(held))?;
-    Ok(true)
+}
+
+// How many groups have a name.
+fn named_len(groups: &[Option<&str>]) -> usize {
+    let mut count = 0;
+    for group in groups {
+        if group.is_some() {
+            count += 1;
+        }
+    }
+    count
+}
+
+// The groups with a name.
+fn named<A: Allocator + Clone + Drop>(
+    alloc: A,
+    groups: &[Option<&str>],
+) -> Result<Vec<usize, A>, AllocError>
+    ensures { IfOk result (λ order. HasNamed order.items (groups_in groups.now)) }
+{
+    let mut order = Vec::with_capacity(alloc, named_len(groups))?;
+    for (g, group) in groups.iter().enumerate() {
+        if group.is_some() {
+            order.push(g)?;
+        }
+    }
+    Ok(order)
+}
+
+// Puts the groups in the order of their names.
+fn sort_by_name(groups: &[Option<&str>], order: &mut [usize])
+    ensures permutation { IsPermutation order.old order.new }
+    ensures sorted { IsSortedByName order.new (groups_in groups.now) }
+{
+    order.sort_unstable_by_key(|g| name_at(groups, *g));
+}
+
+// The groups with a name, in the order of their names.
+fn order_of<A: Allocator + Clone + Drop>(
+    alloc: A,
+    groups: &[Option<&str>],
+) -> Result<Vec<usize, A>, AllocError>
+    ensures named { IfOk result (λ order. HasNamed order.items (groups_in groups.now)) }
+    ensures sorted { IfOk result (λ order. IsSortedByName order.items (groups_in groups.now)) }
+{
+    let mut order = named(alloc, groups)?;
+    sort_by_name(groups, order.as_mut_slice());
+    Ok(order)
+}
+
+// Whether two groups that stand beside each other have the same name.
+fn has_equal_neighbours(groups: &[Option<&str>], order: &[usize]) -> bool
+    ensures { OnFalse result (AreNeighboursDistinct order.now (groups_in groups.now) (length order.now)) }
+{
+    for i in 1..order.len() {
+        if name_at(groups, order[i - 1]) == name_at(groups, order[i]) {
+            return true;
+        }
+    }
+    false
 }
 
 // How many places of the table a name has.
@@ -161,20 +209,17 @@ impl<A: Allocator + Clone + Drop> PatternGroups<A> {
         ensures distinct { OnOk result (AreDistinctBelow (groups_in groups.now) (length groups.now)) }
         ensures err { IfErr result (NamesRefused (groups_in groups.now)) }
     {
-        let mut names: Vec<Option<String<A>>, A> = Vec::with_capacity(
-            alloc.clone()?,
-            groups.len(),
-        )?;
-        let mut index: BTreeMap<String<A>, usize, A> = BTreeMap::new(alloc.clone()?);
-        for (g, group) in groups.iter().enumerate() {
-            if !push_group(alloc.clone()?, &mut names, &mut index, *group)? {
+        let order = order_of(alloc.clone()?, groups)?;
+        if has_equal_neighbours(groups, order.as_slice()) {
+            if let Some(g) = first_repeat(groups) {
                 return Err(NamesError::Repeats(g));
             }
         }
+        let names = hold(alloc.clone()?, groups)?;
         let proposals = proposals_of(alloc, groups)?;
         Ok(PatternGroups {
             names,
-            index,
+            order,
             proposals,
         })
     }
@@ -214,6 +259,27 @@ impl<A: Allocator + Clone + Drop> PatternGroups<A> {
         None
     }
 
+    // How the group's name stands to a name. A group without one comes before all names.
+    #[inline]
+    fn name_cmp(&self, group: usize, name: &str) -> Ordering
+        ensures { result ≡ name_cmp (slice_index_or self.now group None) (Some name.now) }
+    {
+        match self.name(group) {
+            Some(held) => held.cmp(name),
+            None => Ordering::Less,
+        }
+    }
+
+    // The group that has the name, by halving the order.
+    fn halved(&self, name: &str) -> Option<usize>
+        ensures { result ≡ index_of self.now name.now }
+    {
+        match self.order.binary_search_by(|g| self.name_cmp(*g, name)) {
+            Ok(place) => Some(self.order[place]),
+            Err(_) => None,
+        }
+    }
+
     /// The first group with the name.
     #[inline]
     pub(crate) fn index(&self, name: &str) -> Option<usize>
@@ -222,6 +288,6 @@ impl<A: Allocator + Clone + Drop> PatternGroups<A> {
         if let Some(group) = self.proposed(name) {
             return Some(group);
         }
-        self.index.get(name).copied()
+        self.halved(name)
     }
 }

@@ -1,19 +1,22 @@
-use Rattle.std.proofs.Common.{◌≡◌, ◌<◌, ◌+◌, ◌++◌, [], ◌∷◌, length, take, get_or, None, ap, sym, ◌∙◌, subst, arith}
-use borrow.Author.Count.{below_more}
-use Rattle.std.specs.Option.{option_copied}
-use Rattle.rsc_captures.specs.Groups.{Groups, groups_in}
-use Rattle.rsc_captures.specs.Names.{groups_held, IsIndexOf}
-use Rattle.rsc_captures.proofs.Indexed.{not_true}
-use Rattle.rsc_captures.proofs.Places.{take_groups_more, group_in}
+use Rattle.std.proofs.Common.{◌≡◌, length, sym, subst, false, rules}
+use Rattle.std.proofs.lemmas.List.{length-map}
+use Rattle.rsc_captures.specs.Groups.{Groups, groups_in, AreDistinctBelow}
+use Rattle.rsc_captures.specs.Names.{IsIndexed, AreNeighboursDistinct}
+use Rattle.rsc_captures.proofs.Ordered.{distinct_from_neighbours}
+use Rattle.rsc_captures.proofs.names.PatternGroups.new.Goals.{then-has_equal_neighbours+in_default, else-has_equal_neighbours}
 use Rattle.rsc_captures.proofs.names.PatternGroups.new.Goals as goal
 
-pub loop-g-preserved : goal.loop-g-preserved
-loop-g-preserved g c =
-    let lt : c.loop-g.g < length c.args.groups.now = omega arith in
-    let held : groups_held c.push_group.new.names.items ≡ take (c.loop-g.g + 1) (groups_in c.args.groups.now) =
-    rw c.if-not-branch.false at c.in_ok-push_group.ensures.added ∙ ap (λ (gs : Groups). gs ++ option_copied (get_or c.args.groups.now c.loop-g.g None) ∷ []) c.loop-g.invariant.held ∙ sym (take_groups_more c.args.groups.now c.loop-g.g lt) in
-    record {
-      held = held;
-      index = subst (λ (gs : Groups). IsIndexOf c.push_group.new.index gs) held (rw c.if-not-branch.false at c.in_ok-push_group.ensures.index);
-      distinct = below_more _ _ c.loop-g.invariant.distinct (rw (group_in c.args.groups.now c.loop-g.g lt, ← c.loop-g.invariant.held) (not_true _ (sym c.if-not-branch.false ∙ c.in_ok-push_group.ensures.new)));
-    }
+-- no name stands twice, by the neighbours in the order or by the slow reading
+pub returns-clause-distinct : goal.returns-clause-distinct
+returns-clause-distinct g c = elim c.if-has_equal_neighbours.branch [
+  | then-has_equal_neighbours+in_default w ↦ rw w.in_default.is at w.first_repeat.ensures
+  | else-has_equal_neighbours w ↦
+      let neighbours : AreNeighboursDistinct c.in_ok-order.order.items (groups_in c.args.groups.now) (length c.in_ok-order.order.items) = rw (w.if-has_equal_neighbours.false, c.as_slice.ensures.value) at c.has_equal_neighbours.ensures in
+      rw length-map at (distinct_from_neighbours c.in_ok-order.order.items (groups_in c.args.groups.now) c.in_ok-order.ensures.sorted c.in_ok-order.ensures.named neighbours)
+]
+
+pub invariant_of-result : goal.invariant_of-result
+invariant_of-result g c =
+    let distinct : AreDistinctBelow (groups_in c.args.groups.now) (length (groups_in c.args.groups.now)) = rw length-map (returns-clause-distinct g c) in
+    let indexed : IsIndexed c.in_ok-order.order.items (groups_in c.args.groups.now) = record { distinct = distinct; named = c.in_ok-order.ensures.named; sorted = c.in_ok-order.ensures.sorted } in
+    subst (λ (groups : Groups). IsIndexed c.in_ok-order.order.items groups) (sym c.in_ok-names.ensures) indexed

@@ -1,4 +1,4 @@
-use Rattle.std.proofs.Common.{◌≡◌, length, get_or, Some, None, true, ap, subst, sym, ◌∙◌}
+use Rattle.std.proofs.Common.{◌≡◌, length, get_or, None, true, ap, subst, sym, ◌∙◌}
 use Rattle.rsc_captures.specs.Groups.{Groups, has_name, AreDistinctBelow}
 use Rattle.rsc_captures.proofs.Indexed.{index_of-is, has_name-is}
 use Rattle.rsc_captures.proofs.names.PatternGroups.proposed.Goals as goal

@@ -1,0 +1,6 @@
+use Rattle.rsc_captures.specs.Groups.{groups_in, AreDistinctBelow}
+use Rattle.rsc_captures.proofs.faults.first_repeat.Given as goal
+
+-- no name so far stands at a lesser group
+abbrev pub invariant-loop-g : goal.invariant-loop-g
+invariant-loop-g l = AreDistinctBelow (groups_in l.groups) l.g
