@@ -2,6 +2,7 @@ pub mod Lists
 pub mod Places
 pub mod Indexed
 pub mod Ordered
+pub mod Held
 pub mod Checked
 pub mod FaultsLemmas
 pub mod Starts

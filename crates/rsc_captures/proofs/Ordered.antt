@@ -1,5 +1,5 @@
 -- The groups with a name, in the order of their names.
-use Rattle.std.proofs.Common.{◌≡◌, ℕ, ◌+◌, ◌-◌, ◌<◌, ◌≤◌, ◌≢◌, ⊎_elim, Bool, true, false, List, [], ◌∷◌, ◌++◌, length, take, drop, map, get_or, Bor, Option, Some, None, Ordering, Less, Equal, Greater, Result, Ok, Err, is_lt, refl, ap, sym, ◌∙◌, arith}
+use Rattle.std.proofs.Common.{◌≡◌, ℕ, ◌+◌, ◌-◌, ◌<◌, ◌≤◌, ◌≢◌, ⊎_elim, Bool, true, false, List, [], ◌∷◌, ◌++◌, length, take, drop, map, get_or, Bor, Option, Some, None, Less, Equal, Greater, Result, Ok, Err, is_lt, refl, ap, sym, ◌∙◌, arith}
 use mathlib.Core.Bool.{true≢false}
 use Rattle.std.specs.Option.{option_eq, option_cmp, option_copied}
 use Rattle.std.specs.Ordering.{nat_cmp, ordering_reverse}
@@ -15,7 +15,7 @@ use Rattle.std.proofs.lemmas.List.{get_or-take, get_or-map, get_or_default, get_
 use Rattle.std.proofs.Math.Seq.{take-append_seam}
 use Rattle.std.proofs.Math.ListN.{get_or-map as get_or_copied}
 use Rattle.std.proofs.lemmas.List.{get_or_append_left}
-use Rattle.std.proofs.lemmas.List.Elements.{Contains-append_left, Contains-append_right, Contains-get_or}
+use Rattle.std.proofs.lemmas.List.Elements.{Contains-append_left, Contains-append_right}
 use Rattle.std.proofs.lemmas.List.Folds.{Any-from_list_any}
 use Rattle.std.proofs.lemmas.List.Sorted.{searchable_from_sorted, all_adjacent_more}
 use Rattle.std.proofs.lemmas.Map.Keys.{sorted_from_all_adjacent, Less-from_sorted}

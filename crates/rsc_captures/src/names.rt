@@ -3,38 +3,44 @@
 //! A name is looked for in two steps. Its hash names a few places of a table, and each of these proposes a group: where that
 //! group has the name, it is the one. Nothing depends on what the table proposes, so no contract speaks of it. Where none has
 //! the name, the groups in the order of their names decide, by halving.
-ghost use Rattle.std.specs.Prelude.{◌≡◌, ℕ, ◌<◌, length, Some, IfSome, IfOk, IfErr, OnOk, slice_index_or, None};
-ghost use Rattle.std.specs.Option.{option_copied};
+ghost use Rattle.std.specs.Prelude.{◌≡◌, ℕ, ◌<◌, [], ◌++◌, length, Some, IfSome, IfOk, IfErr, OnOk, slice_index_or, None};
+ghost use Rattle.std.specs.Option.{option_copied, unwrap_or};
+ghost use Rattle.std.specs.Str.{IsUtf8};
+ghost use Rattle.std.specs.String.{string_bytes};
 ghost use Rattle.std.specs.Bool.{OnFalse};
 ghost use Rattle.rsc_captures.specs.Groups.{groups_in, index_of, AreDistinctBelow};
 ghost use Rattle.std.specs.List.Sorted.{IsPermutation};
-ghost use Rattle.rsc_captures.specs.Names.{groups_held, name_cmp, HasNamed, IsSortedByName, AreNeighboursDistinct};
+ghost use Rattle.rsc_captures.specs.Names.{span_held, AreHeld, name_cmp, HasNamed, IsSortedByName, AreNeighboursDistinct};
 ghost use Rattle.rsc_captures.specs.declared.names.NamesError.TheVariants.{OutOfMemory};
 
 use crate::faults::{first_repeat, is_named};
+use rsc_search::Span;
 use std::alloc::{AllocError, AllocFailed, Allocator, Global};
 use std::cmp::Ordering;
 use std::hash::{FoldHasher, Hasher};
 use std::marker::Model;
 
-/// The groups of one pattern: their names, and the groups with a name in the order of the names.
+/// The groups of one pattern: their names one after another and where each stands, and the groups with a name in the order
+/// of the names.
 #[derive(Drop)]
 #[derive_where(Debug)]
 pub(crate) struct PatternGroups<A: Allocator = Global> {
-    names: Vec<Option<String<A>>, A>,
+    text: String<A>,
+    spans: Vec<Option<Span>, A>,
     order: Vec<usize, A>,
     proposals: Vec<u32, A>,
 }
 
 impl<A: Allocator> Model for PatternGroups<A> {
     ghost use Rattle.rsc_captures.specs.Groups.{Groups};
-    ghost use Rattle.rsc_captures.specs.Names.{groups_held, IsIndexed};
+    ghost use Rattle.std.specs.String.{string_bytes};
+    ghost use Rattle.rsc_captures.specs.Names.{groups_held, IsHeld};
 
     ghost Value = { Groups };
 
-    ghost view = { λ p. groups_held p.names.items };
+    ghost view = { λ p. groups_held (string_bytes p.text) p.spans.items };
 
-    ghost invariant = { λ p. IsIndexed p.order.items (groups_held p.names.items) };
+    ghost invariant = { λ p. IsHeld (string_bytes p.text) p.spans.items p.order.items };
 }
 
 /// Why the groups of a pattern are refused: the name of a group stands at a lesser one, or memory ran out.
@@ -60,22 +66,51 @@ impl<T: Drop> From<AllocFailed<T>> for NamesError {
     }
 }
 
-// The names, held in memory of their own.
+// How many bytes the names have together; less only where that is past the greatest number.
+fn text_len(groups: &[Option<&str>]) -> usize {
+    let mut len: usize = 0;
+    for group in groups {
+        if let Some(name) = group {
+            len = len.saturating_add(name.len());
+        }
+    }
+    len
+}
+
+// Adds the name of a group to the text, and says where it stands there.
+fn hold_name<A: Allocator>(
+    text: &mut String<A>,
+    group: Option<&str>,
+) -> Result<Option<Span>, AllocError>
+    ensures text { OnOk result (string_bytes text.new ≡ string_bytes text.old ++ unwrap_or (option_copied group.entry) []) }
+    ensures span { IfOk result (λ span. span ≡ span_held (string_bytes text.old) (option_copied group.entry)) }
+    ensures utf8 { IsUtf8 (unwrap_or (option_copied group.entry) []) }
+{
+    let Some(name) = group else {
+        return Ok(None);
+    };
+    let start = text.len();
+    text.push_str(name)?;
+    Ok(Some(Span {
+        start,
+        end: text.len(),
+    }))
+}
+
+// The names one after another, and where each of them stands.
 fn hold<A: Allocator + Clone + Drop>(
     alloc: A,
     groups: &[Option<&str>],
-) -> Result<Vec<Option<String<A>>, A>, AllocError>
-    ensures { IfOk result (λ names. groups_held names.items ≡ groups_in groups.now) }
+) -> Result<(String<A>, Vec<Option<Span>, A>), AllocError>
+    ensures { IfOk result (λ held. AreHeld (string_bytes held.0) held.1.items (groups_in groups.now)) }
 {
-    let mut names: Vec<Option<String<A>>, A> = Vec::with_capacity(alloc.clone()?, groups.len())?;
+    let mut text = String::with_capacity(alloc.clone()?, text_len(groups))?;
+    let mut spans: Vec<Option<Span>, A> = Vec::with_capacity(alloc, groups.len())?;
     for group in groups {
-        let held = match group {
-            Some(name) => Some(String::from_str(alloc.clone()?, name)?),
-            None => None,
-        };
-        names.push(held)?;
+        let span = hold_name(&mut text, *group)?;
+        spans.push(span)?;
     }
-    Ok(names)
+    Ok((text, spans))
 }
 
 // The name of a group, if it has one.
@@ -215,10 +250,11 @@ impl<A: Allocator + Clone + Drop> PatternGroups<A> {
                 return Err(NamesError::Repeats(g));
             }
         }
-        let names = hold(alloc.clone()?, groups)?;
+        let (text, spans) = hold(alloc.clone()?, groups)?;
         let proposals = proposals_of(alloc, groups)?;
         Ok(PatternGroups {
-            names,
+            text,
+            spans,
             order,
             proposals,
         })
@@ -228,7 +264,7 @@ impl<A: Allocator + Clone + Drop> PatternGroups<A> {
     pub(crate) fn len(&self) -> usize
         ensures { result ≡ length self.now }
     {
-        self.names.len()
+        self.spans.len()
     }
 
     /// The name of a group, if it has one.
@@ -236,8 +272,8 @@ impl<A: Allocator + Clone + Drop> PatternGroups<A> {
     pub(crate) fn name(&self, group: usize) -> Option<&str>
         ensures { option_copied result ≡ slice_index_or self.now group None }
     {
-        match self.names.get(group) {
-            Some(Some(name)) => Some(name.as_str()),
+        match self.spans.get(group) {
+            Some(Some(span)) => Some(&self.text.as_str()[span.start..span.end]),
             _ => None,
         }
     }

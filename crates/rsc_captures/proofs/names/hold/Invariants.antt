@@ -1,8 +1,9 @@
-use Rattle.std.proofs.Common.{◌≡◌, take}
+use Rattle.std.proofs.Common.{take}
+use Rattle.std.specs.String.{string_bytes}
 use Rattle.rsc_captures.specs.Groups.{groups_in}
-use Rattle.rsc_captures.specs.Names.{groups_held}
+use Rattle.rsc_captures.specs.Names.{AreHeld}
 use Rattle.rsc_captures.proofs.names.hold.Given as goal
 
 -- the names so far are held
 abbrev pub invariant-loop-group : goal.invariant-loop-group
-invariant-loop-group g l = groups_held l.names.items ≡ take l.group-index (groups_in l.groups)
+invariant-loop-group g l = AreHeld (string_bytes l.text) l.spans.items (take l.group-index (groups_in l.groups))

@@ -1,8 +1,7 @@
-use Rattle.std.proofs.Common.{◌≡◌, ◌<◌, [], ◌∷◌, ◌++◌, length, take, get_or, sym, ◌∙◌, arith, subst}
+use Rattle.std.proofs.Common.{◌≡◌, ◌<◌, length, sym, ◌∙◌, arith}
 use Rattle.std.proofs.lemmas.List.{length-map}
 use Rattle.std.proofs.Math.Seq.{take-length}
-use Rattle.rsc_captures.specs.Groups.{Groups, groups_in}
-use Rattle.rsc_captures.specs.Names.{HasNamed}
+use Rattle.rsc_captures.specs.Groups.{groups_in}
 use Rattle.rsc_captures.proofs.Ordered.{has_named_in, has_named_pushed}
 use Rattle.rsc_captures.proofs.names.named.Goals.{then-is_some+in_ok-push, else-is_some}
 use Rattle.rsc_captures.proofs.names.named.Goals as goal

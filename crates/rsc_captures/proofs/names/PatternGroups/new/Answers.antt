@@ -1,4 +1,4 @@
-use Rattle.std.proofs.Common.{◌≡◌, length, sym, subst, false, rules}
+use Rattle.std.proofs.Common.{length, sym, subst}
 use Rattle.std.proofs.lemmas.List.{length-map}
 use Rattle.rsc_captures.specs.Groups.{Groups, groups_in, AreDistinctBelow}
 use Rattle.rsc_captures.specs.Names.{IsIndexed, AreNeighboursDistinct}
@@ -18,5 +18,8 @@ returns-clause-distinct g c = elim c.if-has_equal_neighbours.branch [
 pub invariant_of-result : goal.invariant_of-result
 invariant_of-result g c =
     let distinct : AreDistinctBelow (groups_in c.args.groups.now) (length (groups_in c.args.groups.now)) = rw length-map (returns-clause-distinct g c) in
-    let indexed : IsIndexed c.in_ok-order.order.items (groups_in c.args.groups.now) = record { distinct = distinct; named = c.in_ok-order.ensures.named; sorted = c.in_ok-order.ensures.sorted } in
-    subst (λ (groups : Groups). IsIndexed c.in_ok-order.order.items groups) (sym c.in_ok-names.ensures) indexed
+    let index : IsIndexed c.in_ok-order.order.items (groups_in c.args.groups.now) = record { distinct = distinct; named = c.in_ok-order.ensures.named; sorted = c.in_ok-order.ensures.sorted } in
+    record {
+      cuts = c.in_ok-text.ensures.cuts;
+      index = subst (λ (groups : Groups). IsIndexed c.in_ok-order.order.items groups) (sym c.in_ok-text.ensures.names) index;
+    }
