@@ -21,7 +21,7 @@ use Rattle.std.proofs.lemmas.List.Sorted.{searchable_from_sorted, all_adjacent_m
 use Rattle.std.proofs.lemmas.Map.Keys.{sorted_from_all_adjacent, Less-from_sorted}
 use Rattle.std.proofs.lemmas.Map.Lookups.{exact_bytes}
 use Rattle.rsc_captures.specs.Groups.{Groups, groups_in, has_name, index_of, is_repeat, AreDistinctBelow}
-use Rattle.rsc_captures.specs.Names.{name_at, name_cmp, HasNamed, IsSortedByName, AreNeighboursDistinct, IsIndexed}
+use Rattle.rsc_captures.specs.Names.{name_at, name_cmp, few_groups, HasNamed, IsSortedByName, AreNeighboursDistinct, IsIndexed}
 use Rattle.rsc_captures.proofs.Places.{Handed, take_groups_more}
 use Rattle.rsc_captures.proofs.Indexed.{index_of-is, has_name-is}
 
@@ -186,9 +186,9 @@ module _ (order : List ℕ) (groups : Groups) where
       by_name (Some name) e = rw e (by_answer name (list_any (has_name name) (take g groups)) e refl)
 
   -- what halving answers is the group of the name
-  pub index_from_search : IsIndexed order groups → (name : List ℕ) (r : Result ℕ ℕ) → IsBinarySearchResult (λ g. name_cmp (name_at groups g) (Some name)) order r → MatchResult r (λ k. index_of groups name ≡ Some (get_or order k 0)) (λ _. index_of groups name ≡ None)
-  index_from_search indexed name (Ok k) found = (index_of-is groups name indexed.distinct (get_or order k 0)).1 (name_exact _ _ (found 0))
-  index_from_search indexed name (Err k) split = by_index (index_of groups name) refl
+  pub index_from_search : IsIndexed order groups → few_groups ≤ length groups → (name : List ℕ) (r : Result ℕ ℕ) → IsBinarySearchResult (λ g. name_cmp (name_at groups g) (Some name)) order r → MatchResult r (λ k. index_of groups name ≡ Some (get_or order k 0)) (λ _. index_of groups name ≡ None)
+  index_from_search indexed many name (Ok k) found = (index_of-is groups name indexed.distinct (get_or order k 0)).1 (name_exact _ _ (found 0))
+  index_from_search indexed many name (Err k) split = by_index (index_of groups name) refl
     where
       parts : IsPartitionPoint (λ g. name_cmp (name_at groups g) (Some name) ≡ Less) (λ g. name_cmp (name_at groups g) (Some name) ≡ Greater) order k
       parts = split (searchable_from_sorted name_total (name_at groups) order (Some name) indexed.sorted)
@@ -197,7 +197,7 @@ module _ (order : List ℕ) (groups : Groups) where
       by_index None e = refl
       by_index (Some g) e =
           let named : name_at groups g ≡ Some name = (index_of-is groups name indexed.distinct g).0 e in
-          let place : Contains order g = indexed.named g name named in
+          let place : Contains order g = indexed.named many g name named in
           let equal : name_cmp (name_at groups (get_or order place.0 0)) (Some name) ≡ Equal =
           rw (get_or_default order place.0 0 g place.1, place.2, named) (tied_itself name_total (Some name)) in
           ⊎_elim

@@ -1,16 +1,16 @@
 //! The names of one pattern's groups.
 //!
-//! A name is looked for in two steps. Its hash names a few places of a table, and each of these proposes a group: where that
-//! group has the name, it is the one. Nothing depends on what the table proposes, so no contract speaks of it. Where none has
-//! the name, the groups in the order of their names decide, by halving.
-ghost use Rattle.std.specs.Prelude.{◌≡◌, ℕ, ◌<◌, [], ◌++◌, length, Some, IfSome, IfOk, IfErr, OnOk, slice_index_or, None};
+//! Where there are few groups, a name is compared with that of each. Else its hash names a few places of a table, and each of
+//! these proposes a group: where that group has the name, it is the one. Nothing depends on what the table proposes, so no
+//! contract speaks of it. Where none has the name, the groups in the order of their names decide, by halving.
+ghost use Rattle.std.specs.Prelude.{◌≡◌, ℕ, ◌<◌, ◌≤◌, [], ◌++◌, length, Some, IfSome, IfOk, IfErr, OnOk, slice_index_or, None};
 ghost use Rattle.std.specs.Option.{option_copied, unwrap_or};
 ghost use Rattle.std.specs.Str.{IsUtf8};
 ghost use Rattle.std.specs.String.{string_bytes};
 ghost use Rattle.std.specs.Bool.{OnFalse};
 ghost use Rattle.rsc_captures.specs.Groups.{groups_in, index_of, AreDistinctBelow};
 ghost use Rattle.std.specs.List.Sorted.{IsPermutation};
-ghost use Rattle.rsc_captures.specs.Names.{span_held, AreHeld, name_cmp, HasNamed, IsSortedByName, AreNeighboursDistinct};
+ghost use Rattle.rsc_captures.specs.Names.{span_held, AreHeld, name_cmp, few_groups, HasNamed, IsSortedByName, AreNeighboursDistinct};
 ghost use Rattle.rsc_captures.specs.declared.names.NamesError.TheVariants.{OutOfMemory};
 
 use crate::faults::{first_repeat, is_named};
@@ -42,6 +42,12 @@ impl<A: Allocator> Model for PatternGroups<A> {
 
     ghost invariant = { λ p. IsHeld (string_bytes p.text) p.spans.items p.order.items };
 }
+
+// With fewer groups than these the names are looked at one by one, and there is neither an order nor a table.
+const FEW: usize = 10;
+
+// How many places of the table a name has.
+const PLACES: u64 = 4;
 
 /// Why the groups of a pattern are refused: the name of a group stands at a lesser one, or memory ran out.
 #[derive(Clone, Copy, Debug, PartialEq, Eq)]
@@ -159,14 +165,17 @@ fn sort_by_name(groups: &[Option<&str>], order: &mut [usize])
     order.sort_unstable_by_key(|g| name_at(groups, *g));
 }
 
-// The groups with a name, in the order of their names.
+// The groups with a name, in the order of their names; none where there are few groups.
 fn order_of<A: Allocator + Clone + Drop>(
     alloc: A,
     groups: &[Option<&str>],
 ) -> Result<Vec<usize, A>, AllocError>
-    ensures named { IfOk result (λ order. HasNamed order.items (groups_in groups.now)) }
+    ensures named { IfOk result (λ order. few_groups ≤ length groups.now → HasNamed order.items (groups_in groups.now)) }
     ensures sorted { IfOk result (λ order. IsSortedByName order.items (groups_in groups.now)) }
 {
+    if groups.len() < FEW {
+        return Ok(Vec::new(alloc));
+    }
     let mut order = named(alloc, groups)?;
     sort_by_name(groups, order.as_mut_slice());
     Ok(order)
@@ -183,12 +192,6 @@ fn has_equal_neighbours(groups: &[Option<&str>], order: &[usize]) -> bool
     }
     false
 }
-
-// How many places of the table a name has.
-const PLACES: u64 = 4;
-
-// Fewer groups than these need no table: the ordered index is one node.
-const FEW: usize = 10;
 
 // The place of the table where a name's places begin, before it is cut to the table's length.
 #[inline]
@@ -245,7 +248,7 @@ impl<A: Allocator + Clone + Drop> PatternGroups<A> {
         ensures err { IfErr result (NamesRefused (groups_in groups.now)) }
     {
         let order = order_of(alloc.clone()?, groups)?;
-        if has_equal_neighbours(groups, order.as_slice()) {
+        if groups.len() < FEW || has_equal_neighbours(groups, order.as_slice()) {
             if let Some(g) = first_repeat(groups) {
                 return Err(NamesError::Repeats(g));
             }
@@ -306,8 +309,22 @@ impl<A: Allocator + Clone + Drop> PatternGroups<A> {
         }
     }
 
+    // The group that has the name, by looking at one after another.
+    #[inline]
+    fn scanned(&self, name: &str) -> Option<usize>
+        ensures { result ≡ index_of self.now name.now }
+    {
+        for group in 0..self.len() {
+            if is_named(self.name(group), name) {
+                return Some(group);
+            }
+        }
+        None
+    }
+
     // The group that has the name, by halving the order.
     fn halved(&self, name: &str) -> Option<usize>
+        requires { few_groups ≤ length self.now }
         ensures { result ≡ index_of self.now name.now }
     {
         match self.order.binary_search_by(|g| self.name_cmp(*g, name)) {
@@ -321,6 +338,9 @@ impl<A: Allocator + Clone + Drop> PatternGroups<A> {
     pub(crate) fn index(&self, name: &str) -> Option<usize>
         ensures { result ≡ index_of self.now name.now }
     {
+        if self.len() < FEW {
+            return self.scanned(name);
+        }
         if let Some(group) = self.proposed(name) {
             return Some(group);
         }

@@ -12,4 +12,4 @@ returns-clause-named g c =
     let moved : IsPermutation c.in_ok-order.order.items c.sort_by_name.new.order = rw c.as_mut_slice.ensures.value at c.sort_by_name.ensures.permutation in
     let same_length : length c.sort_by_name.new.order ≡ c.in_ok-order.order.len = length_permutation _ _ moved ∙ sym c.in_ok-order.order.ok.0 in
     let kept : HasNamed c.sort_by_name.new.order (groups_in c.args.groups.now) = λ h name named. Contains-permutation _ _ h moved (c.in_ok-order.ensures h name named) in
-    subst (λ order. HasNamed order (groups_in c.args.groups.now)) (sym (take_sorted c.sort_by_name.new.order c.in_ok-order.order.items c.in_ok-order.order.len same_length)) kept
+    λ many. subst (λ order. HasNamed order (groups_in c.args.groups.now)) (sym (take_sorted c.sort_by_name.new.order c.in_ok-order.order.items c.in_ok-order.order.len same_length)) kept

@@ -1,0 +1,18 @@
+use Rattle.std.proofs.Common.{◌≡◌, ◌<◌, true, false, length, get_or, None, ap, sym, ◌∙◌, arith}
+use Rattle.std.proofs.Math.Seq.{take-length}
+use Rattle.std.specs.List.{list_any}
+use Rattle.rsc_captures.specs.Groups.{has_name}
+use Rattle.rsc_captures.proofs.Indexed.{index_of_first, index_of_none}
+use Rattle.rsc_captures.proofs.names.PatternGroups.scanned.Goals as goal
+
+pub returns-then-is_named : goal.returns-then-is_named
+returns-then-is_named g c =
+    let lt : c.loop-group.group < length c.args.self.now = omega arith in
+    let named : has_name c.args.name.now (get_or c.args.self.now c.loop-group.group None) ≡ true = ap (has_name c.args.name.now) (sym c.name.ensures) ∙ sym c.is_named.ensures ∙ c.if-is_named.true in
+    sym (index_of_first c.args.self.now c.args.name.now c.loop-group.group lt c.loop-group.invariant named)
+
+pub returns : goal.returns
+returns g c =
+    let at_end : c.loop-group.group ≡ length c.args.self.now = omega arith in
+    let none : list_any (has_name c.args.name.now) c.args.self.now ≡ false = rw (at_end, take-length) at c.loop-group.invariant in
+    sym (index_of_none c.args.self.now c.args.name.now none)
