@@ -1,6 +1,6 @@
 //! The names of one pattern's groups.
 //!
-//! Where there are few groups, a name is compared with that of each. Else its hash names a few places of a table, and each of
+//! Where there are few groups, a name is compared with that of each. Else its hash names a few cells of a table, and each of
 //! these proposes a group: where that group has the name, it is the one. Nothing depends on what the table proposes, so no
 //! contract speaks of it. Where none has the name, the groups in the order of their names decide, by halving.
 ghost use Rattle.std.specs.Prelude.{◌≡◌, ℕ, ◌<◌, ◌≤◌, [], ◌++◌, length, Some, IfSome, IfOk, IfErr, OnOk, slice_index_or, None};
@@ -10,15 +10,21 @@ ghost use Rattle.std.specs.String.{string_bytes};
 ghost use Rattle.std.specs.Bool.{OnFalse};
 ghost use Rattle.rsc_captures.specs.Groups.{groups_in, index_of, AreDistinctBelow};
 ghost use Rattle.std.specs.List.Sorted.{IsPermutation};
-ghost use Rattle.rsc_captures.specs.Names.{span_held, AreHeld, name_cmp, few_groups, HasNamed, IsSortedByName, AreNeighboursDistinct};
+ghost use Rattle.rsc_captures.specs.Names.{place_held, AreHeld, name_cmp, few_groups, HasNamed, IsSortedByName, AreNeighboursDistinct};
 ghost use Rattle.rsc_captures.specs.declared.names.NamesError.TheVariants.{OutOfMemory};
 
 use crate::faults::{first_repeat, is_named};
-use rsc_search::Span;
 use std::alloc::{AllocError, AllocFailed, Allocator, Global};
 use std::cmp::Ordering;
 use std::hash::{FoldHasher, Hasher};
 use std::marker::Model;
+
+// Where a name stands in the text of its pattern: its first byte, and how many it has.
+#[derive(Clone, Copy, Debug)]
+struct Place {
+    start: usize,
+    len: usize,
+}
 
 /// The groups of one pattern: their names one after another and where each stands, and the groups with a name in the order
 /// of the names.
@@ -26,7 +32,7 @@ use std::marker::Model;
 #[derive_where(Debug)]
 pub(crate) struct PatternGroups<A: Allocator = Global> {
     text: String<A>,
-    spans: Vec<Option<Span>, A>,
+    places: Vec<Option<Place>, A>,
     order: Vec<usize, A>,
     proposals: Vec<u32, A>,
 }
@@ -38,16 +44,16 @@ impl<A: Allocator> Model for PatternGroups<A> {
 
     ghost Value = { Groups };
 
-    ghost view = { λ p. groups_held (string_bytes p.text) p.spans.items };
+    ghost view = { λ p. groups_held (string_bytes p.text) p.places.items };
 
-    ghost invariant = { λ p. IsHeld (string_bytes p.text) p.spans.items p.order.items };
+    ghost invariant = { λ p. IsHeld (string_bytes p.text) p.places.items p.order.items };
 }
 
 // With fewer groups than these the names are looked at one by one, and there is neither an order nor a table.
 const FEW: usize = 10;
 
-// How many places of the table a name has.
-const PLACES: u64 = 4;
+// How many cells of the table a name has.
+const CELLS: u64 = 4;
 
 /// Why the groups of a pattern are refused: the name of a group stands at a lesser one, or memory ran out.
 #[derive(Clone, Copy, Debug, PartialEq, Eq)]
@@ -87,36 +93,36 @@ fn text_len(groups: &[Option<&str>]) -> usize {
 fn hold_name<A: Allocator>(
     text: &mut String<A>,
     group: Option<&str>,
-) -> Result<Option<Span>, AllocError>
+) -> Result<Option<Place>, AllocError>
     ensures text { OnOk result (string_bytes text.new ≡ string_bytes text.old ++ unwrap_or (option_copied group.entry) []) }
-    ensures span { IfOk result (λ span. span ≡ span_held (string_bytes text.old) (option_copied group.entry)) }
+    ensures place { IfOk result (λ place. place ≡ place_held (string_bytes text.old) (option_copied group.entry)) }
     ensures utf8 { IsUtf8 (unwrap_or (option_copied group.entry) []) }
 {
     let Some(name) = group else {
         return Ok(None);
     };
-    let start = text.len();
+    let place = Place {
+        start: text.len(),
+        len: name.len(),
+    };
     text.push_str(name)?;
-    Ok(Some(Span {
-        start,
-        end: text.len(),
-    }))
+    Ok(Some(place))
 }
 
 // The names one after another, and where each of them stands.
 fn hold<A: Allocator + Clone + Drop>(
     alloc: A,
     groups: &[Option<&str>],
-) -> Result<(String<A>, Vec<Option<Span>, A>), AllocError>
+) -> Result<(String<A>, Vec<Option<Place>, A>), AllocError>
     ensures { IfOk result (λ held. AreHeld (string_bytes held.0) held.1.items (groups_in groups.now)) }
 {
     let mut text = String::with_capacity(alloc.clone()?, text_len(groups))?;
-    let mut spans: Vec<Option<Span>, A> = Vec::with_capacity(alloc, groups.len())?;
+    let mut places: Vec<Option<Place>, A> = Vec::with_capacity(alloc, groups.len())?;
     for group in groups {
-        let span = hold_name(&mut text, *group)?;
-        spans.push(span)?;
+        let place = hold_name(&mut text, *group)?;
+        places.push(place)?;
     }
-    Ok((text, spans))
+    Ok((text, places))
 }
 
 // The name of a group, if it has one.
@@ -193,21 +199,21 @@ fn has_equal_neighbours(groups: &[Option<&str>], order: &[usize]) -> bool
     false
 }
 
-// The place of the table where a name's places begin, before it is cut to the table's length.
+// The cell of the table where a name's cells begin, before it is cut to the table's length.
 #[inline]
-fn first_place(name: &str) -> u64 {
+fn first_cell(name: &str) -> u64 {
     let mut hasher = FoldHasher::default();
     hasher.write(name.as_bytes());
     hasher.finish()
 }
 
-// Puts the group into the first free place of the name.
+// Puts the group into the first free cell of the name.
 fn propose(proposals: &mut [u32], name: &str, group: u32) {
     let mask = (proposals.len() as u64).wrapping_sub(1);
-    let first = first_place(name);
-    for i in 0..PLACES {
-        let place = first.wrapping_add(i) & mask;
-        if let Some(held) = proposals.get_mut(place as usize) {
+    let first = first_cell(name);
+    for i in 0..CELLS {
+        let cell = first.wrapping_add(i) & mask;
+        if let Some(held) = proposals.get_mut(cell as usize) {
             if *held == 0 {
                 *held = group;
                 return;
@@ -221,11 +227,11 @@ fn proposals_of<A: Allocator>(
     alloc: A,
     groups: &[Option<&str>],
 ) -> Result<Vec<u32, A>, AllocError> {
-    if groups.len() < FEW {
+    let named = named_len(groups);
+    if groups.len() < FEW || named == 0 {
         return Ok(Vec::new(alloc));
     }
-    let length = groups
-        .len()
+    let length = named
         .checked_next_power_of_two()
         .unwrap_or(1)
         .saturating_mul(2);
@@ -253,11 +259,11 @@ impl<A: Allocator + Clone + Drop> PatternGroups<A> {
                 return Err(NamesError::Repeats(g));
             }
         }
-        let (text, spans) = hold(alloc.clone()?, groups)?;
+        let (text, places) = hold(alloc.clone()?, groups)?;
         let proposals = proposals_of(alloc, groups)?;
         Ok(PatternGroups {
             text,
-            spans,
+            places,
             order,
             proposals,
         })
@@ -267,7 +273,7 @@ impl<A: Allocator + Clone + Drop> PatternGroups<A> {
     pub(crate) fn len(&self) -> usize
         ensures { result ≡ length self.now }
     {
-        self.spans.len()
+        self.places.len()
     }
 
     /// The name of a group, if it has one.
@@ -275,22 +281,22 @@ impl<A: Allocator + Clone + Drop> PatternGroups<A> {
     pub(crate) fn name(&self, group: usize) -> Option<&str>
         ensures { option_copied result ≡ slice_index_or self.now group None }
     {
-        match self.spans.get(group) {
-            Some(Some(span)) => Some(&self.text.as_str()[span.start..span.end]),
+        match self.places.get(group) {
+            Some(Some(place)) => Some(&self.text.as_str()[place.start..place.start + place.len]),
             _ => None,
         }
     }
 
-    // The group that the name's places propose, if it has the name.
+    // The group that the name's cells propose, if it has the name.
     #[inline]
     fn proposed(&self, name: &str) -> Option<usize>
         ensures { IfSome result (λ g. index_of self.now name.now ≡ Some g) }
     {
         let mask = (self.proposals.len() as u64).wrapping_sub(1);
-        let first = first_place(name);
-        for i in 0..PLACES {
-            let place = first.wrapping_add(i) & mask;
-            let group = *self.proposals.get(place as usize)? as usize;
+        let first = first_cell(name);
+        for i in 0..CELLS {
+            let cell = first.wrapping_add(i) & mask;
+            let group = *self.proposals.get(cell as usize)? as usize;
             if is_named(self.name(group), name) {
                 return Some(group);
             }

@@ -75,7 +75,6 @@ fn names_are_local_to_their_pattern(rt: HostRuntime) -> Result<(), Fail> {
     Ok(())
 }
 
-// Whether the list is refused with that text.
 #[test]
 fn finds_each_of_many_names(rt: HostRuntime) -> Result<(), Fail> {
     let groups = [
@@ -92,12 +91,16 @@ fn finds_each_of_many_names(rt: HostRuntime) -> Result<(), Fail> {
         Some("offset_hours"),
         Some("offset_minutes"),
         Some(""),
+        Some("größe"),
+        None,
+        Some("日"),
     ];
     let info = GroupInfo::new(rt.alloc(), &[&groups])?;
     for (group, name) in groups.iter().enumerate() {
         if let Some(name) = name {
             assert_eq!(rt; info.to_index(pattern(0), name), Some(group), "{name}");
         }
+        assert_eq!(rt; info.to_name(pattern(0), group), *name);
     }
     for name in [
         "years",
@@ -106,12 +109,16 @@ fn finds_each_of_many_names(rt: HostRuntime) -> Result<(), Fail> {
         "offset_hour",
         "0",
         "fractions of a second",
+        "gr",
+        "größ",
+        "日本",
     ] {
         assert_eq!(rt; info.to_index(pattern(0), name), None, "{name}");
     }
     Ok(())
 }
 
+// Whether the list is refused with that text.
 fn refused_as(alloc: Global, lists: &[&[Option<&str>]], want: &str) -> Result<bool, Fail> {
     match GroupInfo::new(alloc, lists) {
         Ok(_) => Ok(false),
@@ -142,6 +149,13 @@ fn refuses_the_first_fault(rt: HostRuntime) -> Result<(), Fail> {
             duplicate
         )?
     );
+    let duplicate = "duplicate capture group name 'b' found for pattern 0";
+    let names = ["f", "b", "d", "e", "a", "c", "b", "i", "h", "g", "a"];
+    let mut groups: [Option<&str>; 12] = [None; 12];
+    for (g, name) in names.iter().enumerate() {
+        groups[g + 1] = Some(*name);
+    }
+    assert!(rt; refused_as(alloc, &[&groups], duplicate)?);
     let duplicate = "duplicate capture group name '' found for pattern 1";
     assert!(rt;
         refused_as(
@@ -164,9 +178,38 @@ fn has_no_groups_without_patterns(rt: HostRuntime) -> Result<(), Fail> {
     Ok(())
 }
 
+#[test]
+fn empty_is_refused_until_there_is_enough(rt: HostRuntime) -> Result<(), Fail> {
+    let mut answered = 0u32;
+    for size in 0..64usize {
+        let heap = LocalHeap::new(rt.alloc(), 8 * size)?;
+        match GroupInfo::empty(&heap) {
+            Ok(info) => {
+                answered = answered.saturating_add(1);
+                assert!(rt; info.pattern_len() == 0);
+            }
+            Err(error) => assert!(rt;
+                answered == 0 && matches!(error.kind(), GroupInfoErrorKind::OutOfMemory),
+                "at {size}"
+            ),
+        }
+    }
+    assert!(rt; 0 < answered && answered < 64, "{answered}");
+    Ok(())
+}
+
 // What a budget of memory allows: whether a group info could be made, and whether a clone of it could too.
 fn made_and_cloned(heap: &LocalHeap) -> (bool, bool) {
-    let info = match GroupInfo::new(heap, &[&[None, Some("first")], &[None, None, Some("last")]]) {
+    let mut many: [Option<&str>; 12] = [Some("m"); 12];
+    let names = ["a", "b", "c", "d", "e", "f", "g", "h", "i", "j", "k", "l"];
+    many[0] = None;
+    for g in 1..12usize {
+        many[g] = Some(names[g]);
+    }
+    let info = match GroupInfo::new(
+        heap,
+        &[&[None, Some("first")], &[None, None, Some("last")], &many],
+    ) {
         Ok(info) => info,
         Err(_) => return (false, false),
     };
@@ -175,7 +218,8 @@ fn made_and_cloned(heap: &LocalHeap) -> (bool, bool) {
         Err(_) => false,
     };
     (
-        info.to_index(PatternID::must(0), "first") == Some(1),
+        info.to_index(PatternID::must(0), "first") == Some(1)
+            && info.to_index(PatternID::must(2), "h") == Some(7),
         cloned,
     )
 }

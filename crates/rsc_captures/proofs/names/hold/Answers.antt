@@ -8,5 +8,5 @@ use Rattle.rsc_captures.proofs.names.hold.Goals as goal
 pub loop-group-preserved : goal.loop-group-preserved
 loop-group-preserved g c =
     let lt : c.loop-group.group-index < length c.args.groups.now = omega arith in
-    rw (c.in_ok-span.ensures.text, c.in_ok-push.ensures.items, c.in_ok-span.ensures.span, take_groups_more c.args.groups.now c.loop-group.group-index lt)
-    (held_more (string_bytes c.loop-group.text) c.loop-group.spans.items _ (option_copied (get_or c.args.groups.now c.loop-group.group-index None)) c.in_ok-span.ensures.utf8 c.loop-group.invariant)
+    rw (c.in_ok-place.ensures.text, c.in_ok-push.ensures.items, c.in_ok-place.ensures.place, take_groups_more c.args.groups.now c.loop-group.group-index lt)
+    (held_more (string_bytes c.loop-group.text) c.loop-group.places.items _ (option_copied (get_or c.args.groups.now c.loop-group.group-index None)) c.in_ok-place.ensures.utf8 c.loop-group.invariant)

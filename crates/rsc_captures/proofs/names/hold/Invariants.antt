@@ -6,4 +6,4 @@ use Rattle.rsc_captures.proofs.names.hold.Given as goal
 
 -- the names so far are held
 abbrev pub invariant-loop-group : goal.invariant-loop-group
-invariant-loop-group g l = AreHeld (string_bytes l.text) l.spans.items (take l.group-index (groups_in l.groups))
+invariant-loop-group g l = AreHeld (string_bytes l.text) l.places.items (take l.group-index (groups_in l.groups))
