@@ -11,8 +11,9 @@ fi
 mkdir -p "$2"
 out=$(cd "$2" && pwd)
 
-# One unit, for the processor that the port is built for.
-flags=(-C codegen-units=1 -C target-cpu=x86-64-v2 --check-cfg 'cfg(ported)')
+# One unit, for the processor that the port is built for. Every function of both sides starts at a multiple of 64, so that where the
+# linker puts a function doesn't change the time of its loops.
+flags=(-C codegen-units=1 -C target-cpu=x86-64-v2 -C llvm-args=-align-all-functions=6 --check-cfg 'cfg(ported)')
 "$here/../compare/build.sh" "$1" "$out" "$here/src/main.rs" theirs "${flags[@]}" > /dev/null
 
 # `rt lib` proves the kernels and what they stand on, and makes the static library; the toolchain's C library stands in the folder
@@ -22,5 +23,6 @@ kernels=$here/../crates/rsc_kernels
     tail -n 20 "$out/rt-lib.log" >&2
     exit 1
 }
-rustc --edition 2021 -C opt-level=3 "${flags[@]}" --cfg ported --crate-name ours -L native="$kernels/out" -l static=rsc_kernels \
+objcopy --set-section-alignment '.text*=64' "$kernels/out/librsc_kernels.a" "$out/librsc_kernels.a"
+rustc --edition 2021 -C opt-level=3 "${flags[@]}" --cfg ported --crate-name ours -L native="$out" -l static=rsc_kernels \
     -L native="$(dirname "$(rt doc)")/c" -l static=libc_c -o "$out/ours" "$here/src/main.rs"
