@@ -44,7 +44,7 @@ impl Haystack for &[u8] {
 
 impl<A: Allocator + Clone + Drop> Captures<A> {
     // The first group from `from` on that takes part, and the place after it.
-    #[inline]
+    #[inline(always)]
     fn next_participating(&self, from: usize) -> Option<(Span, usize)>
         ensures { MatchOption result (participating_from self.now from ≡ [])
             (λ found. participating_from self.now from ≡ found.0 ∷ participating_from self.now found.1) }
