@@ -20,10 +20,13 @@ use std::marker::Model;
 fn span_at(slots: &[Option<NonMaxUsize>], slot: usize) -> Option<Span>
     ensures { result ≡ span_at slots.now slot }
 {
-    let Some(Some(start)) = slots.get(slot) else {
+    if slot >= slots.len().saturating_sub(1) {
+        return None;
+    }
+    let Some(start) = slots[slot] else {
         return None;
     };
-    let Some(Some(end)) = slots.get(slot + 1) else {
+    let Some(end) = slots[slot + 1] else {
         return None;
     };
     Some(Span {
