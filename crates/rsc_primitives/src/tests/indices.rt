@@ -166,6 +166,7 @@ fn tells_the_number(rt: HostRuntime) {
         size_of::<SmallIndex>() + size_of::<PatternID>() + size_of::<StateID>(),
         12
     );
+    assert_eq!(rt; size_of::<Option<NonMaxUsize>>(), 9);
     assert!(rt; is_before(&StateID::ZERO, &StateID::MAX));
     assert_eq!(rt; at_state(StateID::must(1), b"ab"), b'b');
 }
