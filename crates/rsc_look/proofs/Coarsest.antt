@@ -1,6 +1,6 @@
 -- The boundaries of a list's members make the coarsest partition that keeps them.
-use Rattle.std.proofs.Common.{◌≡◌, ◌↔◌, ℕ, zero, suc, ◌+◌, ◌<◌, ◌≤◌, min, max, Bool, true, false, List, [], ◌∷◌, refl, sym, ap, ◌∙◌, arith, ◌⊎◌, ⊎_elim, true≢false}
-use Rattle.std.specs.Prelude.{slice_index}
+use Rattle.std.proofs.Common.{◌≡◌, ◌↔◌, ℕ, zero, suc, ◌+◌, ◌<◌, ◌≤◌, min, max, Bool, true, false, List, [], ◌∷◌, refl, sym, ap, ◌∙◌, subst, arith, ◌⊎◌, ⊎_elim, true≢false}
+use Rattle.std.specs.Prelude.{slice_index, length}
 use Rattle.std.specs.List.{Contains, Any}
 use Rattle.std.specs.FinSet as sets
 use Rattle.std.proofs.lemmas.List.Folds.{list_any_at, Any-from_list_any}
@@ -132,3 +132,15 @@ same_bools false false f g = refl
 -- two coarsest partitions have the same boundaries
 pub IsCoarsest-same : (p q : ℕ → Bool) (looks : List Look) (t : ℕ) (W : ℕ → Bool) → IsCoarsest p looks t W → IsCoarsest q looks t W → (b : ℕ) → b < 255 → p b ≡ q b
 IsCoarsest-same p q looks t W f g b l = same_bools (p b) (q b) (f.least q g.keeps b l) (g.least p f.keeps b l)
+
+-- haystacks whose bytes at each index have one class are interchanged, where one class is to be together
+pub AreInterchanged-from_classes : (m : List ℕ) (p : ℕ → Bool) (h k : List ℕ)
+    → ((q : ℕ → Bool) (b c : ℕ) → b < 256 → c < 256 → (slice_index (class_map q) b ≡ slice_index (class_map q) c) ↔ Together q b c)
+    → m ≡ class_map p → IsHaystack h → IsHaystack k → length h ≡ length k
+    → ((i : ℕ) → i < length h → slice_index m (slice_index h i) ≡ slice_index m (slice_index k i)) → AreInterchanged p h k
+AreInterchanged-from_classes m p h k one classes first second len same = record {
+  first = first;
+  second = second;
+  same_length = len;
+  together = λ j lt. (one p (slice_index h j) (slice_index k j) (first j 0 lt) (second j 0 (subst (λ n. j < n) len lt))).0 (subst (λ c. slice_index c (slice_index h j) ≡ slice_index c (slice_index k j)) classes (same j lt));
+}

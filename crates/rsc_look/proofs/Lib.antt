@@ -2,6 +2,7 @@ pub mod AsciiWords
 pub mod Asked
 pub mod BytesKept
 pub mod Coarsest
+pub mod GrownSets
 pub mod Inside
 pub mod LookSetLemmas
 pub mod Marks

@@ -153,6 +153,9 @@ listed WordEndHalfAscii = refl
 listed WordStartHalfUnicode = refl
 listed WordEndHalfUnicode = refl
 
+pub contains-looks_of-all : (l : Look) → sets.contains (looks_of 262143) l ≡ true
+contains-looks_of-all l = contains-looks_of 262143 l ∙ all_bits l
+
 pub looks_of-all : looks_of 262143 ≡ sets.from_list every_look
 looks_of-all = same_looks (looks_of 262143) (sets.from_list every_look) (λ l.
     contains-looks_of 262143 l ∙ all_bits l

@@ -7,6 +7,9 @@ use Rattle.rsc_look.specs.Looks.{is_unicode}
 use Rattle.rsc_look.specs.Keeping.{IsExactFor, AgreesWithAscii}
 use Rattle.rsc_look.proofs.Marks.{is_mark, contains-boundaries_of}
 use Rattle.std.specs.FinSet as sets
+use Rattle.std.specs.FinSet.{contains-empty, same_set, nat_cmp-IsAntisymmetric}
+use Rattle.std.specs.Ordering.{nat_cmp}
+use Rattle.std.specs.Cmp.{nat_cmp_total}
 use Rattle.rsc_alphabet.specs.ByteSets.{Numbers}
 use Rattle.rsc_alphabet.proofs.PartitionsLemmas.{c-union}
 use Rattle.rsc_look.specs.Boundaries.{boundaries_of}
@@ -41,3 +44,9 @@ IsExactFor-from old new l t W e a = record {
   least = λ q keeps b lt m. mark_is_needed q (l ∷ []) l t W b a keeps (here l) lt (sym (contains-boundaries_of l t b) ∙ m);
   needed = λ b lt m. record { look = l; listed = here l; position = place_of l; at_an_end = place_of_le l; tells = Tells-mark l t W b a (sym (contains-boundaries_of l t b) ∙ m) };
 }
+
+-- the same of the assertion's own boundaries alone
+pub IsExactFor-own : (l : Look) (t : ℕ) (W : ℕ → Bool) → (is_unicode l ≡ true → AgreesWithAscii W) → IsExactFor (sets.contains (boundaries_of l t)) l t W
+IsExactFor-own l t W =
+    IsExactFor-from sets.empty (boundaries_of l t) l t W (same_set nat_cmp_total nat_cmp-IsAntisymmetric _ _ (λ b.
+    sym (c-union sets.empty (boundaries_of l t) b ∙ ap (λ x. x || sets.contains (boundaries_of l t) b) (contains-empty nat_cmp b))))

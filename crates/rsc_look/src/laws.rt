@@ -1,9 +1,21 @@
 //! Laws of assertions that a caller may cite: functions that do nothing, and whose contracts are the laws.
-ghost use Rattle.std.specs.Prelude.{◌≡◌, ◌<◌, ℕ, Bool, List};
+ghost use Rattle.std.specs.Prelude.{true, false, ◌≡◌, ◌↔◌, ◌⊎◌, ◌+◌, ◌<◌, ◌≤◌, ◌++◌, [], ◌∷◌, ℕ, Bool, List, length, slice_index, IsTrue};
+ghost use Rattle.std.specs.List.{Contains};
+ghost use Rattle.std.specs.FinSet as sets;
 ghost use Rattle.rsc_primitives.specs.Utf8.{is_word_byte};
 ghost use Rattle.rsc_look.specs.declared.assertion.Look.{Look};
-ghost use Rattle.rsc_look.specs.Keeping.{AgreesWithAscii, IsCoarsest};
+ghost use Rattle.rsc_look.specs.declared.side.Side.{Side};
+ghost use Rattle.rsc_look.specs.Looks.{is_unicode};
+ghost use Rattle.rsc_look.specs.LookSets.{Looks};
+ghost use Rattle.rsc_look.specs.Holds.{Holds, IsBefore, IsAfter};
+ghost use Rattle.rsc_look.specs.Boundaries.{boundaries_of};
+ghost use Rattle.rsc_look.specs.Keeping.{IsHaystack, DifferInAscii, Keeps, AgreesWithAscii, IsCoarsest, IsCoarsestMap, IsExactFor};
 ghost use Rattle.rsc_look.specs.Words.{is_unicode_word};
+
+use crate::{
+    AsciiWord, Look, LookMatcher, LookSet, LookSetIter, UnicodeWord, UnicodeWordBoundaryError,
+    WordClass,
+};
 
 /// A list of assertions has at most one coarsest partition.
 pub fn at_most_one_coarsest()
@@ -11,9 +23,83 @@ pub fn at_most_one_coarsest()
         IsCoarsest p looks t W → IsCoarsest q looks t W → (b : ℕ) → b < 255 → p b ≡ q b }
 {}
 
-/// Below 128 the word characters of [`crate::AsciiWord`] and of [`crate::UnicodeWord`] are the word bytes, which is what
-/// [`crate::LookMatcher::classes_of`] asks where a Unicode assertion is listed.
+/// The headline over the class map alone: where two haystacks of one length have the same classes at each index, each listed
+/// assertion holds at the same positions of both; a Unicode assertion where they differ in ASCII alone.
+pub fn same_classes_change_nothing()
+    ensures bytes { (m : List ℕ) (looks : List Look) (t : ℕ) (W : ℕ → Bool) → IsCoarsestMap m looks t W →
+        (l : Look) → Contains looks l → is_unicode l ≡ false → (h k : List ℕ) → IsHaystack h → IsHaystack k → length h ≡ length k →
+        ((i : ℕ) → i < length h → slice_index m (slice_index h i) ≡ slice_index m (slice_index k i)) →
+        (i : ℕ) → i ≤ length h → Holds l t W h i ↔ Holds l t W k i }
+    ensures characters { (m : List ℕ) (looks : List Look) (t : ℕ) (W : ℕ → Bool) → IsCoarsestMap m looks t W →
+        (l : Look) → Contains looks l → is_unicode l ≡ true → (h k : List ℕ) → IsHaystack h → IsHaystack k → length h ≡ length k →
+        ((i : ℕ) → i < length h → slice_index m (slice_index h i) ≡ slice_index m (slice_index k i)) → DifferInAscii h k →
+        (i : ℕ) → i ≤ length h → Holds l t W h i ↔ Holds l t W k i }
+{
+    rsc_alphabet::laws::one_class_is_together();
+}
+
+/// A partition with the boundaries of an assertion keeps it, and each of them is needed: what
+/// [`crate::LookMatcher::add_to_byteset`] says of the set that it leaves.
+pub fn boundaries_are_exact()
+    ensures { (l : Look) (t : ℕ) (W : ℕ → Bool) → (is_unicode l ≡ true → AgreesWithAscii W) → IsExactFor (sets.contains (boundaries_of l t)) l t W }
+{}
+
+/// A partition that keeps two lists keeps the one after the other, and it keeps the empty list.
+pub fn kept_lists_are_joined()
+    ensures none { (p : ℕ → Bool) (t : ℕ) (W : ℕ → Bool) → Keeps p [] t W }
+    ensures both { (p : ℕ → Bool) (some others : List Look) (t : ℕ) (W : ℕ → Bool) →
+        Keeps p some t W → Keeps p others t W → Keeps p (some ++ others) t W }
+{}
+
+/// A position has exactly one side before it, and exactly one after it.
+pub fn each_position_has_two_sides()
+    ensures before { (W : ℕ → Bool) (h : List ℕ) (i : ℕ) → (s : Side) × IsBefore W h i s }
+    ensures one_before { (W : ℕ → Bool) (h : List ℕ) (i : ℕ) (s u : Side) → IsBefore W h i s → IsBefore W h i u → s ≡ u }
+    ensures after { (W : ℕ → Bool) (h : List ℕ) (i : ℕ) → i ≤ length h → (s : Side) × IsAfter W h i s }
+    ensures one_after { (W : ℕ → Bool) (h : List ℕ) (i : ℕ) (s u : Side) → IsAfter W h i s → IsAfter W h i u → s ≡ u }
+{}
+
+/// Below 128 the word characters of [`AsciiWord`] and of [`UnicodeWord`] are the word bytes, which is what
+/// [`LookMatcher::classes_of`] asks where a Unicode assertion is listed.
 pub fn words_agree_with_ascii()
     ensures ascii { AgreesWithAscii (λ c. is_word_byte c) }
     ensures unicode { AgreesWithAscii is_unicode_word }
+    ensures ascii_word { (w : AsciiWord) → AgreesWithAscii (⟦<AsciiWord as WordClass>⟧.word_chars w) }
+    ensures unicode_word { (w : UnicodeWord) → AgreesWithAscii (⟦<UnicodeWord as WordClass>⟧.word_chars w) }
+{}
+
+/// What holds of all members of a set with one more member holds of that member and of all others; and of the empty set
+/// everything does.
+pub fn members_of_grown_sets()
+    ensures none { (l : Look) → sets.contains (let s : Looks = sets.empty in s) l ≡ false }
+    ensures grown { (s : Looks) (l m : Look) → (sets.contains (sets.insert s l) m ≡ true) ↔ ((l ≡ m) ⊎ (sets.contains s m ≡ true)) }
+{}
+
+/// A clone is its source, and none is refused.
+pub fn clones_are_their_sources()
+    ensures look { (l m : Look) → ⟦<Look as Clone>⟧.is_clone l m → m ≡ l }
+    ensures look_accepted { (l : Look) → ⟦<Look as Clone>⟧.is_infallible l }
+    ensures set { (s u : Looks) → ⟦<LookSet as Clone>⟧.is_clone s u → u ≡ s }
+    ensures set_accepted { (s : Looks) → ⟦<LookSet as Clone>⟧.is_infallible s }
+    ensures iter { (s u : List Look) → ⟦<LookSetIter as Clone>⟧.is_clone s u → u ≡ s }
+    ensures iter_accepted { (s : List Look) → ⟦<LookSetIter as Clone>⟧.is_infallible s }
+    ensures ascii_word { (w v : AsciiWord) → ⟦<AsciiWord as Clone>⟧.is_clone w v → v ≡ w }
+    ensures ascii_word_accepted { (w : AsciiWord) → ⟦<AsciiWord as Clone>⟧.is_infallible w }
+    ensures unicode_word { (w v : UnicodeWord) → ⟦<UnicodeWord as Clone>⟧.is_clone w v → v ≡ w }
+    ensures unicode_word_accepted { (w : UnicodeWord) → ⟦<UnicodeWord as Clone>⟧.is_infallible w }
+    ensures error { (e f : UnicodeWordBoundaryError) → ⟦<UnicodeWordBoundaryError as Clone>⟧.is_clone e f → f ≡ e }
+    ensures error_accepted { (e : UnicodeWordBoundaryError) → ⟦<UnicodeWordBoundaryError as Clone>⟧.is_infallible e }
+{}
+
+/// Two assertions are equal exactly if they are the same one, and two sets exactly if they have the same members.
+pub fn equality_is_of_the_value()
+    ensures look { (l m : Look) → (⟦<Look as PartialEq>⟧.eq l m ≡ true) ↔ (l ≡ m) }
+    ensures set { (s u : Looks) → (⟦<LookSet as PartialEq>⟧.eq s u ≡ true) ↔ (s ≡ u) }
+{}
+
+/// The default set has no member, and the default matcher has the line terminator `\n` and the word characters of Unicode.
+pub fn defaults()
+    ensures set { (s : Looks) → ⟦<LookSet as Default>⟧.is_default s → s ≡ sets.empty }
+    ensures terminator { (m : ℕ × UnicodeWord) → ⟦<LookMatcher<UnicodeWord> as Default>⟧.is_default m → m.0 ≡ 10 }
+    ensures words { (w : UnicodeWord) (c : ℕ) → ⟦<UnicodeWord as WordClass>⟧.word_chars w c ≡ is_unicode_word c }
 {}

@@ -1,5 +1,6 @@
 //! Sets of assertions, and the walk over their members.
-ghost use Rattle.std.specs.Prelude.{◌≡◌, ◌↔◌, ◌^◌, ◌<◌, ◌≤◌, [], ◌∷◌, Some, IsTrue, IsOk, IsNone, MatchOption, length};
+ghost use Rattle.std.specs.Prelude.{◌≡◌, ◌↔◌, ◌^◌, ◌<◌, ◌≤◌, ◌&&◌, ◌||◌, true, false, not, [], ◌∷◌, Some, IsTrue, IsOk, IsNone, MatchOption, length};
+ghost use Rattle.std.specs.List.{All};
 ghost use Rattle.std.specs.FinSet as sets;
 ghost use Rattle.std.specs.Iterator.{YieldsFirst, item_count};
 ghost use Rattle.rsc_look.specs.declared.assertion.Look.{Look};
@@ -86,7 +87,8 @@ impl LookSet {
     /// The set with no member.
     #[inline]
     pub fn empty() -> LookSet
-        ensures { result ≡ sets.empty }
+        ensures value { result ≡ sets.empty }
+        ensures none { (look : Look) → sets.contains result look ≡ false }
     {
         LookSet { bits: 0 }
     }
@@ -94,7 +96,8 @@ impl LookSet {
     /// The set of all eighteen assertions.
     #[inline]
     pub fn full() -> LookSet
-        ensures { result ≡ sets.from_list every_look }
+        ensures value { result ≡ sets.from_list every_look }
+        ensures all { (look : Look) → sets.contains result look ≡ true }
     {
         LookSet { bits: ALL_BITS }
     }
@@ -102,7 +105,9 @@ impl LookSet {
     /// The set with one member.
     #[inline]
     pub fn singleton(look: Look) -> LookSet
-        ensures { result ≡ sets.insert sets.empty look }
+        ensures value { result ≡ sets.insert sets.empty look }
+        ensures member { sets.contains result look ≡ true }
+        ensures others { (other : Look) → ¬ (other ≡ look) → sets.contains result other ≡ false }
     {
         LookSet::empty().insert(look)
     }
@@ -231,7 +236,8 @@ impl LookSet {
     /// The members, by ascending number.
     #[inline]
     pub fn iter(self) -> LookSetIter
-        ensures { result ≡ members self }
+        ensures value { result ≡ members self }
+        ensures contained { All (λ look. sets.contains self look ≡ true) result }
     {
         LookSetIter { set: self }
     }
@@ -239,7 +245,9 @@ impl LookSet {
     /// The set with an assertion as one more member.
     #[inline]
     pub fn insert(self, look: Look) -> LookSet
-        ensures { result ≡ sets.insert self look }
+        ensures value { result ≡ sets.insert self look }
+        ensures member { sets.contains result look ≡ true }
+        ensures others { (other : Look) → ¬ (other ≡ look) → sets.contains result other ≡ sets.contains self other }
     {
         LookSet {
             bits: self.bits | look.as_repr(),
@@ -249,7 +257,9 @@ impl LookSet {
     /// Makes an assertion a member.
     #[inline]
     pub fn set_insert(&mut self, look: Look)
-        ensures { self.new ≡ sets.insert self.old look }
+        ensures value { self.new ≡ sets.insert self.old look }
+        ensures member { sets.contains self.new look ≡ true }
+        ensures others { (other : Look) → ¬ (other ≡ look) → sets.contains self.new other ≡ sets.contains self.old other }
     {
         *self = self.insert(look);
     }
@@ -257,7 +267,9 @@ impl LookSet {
     /// The set without an assertion.
     #[inline]
     pub fn remove(self, look: Look) -> LookSet
-        ensures { result ≡ sets.remove self look }
+        ensures value { result ≡ sets.remove self look }
+        ensures member { sets.contains result look ≡ false }
+        ensures others { (other : Look) → ¬ (other ≡ look) → sets.contains result other ≡ sets.contains self other }
     {
         LookSet {
             bits: self.bits & !look.as_repr(),
@@ -267,7 +279,9 @@ impl LookSet {
     /// Makes an assertion no member.
     #[inline]
     pub fn set_remove(&mut self, look: Look)
-        ensures { self.new ≡ sets.remove self.old look }
+        ensures value { self.new ≡ sets.remove self.old look }
+        ensures member { sets.contains self.new look ≡ false }
+        ensures others { (other : Look) → ¬ (other ≡ look) → sets.contains self.new other ≡ sets.contains self.old other }
     {
         *self = self.remove(look);
     }
@@ -275,7 +289,8 @@ impl LookSet {
     /// The members that aren't members of another set.
     #[inline]
     pub fn subtract(self, other: LookSet) -> LookSet
-        ensures { result ≡ sets.difference self other }
+        ensures value { result ≡ sets.difference self other }
+        ensures at { (look : Look) → sets.contains result look ≡ (sets.contains self look && not (sets.contains other look)) }
     {
         LookSet {
             bits: self.bits & !other.bits,
@@ -285,7 +300,8 @@ impl LookSet {
     /// Takes the members of another set out.
     #[inline]
     pub fn set_subtract(&mut self, other: LookSet)
-        ensures { self.new ≡ sets.difference self.old other }
+        ensures value { self.new ≡ sets.difference self.old other }
+        ensures at { (look : Look) → sets.contains self.new look ≡ (sets.contains self.old look && not (sets.contains other look)) }
     {
         *self = self.subtract(other);
     }
@@ -293,7 +309,8 @@ impl LookSet {
     /// The members of both sets.
     #[inline]
     pub fn union(self, other: LookSet) -> LookSet
-        ensures { result ≡ sets.union self other }
+        ensures value { result ≡ sets.union self other }
+        ensures at { (look : Look) → sets.contains result look ≡ (sets.contains self look || sets.contains other look) }
     {
         LookSet {
             bits: self.bits | other.bits,
@@ -303,7 +320,8 @@ impl LookSet {
     /// Adds the members of another set.
     #[inline]
     pub fn set_union(&mut self, other: LookSet)
-        ensures { self.new ≡ sets.union self.old other }
+        ensures value { self.new ≡ sets.union self.old other }
+        ensures at { (look : Look) → sets.contains self.new look ≡ (sets.contains self.old look || sets.contains other look) }
     {
         *self = self.union(other);
     }
@@ -311,7 +329,8 @@ impl LookSet {
     /// The common members of both sets.
     #[inline]
     pub fn intersect(self, other: LookSet) -> LookSet
-        ensures { result ≡ sets.intersection self other }
+        ensures value { result ≡ sets.intersection self other }
+        ensures at { (look : Look) → sets.contains result look ≡ (sets.contains self look && sets.contains other look) }
     {
         LookSet {
             bits: self.bits & other.bits,
@@ -321,7 +340,8 @@ impl LookSet {
     /// Keeps the members that are members of another set too.
     #[inline]
     pub fn set_intersect(&mut self, other: LookSet)
-        ensures { self.new ≡ sets.intersection self.old other }
+        ensures value { self.new ≡ sets.intersection self.old other }
+        ensures at { (look : Look) → sets.contains self.new look ≡ (sets.contains self.old look && sets.contains other look) }
     {
         *self = self.intersect(other);
     }

@@ -1,11 +1,11 @@
 //! The matcher: where the assertions hold, and which bytes they can tell apart.
-ghost use Rattle.std.specs.Prelude.{◌≡◌, ◌≤◌, ◌-◌, ◌↔◌, true, false, ℕ, Bool, IsTrue, IsOkAnd, IfOk, IsOk, length};
+ghost use Rattle.std.specs.Prelude.{◌≡◌, ◌≤◌, ◌-◌, ◌↔◌, ◌||◌, true, false, ℕ, Bool, IsTrue, IsOkAnd, IfOk, IsOk, length};
 ghost use Rattle.std.specs.FinSet as sets;
 ghost use Rattle.rsc_primitives.specs.Utf8.{IsInside};
 ghost use Rattle.rsc_alphabet.specs.Partitions.{class_map};
 ghost use Rattle.rsc_look.specs.declared.assertion.Look.{Look};
 ghost use Rattle.rsc_look.specs.Looks.{is_unicode, reversed};
-ghost use Rattle.rsc_look.specs.Holds.{Holds, IsBefore, IsAfter};
+ghost use Rattle.rsc_look.specs.Holds.{Holds, IsBefore, IsAfter, holds_at_bytes, byte_before, byte_after};
 ghost use Rattle.rsc_look.specs.SideLayout.{IsSideOf};
 ghost use Rattle.rsc_look.specs.Boundaries.{word_boundaries, boundaries_of, boundaries_of_each};
 ghost use Rattle.rsc_look.specs.Keeping.{AgreesWithAscii, AgreesWhereAsked, IsCoarsestMap, IsExactFor};
@@ -104,6 +104,8 @@ impl<W: WordClass> LookMatcher<W> {
     pub fn matches(&self, look: Look, haystack: &[u8], at: usize) -> bool
         requires { at ≤ length haystack.now }
         ensures holds { IsTrue result ↔ Holds look self.now.0 (W.word_chars self.now.1) haystack.now at }
+        ensures bytes { is_unicode look ≡ false →
+            result ≡ holds_at_bytes look self.now.0 (byte_before haystack.now at) (byte_after haystack.now at) }
         ensures inside { is_unicode look ≡ true → IsInside haystack.now at → result ≡ false }
         ensures mirrored { is_unicode look ≡ false →
             IsTrue result ↔ Holds (reversed look) self.now.0 (W.word_chars self.now.1) (mirror look haystack.now) (length haystack.now - at) }
@@ -333,6 +335,7 @@ impl<W: WordClass> LookMatcher<W> {
     /// word characters below 128 are the word bytes.
     pub fn add_to_byteset(&self, look: Look, set: &mut ByteClassSet)
         ensures adds { set.new ≡ sets.union set.old (boundaries_of look self.now.0) }
+        ensures at { (b : ℕ) → sets.contains set.new b ≡ (sets.contains set.old b || sets.contains (boundaries_of look self.now.0) b) }
         ensures exact { (is_unicode look ≡ true → AgreesWithAscii (W.word_chars self.now.1)) →
             IsExactFor (sets.contains set.new) look self.now.0 (W.word_chars self.now.1) }
     {

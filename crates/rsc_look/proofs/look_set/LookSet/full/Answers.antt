@@ -1,5 +1,8 @@
-use Rattle.rsc_look.proofs.LookSetLemmas.{looks_of-all}
+use Rattle.rsc_look.proofs.LookSetLemmas.{looks_of-all, contains-looks_of-all}
 use Rattle.rsc_look.proofs.look_set.LookSet.full.Goals as goal
 
-pub returns : goal.returns
-returns c = looks_of-all
+pub returns-clause-value : goal.returns-clause-value
+returns-clause-value c = looks_of-all
+
+pub returns-clause-all : goal.returns-clause-all
+returns-clause-all c = contains-looks_of-all

@@ -5,7 +5,7 @@ use Rattle.rsc_look.proofs.matcher.LookMatcher.matches_set.Goals as goal
 
 pub loop-look-init : goal.loop-look-init
 loop-look-init g c =
-    (tt, tt, HasAsked-none c.args.set c.into_iter-look-iterator.result (λ look. Holds look c.args.self.now.0 (g.W.WordClass.word_chars c.args.self.now.1) c.args.haystack.now c.args.at) (c.into_iter-look-iterator.ensures.into_iter_gives ∙ c.iter-look-items.ensures))
+    (tt, tt, HasAsked-none c.args.set c.into_iter-look-iterator.result (λ look. Holds look c.args.self.now.0 (g.W.WordClass.word_chars c.args.self.now.1) c.args.haystack.now c.args.at) (c.into_iter-look-iterator.ensures.into_iter_gives ∙ c.iter-look-items.ensures.value))
 
 pub loop-look-preserved : goal.loop-look-preserved
 loop-look-preserved g c =

@@ -1,0 +1,43 @@
+-- The members of sets of assertions that are made of others.
+use Rattle.std.proofs.Common.{◌≡◌, ◌↔◌, ◌||◌, ◌&&◌, ◌⊎◌, Bool, true, false, not, refl, sym, ap, ◌∙◌, arith, nat_eq, inl, inr, ⊎_elim, ◌≢◌}
+use Rattle.std.specs.FinSet as sets
+use Rattle.std.specs.FinSet.{contains-empty, contains-insert, contains-remove}
+use Rattle.std.specs.Ordering.{eq_by_cmp}
+use Rattle.std.specs.Cmp.{unsigned_tied}
+use Rattle.std.proofs.lemmas.Bool.{cases_eq, eq-eqb, ne_eqb}
+use Rattle.rsc_look.specs.declared.assertion.Look.{Look}
+use Rattle.rsc_look.specs.Looks.{repr_of}
+use Rattle.rsc_look.specs.LookSets.{look_cmp, Looks}
+use Rattle.rsc_look.specs.LookSetLaws.{look_cmp_total, repr_of-injective}
+
+tied : (l m : Look) → eq_by_cmp look_cmp l m ≡ nat_eq (repr_of l) (repr_of m)
+tied l m = unsigned_tied (repr_of l) (repr_of m)
+
+itself : (l : Look) → eq_by_cmp look_cmp l l ≡ true
+itself l = tied l l ∙ eq-eqb (repr_of l) (repr_of l) refl
+
+apart : (l m : Look) → l ≢ m → eq_by_cmp look_cmp l m ≡ false
+apart l m ne = tied l m ∙ ne_eqb (repr_of l) (repr_of m) (λ e. ne (repr_of-injective l m e))
+
+pub grown_by : (s : Looks) (l : Look) → sets.contains (sets.insert s l) l ≡ true
+grown_by s l = contains-insert look_cmp_total s l l ∙ ap (λ b. b || sets.contains s l) (itself l)
+
+pub grown_apart : (s : Looks) (l m : Look) → m ≢ l → sets.contains (sets.insert s l) m ≡ sets.contains s m
+grown_apart s l m ne = contains-insert look_cmp_total s l m ∙ ap (λ b. b || sets.contains s m) (apart m l ne)
+
+pub single_apart : (l m : Look) → m ≢ l → sets.contains (sets.insert (sets.empty {R = look_cmp}) l) m ≡ false
+single_apart l m ne = grown_apart sets.empty l m ne ∙ contains-empty look_cmp m
+
+pub shrunk_by : (s : Looks) (l : Look) → sets.contains (sets.remove s l) l ≡ false
+shrunk_by s l = contains-remove look_cmp_total s l l ∙ ap (λ b. not b && sets.contains s l) (itself l)
+
+pub shrunk_apart : (s : Looks) (l m : Look) → m ≢ l → sets.contains (sets.remove s l) m ≡ sets.contains s m
+shrunk_apart s l m ne = contains-remove look_cmp_total s l m ∙ ap (λ b. not b && sets.contains s m) (apart m l ne)
+
+pub grown : (s : Looks) (l m : Look) → (sets.contains (sets.insert s l) m ≡ true) ↔ ((l ≡ m) ⊎ (sets.contains s m ≡ true))
+grown s l m = ⊎_elim
+    (λ (e : repr_of l ≡ repr_of m). let same : l ≡ m = repr_of-injective l m e in
+    ((λ _. inl same), (λ _. ap (λ k. sets.contains (sets.insert s l) k) (sym same) ∙ grown_by s l)))
+    (λ (ne : repr_of l ≢ repr_of m). let other : m ≢ l = λ e. ne (ap repr_of (sym e)) in
+    ((λ has. inr (sym (grown_apart s l m other) ∙ has)), ⊎_elim (λ e. absurd (ne (ap repr_of e))) (λ has. grown_apart s l m other ∙ has)))
+    (cases_eq (repr_of l) (repr_of m))

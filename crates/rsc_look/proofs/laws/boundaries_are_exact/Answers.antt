@@ -1,0 +1,5 @@
+use Rattle.rsc_look.proofs.Single.{IsExactFor-own}
+use Rattle.rsc_look.proofs.laws.boundaries_are_exact.Goals as goal
+
+pub returns : goal.returns
+returns c = IsExactFor-own
