@@ -1,51 +1,89 @@
-//! The tests of lines, text and words that the Rust has, with every value of theirs.
+//! The tests of lines, text and words that the Rust has, with every value of theirs, as tables.
 use crate::{AsciiWord, Look, LookMatcher, WordClass};
 use std::process::Abort;
 
-const EMPTY: &str = "";
+// The texts of the tests of lines, and for each text the positions at which an assertion holds (`x`) and doesn't (`-`).
+const LINES: [&str; 5] = ["", "\n", "a", "\na", "a\na"];
 
-const A: &str = "a";
+const ON_LINES: [(Look, &str); 4] = [
+    (Look::Start, "x x- x- x-- x---"),
+    (Look::End, "x -x -x --x ---x"),
+    (Look::StartLF, "x xx x- xx- x-x-"),
+    (Look::EndLF, "x xx -x x-x -x-x"),
+];
 
-const AB: &str = "ab";
+// The same of the tests of words; a position that they don't ask is a dot.
+const WORDS: [&str; 11] = [
+    "", "a", "ab", "a ", " a ", "𝛃", "𝛃 ", " 𝛃 ", "𝛃𐆀", "𝛃b", "b𝛃",
+];
 
-const A_SPACE: &str = "a ";
+const ON_WORDS: [(Look, &str); 12] = [
+    (
+        Look::WordAscii,
+        "- xx .-. .x- -xx- ----- ....-- --...-- --------- ....x. .x....",
+    ),
+    (
+        Look::WordAsciiNegate,
+        "x -- .x. .-x x--x xxxxx ....xx xx...xx xxxxxxxxx ....-. .-....",
+    ),
+    (
+        Look::WordUnicode,
+        "- xx .-. .x- -xx- x---x ....x- -x...x- x---x---- ....-. .-....",
+    ),
+    (
+        Look::WordUnicodeNegate,
+        "x -- .x. .-x x--x ----- ....-x x-...-x --------x ....x. .x....",
+    ),
+    (
+        Look::WordStartAscii,
+        "- x- .-. .-- -x-- ----- ....-- --...-- --------- ....x. .-....",
+    ),
+    (
+        Look::WordEndAscii,
+        "- -x .-. .x- --x- ----- ....-- --...-- --------- ....-. .x....",
+    ),
+    (
+        Look::WordStartUnicode,
+        "- x- .-. .-- -x-- x---- ....-- -x...-- x-------- ....-. .-....",
+    ),
+    (
+        Look::WordEndUnicode,
+        "- -x .-. .x- --x- ----x ....x- --...x- ----x---- ....-. .-....",
+    ),
+    (
+        Look::WordStartHalfAscii,
+        "x x- .-. .-x xx-x xxxxx ....xx xx...xx xxxxxxxxx ....x. .-....",
+    ),
+    (
+        Look::WordEndHalfAscii,
+        "x -x .-. .xx x-xx xxxxx ....xx xx...xx xxxxxxxxx ....-. .x....",
+    ),
+    (
+        Look::WordStartHalfUnicode,
+        "x x- .-. .-x xx-x x---- ....-x xx...-x x-------x ....-. .-....",
+    ),
+    (
+        Look::WordEndHalfUnicode,
+        "x -x .-. .xx x-xx ----x ....xx x-...xx ----x---x ....-. .-....",
+    ),
+];
 
-const SPACE_A_SPACE: &str = " a ";
-
-const BETA: &str = "𝛃";
-
-const BETA_SPACE: &str = "𝛃 ";
-
-const SPACE_BETA_SPACE: &str = " 𝛃 ";
-
-const BETA_OTHER: &str = "𝛃𐆀";
-
-const BETA_B: &str = "𝛃b";
-
-const B_BETA: &str = "b𝛃";
-
-const LINE: &str = "\n";
-
-const LINE_A: &str = "\na";
-
-const A_LINE_A: &str = "a\na";
-
-/// Asserts that an assertion holds at these positions and at none of those.
+/// Asserts that an assertion holds exactly where the marks say: a group of marks for each text, a mark for each position.
 pub(super) fn tells<W: WordClass>(
     rt: &impl Abort,
     matcher: &LookMatcher<W>,
     look: Look,
-    holds: &[(&str, &[usize])],
-    fails: &[(&str, &[usize])],
+    texts: &[&str],
+    marks: &str,
 ) {
-    for (cases, want) in [(holds, true), (fails, false)] {
-        for (text, positions) in cases {
-            for at in *positions {
+    for (text, group) in texts.iter().zip(marks.split(' ')) {
+        for (at, mark) in group.bytes().enumerate() {
+            if mark != b'.' {
                 let haystack = text.as_bytes();
-                assert!(rt; *at <= haystack.len());
+                assert!(rt; at <= haystack.len());
                 assert_eq!(rt;
-                    matcher.matches(look, haystack, *at),
-                    want,
+                    matcher.matches(look, haystack, at),
+                    mark == b'x',
                     "{look:?} of {text:?} at {at}"
                 );
             }
@@ -54,437 +92,25 @@ pub(super) fn tells<W: WordClass>(
 }
 
 #[test]
-fn look_matches_start_haystack(rt: HostRuntime) {
-    let holds: &[(&str, &[usize])] = &[(EMPTY, &[0]), (A, &[0]), (LINE, &[0])];
-    let fails: &[(&str, &[usize])] = &[(A, &[1]), (LINE, &[1]), (LINE_A, &[1]), (A_LINE_A, &[1])];
-    tells(&rt, &LookMatcher::default(), Look::Start, holds, fails);
-    tells(&rt, &LookMatcher::new(AsciiWord), Look::Start, holds, fails);
+fn look_matches_lines_and_ends(rt: HostRuntime) {
+    for (look, marks) in ON_LINES {
+        tells(&rt, &LookMatcher::default(), look, &LINES, marks);
+        tells(&rt, &LookMatcher::new(AsciiWord), look, &LINES, marks);
+    }
 }
 
 #[test]
-fn look_matches_end_haystack(rt: HostRuntime) {
-    let holds: &[(&str, &[usize])] = &[(EMPTY, &[0]), (LINE, &[1]), (LINE_A, &[2])];
-    let fails: &[(&str, &[usize])] = &[(A, &[0]), (LINE_A, &[0, 1]), (A_LINE_A, &[0, 1, 2])];
-    tells(&rt, &LookMatcher::default(), Look::End, holds, fails);
-    tells(&rt, &LookMatcher::new(AsciiWord), Look::End, holds, fails);
+fn look_matches_words(rt: HostRuntime) {
+    for (look, marks) in ON_WORDS {
+        tells(&rt, &LookMatcher::default(), look, &WORDS, marks);
+    }
 }
 
 #[test]
-fn look_matches_start_line(rt: HostRuntime) {
-    let holds: &[(&str, &[usize])] = &[(EMPTY, &[0]), (A, &[0]), (LINE, &[0, 1]), (LINE_A, &[1])];
-    let fails: &[(&str, &[usize])] = &[(A, &[1]), (A_LINE_A, &[1])];
-    tells(&rt, &LookMatcher::default(), Look::StartLF, holds, fails);
-    tells(
-        &rt,
-        &LookMatcher::new(AsciiWord),
-        Look::StartLF,
-        holds,
-        fails,
-    );
-}
-
-#[test]
-fn look_matches_end_line(rt: HostRuntime) {
-    let holds: &[(&str, &[usize])] = &[
-        (EMPTY, &[0]),
-        (LINE, &[1]),
-        (LINE_A, &[0, 2]),
-        (A_LINE_A, &[1]),
-    ];
-    let fails: &[(&str, &[usize])] = &[(A, &[0]), (LINE_A, &[1]), (A_LINE_A, &[0, 2])];
-    tells(&rt, &LookMatcher::default(), Look::EndLF, holds, fails);
-    tells(&rt, &LookMatcher::new(AsciiWord), Look::EndLF, holds, fails);
-}
-
-#[test]
-fn look_matches_word_ascii(rt: HostRuntime) {
-    let holds: &[(&str, &[usize])] = &[
-        (A, &[0, 1]),
-        (A_SPACE, &[1]),
-        (SPACE_A_SPACE, &[1, 2]),
-        (BETA_B, &[4]),
-        (B_BETA, &[1]),
-    ];
-    let fails: &[(&str, &[usize])] = &[
-        (EMPTY, &[0]),
-        (AB, &[1]),
-        (A_SPACE, &[2]),
-        (SPACE_A_SPACE, &[0, 3]),
-        (BETA, &[0, 1, 2, 3, 4]),
-        (BETA_SPACE, &[4, 5]),
-        (SPACE_BETA_SPACE, &[0, 1, 5, 6]),
-        (BETA_OTHER, &[0, 1, 2, 3, 4, 5, 6, 7, 8]),
-    ];
-    tells(&rt, &LookMatcher::default(), Look::WordAscii, holds, fails);
-    tells(
-        &rt,
-        &LookMatcher::new(AsciiWord),
-        Look::WordAscii,
-        holds,
-        fails,
-    );
-}
-
-#[test]
-fn look_matches_word_unicode(rt: HostRuntime) {
-    let holds: &[(&str, &[usize])] = &[
-        (A, &[0, 1]),
-        (A_SPACE, &[1]),
-        (SPACE_A_SPACE, &[1, 2]),
-        (BETA, &[0, 4]),
-        (BETA_SPACE, &[4]),
-        (SPACE_BETA_SPACE, &[1, 5]),
-        (BETA_OTHER, &[0, 4]),
-    ];
-    let fails: &[(&str, &[usize])] = &[
-        (EMPTY, &[0]),
-        (AB, &[1]),
-        (A_SPACE, &[2]),
-        (SPACE_A_SPACE, &[0, 3]),
-        (BETA, &[1, 2, 3]),
-        (BETA_SPACE, &[5]),
-        (SPACE_BETA_SPACE, &[0, 6]),
-        (BETA_OTHER, &[1, 2, 3, 5, 6, 7, 8]),
-        (BETA_B, &[4]),
-        (B_BETA, &[1]),
-    ];
-    tells(
-        &rt,
-        &LookMatcher::default(),
-        Look::WordUnicode,
-        holds,
-        fails,
-    );
-}
-
-#[test]
-fn look_matches_word_ascii_negate(rt: HostRuntime) {
-    let holds: &[(&str, &[usize])] = &[
-        (EMPTY, &[0]),
-        (AB, &[1]),
-        (A_SPACE, &[2]),
-        (SPACE_A_SPACE, &[0, 3]),
-        (BETA, &[0, 1, 2, 3, 4]),
-        (BETA_SPACE, &[4, 5]),
-        (SPACE_BETA_SPACE, &[0, 1, 5, 6]),
-        (BETA_OTHER, &[0, 1, 2, 3, 4, 5, 6, 7, 8]),
-    ];
-    let fails: &[(&str, &[usize])] = &[
-        (A, &[0, 1]),
-        (A_SPACE, &[1]),
-        (SPACE_A_SPACE, &[1, 2]),
-        (BETA_B, &[4]),
-        (B_BETA, &[1]),
-    ];
-    tells(
-        &rt,
-        &LookMatcher::default(),
-        Look::WordAsciiNegate,
-        holds,
-        fails,
-    );
-    tells(
-        &rt,
-        &LookMatcher::new(AsciiWord),
-        Look::WordAsciiNegate,
-        holds,
-        fails,
-    );
-}
-
-#[test]
-fn look_matches_word_unicode_negate(rt: HostRuntime) {
-    let holds: &[(&str, &[usize])] = &[
-        (EMPTY, &[0]),
-        (AB, &[1]),
-        (A_SPACE, &[2]),
-        (SPACE_A_SPACE, &[0, 3]),
-        (BETA_SPACE, &[5]),
-        (SPACE_BETA_SPACE, &[0, 6]),
-        (BETA_OTHER, &[8]),
-        (BETA_B, &[4]),
-        (B_BETA, &[1]),
-    ];
-    let fails: &[(&str, &[usize])] = &[
-        (A, &[0, 1]),
-        (A_SPACE, &[1]),
-        (SPACE_A_SPACE, &[1, 2]),
-        (BETA, &[0, 1, 2, 3, 4]),
-        (BETA_SPACE, &[4]),
-        (SPACE_BETA_SPACE, &[1, 5]),
-        (BETA_OTHER, &[0, 1, 2, 3, 4, 5, 6, 7]),
-    ];
-    tells(
-        &rt,
-        &LookMatcher::default(),
-        Look::WordUnicodeNegate,
-        holds,
-        fails,
-    );
-}
-
-#[test]
-fn look_matches_word_start_ascii(rt: HostRuntime) {
-    let holds: &[(&str, &[usize])] = &[(A, &[0]), (SPACE_A_SPACE, &[1]), (BETA_B, &[4])];
-    let fails: &[(&str, &[usize])] = &[
-        (EMPTY, &[0]),
-        (A, &[1]),
-        (AB, &[1]),
-        (A_SPACE, &[1, 2]),
-        (SPACE_A_SPACE, &[0, 2, 3]),
-        (BETA, &[0, 1, 2, 3, 4]),
-        (BETA_SPACE, &[4, 5]),
-        (SPACE_BETA_SPACE, &[0, 1, 5, 6]),
-        (BETA_OTHER, &[0, 1, 2, 3, 4, 5, 6, 7, 8]),
-        (B_BETA, &[1]),
-    ];
-    tells(
-        &rt,
-        &LookMatcher::default(),
-        Look::WordStartAscii,
-        holds,
-        fails,
-    );
-    tells(
-        &rt,
-        &LookMatcher::new(AsciiWord),
-        Look::WordStartAscii,
-        holds,
-        fails,
-    );
-}
-
-#[test]
-fn look_matches_word_end_ascii(rt: HostRuntime) {
-    let holds: &[(&str, &[usize])] = &[
-        (A, &[1]),
-        (A_SPACE, &[1]),
-        (SPACE_A_SPACE, &[2]),
-        (B_BETA, &[1]),
-    ];
-    let fails: &[(&str, &[usize])] = &[
-        (EMPTY, &[0]),
-        (A, &[0]),
-        (AB, &[1]),
-        (A_SPACE, &[2]),
-        (SPACE_A_SPACE, &[0, 1, 3]),
-        (BETA, &[0, 1, 2, 3, 4]),
-        (BETA_SPACE, &[4, 5]),
-        (SPACE_BETA_SPACE, &[0, 1, 5, 6]),
-        (BETA_OTHER, &[0, 1, 2, 3, 4, 5, 6, 7, 8]),
-        (BETA_B, &[4]),
-    ];
-    tells(
-        &rt,
-        &LookMatcher::default(),
-        Look::WordEndAscii,
-        holds,
-        fails,
-    );
-    tells(
-        &rt,
-        &LookMatcher::new(AsciiWord),
-        Look::WordEndAscii,
-        holds,
-        fails,
-    );
-}
-
-#[test]
-fn look_matches_word_start_unicode(rt: HostRuntime) {
-    let holds: &[(&str, &[usize])] = &[
-        (A, &[0]),
-        (SPACE_A_SPACE, &[1]),
-        (BETA, &[0]),
-        (SPACE_BETA_SPACE, &[1]),
-        (BETA_OTHER, &[0]),
-    ];
-    let fails: &[(&str, &[usize])] = &[
-        (EMPTY, &[0]),
-        (A, &[1]),
-        (AB, &[1]),
-        (A_SPACE, &[1, 2]),
-        (SPACE_A_SPACE, &[0, 2, 3]),
-        (BETA, &[1, 2, 3, 4]),
-        (BETA_SPACE, &[4, 5]),
-        (SPACE_BETA_SPACE, &[0, 5, 6]),
-        (BETA_OTHER, &[1, 2, 3, 4, 5, 6, 7, 8]),
-        (BETA_B, &[4]),
-        (B_BETA, &[1]),
-    ];
-    tells(
-        &rt,
-        &LookMatcher::default(),
-        Look::WordStartUnicode,
-        holds,
-        fails,
-    );
-}
-
-#[test]
-fn look_matches_word_end_unicode(rt: HostRuntime) {
-    let holds: &[(&str, &[usize])] = &[
-        (A, &[1]),
-        (A_SPACE, &[1]),
-        (SPACE_A_SPACE, &[2]),
-        (BETA, &[4]),
-        (BETA_SPACE, &[4]),
-        (SPACE_BETA_SPACE, &[5]),
-        (BETA_OTHER, &[4]),
-    ];
-    let fails: &[(&str, &[usize])] = &[
-        (EMPTY, &[0]),
-        (A, &[0]),
-        (AB, &[1]),
-        (A_SPACE, &[2]),
-        (SPACE_A_SPACE, &[0, 1, 3]),
-        (BETA, &[0, 1, 2, 3]),
-        (BETA_SPACE, &[5]),
-        (SPACE_BETA_SPACE, &[0, 1, 6]),
-        (BETA_OTHER, &[0, 1, 2, 3, 5, 6, 7, 8]),
-        (BETA_B, &[4]),
-        (B_BETA, &[1]),
-    ];
-    tells(
-        &rt,
-        &LookMatcher::default(),
-        Look::WordEndUnicode,
-        holds,
-        fails,
-    );
-}
-
-#[test]
-fn look_matches_word_start_half_ascii(rt: HostRuntime) {
-    let holds: &[(&str, &[usize])] = &[
-        (EMPTY, &[0]),
-        (A, &[0]),
-        (A_SPACE, &[2]),
-        (SPACE_A_SPACE, &[0, 1, 3]),
-        (BETA, &[0, 1, 2, 3, 4]),
-        (BETA_SPACE, &[4, 5]),
-        (SPACE_BETA_SPACE, &[0, 1, 5, 6]),
-        (BETA_OTHER, &[0, 1, 2, 3, 4, 5, 6, 7, 8]),
-        (BETA_B, &[4]),
-    ];
-    let fails: &[(&str, &[usize])] = &[
-        (A, &[1]),
-        (AB, &[1]),
-        (A_SPACE, &[1]),
-        (SPACE_A_SPACE, &[2]),
-        (B_BETA, &[1]),
-    ];
-    tells(
-        &rt,
-        &LookMatcher::default(),
-        Look::WordStartHalfAscii,
-        holds,
-        fails,
-    );
-    tells(
-        &rt,
-        &LookMatcher::new(AsciiWord),
-        Look::WordStartHalfAscii,
-        holds,
-        fails,
-    );
-}
-
-#[test]
-fn look_matches_word_end_half_ascii(rt: HostRuntime) {
-    let holds: &[(&str, &[usize])] = &[
-        (EMPTY, &[0]),
-        (A, &[1]),
-        (A_SPACE, &[1, 2]),
-        (SPACE_A_SPACE, &[0, 2, 3]),
-        (BETA, &[0, 1, 2, 3, 4]),
-        (BETA_SPACE, &[4, 5]),
-        (SPACE_BETA_SPACE, &[0, 1, 5, 6]),
-        (BETA_OTHER, &[0, 1, 2, 3, 4, 5, 6, 7, 8]),
-        (B_BETA, &[1]),
-    ];
-    let fails: &[(&str, &[usize])] = &[
-        (A, &[0]),
-        (AB, &[1]),
-        (SPACE_A_SPACE, &[1]),
-        (BETA_B, &[4]),
-    ];
-    tells(
-        &rt,
-        &LookMatcher::default(),
-        Look::WordEndHalfAscii,
-        holds,
-        fails,
-    );
-    tells(
-        &rt,
-        &LookMatcher::new(AsciiWord),
-        Look::WordEndHalfAscii,
-        holds,
-        fails,
-    );
-}
-
-#[test]
-fn look_matches_word_start_half_unicode(rt: HostRuntime) {
-    let holds: &[(&str, &[usize])] = &[
-        (EMPTY, &[0]),
-        (A, &[0]),
-        (A_SPACE, &[2]),
-        (SPACE_A_SPACE, &[0, 1, 3]),
-        (BETA, &[0]),
-        (BETA_SPACE, &[5]),
-        (SPACE_BETA_SPACE, &[0, 1, 6]),
-        (BETA_OTHER, &[0, 8]),
-    ];
-    let fails: &[(&str, &[usize])] = &[
-        (A, &[1]),
-        (AB, &[1]),
-        (A_SPACE, &[1]),
-        (SPACE_A_SPACE, &[2]),
-        (BETA, &[1, 2, 3, 4]),
-        (BETA_SPACE, &[4]),
-        (SPACE_BETA_SPACE, &[5]),
-        (BETA_OTHER, &[1, 2, 3, 4, 5, 6, 7]),
-        (BETA_B, &[4]),
-        (B_BETA, &[1]),
-    ];
-    tells(
-        &rt,
-        &LookMatcher::default(),
-        Look::WordStartHalfUnicode,
-        holds,
-        fails,
-    );
-}
-
-#[test]
-fn look_matches_word_end_half_unicode(rt: HostRuntime) {
-    let holds: &[(&str, &[usize])] = &[
-        (EMPTY, &[0]),
-        (A, &[1]),
-        (A_SPACE, &[1, 2]),
-        (SPACE_A_SPACE, &[0, 2, 3]),
-        (BETA, &[4]),
-        (BETA_SPACE, &[4, 5]),
-        (SPACE_BETA_SPACE, &[0, 5, 6]),
-        (BETA_OTHER, &[4, 8]),
-    ];
-    let fails: &[(&str, &[usize])] = &[
-        (A, &[0]),
-        (AB, &[1]),
-        (SPACE_A_SPACE, &[1]),
-        (BETA, &[0, 1, 2, 3]),
-        (SPACE_BETA_SPACE, &[1]),
-        (BETA_OTHER, &[0, 1, 2, 3, 5, 6, 7]),
-        (BETA_B, &[4]),
-        (B_BETA, &[1]),
-    ];
-    tells(
-        &rt,
-        &LookMatcher::default(),
-        Look::WordEndHalfUnicode,
-        holds,
-        fails,
-    );
+fn look_matches_words_of_ascii(rt: HostRuntime) {
+    for (look, marks) in ON_WORDS {
+        if !crate::LookSet::singleton(look).contains_word_unicode() {
+            tells(&rt, &LookMatcher::new(AsciiWord), look, &WORDS, marks);
+        }
+    }
 }

@@ -166,23 +166,20 @@ fn questions_of_sets(rt: HostRuntime) {
 
 #[test]
 fn lines_that_end_in_two_bytes(rt: HostRuntime) {
-    let holds: &[(&str, &[usize])] = &[("\r\n", &[0, 2]), ("\r\na", &[2])];
-    let fails: &[(&str, &[usize])] = &[("\r\n", &[1]), ("\r\na", &[1])];
+    let matcher = LookMatcher::new(AsciiWord);
     tells(
         &rt,
-        &LookMatcher::new(AsciiWord),
+        &matcher,
         Look::StartCRLF,
-        holds,
-        fails,
+        &["\r\n", "\r\na"],
+        "x-x .-x.",
     );
-    let holds: &[(&str, &[usize])] = &[("\r\n", &[0, 2]), ("a\r\n", &[1]), ("a\n\r", &[2])];
-    let fails: &[(&str, &[usize])] = &[("\r\n", &[1]), ("a\r\n", &[2])];
     tells(
         &rt,
-        &LookMatcher::new(AsciiWord),
+        &matcher,
         Look::EndCRLF,
-        holds,
-        fails,
+        &["\r\n", "a\r\n", "a\n\r"],
+        "x-x .x-. ..x.",
     );
 }
 
