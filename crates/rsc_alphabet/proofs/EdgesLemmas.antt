@@ -17,13 +17,13 @@ abbrev pub changes : Numbers → ℕ → Bool
 changes s k = (sets.contains s k && not (sets.contains s (k + 1))) || (not (sets.contains s k) && sets.contains s (k + 1))
 
 -- the last byte of the run that b stands in
-record EndsAt (s : Numbers) (b e : ℕ) : Type 0 where
-  from : b ≤ e
-  fits : e < 256
-  within : (k : ℕ) → b ≤ k → k ≤ e → sets.contains s k ≡ true
-  last : ends_run s e ≡ true
+pub record EndsAt (s : Numbers) (b e : ℕ) : Type 0 where
+  pub from : b ≤ e
+  pub fits : e < 256
+  pub within : (k : ℕ) → b ≤ k → k ≤ e → sets.contains s k ≡ true
+  pub last : ends_run s e ≡ true
 
-find_end : (s : Numbers) (n b : ℕ) → b ≤ 255 → 255 ≤ b + n → sets.contains s b ≡ true → (e : ℕ) × EndsAt s b e
+pub find_end : (s : Numbers) (n b : ℕ) → b ≤ 255 → 255 ≤ b + n → sets.contains s b ≡ true → (e : ℕ) × EndsAt s b e
 find_end s zero b l far is = (
   b,
   record {
@@ -196,3 +196,7 @@ edges_done s old new rest none each =
     or_false : (x : Bool) → (x || false) ≡ x
     or_false true = refl
     or_false false = refl
+
+-- what is a boundary after those of a set's runs were added
+pub c-runs : (old s : Numbers) (k : ℕ) → sets.contains (sets.union old (edges_of_each (runs s))) k ≡ (sets.contains old k || changes_at s k)
+c-runs old s k = c-union old (edges_of_each (runs s)) k ∙ ap (λ b. sets.contains old k || b) (contains-edges_of_runs s k)

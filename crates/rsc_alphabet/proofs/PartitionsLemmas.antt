@@ -45,6 +45,17 @@ contains-edges_of s e q =
         or_none false = refl
     by_cases false false = refl
 
+-- the boundary before the first byte, and the one after the last
+pub contains-edges : (s e k : ℕ) → sets.contains (edges_of (s, e)) k ≡ (nat_eq (k + 1) s || (nat_eq k e && nat_lt e 255))
+contains-edges s e k = contains-edges_of s e k ∙ tests
+  where
+    tests : ((nat_lt 0 s && nat_eq (s - 1) k) || (nat_lt e 255 && nat_eq e k)) ≡ (nat_eq (k + 1) s || (nat_eq k e && nat_lt e 255))
+    tests = grind (arith, nat_tests)
+
+-- what is a boundary after those of a range were added
+pub c-range : (old : Numbers) (s e k : ℕ) → sets.contains (sets.union old (edges_of (s, e))) k ≡ (sets.contains old k || (nat_eq (k + 1) s || (nat_eq k e && nat_lt e 255)))
+c-range old s e k = c-union old (edges_of (s, e)) k ∙ ap (λ b. sets.contains old k || b) (contains-edges s e k)
+
 -- what `set_range` leaves of the flags, above 0 and at 0
 pub edges_above : (ends : Numbers) (s e : ℕ) → 0 < s → s ≤ e → e < 256 → sets.remove (sets.insert (sets.insert ends (s - 1)) e) 255 ≡ sets.union (sets.remove ends 255) (edges_of (s, e))
 edges_above ends s e low order high = same_set nat_cmp_total nat_cmp-IsAntisymmetric _ _ (λ q.
@@ -111,7 +122,7 @@ class_of-rises p b (suc n) = let e : b + suc n ≡ b + n + 1 = omega arith in rw
 
 -- ---- bytes are together exactly if they have one class
 
-class_of-between : (p : ℕ → Bool) (b n : ℕ) → ((k : ℕ) → b ≤ k → k < b + n → ¬ (p k ≡ true)) → class_of p (b + n) ≡ class_of p b
+pub class_of-between : (p : ℕ → Bool) (b n : ℕ) → ((k : ℕ) → b ≤ k → k < b + n → ¬ (p k ≡ true)) → class_of p (b + n) ≡ class_of p b
 class_of-between p b zero none = let e : b + zero ≡ b = omega arith in rw e
 class_of-between p b (suc n) none =
     let e : b + suc n ≡ b + n + 1 = omega arith in
@@ -200,6 +211,13 @@ end_is_none ends b none = c-remove ends 255 b ∙ rw none (grind (arith, nat_tes
 
 pub last_is_none : (ends : Numbers) (b : ℕ) → 255 ≤ b → b ≤ 255 → sets.contains (sets.remove ends 255) b ≡ false
 last_is_none ends b low high = let e : b ≡ 255 = omega arith in rw e (c-remove ends 255 255)
+
+pub boundary_below : (ends : Numbers) → ((b : ℕ) → sets.contains ends b ≡ true → b < 256) → (k : ℕ) → sets.contains (sets.remove ends 255) k ≡ true → k < 255
+boundary_below ends bytes k is = parts (sets.contains ends k) (bytes k) (sym (c-remove ends 255 k) ∙ is)
+  where
+    parts : (x : Bool) → (x ≡ true → k < 256) → (not (nat_eq k 255) && x) ≡ true → k < 255
+    parts true low test = let l = low refl in grind (arith, nat_tests)
+    parts false low test = grind (arith, nat_tests)
 
 -- ---- the walk that numbers the classes
 

@@ -38,6 +38,11 @@ contains-flagged flags long q =
     contains-from_list_nat (filter (λ b. get_or flags b false) bytes) q
     ∙ any_kept (λ b. get_or flags b false) 256 q (λ h. get_or_past flags q false (omega arith))
 
+-- what has a flag is a byte
+pub flagged_below : (flags : List Bool) → length flags ≡ 256 → (q : ℕ) → sets.contains (flagged flags) q ≡ true → q < 256
+flagged_below flags long q is =
+    ⊎_elim (λ (h : q < 256). h) (λ (h : 256 ≤ q). absurd (true≢false (sym is ∙ contains-flagged flags long q ∙ get_or_past flags q false (omega arith)))) (cases_lt q 256)
+
 pub flags_of-flagged : (flags : List Bool) → length flags ≡ 256 → flags_of (flagged flags) ≡ flags
 unfolding from_to
 flags_of-flagged flags long = sym (fill_by_all (λ b. sets.contains (flagged flags) b) flags 256 false long (λ k h. sym (contains-flagged flags long k)))

@@ -1,5 +1,5 @@
 -- The walks of any map from byte to class, given as the list of the bytes' classes.
-use Rattle.std.specs.Prelude.{ℕ, ◌+◌, ◌-◌, ◌==◌, ◌||◌, not, List, [], ◌∷◌, ◌++◌, map, filter, slice_index}
+use Rattle.std.specs.Prelude.{ℕ, ◌+◌, ◌-◌, ◌^◌, nat_lt, count_by, ◌==◌, ◌||◌, not, List, [], ◌∷◌, ◌++◌, map, filter, slice_index}
 use Rattle.std.specs.declared.ops.Bound.{Bound}
 use Rattle.std.specs.declared.ops.Bound.TheVariants.{Included, Excluded, Unbounded}
 use Rattle.std.specs.Range.Bound.{start_index, end_index}
@@ -14,6 +14,11 @@ class_at classes (end_of_input n) = n
 -- the end of the input: its number is one more than the class of the last byte
 abbrev pub end_of : List ℕ → Symbol
 end_of classes = end_of_input (slice_index classes 255 + 1)
+
+-- the exponent of the least power of two that is at least the number of symbols: as many as there are lesser powers of two.
+-- A class is below 256, so the exponent is at most 9.
+abbrev pub stride2_of : List ℕ → ℕ
+stride2_of classes = count_by (λ k. nat_lt (2 ^ k) (slice_index classes 255 + 2)) (from_to 0 9)
 
 -- the symbols 0 to the class of the last byte, and then the end of the input
 abbrev pub symbols : List ℕ → List Symbol

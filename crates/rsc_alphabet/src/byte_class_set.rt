@@ -1,8 +1,8 @@
 //! Partitions of the bytes into intervals, and the class maps that they make.
-ghost use Rattle.std.specs.Prelude.{◌≡◌, ℕ, ◌<◌, ◌≤◌, ◌↔◌, IsTrue, All, slice_index};
+ghost use Rattle.std.specs.Prelude.{◌≡◌, ℕ, ◌+◌, ◌<◌, ◌≤◌, ◌↔◌, ◌==◌, ◌&&◌, ◌||◌, nat_lt, true, false, IsTrue, All, slice_index};
 ghost use Rattle.std.specs.FinSet as sets;
 ghost use Rattle.rsc_alphabet.specs.ByteSets.{runs};
-ghost use Rattle.rsc_alphabet.specs.Partitions.{class_map, edges_of, edges_of_each};
+ghost use Rattle.rsc_alphabet.specs.Partitions.{changes_at, class_map, edges_of, edges_of_each};
 ghost use Rattle.rsc_alphabet.specs.Ranges.{are_alike, separates};
 
 use crate::{ByteClasses, ByteSet};
@@ -45,7 +45,8 @@ impl ByteClassSet {
     /// The partition with no boundary: all bytes are together.
     #[inline]
     pub fn empty() -> Self
-        ensures { result ≡ sets.empty }
+        ensures set { result ≡ sets.empty }
+        ensures boundaries { (k : ℕ) → sets.contains result k ≡ false }
     {
         ByteClassSet {
             ends: ByteSet::empty(),
@@ -57,7 +58,9 @@ impl ByteClassSet {
     #[inline]
     pub fn set_range(&mut self, start: u8, end: u8)
         requires { start ≤ end }
-        ensures { self.new ≡ sets.union self.old (edges_of (start, end)) }
+        ensures set { self.new ≡ sets.union self.old (edges_of (start, end)) }
+        ensures boundaries { (k : ℕ) →
+            sets.contains self.new k ≡ (sets.contains self.old k || (k + 1 == start || (k == end && nat_lt end 255))) }
     {
         if start > 0 {
             self.ends.add(start - 1);
@@ -67,7 +70,8 @@ impl ByteClassSet {
 
     /// Separates each maximal run of a set's members from all other bytes, as by [`ByteClassSet::set_range`] of each.
     pub fn add_set(&mut self, set: &ByteSet)
-        ensures { self.new ≡ sets.union self.old (edges_of_each (runs set.now)) }
+        ensures set { self.new ≡ sets.union self.old (edges_of_each (runs set.now)) }
+        ensures boundaries { (k : ℕ) → sets.contains self.new k ≡ (sets.contains self.old k || changes_at set.now k) }
     {
         for (start, end) in set.iter_ranges() {
             self.set_range(start, end);
@@ -76,13 +80,14 @@ impl ByteClassSet {
 
     /// The class map of the partition: the class of a byte is the number of boundaries below it.
     pub fn byte_classes(&self) -> ByteClasses
-        ensures { result ≡ class_map (sets.contains self.now) }
+        ensures map { result ≡ class_map (sets.contains self.now) }
+        ensures below { (k : ℕ) → sets.contains self.now k ≡ true → k < 255 }
     {
         let mut classes = ByteClasses::empty();
         let mut class = 0u8;
         for byte in 0..=255u8 {
             classes.set(byte, class);
-            if byte < 255 && self.ends.contains(byte) {
+            if self.ends.contains(byte) && byte < 255 {
                 class += 1;
             }
         }

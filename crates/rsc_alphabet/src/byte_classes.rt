@@ -1,8 +1,10 @@
 //! Maps from a byte to its class, and the walks over the classes, their elements and their representatives.
-ghost use Rattle.std.specs.Prelude.{◌≡◌, ◌↔◌, ℕ, ◌+◌, ◌^◌, ◌<◌, ◌≤◌, IsTrue, slice_index, slice_set, length};
+ghost use Rattle.std.specs.Prelude.{◌≡◌, ◌↔◌, ℕ, ◌+◌, ◌^◌, ◌<◌, ◌≤◌, IsTrue, IsSome, All, slice_index, slice_set, length};
+ghost use Rattle.std.specs.Range.Bound.{end_index};
 ghost use Rattle.std.specs.Iterator.{YieldsFirst, item_count};
 ghost use Rattle.rsc_alphabet.specs.Bytes.{bytes};
-ghost use Rattle.rsc_alphabet.specs.Walks.{class_at, end_of, symbols, elements_of, representatives_of};
+ghost use Rattle.rsc_alphabet.specs.Symbols.{byte_of, number_of};
+ghost use Rattle.rsc_alphabet.specs.Walks.{class_at, end_of, stride2_of, symbols, elements_of, representatives_of};
 
 use crate::{ByteSet, Unit};
 use rsc_primitives::escape::DebugByte;
@@ -74,7 +76,8 @@ impl ByteClasses {
     /// The class of a byte.
     #[inline]
     pub fn get(&self, byte: u8) -> u8
-        ensures { result ≡ slice_index self.now byte }
+        ensures value { result ≡ slice_index self.now byte }
+        ensures entries { length self.now ≡ 256 }
     {
         self.classes[usize::from(byte)]
     }
@@ -95,13 +98,15 @@ impl ByteClasses {
     pub fn alphabet_len(&self) -> usize
         ensures value { result ≡ slice_index self.now 255 + 2 }
         ensures most { result ≤ 257 }
+        ensures entries { length self.now ≡ 256 }
     {
         usize::from(self.classes[255]) + 1 + 1
     }
 
     /// The end of the input.
     pub fn eoi(&self) -> Unit
-        ensures { result ≡ end_of self.now }
+        ensures value { result ≡ end_of self.now }
+        ensures most { number_of result ≤ 256 }
     {
         Unit::eoi(self.alphabet_len() - 1)
     }
@@ -110,6 +115,7 @@ impl ByteClasses {
     /// transition table are as long as that power.
     #[inline]
     pub fn stride2(&self) -> usize
+        ensures value { result ≡ stride2_of self.now }
         ensures enough { slice_index self.now 255 + 2 ≤ 2 ^ result }
         ensures least { (k : ℕ) → slice_index self.now 255 + 2 ≤ 2 ^ k → result ≤ k }
         ensures most { result ≤ 9 }
@@ -128,7 +134,8 @@ impl ByteClasses {
     /// The units of the classes 0 to that of the byte 255, and then the end of the input.
     #[inline]
     pub fn iter(&self) -> ByteClassIter<'_>
-        ensures { result ≡ symbols self.now }
+        ensures list { result ≡ symbols self.now }
+        ensures within { All (λ u. number_of u < slice_index self.now 255 + 2) result }
     {
         ByteClassIter {
             classes: self,
@@ -140,7 +147,8 @@ impl ByteClasses {
     /// of the input after 256 classes alone.
     #[inline]
     pub fn elements(&self, class: Unit) -> ByteClassElements<'_>
-        ensures { result ≡ elements_of self.now class }
+        ensures list { result ≡ elements_of self.now class }
+        ensures class { IsSome (byte_of class) → All (λ u. class_at self.now u ≡ number_of class) result }
     {
         match class.as_u8() {
             Some(class) => ByteClassElements {
@@ -161,7 +169,21 @@ impl ByteClasses {
     /// The first byte of a range, each later one whose class differs from its predecessor's, and then, where the range
     /// has no end, the end of the input.
     pub fn representatives(&self, start: Bound<u8>, end: Bound<u8>) -> ByteClassRepresentatives<'_>
-        ensures { result ≡ representatives_of self.now start end }
+        ensures list { result ≡ representatives_of self.now start end }
+        ensures within { ((b : ℕ) → b < 256 → slice_index self.now b ≤ slice_index self.now 255) →
+            All (λ u. class_at self.now u < slice_index self.now 255 + 2) result }
+    {
+        self.representatives_between(start, end)
+    }
+
+    #[inline]
+    fn representatives_between(
+        &self,
+        start: Bound<u8>,
+        end: Bound<u8>,
+    ) -> ByteClassRepresentatives<'_>
+        ensures list { result ≡ representatives_of self.now start end }
+        ensures fits { end_index end 256 ≤ 256 }
     {
         let next_byte = match start {
             Bound::Included(b) => usize::from(b),

@@ -1,5 +1,5 @@
 //! Sets of bytes, and the walks over their members and their maximal runs.
-ghost use Rattle.std.specs.Prelude.{◌≡◌, ℕ, ◌≤◌, ◌↔◌, IsTrue, ◌<◌, slice_index_or, true, false, length};
+ghost use Rattle.std.specs.Prelude.{◌≡◌, ℕ, ◌≤◌, ◌↔◌, ◌==◌, ◌&&◌, ◌||◌, not, IsTrue, ◌<◌, slice_index_or, true, false, length, All};
 ghost use Rattle.std.specs.FinSet as sets;
 ghost use Rattle.std.specs.Iterator.{YieldsFirst, item_count};
 ghost use Rattle.rsc_alphabet.specs.ByteSets.{members, runs, ends_run};
@@ -69,7 +69,8 @@ impl ByteSet {
     /// The set with no member.
     #[inline]
     pub fn empty() -> Self
-        ensures { result ≡ sets.empty }
+        ensures set { result ≡ sets.empty }
+        ensures members { (b : ℕ) → sets.contains result b ≡ false }
     {
         ByteSet { flags: no_flags() }
     }
@@ -77,7 +78,8 @@ impl ByteSet {
     /// Makes a byte a member.
     #[inline]
     pub fn add(&mut self, byte: u8)
-        ensures { self.new ≡ sets.insert self.old byte }
+        ensures set { self.new ≡ sets.insert self.old byte }
+        ensures members { (b : ℕ) → sets.contains self.new b ≡ (b == byte || sets.contains self.old b) }
     {
         self.flags[usize::from(byte)] = true;
     }
@@ -85,7 +87,8 @@ impl ByteSet {
     /// Makes a byte no member.
     #[inline]
     pub fn remove(&mut self, byte: u8)
-        ensures { self.new ≡ sets.remove self.old byte }
+        ensures set { self.new ≡ sets.remove self.old byte }
+        ensures members { (b : ℕ) → sets.contains self.new b ≡ (not (b == byte) && sets.contains self.old b) }
     {
         self.flags[usize::from(byte)] = false;
     }
@@ -93,7 +96,8 @@ impl ByteSet {
     /// Whether a byte is a member.
     #[inline]
     pub fn contains(&self, byte: u8) -> bool
-        ensures { result ≡ sets.contains self.now byte }
+        ensures value { result ≡ sets.contains self.now byte }
+        ensures bytes { (b : ℕ) → sets.contains self.now b ≡ true → b < 256 }
     {
         self.flags[usize::from(byte)]
     }
@@ -125,7 +129,8 @@ impl ByteSet {
     /// The members, ascending.
     #[inline]
     pub fn iter(&self) -> ByteSetIter<'_>
-        ensures { result ≡ members self.now }
+        ensures list { result ≡ members self.now }
+        ensures contained { All (λ b. sets.contains self.now b ≡ true) result }
     {
         ByteSetIter {
             set: self,
@@ -136,7 +141,8 @@ impl ByteSet {
     /// The maximal runs of consecutive members, ascending, each by its first and its last byte.
     #[inline]
     pub fn iter_ranges(&self) -> ByteSetRangeIter<'_>
-        ensures { result ≡ runs self.now }
+        ensures list { result ≡ runs self.now }
+        ensures ordered { All (λ r. r.0 ≤ r.1) result }
     {
         ByteSetRangeIter {
             set: self,

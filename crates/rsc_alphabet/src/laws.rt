@@ -1,10 +1,14 @@
 //! Laws of partitions and of class maps that a caller may cite: functions that do nothing, and whose contracts are the laws.
-ghost use Rattle.std.specs.Prelude.{◌≡◌, ◌↔◌, ◌⊎◌, ◌+◌, ◌<◌, ◌≤◌, ◌∷◌, ℕ, Bool, List, length, slice_index, slice_get, Some};
+ghost use Rattle.std.specs.Prelude.{true, ◌≡◌, ◌↔◌, ◌⊎◌, ◌+◌, ◌<◌, ◌≤◌, ◌∷◌, ℕ, Bool, List, length, slice_index, slice_get, Some, All, IsTrue, ◌==◌, ◌&&◌, ◌||◌, nat_lt};
+ghost use Rattle.std.specs.List.{Contains, AllAdjacentBelow};
+ghost use Rattle.std.specs.List.Sorted.{IsStrictlyIncreasing};
 ghost use Rattle.std.specs.FinSet as sets;
 ghost use Rattle.std.specs.declared.ops.Bound.{Bound};
 ghost use Rattle.std.specs.Range.Bound.{start_index, end_index};
-ghost use Rattle.rsc_alphabet.specs.ByteSets.{Numbers, runs};
-ghost use Rattle.rsc_alphabet.specs.Partitions.{Together, class_map, edges_of_each, changes_at};
+ghost use Rattle.rsc_alphabet.specs.ByteSets.{Numbers, members, runs, IsMaximalRun};
+ghost use Rattle.rsc_alphabet.specs.Partitions.{Together, class_map, edges_of, edges_of_each, changes_at};
+ghost use Rattle.rsc_alphabet.specs.Ranges.{holds, are_alike};
+ghost use Rattle.rsc_alphabet.specs.SameMembers.{same_members};
 ghost use Rattle.rsc_alphabet.specs.Symbols.{Symbol, byte};
 ghost use Rattle.rsc_alphabet.specs.Walks.{symbols, representatives_of};
 
@@ -40,4 +44,38 @@ pub fn first_byte_is_representative()
 /// The boundaries of a set's maximal runs are where membership changes from one byte to the next.
 pub fn edges_of_runs_are_changes()
     ensures { (s : Numbers) (k : ℕ) → sets.contains (edges_of_each (runs s)) k ≡ changes_at s k }
+{}
+
+/// The members that [`crate::ByteSet::iter`] gives are all members below 256, ascending.
+pub fn members_are_exact()
+    ensures exactly { (s : Numbers) (b : ℕ) → b < 256 → Contains (members s) b ↔ (sets.contains s b ≡ true) }
+    ensures ascending { (s : Numbers) → IsStrictlyIncreasing (members s) }
+{}
+
+/// The pairs that [`crate::ByteSet::iter_ranges`] gives are exactly the maximal runs, each of which ends two bytes or more
+/// before the next begins.
+pub fn runs_are_maximal()
+    ensures exactly { (s : Numbers) (r : ℕ × ℕ) → Contains (runs s) r ↔ IsMaximalRun s r }
+    ensures apart { (s : Numbers) → AllAdjacentBelow (λ r q. r.1 + 1 < q.0) (runs s) (length (runs s)) }
+{}
+
+/// Equality of sets of bytes is that of the sets.
+pub fn equality_is_of_the_members()
+    ensures { (s t : Numbers) → (same_members s t ≡ true) ↔ (s ≡ t) }
+{}
+
+/// The boundaries of a range are those before its first byte and after its last; and two bytes that are together for a
+/// partition with them are both in the range or both outside it.
+pub fn edges_part_a_range()
+    ensures edges { (start end k : ℕ) → sets.contains (edges_of (start, end)) k ≡ (k + 1 == start || (k == end && nat_lt end 255)) }
+    ensures boundary { (r : ℕ × ℕ) (k : ℕ) → k < 255 → (sets.contains (edges_of r) k ≡ true) ↔ ((k + 1 ≡ r.0) ⊎ (k ≡ r.1)) }
+    ensures together { (p : ℕ → Bool) (r : ℕ × ℕ) (b c : ℕ) → b < 256 → c < 256 →
+        ((k : ℕ) → k < 255 → sets.contains (edges_of r) k ≡ true → p k ≡ true) → Together p b c → holds r b ≡ holds r c }
+{}
+
+/// Two bytes that are together for a partition with the boundaries of each of several ranges are alike for the ranges.
+pub fn together_is_alike()
+    ensures { (p : ℕ → Bool) (ranges : List (ℕ × ℕ)) → All (λ r. r.0 ≤ r.1) ranges →
+        ((r : ℕ × ℕ) → Contains ranges r → (k : ℕ) → k < 255 → sets.contains (edges_of r) k ≡ true → p k ≡ true) →
+        (b c : ℕ) → b < 256 → c < 256 → Together p b c → IsTrue (are_alike ranges b c) }
 {}

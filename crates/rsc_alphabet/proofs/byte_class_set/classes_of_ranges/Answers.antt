@@ -9,11 +9,11 @@ use Rattle.rsc_alphabet.proofs.RangesLemmas.{contains-edges_of_range, separates_
 use Rattle.rsc_alphabet.proofs.byte_class_set.classes_of_ranges.Goals as goal
 
 pub loop-start-init : goal.loop-start-init
-loop-start-init c = λ k h. rw c.empty-partition.ensures (contains-empty nat_cmp k)
+loop-start-init c = λ k h. rw c.empty-partition.ensures.set (contains-empty nat_cmp k)
 
 pub loop-start-preserved : goal.loop-start-preserved
 loop-start-preserved c = λ k h.
-    rw c.set_range.ensures (c-union c.loop-start.partition _ k
+    rw c.set_range.ensures.set (c-union c.loop-start.partition _ k
     ∙ ap₂ (λ x y. x || y) (c.loop-start.invariant k h) (contains-edges_of_range _ k (c.requires c.loop-start.start-index (0, 0) c.loop-start-test.true) h)
     ∙ sym (separates_more c.args.ranges.now c.loop-start.start-index _ k c.loop-start-test.true))
 
@@ -21,8 +21,8 @@ counts : (p : sets.FinSet nat_cmp) (ranges : List (ℕ × ℕ)) (i : ℕ) → ((
 counts p ranges i same all = class_map_same (sets.contains p) (separates ranges) (λ k h. same k h ∙ ap (λ rs. separates rs k) (take_all i ranges all))
 
 pub returns-clause-counts : goal.returns-clause-counts
-returns-clause-counts c = c.byte_classes.ensures ∙ counts c.loop-start.partition c.args.ranges.now c.loop-start.start-index c.loop-start.invariant c.loop-start-test.false
+returns-clause-counts c = c.byte_classes.ensures.map ∙ counts c.loop-start.partition c.args.ranges.now c.loop-start.start-index c.loop-start.invariant c.loop-start-test.false
 
 pub returns-clause-alike : goal.returns-clause-alike
 returns-clause-alike c = λ b c' l l'.
-    same_class_is c.args.ranges.now c.byte_classes.result b c' (c.byte_classes.ensures ∙ counts c.loop-start.partition c.args.ranges.now c.loop-start.start-index c.loop-start.invariant c.loop-start-test.false) l l'
+    same_class_is c.args.ranges.now c.byte_classes.result b c' (c.byte_classes.ensures.map ∙ counts c.loop-start.partition c.args.ranges.now c.loop-start.start-index c.loop-start.invariant c.loop-start-test.false) l l'

@@ -15,22 +15,22 @@ returns-then-not-self-clause-steps c =
 pub returns-then-self-clause-steps : goal.returns-then-self-clause-steps
 returns-then-self-clause-steps c =
     let s = c.self.inside in
-    rw (← c.self.view_is, c.eoi.ensures, representatives_left_none s.classes.now s.next_byte s.end_byte None false c.if-self.true)
+    rw (← c.self.view_is, c.eoi.ensures.value, representatives_left_none s.classes.now s.next_byte s.end_byte None false c.if-self.true)
     (representatives_left_none s.classes.now s.next_byte s.end_byte None s.with_end c.if-self.true ∙ rw c.if-not-self.false refl)
 
 pub loop-self-init : goal.loop-self-init
 loop-self-init c =
     let s = c.self.inside in (
       c.self.invariant,
-      (let e : s.next_byte + 1 - 1 ≡ s.next_byte = omega arith in rw e c.get-class.ensures),
+      (let e : s.next_byte + 1 - 1 ≡ s.next_byte = omega arith in rw e c.get-class.ensures.value),
       sym c.self.view_is
-          ∙ representatives_left_new s.classes.now s.next_byte s.end_byte None s.with_end c.get-class.result (omega arith) c.get-class.ensures tt (λ e. cc),
+          ∙ representatives_left_new s.classes.now s.next_byte s.end_byte None s.with_end c.get-class.result (omega arith) c.get-class.ensures.value tt (λ e. cc),
     )
 
 pub loop-self-preserved : goal.loop-self-preserved
 loop-self-preserved c =
     let s = c.loop-self.self-inside in
-    let same = sym c.if-get-class.true ∙ c.get.ensures in (
+    let same = sym c.if-get-class.true ∙ c.get.ensures.value in (
       c.loop-self.invariant.0,
       (let e : s.next_byte + 1 - 1 ≡ s.next_byte = omega arith in rw e same),
       c.loop-self.invariant.2
@@ -44,7 +44,7 @@ returns-clause-steps c =
       | then-loop-self-test+else-get-class w ↦
           rw (c.u8.ensures, w.self-is)
           (c.loop-self.invariant.2
-          ∙ ap (λ t. byte c.self.inside.next_byte ∷ t) (representatives_left_again s.classes.now s.next_byte s.end_byte c.get-class.result s.with_end c.loop-self.invariant.1 (λ l e. w.if-get-class.false (w.get.ensures ∙ e))))
+          ∙ ap (λ t. byte c.self.inside.next_byte ∷ t) (representatives_left_again s.classes.now s.next_byte s.end_byte c.get-class.result s.with_end c.loop-self.invariant.1 (λ l e. w.if-get-class.false (w.get.ensures.value ∙ e))))
       | else-loop-self-test w ↦
           rw (c.u8.ensures, w.self-is)
           (c.loop-self.invariant.2

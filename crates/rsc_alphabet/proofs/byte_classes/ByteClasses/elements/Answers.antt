@@ -1,9 +1,19 @@
-use Rattle.std.proofs.Common.{◌∙◌, sym}
+use Rattle.std.proofs.Common.{◌≡◌, ◌∙◌, sym, subst}
+use Rattle.std.specs.List.{All}
+use Rattle.rsc_alphabet.specs.Symbols.{number_of}
+use Rattle.rsc_alphabet.specs.Walks.{class_at}
 use Rattle.rsc_alphabet.proofs.WalksLemmas.{elements_of-byte, elements_of-end}
+use Rattle.rsc_alphabet.proofs.Within.{elements_have_class}
 use Rattle.rsc_alphabet.proofs.byte_classes.ByteClasses.elements.Goals as goal
 
 pub returns-in-Some : goal.returns-in-Some
-returns-in-Some c = elements_of-byte c.args.self.now c.args.class c.in-Some.class (sym c.as_u8.ensures ∙ c.in-Some.is)
+returns-in-Some c =
+    let map = c.args.self.now in
+    let list = elements_of-byte map c.args.class c.in-Some.class (sym c.as_u8.ensures ∙ c.in-Some.is) in
+    record { list = list; class = λ some. subst (All (λ u. class_at map u ≡ number_of c.args.class)) (sym list) (elements_have_class map c.args.class some) }
 
 pub returns-in-None : goal.returns-in-None
-returns-in-None c = elements_of-end c.args.self.now c.args.class (sym c.as_u8.ensures ∙ c.in-None.is)
+returns-in-None c =
+    let map = c.args.self.now in
+    let list = elements_of-end map c.args.class (sym c.as_u8.ensures ∙ c.in-None.is) in
+    record { list = list; class = λ some. subst (All (λ u. class_at map u ≡ number_of c.args.class)) (sym list) (elements_have_class map c.args.class some) }

@@ -6,8 +6,8 @@ use Rattle.rsc_alphabet.proofs.byte_set.ByteSetRangeIterIterator.next.Goals as g
 pub loop-self-preserved : goal.loop-self-preserved
 loop-self-preserved c =
     let s = c.loop-self.self-inside in (
-      parts_no_run-skip s.set.now s.next_byte (sym c.contains.ensures ∙ c.if-contains.false),
-      sym (runs_from_skip s.set.now s.next_byte c.loop-self-test.true (sym c.contains.ensures ∙ c.if-contains.false)) ∙ c.loop-self.invariant.1,
+      parts_no_run-skip s.set.now s.next_byte (sym c.contains.ensures.value ∙ c.if-contains.false),
+      sym (runs_from_skip s.set.now s.next_byte c.loop-self-test.true (sym c.contains.ensures.value ∙ c.if-contains.false)) ∙ c.loop-self.invariant.1,
     )
 
 pub returns-then-contains-clause-steps : goal.returns-then-contains-clause-steps

@@ -1,0 +1,5 @@
+use Rattle.rsc_alphabet.proofs.RangeEdges.{together-alike}
+use Rattle.rsc_alphabet.proofs.laws.together_is_alike.Goals as goal
+
+pub returns : goal.returns
+returns c = together-alike
