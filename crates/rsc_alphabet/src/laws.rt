@@ -5,12 +5,14 @@ ghost use Rattle.std.specs.List.Sorted.{IsStrictlyIncreasing};
 ghost use Rattle.std.specs.FinSet as sets;
 ghost use Rattle.std.specs.declared.ops.Bound.{Bound};
 ghost use Rattle.std.specs.Range.Bound.{start_index, end_index};
+ghost use Rattle.rsc_alphabet.specs.Bytes.{bytes};
 ghost use Rattle.rsc_alphabet.specs.ByteSets.{Numbers, members, runs, IsMaximalRun};
 ghost use Rattle.rsc_alphabet.specs.Partitions.{Together, class_map, edges_of, edges_of_each, changes_at};
 ghost use Rattle.rsc_alphabet.specs.Ranges.{holds, are_alike};
-ghost use Rattle.rsc_alphabet.specs.SameMembers.{same_members};
-ghost use Rattle.rsc_alphabet.specs.Symbols.{Symbol, byte};
+ghost use Rattle.rsc_alphabet.specs.Symbols.{Symbol, byte, symbol_cmp};
 ghost use Rattle.rsc_alphabet.specs.Walks.{symbols, representatives_of};
+
+use crate::{ByteClassSet, ByteClasses, ByteSet, Unit};
 
 /// Two bytes have one class exactly if they are together: whoever has a class map need never count boundaries.
 pub fn one_class_is_together()
@@ -59,11 +61,6 @@ pub fn runs_are_maximal()
     ensures apart { (s : Numbers) → AllAdjacentBelow (λ r q. r.1 + 1 < q.0) (runs s) (length (runs s)) }
 {}
 
-/// Equality of sets of bytes is that of the sets.
-pub fn equality_is_of_the_members()
-    ensures { (s t : Numbers) → (same_members s t ≡ true) ↔ (s ≡ t) }
-{}
-
 /// The boundaries of a range are those before its first byte and after its last; and two bytes that are together for a
 /// partition with them are both in the range or both outside it.
 pub fn edges_part_a_range()
@@ -78,4 +75,38 @@ pub fn together_is_alike()
     ensures { (p : ℕ → Bool) (ranges : List (ℕ × ℕ)) → All (λ r. r.0 ≤ r.1) ranges →
         ((r : ℕ × ℕ) → Contains ranges r → (k : ℕ) → k < 255 → sets.contains (edges_of r) k ≡ true → p k ≡ true) →
         (b c : ℕ) → b < 256 → c < 256 → Together p b c → IsTrue (are_alike ranges b c) }
+{}
+
+/// A clone has its source's value.
+pub fn clones_are_equal()
+    ensures unit { (u v : Symbol) → ⟦<Unit as Clone>⟧.is_clone u v → v ≡ u }
+    ensures byte_set { (s t : Numbers) → ⟦<ByteSet as Clone>⟧.is_clone s t → t ≡ s }
+    ensures byte_class_set { (s t : Numbers) → ⟦<ByteClassSet as Clone>⟧.is_clone s t → t ≡ s }
+    ensures byte_classes { (m n : List ℕ) → ⟦<ByteClasses as Clone>⟧.is_clone m n → n ≡ m }
+{}
+
+/// No clone is refused.
+pub fn clones_are_accepted()
+    ensures unit { (u : Symbol) → ⟦<Unit as Clone>⟧.is_infallible u }
+    ensures byte_set { (s : Numbers) → ⟦<ByteSet as Clone>⟧.is_infallible s }
+    ensures byte_class_set { (s : Numbers) → ⟦<ByteClassSet as Clone>⟧.is_infallible s }
+    ensures byte_classes { (m : List ℕ) → ⟦<ByteClasses as Clone>⟧.is_infallible m }
+{}
+
+/// Equality of units is that of their values; equality of sets of bytes is that of their members.
+pub fn equality_is_of_the_value()
+    ensures unit { (u v : Symbol) → (⟦<Unit as PartialEq>⟧.eq u v ≡ true) ↔ (u ≡ v) }
+    ensures byte_set { (s t : Numbers) → (⟦<ByteSet as PartialEq>⟧.eq s t ≡ true) ↔ (s ≡ t) }
+{}
+
+/// The order of units: all bytes come before all ends of input, and within each the number decides.
+pub fn order_of_units()
+    ensures { (u v : Symbol) → ⟦<Unit as Ord>⟧.cmp u v ≡ symbol_cmp u v }
+{}
+
+/// The default of a set of bytes and of a partition is the empty one, and that of a class map has a class for each byte.
+pub fn defaults()
+    ensures byte_set { (s : Numbers) → ⟦<ByteSet as Default>⟧.is_default s → s ≡ sets.empty }
+    ensures byte_class_set { (s : Numbers) → ⟦<ByteClassSet as Default>⟧.is_default s → s ≡ sets.empty }
+    ensures byte_classes { (m : List ℕ) → ⟦<ByteClasses as Default>⟧.is_default m → m ≡ bytes }
 {}
