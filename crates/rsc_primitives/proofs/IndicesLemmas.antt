@@ -1,5 +1,8 @@
 -- The walk over the first indices: what is left of it at a place.
-use Rattle.std.proofs.Common.{◌≡◌, ℕ, suc, ◌+◌, ◌-◌, ◌≤◌, ◌<◌, [], ◌∷◌, refl, arith}
+use Rattle.std.proofs.Common.{◌≡◌, ℕ, suc, ◌+◌, ◌-◌, ◌≤◌, ◌<◌, [], ◌∷◌, length, refl, arith}
+use Rattle.std.specs.List.{All}
+use Rattle.std.proofs.lemmas.List.FromFn.{length-range_with_len, get_or-range_with_len}
+use Rattle.std.proofs.lemmas.List.Elements.{All-from_get_or}
 use Rattle.std.specs.List.{range_with_len}
 
 range_first : (a n m : ℕ) → n ≡ suc m → range_with_len a n ≡ a ∷ range_with_len (a + 1) m
@@ -10,3 +13,11 @@ range_left_first a b h = range_first a (b - a) (b - (a + 1)) (omega (arith, h))
 
 pub range_left_none : (a b : ℕ) → b ≤ a → range_with_len a (b - a) ≡ []
 range_left_none a b h = let e : b - a ≡ 0 = omega (arith, h) in rw e refl
+
+-- each index that is left is below the length
+pub indices_below : (a n : ℕ) → All (λ k. k < n) (range_with_len a (n - a))
+indices_below a n =
+    All-from_get_or (λ k. k < n) (range_with_len a (n - a)) 0 (λ i l.
+    let small : i < n - a = rw (length-range_with_len a (n - a)) at l in
+    let is = get_or-range_with_len a (n - a) i 0 small in
+    rw is (omega (arith, small)))

@@ -409,3 +409,12 @@ DecodesLastTo-ok h r f c p e q = rw (e, q) at p
 
 pub DecodesTo-at_err : (h : List ℕ) (r : Option (Result ℕ ℕ)) (f : Result ℕ ℕ) (b : ℕ) → DecodesTo h r → r ≡ Some f → f ≡ Err b → DecodesTo h (Some (Err b))
 DecodesTo-at_err h r f b p e q = rw (e, q) at p
+
+-- a character that begins the bytes is no longer than they are
+pub BeginsAt-fits : (h : List ℕ) (c : ℕ) → BeginsAt h 0 c → len_utf8 c ≤ length h
+BeginsAt-fits h c b =
+    let p = b.1 in
+    let w = p.within in
+    let n : length (slice_range h 0 b.0) ≡ b.0 - 0 = length-slice h 0 b.0 p.ordered p.within in
+    let m : length (slice_range h 0 b.0) ≡ len_utf8 c = length-Encodes-len_utf8 (slice_range h 0 b.0) c p.encoded in
+    omega arith

@@ -1,15 +1,18 @@
 //! Laws that a caller may cite: functions that do nothing, and whose contracts are the laws.
-ghost use Rattle.std.specs.Prelude.{◌≡◌, ◌↔◌, ◌⊎◌, ◌<◌, ◌≤◌, ◌++◌, ℕ, List, [], length, slice_index, Ok, Some, true, ◌==◌, ◌+◌};
+ghost use Rattle.std.specs.Prelude.{◌≡◌, ◌↔◌, ◌⊎◌, ◌<◌, ◌≤◌, ◌++◌, ℕ, List, [], length, slice_index, Result, Ok, Some, true, ◌==◌, ◌+◌};
 ghost use Rattle.std.specs.Char.{IsScalar, encode_utf8};
 ghost use Rattle.std.specs.Int.{w32, from_le_bytes, to_le_bytes};
 ghost use Rattle.std.specs.Str.{encode_utf8_all, all_scalars};
 ghost use Rattle.std.specs.Hash as fed;
 ghost use Rattle.std.specs.Ordering.{nat_cmp};
+ghost use Rattle.rsc_primitives.specs.declared.escape.DebugByte.{DebugByte as ADebugByte};
 ghost use Rattle.rsc_primitives.specs.Indices.{IsIndex, index_of, max_index};
 ghost use Rattle.rsc_primitives.specs.Utf8.{Encodes, EncodesAll, BeginsAt, EndsAt, IsBoundary, IsInside};
 
+use crate::escape::DebugByte;
 use crate::{
-    NonMaxUsize, PatternID, PatternIDError, SmallIndex, SmallIndexError, StateID, StateIDError,
+    NonMaxUsize, PatternID, PatternIDError, PatternIDIter, SmallIndex, SmallIndexError,
+    SmallIndexIter, StateID, StateIDError, StateIDIter,
 };
 use std::hash::Hash;
 
@@ -18,6 +21,20 @@ pub fn limits_of_indices()
     ensures limit { (SmallIndex.LIMIT ≡ max_index + 1) × (PatternID.LIMIT ≡ max_index + 1) × (StateID.LIMIT ≡ max_index + 1) }
     ensures size { (SmallIndex.SIZE ≡ 4) × (PatternID.SIZE ≡ 4) × (StateID.SIZE ≡ 4) }
 {}
+
+/// The greatest index of each kind.
+pub fn greatest_indices() -> (SmallIndex, PatternID, StateID)
+    ensures { (result.0 ≡ max_index) × (result.1 ≡ max_index) × (result.2 ≡ max_index) }
+{
+    (SmallIndex::MAX, PatternID::MAX, StateID::MAX)
+}
+
+/// The index 0 of each kind.
+pub fn zero_indices() -> (SmallIndex, PatternID, StateID)
+    ensures { (result.0 ≡ 0) × (result.1 ≡ 0) × (result.2 ≡ 0) }
+{
+    (SmallIndex::ZERO, PatternID::ZERO, StateID::ZERO)
+}
 
 /// Reading the four bytes of an index gives the index.
 pub fn le_bytes_round_trip()
@@ -49,6 +66,62 @@ pub fn hash_is_of_the_number()
     ensures pattern_id { (a : ℕ) → ⟦<PatternID as Hash>⟧.hash_input a ≡ fed.u32 a }
     ensures state_id { (a : ℕ) → ⟦<StateID as Hash>⟧.hash_input a ≡ fed.u32 a }
     ensures non_max { (a : ℕ) → ⟦<NonMaxUsize as Hash>⟧.hash_input a ≡ fed.usize a }
+{}
+
+/// A clone has its source's value.
+pub fn clones_are_equal()
+    ensures small_index { (a b : ℕ) → ⟦<SmallIndex as Clone>⟧.is_clone a b → b ≡ a }
+    ensures pattern_id { (a b : ℕ) → ⟦<PatternID as Clone>⟧.is_clone a b → b ≡ a }
+    ensures state_id { (a b : ℕ) → ⟦<StateID as Clone>⟧.is_clone a b → b ≡ a }
+    ensures small_index_error { (a b : ℕ) → ⟦<SmallIndexError as Clone>⟧.is_clone a b → b ≡ a }
+    ensures pattern_id_error { (a b : ℕ) → ⟦<PatternIDError as Clone>⟧.is_clone a b → b ≡ a }
+    ensures state_id_error { (a b : ℕ) → ⟦<StateIDError as Clone>⟧.is_clone a b → b ≡ a }
+    ensures small_index_iter { (a b : List ℕ) → ⟦<SmallIndexIter as Clone>⟧.is_clone a b → b ≡ a }
+    ensures pattern_id_iter { (a b : List ℕ) → ⟦<PatternIDIter as Clone>⟧.is_clone a b → b ≡ a }
+    ensures state_id_iter { (a b : List ℕ) → ⟦<StateIDIter as Clone>⟧.is_clone a b → b ≡ a }
+    ensures non_max { (a b : ℕ) → ⟦<NonMaxUsize as Clone>⟧.is_clone a b → b ≡ a }
+    ensures debug_byte { (a b : ADebugByte) → ⟦<DebugByte as Clone>⟧.is_clone a b → b ≡ a }
+{}
+
+/// No clone is refused.
+pub fn clones_are_accepted()
+    ensures small_index { (a : ℕ) → ⟦<SmallIndex as Clone>⟧.is_infallible a }
+    ensures pattern_id { (a : ℕ) → ⟦<PatternID as Clone>⟧.is_infallible a }
+    ensures state_id { (a : ℕ) → ⟦<StateID as Clone>⟧.is_infallible a }
+    ensures small_index_error { (a : ℕ) → ⟦<SmallIndexError as Clone>⟧.is_infallible a }
+    ensures pattern_id_error { (a : ℕ) → ⟦<PatternIDError as Clone>⟧.is_infallible a }
+    ensures state_id_error { (a : ℕ) → ⟦<StateIDError as Clone>⟧.is_infallible a }
+    ensures small_index_iter { (a : List ℕ) → ⟦<SmallIndexIter as Clone>⟧.is_infallible a }
+    ensures pattern_id_iter { (a : List ℕ) → ⟦<PatternIDIter as Clone>⟧.is_infallible a }
+    ensures state_id_iter { (a : List ℕ) → ⟦<StateIDIter as Clone>⟧.is_infallible a }
+    ensures non_max { (a : ℕ) → ⟦<NonMaxUsize as Clone>⟧.is_infallible a }
+    ensures debug_byte { (a : ADebugByte) → ⟦<DebugByte as Clone>⟧.is_infallible a }
+{}
+
+/// The default of an index is 0.
+pub fn defaults()
+    ensures small_index { (a : ℕ) → ⟦<SmallIndex as Default>⟧.is_default a → a ≡ 0 }
+    ensures pattern_id { (a : ℕ) → ⟦<PatternID as Default>⟧.is_default a → a ≡ 0 }
+    ensures state_id { (a : ℕ) → ⟦<StateID as Default>⟧.is_default a → a ≡ 0 }
+{}
+
+/// What a number converts to is that number, or a refusal of it.
+pub fn conversions_are_exact()
+    ensures small_index_from_u8 { (n a : ℕ) → ⟦<SmallIndex as From<u8>>⟧.from_gives n a → a ≡ n }
+    ensures small_index_from_u16 { (n : ℕ) (r : Result ℕ ℕ) → ⟦<SmallIndex as TryFrom<u16>>⟧.try_from_gives n r → r ≡ Ok n }
+    ensures small_index_from_u32 { (n : ℕ) (r : Result ℕ ℕ) → ⟦<SmallIndex as TryFrom<u32>>⟧.try_from_gives n r → r ≡ index_of n }
+    ensures small_index_from_u64 { (n : ℕ) (r : Result ℕ ℕ) → ⟦<SmallIndex as TryFrom<u64>>⟧.try_from_gives n r → r ≡ index_of n }
+    ensures small_index_from_usize { (n : ℕ) (r : Result ℕ ℕ) → ⟦<SmallIndex as TryFrom<usize>>⟧.try_from_gives n r → r ≡ index_of n }
+    ensures pattern_id_from_u8 { (n a : ℕ) → ⟦<PatternID as From<u8>>⟧.from_gives n a → a ≡ n }
+    ensures pattern_id_from_u16 { (n : ℕ) (r : Result ℕ ℕ) → ⟦<PatternID as TryFrom<u16>>⟧.try_from_gives n r → r ≡ Ok n }
+    ensures pattern_id_from_u32 { (n : ℕ) (r : Result ℕ ℕ) → ⟦<PatternID as TryFrom<u32>>⟧.try_from_gives n r → r ≡ index_of n }
+    ensures pattern_id_from_u64 { (n : ℕ) (r : Result ℕ ℕ) → ⟦<PatternID as TryFrom<u64>>⟧.try_from_gives n r → r ≡ index_of n }
+    ensures pattern_id_from_usize { (n : ℕ) (r : Result ℕ ℕ) → ⟦<PatternID as TryFrom<usize>>⟧.try_from_gives n r → r ≡ index_of n }
+    ensures state_id_from_u8 { (n a : ℕ) → ⟦<StateID as From<u8>>⟧.from_gives n a → a ≡ n }
+    ensures state_id_from_u16 { (n : ℕ) (r : Result ℕ ℕ) → ⟦<StateID as TryFrom<u16>>⟧.try_from_gives n r → r ≡ Ok n }
+    ensures state_id_from_u32 { (n : ℕ) (r : Result ℕ ℕ) → ⟦<StateID as TryFrom<u32>>⟧.try_from_gives n r → r ≡ index_of n }
+    ensures state_id_from_u64 { (n : ℕ) (r : Result ℕ ℕ) → ⟦<StateID as TryFrom<u64>>⟧.try_from_gives n r → r ≡ index_of n }
+    ensures state_id_from_usize { (n : ℕ) (r : Result ℕ ℕ) → ⟦<StateID as TryFrom<usize>>⟧.try_from_gives n r → r ≡ index_of n }
 {}
 
 /// The bytes that encode a character are those that std's `encode_utf8` writes of it, and nothing else is encoded.

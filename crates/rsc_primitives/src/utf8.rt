@@ -1,6 +1,6 @@
 //! UTF-8 read from either end of any bytes: RFC 3629, section 4.
-ghost use Rattle.std.specs.Prelude.{◌≡◌, ◌↔◌, ℕ, ◌+◌, ◌-◌, ◌*◌, ◌≤◌, IsTrue, MatchOption};
-ghost use Rattle.std.specs.Char.{IsScalar};
+ghost use Rattle.std.specs.Prelude.{◌≡◌, ◌↔◌, ℕ, ◌+◌, ◌-◌, ◌*◌, ◌≤◌, IsTrue, MatchOption, IfSome, IfOk, length};
+ghost use Rattle.std.specs.Char.{IsScalar, len_utf8};
 ghost use Rattle.rsc_primitives.specs.Utf8.{is_word_byte, IsTail, OpensThree, OpensFour, DecodesTo, DecodesLastTo, IsBoundary};
 ghost use Rattle.rsc_primitives.specs.Utf8Layout.{IsFirstNumber, IsLastNumber};
 
@@ -52,7 +52,8 @@ pub fn is_boundary(bytes: &[u8], at: usize) -> bool
 /// number above 10FFFF.
 #[inline(always)]
 pub fn decode(bytes: &[u8]) -> Option<Result<char, u8>>
-    ensures { DecodesTo bytes.now result }
+    ensures answer { DecodesTo bytes.now result }
+    ensures width { IfSome result (λ step. IfOk step (λ c. len_utf8 c ≤ length bytes.now)) }
 {
     let first = *bytes.first()?;
     if first < 0x80 {

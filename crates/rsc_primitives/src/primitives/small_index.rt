@@ -1,5 +1,5 @@
 //! Indices that fit in four bytes, whatever they number.
-ghost use Rattle.std.specs.Prelude.{◌≡◌, ◌+◌, ◌≤◌, pos, codes, ◌++◌, Some, Ok};
+ghost use Rattle.std.specs.Prelude.{◌≡◌, ◌+◌, ◌<◌, ◌≤◌, All, pos, codes, ◌++◌, Some, Ok};
 ghost use Rattle.std.specs.Int.{w32, from_le_bytes, to_le_bytes};
 ghost use Rattle.std.specs.List.{range_with_len};
 ghost use Rattle.std.specs.Iterator.{YieldsFirst, item_count};
@@ -124,7 +124,8 @@ impl SmallIndex {
     #[inline]
     pub fn iter(len: usize) -> SmallIndexIter
         requires { len ≤ SmallIndex.LIMIT }
-        ensures { result ≡ range_with_len 0 len }
+        ensures list { result ≡ range_with_len 0 len }
+        ensures below { All (λ index. index < len) result }
     {
         SmallIndexIter { next_index: 0, len }
     }

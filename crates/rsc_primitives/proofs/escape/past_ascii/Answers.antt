@@ -1,12 +1,12 @@
 use Rattle.std.proofs.Common.{sym, ◌∙◌}
-use Rattle.rsc_primitives.proofs.Utf8Lemmas.{DecodesTo-ok, DecodesTo-err}
-use Rattle.rsc_primitives.proofs.EscapesLemmas.{past_ascii-fits, past_ascii-high}
+use Rattle.rsc_primitives.proofs.Utf8Lemmas.{DecodesTo-ok, DecodesTo-err, BeginsAt-fits}
+use Rattle.rsc_primitives.proofs.EscapesLemmas.{past_ascii-high}
 use Rattle.rsc_primitives.proofs.escape.past_ascii.Goals as goal
 
 pub returns-in-Some-Ok : goal.returns-in-Some-Ok
 returns-in-Some-Ok c =
-    let b = DecodesTo-ok _ _ _ _ c.decode.ensures c.in-Some-Ok.is c.in-Some-Ok.field-0-is in
-    (b, past_ascii-high _ (sym c.is_ascii.ensures ∙ c.if-not-is_ascii.true), past_ascii-fits _ _ b)
+    let b = DecodesTo-ok _ _ _ _ c.decode.ensures.answer c.in-Some-Ok.is c.in-Some-Ok.field-0-is in
+    (b, past_ascii-high _ (sym c.is_ascii.ensures ∙ c.if-not-is_ascii.true), BeginsAt-fits _ _ b)
 
 pub returns-in-Some-Err : goal.returns-in-Some-Err
-returns-in-Some-Err c d b = absurd (DecodesTo-err _ _ _ _ c.decode.ensures c.in-Some-Err.is c.in-Some-Err.field-0-is d b)
+returns-in-Some-Err c d b = absurd (DecodesTo-err _ _ _ _ c.decode.ensures.answer c.in-Some-Err.is c.in-Some-Err.field-0-is d b)

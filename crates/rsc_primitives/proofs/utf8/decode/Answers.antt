@@ -1,10 +1,12 @@
 use Rattle.std.proofs.Common.{sym, subst}
 use Rattle.rsc_primitives.specs.Utf8Layout.{IsFirstNumber}
-use Rattle.rsc_primitives.proofs.Utf8Lemmas.{IsFirstNumber-from, BeginsAt-from}
+use Rattle.rsc_primitives.proofs.Utf8Lemmas.{IsFirstNumber-from, BeginsAt-from, BeginsAt-fits}
 use Rattle.rsc_primitives.proofs.utf8.decode.Goals as goal
 
 pub returns-in-Some : goal.returns-in-Some
-returns-in-Some c = BeginsAt-from _ _ (subst (IsFirstNumber c.args.bytes.now) (sym c.char_of.ensures) c.in-Some.ensures)
+returns-in-Some c =
+    let begins = BeginsAt-from _ _ (subst (IsFirstNumber c.args.bytes.now) (sym c.char_of.ensures) c.in-Some.ensures) in
+    record { answer = begins; width = BeginsAt-fits _ _ begins }
 
-pub returns-in-None : goal.returns-in-None
-returns-in-None c = (sym c.in_ok-first.ensures.value, λ x b. c.in-None.ensures x (IsFirstNumber-from _ x b))
+pub returns-in-None-clause-answer : goal.returns-in-None-clause-answer
+returns-in-None-clause-answer c = (sym c.in_ok-first.ensures.value, λ x b. c.in-None.ensures x (IsFirstNumber-from _ x b))
