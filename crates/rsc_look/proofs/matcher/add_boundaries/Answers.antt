@@ -10,6 +10,6 @@ returns-in-Start c = adds_none c.args.set.now ∙ ap (sets.union c.args.set.now)
 
 pub returns-in-StartCRLF : goal.returns-in-StartCRLF
 returns-in-StartCRLF c =
-    c.set_range-in-StartCRLF-2.ensures ∙ ap (λ s. sets.union s (edges_of (10, 10))) c.set_range-in-StartCRLF.ensures
+    c.set_range-in-StartCRLF-2.ensures.set ∙ ap (λ s. sets.union s (edges_of (10, 10))) c.set_range-in-StartCRLF.ensures.set
     ∙ adds_both c.args.set.now (edges_of (13, 13)) (edges_of (10, 10))
     ∙ ap (sets.union c.args.set.now) (⊎_elim (λ e. ap (λ l. boundaries_of l c.args.line_terminator) (sym e)) (λ e. ap (λ l. boundaries_of l c.args.line_terminator) (sym e)) c.in-StartCRLF.is)
