@@ -7,6 +7,7 @@ pub mod Checked
 pub mod FaultsLemmas
 pub mod Starts
 pub mod Owners
+pub mod SlotsWithin
 pub mod Pieces
 pub mod Spans
 pub mod Extracted

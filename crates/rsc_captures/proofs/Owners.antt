@@ -9,7 +9,7 @@ use Rattle.rsc_captures.specs.Checks.{IsChecked}
 use Rattle.rsc_captures.specs.SlotOwners.{IsSlotOf, IsOwned}
 use Rattle.rsc_captures.proofs.Starts.{all_groups_are}
 
-slot_explicit : (lists : GroupLists) (p g : ℕ) → slot_number lists p (suc g) ≡ 2 * length lists + 2 * explicit_before lists p + 2 * g
+pub slot_explicit : (lists : GroupLists) (p g : ℕ) → slot_number lists p (suc g) ≡ 2 * length lists + 2 * explicit_before lists p + 2 * g
 slot_explicit lists p g =
     let explicit : nat_eq (suc g) 0 ≡ false = grind (arith, nat_tests) in
     let less : suc g - 1 ≡ g = omega arith in
@@ -19,7 +19,7 @@ slot_of-group : (lists : GroupLists) (p g : ℕ) → g < group_count lists p →
 slot_of-group lists p g h = rw (lt-ltb g (group_count lists p) h) refl
 
 -- what the slot of a group says
-slot_facts : (lists : GroupLists) (p g slot : ℕ) → slot_of lists p g ≡ Some slot → (g < group_count lists p) × (slot ≡ slot_number lists p g)
+pub slot_facts : (lists : GroupLists) (p g slot : ℕ) → slot_of lists p g ≡ Some slot → (g < group_count lists p) × (slot ≡ slot_number lists p g)
 slot_facts lists p g slot is =
     elim (nat_lt g (group_count lists p)) as (λ b. nat_lt g (group_count lists p) ≡ b → cond b (Some (slot_number lists p g)) None ≡ Some slot → (g < group_count lists p) × (slot ≡ slot_number lists p g)) [
       | true ↦ λ lt same. (ltb-true g (group_count lists p) lt, cc)
@@ -27,16 +27,16 @@ slot_facts lists p g slot is =
     ] refl is
 
 -- a pattern that has a group is one of the list
-pattern_in : (lists : GroupLists) (p g : ℕ) → g < group_count lists p → p < length lists
+pub pattern_in : (lists : GroupLists) (p g : ℕ) → g < group_count lists p → p < length lists
 pattern_in lists p g h =
     ⊎_elim (λ (lt : p < length lists). lt)
     (λ (le : length lists ≤ p). absurd (let none : groups_of lists p ≡ [] = get_or_past lists p [] le in let zero_groups : group_count lists p ≡ 0 = ap length none in omega arith))
     (cases_lt p (length lists))
 
-before_more : (lists : GroupLists) (p : ℕ) → p < length lists → explicit_before lists (p + 1) ≡ explicit_before lists p + (group_count lists p - 1)
+pub before_more : (lists : GroupLists) (p : ℕ) → p < length lists → explicit_before lists (p + 1) ≡ explicit_before lists p + (group_count lists p - 1)
 before_more lists p lt = sum_by_more explicit_groups lists p [] lt
 
-before_rises : (lists : GroupLists) (p n : ℕ) → p + n ≤ length lists → explicit_before lists p ≤ explicit_before lists (p + n)
+pub before_rises : (lists : GroupLists) (p n : ℕ) → p + n ≤ length lists → explicit_before lists p ≤ explicit_before lists (p + n)
 before_rises lists p zero le = let e : p + zero ≡ p = omega arith in rw e (omega arith)
 before_rises lists p (suc n) le =
     let e : p + suc n ≡ p + n + 1 = omega arith in

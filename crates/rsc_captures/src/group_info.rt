@@ -1,5 +1,5 @@
 //! The groups of all patterns, and the slots of their offsets.
-ghost use Rattle.std.specs.Prelude.{◌≡◌, ℕ, ◌+◌, ◌-◌, ◌*◌, ◌<◌, ◌≤◌, ◌↔◌, length, ⊤, [], Some, None, IfOk, IfErr, OnOk, MatchOption, MatchResult};
+ghost use Rattle.std.specs.Prelude.{◌≡◌, ℕ, ◌+◌, ◌-◌, ◌*◌, ◌<◌, ◌≤◌, ◌↔◌, length, ⊤, [], Some, None, IfOk, IfErr, IfSome, OnOk, MatchOption, MatchResult};
 ghost use Rattle.std.specs.Option.{option_copied};
 ghost use Rattle.rsc_captures.specs.Groups.{lists_in, groups_of, group_count, name_of, index_of, slot_of, slots_of, all_groups, AreDistinctBelow};
 ghost use Rattle.rsc_captures.specs.Faults.{Duplicate, LIMIT_OF_IDS, IsFaultless, RefusesFor};
@@ -233,7 +233,8 @@ impl<A: Allocator + Clone + Drop> GroupInfo<A> {
     /// How many groups a pattern has: none where there is no such pattern.
     #[inline]
     pub fn group_len(&self, pid: PatternID) -> usize
-        ensures { result ≡ group_count self.now pid }
+        ensures value { result ≡ group_count self.now pid }
+        ensures whole { pid < length self.now → 0 < result }
     {
         let inner: &Inner<A> = &self.inner;
         match inner.patterns.get(pid.as_usize()) {
@@ -257,6 +258,7 @@ impl<A: Allocator + Clone + Drop> GroupInfo<A> {
     pub fn to_index(&self, pid: PatternID, name: &str) -> Option<usize>
         ensures index { result ≡ index_of (groups_of self.now pid) name.now }
         ensures named { (g : ℕ) → (result ≡ Some g) ↔ (name_of self.now pid g ≡ Some name.now) }
+        ensures within { IfSome result (λ g. g < group_count self.now pid) }
     {
         let inner: &Inner<A> = &self.inner;
         let groups = inner.patterns.get(pid.as_usize())?;
@@ -266,7 +268,8 @@ impl<A: Allocator + Clone + Drop> GroupInfo<A> {
     /// The slot of a group's start, or `None` where there is no such group.
     #[inline]
     pub fn slot(&self, pid: PatternID, group_index: usize) -> Option<usize>
-        ensures { result ≡ slot_of self.now pid group_index }
+        ensures value { result ≡ slot_of self.now pid group_index }
+        ensures within { IfSome result (λ slot. slot + 1 < 2 * all_groups self.now) }
     {
         let inner: &Inner<A> = &self.inner;
         let p = pid.as_usize();
@@ -283,7 +286,8 @@ impl<A: Allocator + Clone + Drop> GroupInfo<A> {
     /// The slots of a group's start and of its end, or `None` where there is no such group.
     #[inline]
     pub fn slots(&self, pid: PatternID, group_index: usize) -> Option<(usize, usize)>
-        ensures { result ≡ slots_of self.now pid group_index }
+        ensures value { result ≡ slots_of self.now pid group_index }
+        ensures within { IfSome result (λ slots. slots.1 < 2 * all_groups self.now) }
     {
         let slot = self.slot(pid, group_index)?;
         Some((slot, slot + 1))

@@ -1,0 +1,18 @@
+-- The slots of a group are below the number of all slots.
+use Rattle.std.proofs.Common.{◌≡◌, ℕ, zero, suc, ◌+◌, ◌-◌, ◌*◌, ◌<◌, ◌≤◌, length, Option, Some, None, ap, ◌∙◌, arith}
+use Rattle.std.specs.Prelude.{IfSome}
+use Rattle.rsc_captures.specs.Groups.{GroupLists, group_count, explicit_before, all_groups, slot_number, slot_of}
+use Rattle.rsc_captures.specs.Checks.{IsChecked}
+use Rattle.rsc_captures.proofs.Owners.{slot_explicit, slot_facts, pattern_in, before_more, before_rises}
+use Rattle.rsc_captures.proofs.Starts.{all_groups_are}
+
+pub number_within : (lists : GroupLists) → IsChecked 2147483646 lists → (p g : ℕ) → g < group_count lists p → slot_number lists p g + 1 < 2 * all_groups lists
+number_within lists checked p zero lt = let pattern : p < length lists = pattern_in lists p 0 lt in omega (arith, all_groups_are lists checked)
+number_within lists checked p (suc g) lt =
+    let pattern : p < length lists = pattern_in lists p (suc g) lt in
+    let e : p + 1 + (length lists - (p + 1)) ≡ length lists = omega arith in
+    let rises : explicit_before lists (p + 1) ≤ explicit_before lists (length lists) = rw e at (before_rises lists (p + 1) (length lists - (p + 1)) (omega arith)) in
+    omega (arith, slot_explicit lists p g, before_more lists p pattern, all_groups_are lists checked)
+
+pub slot_within : (lists : GroupLists) → IsChecked 2147483646 lists → (p g slot : ℕ) → slot_of lists p g ≡ Some slot → slot + 1 < 2 * all_groups lists
+slot_within lists checked p g slot is = let facts = slot_facts lists p g slot is in omega (arith, facts.1, number_within lists checked p g facts.0)
