@@ -3,3 +3,4 @@ pub mod PartsLent
 pub mod PatternSetsLemmas
 pub mod Rows
 pub mod SpansLemmas
+pub mod MembersLemmas

@@ -29,6 +29,12 @@ has_member-set flags p =
       | false ↦ λ e. let le : length flags ≤ p = grind (arith, common_steps) in rw (get_or_past flags p false le) (member_above (is_set flags) 0 (length flags) p (omega arith))
     ] refl
 
+-- a number whose flag is set is below the capacity
+pub set_below : (flags : List Bool) (p : ℕ) → is_set flags p ≡ true → p < length flags
+set_below [] p is = cc
+set_below (flag ∷ flags) zero is = omega arith
+set_below (flag ∷ flags) (suc p) is = let rest : p < length flags = set_below flags p is in omega arith
+
 eqb_same : (p : ℕ) → eqb p p ≡ true
 eqb_same p = grind (arith, common_steps)
 

@@ -1,5 +1,5 @@
 //! What a search is given: a haystack, the span of it to search, and how.
-ghost use Rattle.std.specs.Prelude.{◌≡◌, ◌+◌, ◌<◌, ◌≤◌, ◌↔◌, ◌⊎◌, ℕ, List, IsTrue, length};
+ghost use Rattle.std.specs.Prelude.{◌≡◌, ◌+◌, ◌^◌, ◌<◌, ◌≤◌, ◌↔◌, ◌⊎◌, ℕ, List, IsTrue, length};
 ghost use Rattle.rsc_search.specs.Inputs.{whole, IsSpanWithin, span_between};
 ghost use Rattle.rsc_primitives.specs.Utf8.{BeginsAt, EncodesAll, IsBoundary};
 
@@ -175,6 +175,8 @@ impl<'h> Input<'h> {
     pub fn end(&self) -> usize
         ensures end { result ≡ self.now.span.end }
         ensures within { result ≤ length self.now.haystack }
+        ensures order { self.now.span.start ≤ result + 1 }
+        ensures small { result + 1 < 2 ^ 64 }
     {
         self.span.end
     }
@@ -193,6 +195,8 @@ impl<'h> Input<'h> {
     pub fn get_range(&self) -> Range<usize>
         ensures start { result.start ≡ self.now.span.start }
         ensures end { result.end ≡ self.now.span.end }
+        ensures within { result.end ≤ length self.now.haystack }
+        ensures order { result.start ≤ result.end + 1 }
     {
         self.span.range()
     }

@@ -1,8 +1,14 @@
-//! Laws that a caller may cite: functions that do nothing, and whose contracts are the laws.
-ghost use Rattle.std.specs.Prelude.{◌≡◌, ◌↔◌, ◌<◌, ◌==◌, ◌||◌, ℕ, List, IsTrue};
+//! Laws that a caller may cite: functions whose contracts are the laws. Those of this module do nothing;
+//! those of its parts clone, compare or make a value.
+ghost use Rattle.std.specs.Prelude.{◌≡◌, ◌↔◌, ◌<◌, ◌≤◌, ◌==◌, ◌||◌, ◌∷◌, ℕ, List, IsTrue, true};
+ghost use Rattle.std.specs.List.{Contains};
+ghost use Rattle.std.specs.List.Sorted.{IsStrictlyIncreasing};
 ghost use Rattle.rsc_primitives.specs.Utf8.{IsBoundary};
 ghost use Rattle.rsc_search.specs.PatternSets.{Patterns, has_member, with_member};
 ghost use Rattle.rsc_search.specs.Spans.{is_boundary};
+
+pub mod clones;
+pub mod equality;
 
 /// An insertion makes its number a member, and no other number below the capacity.
 pub fn insertion_adds_one_member()
@@ -13,4 +19,10 @@ pub fn insertion_adds_one_member()
 /// The test that cuts of a text ask of both their ends is that of a character boundary.
 pub fn boundary_is_tested()
     ensures { (text : List ℕ) (i : ℕ) → IsTrue (is_boundary text i) ↔ IsBoundary text i }
+{}
+
+/// The test of membership is true of the elements of the list of members, in std's word. The least comes first.
+pub fn members_are_contained()
+    ensures contained { (members : List ℕ) (p : ℕ) → (has_member members p ≡ true) ↔ Contains members p }
+    ensures least { (first p : ℕ) (rest : List ℕ) → IsStrictlyIncreasing (first ∷ rest) → has_member (first ∷ rest) p ≡ true → first ≤ p }
 {}

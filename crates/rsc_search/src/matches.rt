@@ -1,5 +1,5 @@
 //! What a search answers: the pattern that matched, and where.
-ghost use Rattle.std.specs.Prelude.{◌≡◌, ◌-◌, ◌≤◌, ◌↔◌, IsTrue};
+ghost use Rattle.std.specs.Prelude.{◌≡◌, ◌+◌, ◌-◌, ◌≤◌, ◌↔◌, IsTrue};
 ghost use Rattle.rsc_primitives.specs.Indices.{IsIndex};
 
 use crate::Span;
@@ -110,7 +110,8 @@ impl Match {
     /// The position of the match's first byte.
     #[inline]
     pub fn start(&self) -> usize
-        ensures { result ≡ self.now.span.start }
+        ensures start { result ≡ self.now.span.start }
+        ensures order { result ≤ self.now.span.end }
     {
         self.span.start
     }
@@ -118,7 +119,8 @@ impl Match {
     /// The position after the match's last byte.
     #[inline]
     pub fn end(&self) -> usize
-        ensures { result ≡ self.now.span.end }
+        ensures end { result ≡ self.now.span.end }
+        ensures order { self.now.span.start ≤ result }
     {
         self.span.end
     }
@@ -128,6 +130,7 @@ impl Match {
     pub fn range(&self) -> Range<usize>
         ensures start { result.start ≡ self.now.span.start }
         ensures end { result.end ≡ self.now.span.end }
+        ensures order { result.start ≤ result.end }
     {
         self.span.range()
     }
@@ -152,7 +155,8 @@ impl Match {
     /// How many bytes the match holds.
     #[inline]
     pub fn len(&self) -> usize
-        ensures { result ≡ self.now.span.end - self.now.span.start }
+        ensures value { result ≡ self.now.span.end - self.now.span.start }
+        ensures order { self.now.span.start + result ≡ self.now.span.end }
     {
         self.span.len()
     }

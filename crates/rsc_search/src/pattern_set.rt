@@ -55,7 +55,8 @@ impl<A: Allocator> PatternSet<A> {
     /// Whether a pattern is a member. One at or above the capacity never is.
     #[inline]
     pub fn contains(&self, pid: PatternID) -> bool
-        ensures { result ≡ has_member self.now.members pid }
+        ensures value { result ≡ has_member self.now.members pid }
+        ensures below { IsTrue result → pid < self.now.capacity }
     {
         is_set(self.which.as_slice(), pid.as_usize())
     }
@@ -115,7 +116,8 @@ impl<A: Allocator> PatternSet<A> {
     /// How many members there are.
     #[inline]
     pub fn len(&self) -> usize
-        ensures { result ≡ length self.now.members }
+        ensures value { result ≡ length self.now.members }
+        ensures within { result ≤ self.now.capacity }
     {
         self.count
     }
@@ -135,6 +137,7 @@ impl<A: Allocator> PatternSet<A> {
         ensures members { result ≡ self.now.members }
         ensures ascending { IsStrictlyIncreasing result }
         ensures below { All (λ p. p < self.now.capacity) result }
+        ensures contained { All (λ p. has_member self.now.members p ≡ true) result }
     {
         PatternSetIter {
             which: self.which.as_slice(),

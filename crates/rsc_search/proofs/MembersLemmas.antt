@@ -1,0 +1,50 @@
+-- The test of membership, in std's words.
+use Rattle.std.proofs.Common.{◌≡◌, ℕ, zero, suc, ◌+◌, ◌-◌, ◌<◌, ◌≤◌, ◌↔◌, Bool, true, false, List, [], ◌∷◌, length, get_or, refl, sym, arith, eqb, ◌||◌}
+use Rattle.std.proofs.lemmas.Bool.Decides.{Decides-eqb}
+use Rattle.std.proofs.lemmas.List.Folds.{list_any_at}
+use Rattle.std.proofs.lemmas.List.{get_or_default}
+use Rattle.std.specs.Prelude.{All}
+use Rattle.std.specs.List.{Contains}
+use Rattle.std.specs.List.Sorted.{IsStrictlyIncreasing}
+use mathlib.Core.Bool.{true≢false}
+use Rattle.rsc_search.specs.PatternSets.{has_member}
+use Rattle.rsc_search.specs.PatternSetLayout.{patterns_of, set_between}
+
+to_contains : (members : List ℕ) (p : ℕ) → has_member members p ≡ true → Contains members p
+to_contains [] p h = absurd (true≢false (sym h))
+to_contains (q ∷ members) p h =
+    elim (eqb q p) as (λ b. eqb q p ≡ b → (b || has_member members p) ≡ true → Contains (q ∷ members) p) [
+      | true ↦ λ e _. (0, omega arith, (Decides-eqb q p).0 e)
+      | false ↦ λ _ rest. let there : Contains members p = to_contains members p rest in (suc there.0, omega (arith, there.1), there.2)
+    ] refl h
+
+from_contains : (members : List ℕ) (p : ℕ) → Contains members p → has_member members p ≡ true
+from_contains members p there = list_any_at (λ q. eqb q p) members there.0 p there.1 ((Decides-eqb (get_or members there.0 p) p).1 there.2)
+
+pub is_contained : (members : List ℕ) (p : ℕ) → (has_member members p ≡ true) ↔ Contains members p
+is_contained members p = (to_contains members p, from_contains members p)
+
+rises : (members : List ℕ) → IsStrictlyIncreasing members → (k : ℕ) → k < length members → get_or members 0 0 ≤ get_or members k 0
+rises members ascends zero lt = omega arith
+rises members ascends (suc k) lt =
+    let before : get_or members 0 0 ≤ get_or members k 0 = rises members ascends k (omega arith) in
+    let same : k + 1 ≡ suc k = omega arith in
+    let step : get_or members k 0 < get_or members (suc k) 0 = rw same at (ascends k (omega arith)) in
+    omega arith
+
+pub first_is_least : (first p : ℕ) (rest : List ℕ) → IsStrictlyIncreasing (first ∷ rest) → has_member (first ∷ rest) p ≡ true → first ≤ p
+first_is_least first p rest ascends is =
+    let there : Contains (first ∷ rest) p = to_contains (first ∷ rest) p is in
+    let least : first ≤ get_or (first ∷ rest) there.0 0 = rises (first ∷ rest) ascends there.0 there.1 in
+    let same : get_or (first ∷ rest) there.0 0 ≡ get_or (first ∷ rest) there.0 p = get_or_default (first ∷ rest) there.0 0 p there.1 in
+    omega (arith, there.2)
+
+-- each member of a list is one of its members
+pub all_members : (members : List ℕ) → All (λ p. has_member members p ≡ true) members
+all_members members k d lt = list_any_at (λ q. eqb q (get_or members k d)) members k d lt ((Decides-eqb (get_or members k d) (get_or members k d)).1 refl)
+
+-- what an iterator over the whole set gives are members
+pub each_is_member : (flags walked : List Bool) (n : ℕ) → walked ≡ flags → n ≡ length flags → All (λ p. has_member (patterns_of flags).members p ≡ true) (set_between walked 0 n)
+each_is_member flags walked n same all =
+    let whole : length flags - 0 ≡ length flags = omega arith in
+    rw (same, all, whole) (all_members (patterns_of flags).members)
