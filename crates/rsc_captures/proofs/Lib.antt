@@ -12,3 +12,4 @@ pub mod Pieces
 pub mod Spans
 pub mod Extracted
 pub mod Alone
+pub mod NamesCounted

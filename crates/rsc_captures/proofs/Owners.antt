@@ -128,3 +128,16 @@ one_owner lists s p g q h mine other =
         (λ (e : s ≡ a). ⊎_elim (λ (f : s ≡ b). omega arith) (λ (f : s ≡ b + 1). absurd (omega arith)) sb)
         (λ (e : s ≡ a + 1). ⊎_elim (λ (f : s ≡ b). absurd (omega arith)) (λ (f : s ≡ b + 1). omega arith) sb)
         sa
+
+-- two groups with one first slot are one group
+pub one_start : (lists : GroupLists) (p g q h s : ℕ) → slot_of lists p g ≡ Some s → slot_of lists q h ≡ Some s → (p ≡ q) × (g ≡ h)
+one_start lists p g q h s mine other = one_owner lists s p g q h (s, (mine, inl refl)) (s, (other, inl refl))
+
+-- first slots are even
+pub start_no_end : (lists : GroupLists) (p g q h s t : ℕ) → slot_of lists p g ≡ Some s → slot_of lists q h ≡ Some t → ¬ (s ≡ t + 1)
+start_no_end lists p g q h s t mine other next =
+    let a = slot_facts lists p g s mine in
+    let b = slot_facts lists q h t other in
+    let x = even lists p g in
+    let y = even lists q h in
+    omega (arith, a.1, b.1, x.1, y.1)

@@ -1,6 +1,6 @@
 -- The slots of a group are below the number of all slots.
-use Rattle.std.proofs.Common.{◌≡◌, ℕ, zero, suc, ◌+◌, ◌-◌, ◌*◌, ◌<◌, ◌≤◌, length, Option, Some, None, ap, ◌∙◌, arith}
-use Rattle.std.specs.Prelude.{IfSome}
+use Rattle.std.proofs.Common.{◌≡◌, ℕ, zero, suc, ◌+◌, ◌-◌, ◌*◌, ◌<◌, ◌≤◌, length, Some, ap, ◌∙◌, refl, ⊎_elim, arith}
+use Rattle.std.proofs.lemmas.Bool.{cases_lt}
 use Rattle.rsc_captures.specs.Groups.{GroupLists, group_count, explicit_before, all_groups, slot_number, slot_of}
 use Rattle.rsc_captures.specs.Checks.{IsChecked}
 use Rattle.rsc_captures.proofs.Owners.{slot_explicit, slot_facts, pattern_in, before_more, before_rises}
@@ -16,3 +16,16 @@ number_within lists checked p (suc g) lt =
 
 pub slot_within : (lists : GroupLists) → IsChecked 2147483646 lists → (p g slot : ℕ) → slot_of lists p g ≡ Some slot → slot + 1 < 2 * all_groups lists
 slot_within lists checked p g slot is = let facts = slot_facts lists p g slot is in omega (arith, facts.1, number_within lists checked p g facts.0)
+
+-- all slots are within the limit
+pub slots_within_limit : (lists : GroupLists) → IsChecked 2147483646 lists → 2 * all_groups lists ≤ 2147483646
+slots_within_limit lists checked =
+    ⊎_elim
+    (λ (some : 0 < length lists).
+    let last : length lists - 1 + 1 ≡ length lists = omega arith in
+    let within : 2 * explicit_before lists (length lists) + 2 * length lists ≤ 2147483646 = rw last at (checked.within (length lists - 1) (omega arith)) in
+    omega (arith, all_groups_are lists checked))
+    (λ (none : length lists ≤ 0).
+    let empty : explicit_before lists (length lists) ≡ 0 = let e : length lists ≡ 0 = omega arith in rw e refl in
+    omega (arith, all_groups_are lists checked, empty))
+    (cases_lt 0 (length lists))

@@ -250,7 +250,8 @@ impl<A: Allocator + Clone + Drop> Captures<A> {
     /// The span of each group of the pattern that matched, in order, or `None` for one that takes no part.
     #[inline]
     pub fn iter(&self) -> CapturesPatternIter<'_, A>
-        ensures { result ≡ matched_spans self.now }
+        ensures spans { result ≡ matched_spans self.now }
+        ensures count { length result ≡ matched_groups self.now }
     {
         CapturesPatternIter {
             captures: self,

@@ -202,7 +202,8 @@ impl<A: Allocator + Clone + Drop> GroupInfo<A> {
     /// All groups by pattern and then by group, each with its pattern, its number and its name, if it has one.
     #[inline]
     pub fn all_names(&self) -> GroupInfoAllNames<'_, A>
-        ensures { result ≡ all_names_of self.now }
+        ensures groups { result ≡ all_names_of self.now }
+        ensures count { length result ≡ all_groups self.now }
     {
         GroupInfoAllNames::new(self)
     }
@@ -297,6 +298,7 @@ impl<A: Allocator + Clone + Drop> GroupInfo<A> {
     #[inline]
     pub fn slot_len(&self) -> usize
         ensures value { result ≡ 2 * all_groups self.now }
+        ensures limit { result ≤ LIMIT_OF_IDS }
         ensures owned { (s : ℕ) → s < result → IsOwned self.now s }
         ensures once { (s p g q h : ℕ) → IsSlotOf self.now p g s → IsSlotOf self.now q h s → (p ≡ q) × (g ≡ h) }
     {
