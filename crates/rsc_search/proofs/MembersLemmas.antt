@@ -1,5 +1,5 @@
 -- The test of membership, in std's words.
-use Rattle.std.proofs.Common.{◌≡◌, ℕ, zero, suc, ◌+◌, ◌-◌, ◌<◌, ◌≤◌, ◌↔◌, Bool, true, false, List, [], ◌∷◌, length, get_or, refl, sym, arith, eqb, ◌||◌}
+use Rattle.std.proofs.Common.{◌≡◌, ℕ, zero, suc, ◌+◌, ◌-◌, ◌<◌, ◌≤◌, ◌↔◌, Bool, true, false, List, [], ◌∷◌, length, get_or, refl, sym, ap, arith, eqb, ◌||◌}
 use Rattle.std.proofs.lemmas.Bool.Decides.{Decides-eqb}
 use Rattle.std.proofs.lemmas.List.Folds.{list_any_at}
 use Rattle.std.proofs.lemmas.List.{get_or_default}
@@ -32,12 +32,13 @@ rises members ascends (suc k) lt =
     let step : get_or members k 0 < get_or members (suc k) 0 = rw same at (ascends k (omega arith)) in
     omega arith
 
-pub first_is_least : (first p : ℕ) (rest : List ℕ) → IsStrictlyIncreasing (first ∷ rest) → has_member (first ∷ rest) p ≡ true → first ≤ p
-first_is_least first p rest ascends is =
-    let there : Contains (first ∷ rest) p = to_contains (first ∷ rest) p is in
-    let least : first ≤ get_or (first ∷ rest) there.0 0 = rises (first ∷ rest) ascends there.0 there.1 in
-    let same : get_or (first ∷ rest) there.0 0 ≡ get_or (first ∷ rest) there.0 p = get_or_default (first ∷ rest) there.0 0 p there.1 in
-    omega (arith, there.2)
+pub first_is_least : (members rest : List ℕ) (first p : ℕ) → members ≡ first ∷ rest → IsStrictlyIncreasing members → has_member members p ≡ true → first ≤ p
+first_is_least members rest first p parts ascends is =
+    let there : Contains members p = to_contains members p is in
+    let head : get_or members 0 0 ≡ first = ap (λ ms. get_or ms 0 0) parts in
+    let least : get_or members 0 0 ≤ get_or members there.0 0 = rises members ascends there.0 there.1 in
+    let same : get_or members there.0 0 ≡ get_or members there.0 p = get_or_default members there.0 0 p there.1 in
+    omega (arith, head, there.2)
 
 -- each member of a list is one of its members
 pub all_members : (members : List ℕ) → All (λ p. has_member members p ≡ true) members

@@ -37,7 +37,7 @@ pub enum MatchErrorKind {
 }
 
 /// The error of a search that gives no answer.
-#[derive(Clone, Debug, PartialEq, Eq, Drop)]
+#[derive(Clone, Debug, Drop, PartialEq, Eq)]
 pub struct MatchError {
     kind: MatchErrorKind,
 }

@@ -24,5 +24,5 @@ pub fn boundary_is_tested()
 /// The test of membership is true of the elements of the list of members, in std's word. The least comes first.
 pub fn members_are_contained()
     ensures contained { (members : List ℕ) (p : ℕ) → (has_member members p ≡ true) ↔ Contains members p }
-    ensures least { (first p : ℕ) (rest : List ℕ) → IsStrictlyIncreasing (first ∷ rest) → has_member (first ∷ rest) p ≡ true → first ≤ p }
+    ensures least { (members rest : List ℕ) (first p : ℕ) → members ≡ first ∷ rest → IsStrictlyIncreasing members → has_member members p ≡ true → first ≤ p }
 {}
