@@ -140,6 +140,10 @@ is_bytes xs long each =
     ext_get_or 0 xs bytes (long ∙ sym (length-from_to 0 256))
     (λ i l. let h : i < 256 = omega (arith, long) in each i h ∙ sym (get_or-from_to 0 256 i 0 h ∙ omega arith))
 
+-- each byte stands at its place
+pub bytes_own : (b : ℕ) → b < 256 → slice_index bytes b ≡ b
+bytes_own b l = get_or-from_to 0 256 b 0 l ∙ omega arith
+
 -- the exponent after that of the greatest power of two below a number is the least that is enough
 pub least_exponent : (n r k : ℕ) → 2 ^ r ≤ n → n < 2 ^ k → r + 1 ≤ k
 least_exponent n r k enough below =

@@ -56,7 +56,8 @@ impl ByteClasses {
 
     /// The map that gives each byte a class of its own, which is its number.
     pub fn singletons() -> ByteClasses
-        ensures { result ≡ bytes }
+        ensures list { result ≡ bytes }
+        ensures own { (b : ℕ) → b < 256 → slice_index result b ≡ b }
     {
         let mut classes = ByteClasses::empty();
         for byte in 0..=255u8 {

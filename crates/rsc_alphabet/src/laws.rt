@@ -109,4 +109,5 @@ pub fn defaults()
     ensures byte_set { (s : Numbers) → ⟦<ByteSet as Default>⟧.is_default s → s ≡ sets.empty }
     ensures byte_class_set { (s : Numbers) → ⟦<ByteClassSet as Default>⟧.is_default s → s ≡ sets.empty }
     ensures byte_classes { (m : List ℕ) → ⟦<ByteClasses as Default>⟧.is_default m → m ≡ bytes }
+    ensures own { (b : ℕ) → b < 256 → slice_index bytes b ≡ b }
 {}
