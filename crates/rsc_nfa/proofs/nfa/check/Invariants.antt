@@ -1,0 +1,8 @@
+use Rattle.std.proofs.Common.{◌≡◌, ℕ, ◌<◌}
+use Rattle.std.specs.Prelude.{None}
+use Rattle.rsc_nfa.specs.Faults.{fault_at}
+use Rattle.rsc_nfa.proofs.nfa.check.Given as goal
+
+-- no state so far has a fault
+abbrev pub invariant-loop-s : goal.invariant-loop-s
+invariant-loop-s g l = (k : ℕ) → k < l.s → fault_at l.group_info l.states k ≡ None

@@ -1,0 +1,13 @@
+//! Small automata over bytes: their states, their runs, and the classes of bytes that no run tells apart.
+#![tactic(auto)]
+
+mod error;
+pub mod laws;
+mod nfa;
+mod state;
+#[cfg(test)]
+mod tests;
+
+pub use error::BuildError;
+pub use nfa::Nfa;
+pub use state::State;

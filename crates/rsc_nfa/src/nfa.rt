@@ -1,0 +1,246 @@
+//! Automata over bytes.
+ghost use Rattle.std.specs.Prelude.{◌≡◌, ◌≤◌, ◌<◌, ◌⊎◌, ◌↔◌, ℕ, true, false, IsTrue, length, IfOk, IfErr, OnOk};
+ghost use Rattle.std.specs.FinSet as sets;
+ghost use Rattle.rsc_alphabet.specs.Partitions.{class_map};
+ghost use Rattle.rsc_look.specs.Keeping.{AgreesWithAscii};
+ghost use Rattle.rsc_nfa.specs.Automata.{Automaton};
+ghost use Rattle.rsc_nfa.specs.Classes.{IsOrdered, boundaries_of_state, boundaries_of_states, has_unicode, KeepsRuns, IsEachNeeded, IsCoarsestForRuns};
+ghost use Rattle.rsc_nfa.specs.Faults.{target_fault, fault_of, IsFaultless, IsFirstFault};
+ghost use Rattle.rsc_nfa.specs.Steps.{IsStep, IsRun, IsWithin};
+ghost use Rattle.rsc_nfa.specs.declared.error.BuildError.TheVariants.{OutOfMemory};
+
+use crate::{BuildError, State};
+use rsc_alphabet::{ByteClassSet, ByteClasses};
+use rsc_captures::GroupInfo;
+use rsc_look::{LookMatcher, WordClass};
+use rsc_primitives::StateID;
+use rsc_search::Input;
+use std::alloc::{Allocator, Global};
+use std::marker::Model;
+
+/// An automaton over bytes, whose states are numbered by their places in a list.
+#[derive(Drop)]
+pub struct Nfa<W: WordClass, A: Allocator = Global> {
+    states: Vec<State, A>,
+    group_info: GroupInfo<A>,
+    matcher: LookMatcher<W>,
+}
+
+impl<W: WordClass, A: Allocator> Model for Nfa<W, A> {
+    ghost use Rattle.rsc_nfa.specs.Automata.{Automaton};
+    ghost use Rattle.rsc_nfa.specs.Faults.{IsFaultless};
+
+    ghost Value = { Automaton W };
+
+    ghost view = { λ n. record { states = n.states.items; groups = n.group_info; matcher = n.matcher } };
+
+    ghost invariant = { λ n. IsFaultless n.group_info n.states.items };
+}
+
+// The fault of a state that names another, if that isn't below `count`.
+fn check_target(count: usize, s: usize, target: StateID) -> Option<BuildError>
+    ensures { result ≡ target_fault count s target }
+{
+    if target.as_usize() < count {
+        None
+    } else {
+        Some(BuildError::UnknownState { state: s, target })
+    }
+}
+
+// The fault of a state that stands at `s` among `count` states.
+fn check_state<A: Allocator + Clone + Drop>(
+    group_info: &GroupInfo<A>,
+    count: usize,
+    s: usize,
+    state: State,
+) -> Option<BuildError>
+    ensures { result ≡ fault_of group_info.now count s state }
+{
+    match state {
+        State::ByteRange { start, end, next } => {
+            if start > end {
+                Some(BuildError::EmptyRange { state: s })
+            } else {
+                check_target(count, s, next)
+            }
+        }
+        State::Assert { next, .. } => check_target(count, s, next),
+        State::Fork { a, b } => match check_target(count, s, a) {
+            Some(fault) => Some(fault),
+            None => check_target(count, s, b),
+        },
+        State::Capture { slot, next } => match check_target(count, s, next) {
+            Some(fault) => Some(fault),
+            None => {
+                if slot.as_usize() < group_info.slot_len() {
+                    None
+                } else {
+                    Some(BuildError::UnknownSlot { state: s, slot })
+                }
+            }
+        },
+        State::Accept { pattern } => {
+            if pattern.as_usize() < group_info.pattern_len() {
+                None
+            } else {
+                Some(BuildError::UnknownPattern { state: s, pattern })
+            }
+        }
+    }
+}
+
+// The first fault of a list of states.
+fn check<A: Allocator + Clone + Drop>(
+    group_info: &GroupInfo<A>,
+    states: &[State],
+) -> Result<(), BuildError>
+    ensures faultless { OnOk result (IsFaultless group_info.now states.now) }
+    ensures refused { IfErr result (IsFirstFault group_info.now states.now) }
+{
+    for (s, state) in states.iter().enumerate() {
+        if let Some(fault) = check_state(group_info, states.len(), s, *state) {
+            return Err(fault);
+        }
+    }
+    Ok(())
+}
+
+// Adds the boundaries of a state to a set.
+fn add_state<W: WordClass>(matcher: &LookMatcher<W>, state: State, set: &mut ByteClassSet)
+    requires { IsOrdered state }
+    ensures { set.new ≡ sets.union set.old (boundaries_of_state state matcher.now.0) }
+{
+    match state {
+        State::ByteRange { start, end, .. } => set.set_range(start, end),
+        State::Assert { look, .. } => matcher.add_to_byteset(look, set),
+        State::Fork { .. } | State::Capture { .. } | State::Accept { .. } => {}
+    }
+}
+
+impl<W: WordClass, A: Allocator + Clone + Drop> Nfa<W, A> {
+    /// An automaton of these states: the state at index i is the one numbered i.
+    ///
+    /// # Errors
+    ///
+    /// The first fault of the states in their order, or that memory was refused.
+    pub fn new(
+        alloc: A,
+        group_info: GroupInfo<A>,
+        matcher: LookMatcher<W>,
+        states: &[State],
+    ) -> Result<Nfa<W, A>, BuildError>
+        ensures made { IfOk result (λ n. n ≡ record { states = states.now; groups = group_info; matcher = matcher }) }
+        ensures faultless { OnOk result (IsFaultless group_info states.now) }
+        ensures refused { IfErr result (λ e. ((e ≡ OutOfMemory) × IsFaultless group_info states.now) ⊎ IsFirstFault group_info states.now e) }
+    {
+        check(&group_info, states)?;
+        let states = Vec::from_slice(alloc, states)?;
+        Ok(Nfa {
+            states,
+            group_info,
+            matcher,
+        })
+    }
+
+    /// The states, each numbered by its place.
+    #[inline]
+    pub fn states(&self) -> &[State]
+        ensures { result.now ≡ self.now.states }
+    {
+        &self.states
+    }
+
+    /// The groups that the slots and the patterns of the states are of.
+    #[inline]
+    pub fn group_info(&self) -> &GroupInfo<A>
+        ensures { result.now ≡ self.now.groups }
+    {
+        &self.group_info
+    }
+
+    /// The matcher that the assertions of the states are asked of.
+    #[inline]
+    pub fn matcher(&self) -> &LookMatcher<W>
+        ensures { result.now ≡ self.now.matcher }
+    {
+        &self.matcher
+    }
+
+    /// The classes of the bytes that no run of the automaton tells apart, gathered from the ranges and the assertions of its
+    /// states. Takes no memory.
+    ///
+    /// To replace bytes by bytes of their classes makes no run of what was none, and the other way round; where a state asks a
+    /// Unicode assertion this is said of replacements within ASCII, and where the matcher's word characters below 128 are the
+    /// word bytes. Each boundary between two classes is needed: from some state a step exists on exactly one of the haystacks
+    /// of one byte on both sides of it.
+    pub fn classes(&self) -> ByteClasses
+        ensures classes { result ≡ class_map (sets.contains (boundaries_of_states self.now.states self.now.matcher.0)) }
+        ensures kept { (has_unicode self.now.states ≡ true → AgreesWithAscii (W.word_chars self.now.matcher.1)) →
+            KeepsRuns result self.now.states self.now.matcher.0 (W.word_chars self.now.matcher.1) }
+        ensures needed { (has_unicode self.now.states ≡ true → AgreesWithAscii (W.word_chars self.now.matcher.1)) →
+            IsEachNeeded result self.now.states self.now.matcher.0 (W.word_chars self.now.matcher.1) }
+        ensures coarsest { has_unicode self.now.states ≡ false →
+            IsCoarsestForRuns result self.now.states self.now.matcher.0 (W.word_chars self.now.matcher.1) }
+    {
+        rsc_alphabet::laws::one_class_is_together();
+        rsc_alphabet::laws::edges_part_a_range();
+        rsc_look::laws::boundaries_are_exact();
+        let mut set = ByteClassSet::empty();
+        for state in &self.states {
+            add_state(&self.matcher, *state, &mut set);
+        }
+        set.byte_classes()
+    }
+
+    // Whether a state is the automaton's, and a position within the span.
+    fn is_within(&self, input: &Input<'_>, place: (StateID, usize)) -> bool
+        ensures { IsTrue result ↔ IsWithin self.now.states input.now.span.start input.now.span.end place }
+    {
+        place.0.as_usize() < self.states.len() && input.start() <= place.1 && place.1 <= input.end()
+    }
+
+    // Whether a step leads from one to the other.
+    fn is_step(&self, input: &Input<'_>, from: (StateID, usize), to: (StateID, usize)) -> bool
+        requires { from.1 ≤ length input.now.haystack }
+        ensures { IsTrue result ↔ IsStep self.now.states self.now.matcher.0 (W.word_chars self.now.matcher.1) input.now.haystack input.now.span.end from to }
+    {
+        let s = from.0.as_usize();
+        if s >= self.states.len() {
+            return false;
+        }
+        let i = from.1;
+        match self.states[s] {
+            State::ByteRange { start, end, next } => {
+                i < input.end()
+                    && to.0 == next
+                    && to.1 == i + 1
+                    && start <= input.haystack()[i]
+                    && input.haystack()[i] <= end
+            }
+            State::Assert { look, next } => {
+                to.0 == next && to.1 == i && self.matcher.matches(look, input.haystack(), i)
+            }
+            State::Fork { a, b } => (to.0 == a || to.0 == b) && to.1 == i,
+            State::Capture { next, .. } => to.0 == next && to.1 == i,
+            State::Accept { .. } => false,
+        }
+    }
+
+    /// Whether a list of states and positions is a run of the automaton on an input. The empty list is one.
+    pub fn check_run(&self, input: &Input<'_>, run: &[(StateID, usize)]) -> bool
+        ensures { IsTrue result ↔ IsRun self.now.states self.now.matcher.0 (W.word_chars self.now.matcher.1)
+            input.now.haystack input.now.span.start input.now.span.end run.now }
+    {
+        let _end = input.end();
+        for (k, place) in run.iter().enumerate() {
+            if !self.is_within(input, *place) {
+                return false;
+            }
+            if k > 0 && !self.is_step(input, run[k - 1], *place) {
+                return false;
+            }
+        }
+        true
+    }
+}

@@ -1,0 +1,4 @@
+//! What the contracts don't say, and each call once.
+mod model;
+mod runs;
+mod states;
