@@ -1,7 +1,30 @@
 #!/usr/bin/env bash
-# Proves every crate from nothing, tries the edits that must fail, runs the tests and the programs (`rt ci`), and then tries
-# what must not compile, which `rt ci` can't.
+# The gate, which says what it does as it goes. `./test.sh` proves every crate and its tests from nothing and runs tests and
+# programs (`rt ci`), and then tries what `rt ci` can't: the wrong bodies, many at a time, what must not compile, and what the
+# documents say. `./test.sh quick` proves nothing: it runs all tests and programs, in about a minute.
 set -eu
 cd "$(dirname "$0")"
-rt ci
-./must-not-compile.sh
+
+step() {
+  printf '\n[%s, after %d min] %s\n' "$1" $((SECONDS / 60)) "$2"
+}
+
+case ${1:-all} in
+  quick)
+    exec ./quick-test.sh
+    ;;
+  all)
+    step 1/4 "rt ci: proofs, tests, edits that must fail, programs. It prints a crate when it has judged it"
+    rt ci
+    step 2/4 "wrong bodies: each must be refused by the function that it changes"
+    ./wrong-bodies.py
+    step 3/4 "what must not compile"
+    ./must-not-compile.sh
+    step 4/4 "documents: every name that a public contract cites is in docs/DEFINITIONS.md"
+    ./check-documents.py
+    ;;
+  *)
+    echo "usage: ./test.sh [quick]" >&2
+    exit 2
+    ;;
+esac

@@ -1,0 +1,176 @@
+#!/usr/bin/env python3
+"""Tries the wrong bodies of each crate, many at a time, and asks that the very function that each changes is refused for what it promises.
+
+    ./wrong-bodies.py [CRATE ..]      # the edits of crates/CRATE/wrong-bodies, all crates without a name
+
+A wrong body is a file `NAME.edit`:
+
+    file: src/span.rt                          the file that it changes
+    refused: span::Span::len: returns          the function that must be refused, without the crate's name, and how the goal begins that must stay unproved
+    old: self.end.saturating_sub(self.start)   a text of one line that is once in the file
+    new: self.end.wrapping_sub(self.start)     what replaces it; further pairs apply to what the earlier ones made
+
+`rt ci` tries the edits of crates/CRATE/must-fail one by one, each for the price of a start of the checker, and takes any refusal. Here edits of
+different functions are applied together to a copy, and one check judges them all: it goes on behind a refused function, and the callers of a
+function see its contract alone. An edit passes only if its function is refused at a goal that begins as named; a goal that is refused
+because a proof file names what the edit took away does not count.
+"""
+import collections
+import concurrent.futures
+import os
+import re
+import shutil
+import subprocess
+import sys
+import tempfile
+
+ROOT = os.path.dirname(os.path.realpath(__file__))
+Edit = collections.namedtuple("Edit", "name file function goal pairs")
+
+
+def crates():
+    """Returns the crates of crates.txt, each with the crates that it stands on, lowest first."""
+    found = {}
+    with open(f"{ROOT}/crates.txt", encoding="utf-8") as lines:
+        for line in lines:
+            head, colon, below = line.partition("#")[0].partition(":")
+            if colon:
+                found[head.split()[0]] = below.split()
+    found = {name: [it for it in below if it in found] for name, below in found.items()}
+    order = []
+    while len(order) < len(found):
+        order += [it for it in found if it not in order and all(low in order for low in found[it])]
+    return {name: found[name] for name in order}
+
+
+def read_edit(path):
+    fields, pairs = {}, []
+    with open(path, encoding="utf-8") as lines:
+        for line in lines.read().splitlines():
+            key, _, value = line.partition(": ")
+            if key == "new":
+                pairs.append((fields.pop("old"), value))
+            elif key in ("file", "refused", "old"):
+                fields[key] = value
+            else:
+                raise ValueError(f"{path}: a line that begins with neither of 'file: ', 'refused: ', 'old: ' and 'new: '")
+    function, _, goal = fields["refused"].rpartition(": ")
+    return Edit(os.path.basename(path)[: -len(".edit")], fields["file"], function, goal, pairs)
+
+
+def edits_of(crate):
+    folder = f"{ROOT}/crates/{crate}/wrong-bodies"
+    names = sorted(os.listdir(folder)) if os.path.isdir(folder) else []
+    return [read_edit(f"{folder}/{it}") for it in names if it.endswith(".edit")]
+
+
+def apply(edit, texts, folder):
+    """Returns the texts with the edit, or None where a text isn't once in its file."""
+    text = texts.get(edit.file)
+    if text is None:
+        with open(f"{folder}/{edit.file}", encoding="utf-8") as file:
+            text = file.read()
+    for old, new in edit.pairs:
+        if text.count(old) != 1:
+            return None
+        text = text.replace(old, new)
+    return {**texts, edit.file: text}
+
+
+def batches_of(edits, folder):
+    """Groups the edits so that no two of a group change one function or one text; an edit that fits nowhere makes a group of its own."""
+    batches = []
+    for edit in edits:
+        for batch in batches:
+            texts = apply(edit, batch[1], folder)
+            if texts is not None and all(edit.function != it.function for it in batch[0]):
+                batch[0].append(edit)
+                batch[1] = texts
+                break
+        else:
+            batches.append([[edit], apply(edit, {}, folder)])
+    return batches
+
+
+def refusals(crate, said):
+    """Returns the goals at which each function is refused, from what the checker said."""
+    found = collections.defaultdict(set)
+    for line in said.splitlines():
+        at_function = re.match(rf"fn {crate}::(\S+): (?:no proof|not proved)(.*)", line)
+        if at_function:
+            unproved = re.search(r"`search` did not prove ((?:`[^`]+`(?:, )?)+)", at_function[2])
+            found[at_function[1]].update(re.findall(r"`([^`]+)`", unproved[1]) if unproved else [])
+        in_file = re.match(r"(?:\./)?proofs/(.+)/(Answers|Proof)\.antt:\d+:\d+: error: `([^`]+)`: (.*)", line)
+        if in_file and not re.search(r"has no field|is not in scope|has no `|was not admitted|no module", in_file[4]):
+            found[in_file[1].replace("/", "::")].add("by hand" if in_file[2] == "Proof" else in_file[3])
+    return found
+
+
+def check(folder):
+    ran = subprocess.run(["rt", "check", "--jobs", "1"], cwd=folder, stdin=subprocess.DEVNULL, stdout=subprocess.PIPE, stderr=subprocess.STDOUT, errors="replace")
+    return ran.returncode, ran.stdout
+
+
+def judge(crate, folder, batch, texts):
+    """Checks the crate with a batch of edits, and returns for each whether it passed, and a line that says so."""
+    if texts is None:
+        return [(False, f"{crate}/{it.name}: BAD EDIT: an old text isn't once in {it.file}") for it in batch]
+    kept = {}
+    for path, text in texts.items():
+        with open(f"{folder}/{path}", encoding="utf-8") as file:
+            kept[path] = file.read()
+        with open(f"{folder}/{path}", "w", encoding="utf-8") as file:
+            file.write(text)
+    status, said = check(folder)
+    for path, text in kept.items():
+        with open(f"{folder}/{path}", "w", encoding="utf-8") as file:
+            file.write(text)
+    found, results = refusals(crate, said), []
+    for it in batch:
+        goals = sorted(found.get(it.function, ()))
+        if status == 1 and any(goal.startswith(it.goal) for goal in goals):
+            results.append((True, f"{crate}/{it.name}: refused by {it.function}, {', '.join(goals)[:120]}"))
+        elif not found:
+            results.append((False, f"{crate}/{it.name}: NOT JUDGED, the check stopped before the proofs: {said.strip().splitlines()[-1][:200]}"))
+        else:
+            results.append((False, f"{crate}/{it.name}: NOT REFUSED by {it.function} at {it.goal}; what that function leaves unproved: {', '.join(goals) or 'nothing'}"))
+    return results
+
+
+def try_crate(crate, folder, edits):
+    """Proves the crate as it is, and then tries its edits; returns the results, each with its line."""
+    status, said = check(folder)
+    if status:
+        return [(False, f"{crate}: NOT PROVED as it is: {said.strip().splitlines()[-1][:200]}")]
+    results = []
+    for batch, texts in batches_of(edits, folder):
+        results += judge(crate, folder, batch, texts)
+    return results
+
+
+def main():
+    known = crates()
+    wanted = [it for it in known if (not sys.argv[1:] or it in sys.argv[1:]) and edits_of(it)]
+    passed = failed = 0
+    with tempfile.TemporaryDirectory(prefix="wrong-bodies-") as room:
+        shutil.copytree(f"{ROOT}/crates", f"{room}/crates", ignore=shutil.ignore_patterns("must-fail", "must-not-compile", "wrong-bodies", *([] if os.environ.get("KEEP_OUT") else ["out"])))
+        for name in ("crates.txt", "HANDLES"):
+            shutil.copy(f"{ROOT}/{name}", room)
+        with concurrent.futures.ThreadPoolExecutor(max(1, len(os.sched_getaffinity(0)))) as pool:
+            tasks = {}
+            for crate in known:
+                # (a crate is begun once those below it are done: their libraries are made once, and not by each of their users)
+                waits = [tasks[it] for it in known[crate] if it in tasks]
+                if crate in wanted:
+                    tasks[crate] = pool.submit(lambda it, waits: ([one.result() for one in waits], try_crate(it, f"{room}/crates/{it}", edits_of(it)))[1], crate, waits)
+            for crate, task in tasks.items():
+                for is_well, line in task.result():
+                    print(line, flush=True)
+                    passed += is_well
+                    failed += not is_well
+    print(f"wrong-bodies: {passed} passed, {failed} failed")
+    return 1 if failed or not passed else 0
+
+
+if __name__ == "__main__":
+    sys.exit(main())
