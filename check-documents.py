@@ -1,7 +1,7 @@
 #!/usr/bin/env python3
 """Compares docs/DEFINITIONS.md with the definitions that the contracts of public functions cite, and names those that the page lacks.
 
-    ./check-documents.py [--list]      # --list prints each definition with the public functions that cite it
+    ./check-documents.py [--write]     # --write makes the page's last section anew, which lists the calls that carry each definition
 
 A definition is a name of a crate's `specs/` that a `ghost use` line brings into a file; it is on the page if it stands there in backquotes, alone
 or behind its module, as `Holds` or `Holds.Holds`.
@@ -54,20 +54,41 @@ def cited():
     return found
 
 
-def main():
-    page = (ROOT / "docs/DEFINITIONS.md").read_text(encoding="utf-8")
-    shown = {it.rpartition(".")[2] for it in re.findall(r"`([\w.-]+)`", page)}
-    missing = number = 0
-    for crate, names in sorted(cited().items()):
+HEAD = "## Which public call carries which definition"
+
+
+def section_of(found):
+    """Returns the page's last section: of each definition the public calls whose clauses cite it."""
+    lines = [HEAD, "", "A call that stands for several of one name, as those of the three index types, is listed for each.", ""]
+    for crate, names in sorted(found.items()):
+        lines += [f"| Definition of `{crate}` | Carried by |", "|---|---|"]
         for name, functions in sorted(names.items()):
-            number += 1
-            if "--list" in sys.argv:
-                print(f"{crate} {name}: {', '.join(sorted(functions))}")
-            elif name.rpartition(".")[2] not in shown:
-                missing += 1
+            short = sorted(it.removeprefix(f"{crate}::") for it in functions)
+            lines.append(f"| `{name}` | {', '.join(f'`{it}`' for it in short)} |")
+        lines.append("")
+    return "\n".join(lines)
+
+
+def main():
+    file, found = ROOT / "docs/DEFINITIONS.md", cited()
+    page, _, _ = file.read_text(encoding="utf-8").partition(HEAD)
+    section = section_of(found)
+    if "--write" in sys.argv:
+        file.write_text(page + section, encoding="utf-8")
+    shown = {it.rpartition(".")[2] for it in re.findall(r"`([\w.-]+)`", page)}
+    passed = failed = 0
+    for crate, names in sorted(found.items()):
+        for name, functions in sorted(names.items()):
+            if name.rpartition(".")[2] in shown:
+                passed += 1
+            else:
+                failed += 1
                 print(f"docs/DEFINITIONS.md lacks `{name}` of {crate}, which {', '.join(sorted(functions)[:3])} cites")
-    print(f"check-documents: {number - missing} passed, {missing} failed")
-    return 1 if missing else 0
+    if file.read_text(encoding="utf-8") != page + section:
+        failed += 1
+        print("docs/DEFINITIONS.md: its last section is out of date; ./check-documents.py --write makes it anew")
+    print(f"check-documents: {passed} passed, {failed} failed")
+    return 1 if failed else 0
 
 
 if __name__ == "__main__":
