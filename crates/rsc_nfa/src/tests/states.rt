@@ -67,14 +67,14 @@ fn each_request_may_be_refused(rt: HostRuntime) -> Result<(), Fail> {
     let pattern = PatternID::must(1);
     let fault = BuildError::UnknownPattern { state: 0, pattern };
     assert!(rt; within(alloc, 0, pattern)? == Some(fault));
-    let mut refused = 0;
+    let mut was_refused = false;
     for eighths in 0..1024usize {
         match within(alloc, eighths * 8, PatternID::ZERO)? {
             Some(error) => {
                 assert!(rt; error == BuildError::OutOfMemory);
-                refused += 1;
+                was_refused = true;
             }
-            None => assert!(rt; refused > 0),
+            None => assert!(rt; was_refused),
         }
     }
     assert!(rt; within(alloc, 8192, PatternID::ZERO)? == None);
@@ -89,7 +89,8 @@ fn what_was_handed_in_is_lent(rt: HostRuntime) -> Result<(), Fail> {
         pattern: PatternID::ZERO,
     };
     let nfa = Nfa::new(alloc, info, LookMatcher::new(AsciiWord), &[state])?;
-    assert!(rt; nfa.states() == [state].as_slice());
+    assert_eq!(rt; nfa.states().len(), 1);
+    assert!(rt; nfa.states()[0] == state);
     assert_eq!(rt; nfa.group_info().slot_len(), 4);
     assert_eq!(rt; nfa.matcher().get_line_terminator(), b'\n');
     Ok(())
