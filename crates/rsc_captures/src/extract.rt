@@ -111,7 +111,24 @@ impl Captures {
     }
 }
 
-/// [`Captures::extract`] at a count of 2: a call that the checker covers in its callers, as it doesn't cover the other.
+/// [`Captures::extract`] at a count of 0, the whole match alone. The checker covers callers of this call and of its likes below, and
+/// none of `extract` itself.
+pub fn extract_whole<'h>(captures: &Captures, haystack: &'h str) -> Option<(&'h str, [&'h str; 0])>
+    ensures { option_map (λ parts. parts.0.now ∷ map (λ p. p.now) parts.1) result
+        ≡ pieces (cut_text haystack.now) 1 (participating captures.now) }
+{
+    captures.extract::<0>(haystack)
+}
+
+/// [`Captures::extract`] at a count of 1.
+pub fn extract_single<'h>(captures: &Captures, haystack: &'h str) -> Option<(&'h str, [&'h str; 1])>
+    ensures { option_map (λ parts. parts.0.now ∷ map (λ p. p.now) parts.1) result
+        ≡ pieces (cut_text haystack.now) 2 (participating captures.now) }
+{
+    captures.extract::<1>(haystack)
+}
+
+/// [`Captures::extract`] at a count of 2.
 pub fn extract_pair<'h>(captures: &Captures, haystack: &'h str) -> Option<(&'h str, [&'h str; 2])>
     ensures { option_map (λ parts. parts.0.now ∷ map (λ p. p.now) parts.1) result
         ≡ pieces (cut_text haystack.now) 3 (participating captures.now) }
@@ -119,7 +136,37 @@ pub fn extract_pair<'h>(captures: &Captures, haystack: &'h str) -> Option<(&'h s
     captures.extract::<2>(haystack)
 }
 
-/// [`Captures::extract_bytes`] at a count of 2, for the same reason.
+/// [`Captures::extract`] at a count of 3.
+pub fn extract_triple<'h>(captures: &Captures, haystack: &'h str) -> Option<(&'h str, [&'h str; 3])>
+    ensures { option_map (λ parts. parts.0.now ∷ map (λ p. p.now) parts.1) result
+        ≡ pieces (cut_text haystack.now) 4 (participating captures.now) }
+{
+    captures.extract::<3>(haystack)
+}
+
+/// [`Captures::extract_bytes`] at a count of 0, the whole match alone.
+pub fn extract_bytes_whole<'h>(
+    captures: &Captures,
+    haystack: &'h [u8],
+) -> Option<(&'h [u8], [&'h [u8]; 0])>
+    ensures { option_map (λ parts. parts.0.now ∷ map (λ p. p.now) parts.1) result
+        ≡ pieces (cut haystack.now) 1 (participating captures.now) }
+{
+    captures.extract_bytes::<0>(haystack)
+}
+
+/// [`Captures::extract_bytes`] at a count of 1.
+pub fn extract_bytes_single<'h>(
+    captures: &Captures,
+    haystack: &'h [u8],
+) -> Option<(&'h [u8], [&'h [u8]; 1])>
+    ensures { option_map (λ parts. parts.0.now ∷ map (λ p. p.now) parts.1) result
+        ≡ pieces (cut haystack.now) 2 (participating captures.now) }
+{
+    captures.extract_bytes::<1>(haystack)
+}
+
+/// [`Captures::extract_bytes`] at a count of 2.
 pub fn extract_bytes_pair<'h>(
     captures: &Captures,
     haystack: &'h [u8],
@@ -128,4 +175,15 @@ pub fn extract_bytes_pair<'h>(
         ≡ pieces (cut haystack.now) 3 (participating captures.now) }
 {
     captures.extract_bytes::<2>(haystack)
+}
+
+/// [`Captures::extract_bytes`] at a count of 3.
+pub fn extract_bytes_triple<'h>(
+    captures: &Captures,
+    haystack: &'h [u8],
+) -> Option<(&'h [u8], [&'h [u8]; 3])>
+    ensures { option_map (λ parts. parts.0.now ∷ map (λ p. p.now) parts.1) result
+        ≡ pieces (cut haystack.now) 4 (participating captures.now) }
+{
+    captures.extract_bytes::<3>(haystack)
 }

@@ -14,6 +14,9 @@ mod tests;
 
 pub use captures::{Captures, CapturesPatternIter};
 pub use error::{GroupInfoError, GroupInfoErrorKind};
-pub use extract::{Haystack, extract_bytes_pair, extract_pair};
+pub use extract::{
+    Haystack, extract_bytes_pair, extract_bytes_single, extract_bytes_triple, extract_bytes_whole,
+    extract_pair, extract_single, extract_triple, extract_whole,
+};
 pub use group_info::GroupInfo;
 pub use name_walks::{GroupInfoAllNames, GroupInfoPatternNames};
