@@ -1,39 +1,51 @@
 //! Reads commands from standard input, one a line, and answers each with a line on standard output.
 #![tactic(auto)]
 
-mod alphabet;
-mod answers;
-mod captures;
-mod error;
-mod extractions;
-mod group_lists;
-mod groups;
-mod indices;
-mod inputs;
-mod look;
-mod look_sets;
-mod maps;
-mod matches;
-mod pattern_sets;
-mod primitives;
-mod run;
-mod search;
-mod spans;
-#[cfg(test)]
-mod tests;
-mod tokens;
-mod words;
-
-use run::run;
+use rsc_compare_protocol::error::CommandError;
+use rsc_compare_protocol::error::CommandError::UnknownName;
+use rsc_compare_protocol::run::{Answerer, run};
+use std::alloc::Global;
 use std::io;
 use std::process::ExitCode;
 
 fn main(rt: HostRuntime) -> ExitCode {
-    match run(rt.alloc(), &mut rt.reader(), &mut io::writer(&rt)) {
+    match run(
+        rt.alloc(),
+        &Commands,
+        &mut rt.reader(),
+        &mut io::writer(&rt),
+    ) {
         Ok(()) => ExitCode::SUCCESS,
         Err(error) => {
             let _ = rt.eprintln(error);
             ExitCode::FAILURE
         }
+    }
+}
+
+// The commands of all layers.
+struct Commands;
+
+impl Answerer for Commands {
+    // The answer of the layer that knows the name.
+    fn answer(
+        &self,
+        alloc: Global,
+        name: &[u8],
+        arguments: &[&[u8]],
+    ) -> Result<String, CommandError> {
+        match rsc_compare_primitives::answer(alloc, name, arguments) {
+            Err(UnknownName) => {}
+            answer => return answer,
+        }
+        match rsc_compare_look::answer(alloc, name, arguments) {
+            Err(UnknownName) => {}
+            answer => return answer,
+        }
+        match rsc_compare_search::answer(alloc, name, arguments) {
+            Err(UnknownName) => {}
+            answer => return answer,
+        }
+        rsc_compare_captures::answer(alloc, name, arguments)
     }
 }
