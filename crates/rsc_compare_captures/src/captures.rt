@@ -3,7 +3,9 @@
 use crate::extractions::extraction;
 use crate::group_lists::group_info;
 use rsc_captures::Captures;
-use rsc_compare_protocol::answers::{Maybe, Parts, shown, shown_debug, truth_answer, word};
+use rsc_compare_protocol::answers::{
+    Maybe, Parts, Separated, shown, shown_debug, truth_answer, word,
+};
 use rsc_compare_protocol::error::CommandError;
 use rsc_compare_protocol::error::CommandError::BadCommand;
 use rsc_compare_protocol::hinted_items;
@@ -13,7 +15,6 @@ use rsc_compare_protocol::tokens::{
 use rsc_primitives::NonMaxUsize;
 use rsc_search::Span;
 use std::alloc::Global;
-use std::fmt;
 
 /// The answers of captures to operations, in order.
 pub fn script(alloc: Global, arguments: &[&[u8]]) -> Result<String, CommandError> {
@@ -133,11 +134,11 @@ fn slots(alloc: Global, captures: &Captures) -> Result<String, CommandError> {
 }
 
 fn spans(alloc: Global, captures: &Captures) -> Result<String, CommandError> {
-    hinted_items!(alloc, ",", captures.iter(), span => Ends(span))
+    hinted_items!(alloc, ",", captures.iter(), span => ends(span))
 }
 
 fn span_answer(alloc: Global, span: Option<Span>) -> Result<String, CommandError> {
-    shown(alloc, Ends(span))
+    shown(alloc, ends(span))
 }
 
 // The pattern that matched with the span of the whole match, whose start has to be at most its end.
@@ -151,7 +152,7 @@ fn found(alloc: Global, captures: &Captures) -> Result<String, CommandError> {
         Some(found) => {
             let mut parts = Parts::new(alloc, ":");
             parts.push(found.pattern().as_usize());
-            parts.push(Ends(Some(found.span())));
+            parts.push(ends(Some(found.span())));
             parts.finish()
         }
         None => word(alloc, "_"),
@@ -159,17 +160,9 @@ fn found(alloc: Global, captures: &Captures) -> Result<String, CommandError> {
 }
 
 // A span by its ends, or `_`.
-#[derive(Clone, Copy)]
-struct Ends(Option<Span>);
-
-impl fmt::Display for Ends {
-    fn fmt<W: fmt::Write>(&self, f: &mut fmt::Formatter<W>) -> fmt::Result {
-        match self.0 {
-            Some(span) => {
-                let (start, end) = (span.start, span.end);
-                write!(f, "{start}..{end}")
-            }
-            None => f.write_str("_"),
-        }
+fn ends(span: Option<Span>) -> Maybe<Separated<usize, usize>> {
+    match span {
+        Some(span) => Maybe(Some(Separated(span.start, "..", span.end))),
+        None => Maybe(None),
     }
 }

@@ -2,14 +2,13 @@
 
 use crate::group_lists::group_info;
 use rsc_captures::{GroupInfo, GroupInfoError};
-use rsc_compare_protocol::answers::{Maybe, Name, Parts, shown, word};
+use rsc_compare_protocol::answers::{Maybe, Name, Parts, Prefixed, Separated, shown, word};
 use rsc_compare_protocol::error::CommandError;
 use rsc_compare_protocol::error::CommandError::BadCommand;
 use rsc_compare_protocol::tokens::{letter, number, one, pattern, text, two_of};
 use rsc_compare_protocol::{hinted_items, items};
 use rsc_primitives::PatternID;
 use std::alloc::Global;
-use std::fmt;
 
 /// The lengths of a group info and the first slot of each group, or the refusal of its lists.
 pub fn describe(alloc: Global, arguments: &[&[u8]]) -> Result<String, CommandError> {
@@ -17,7 +16,11 @@ pub fn describe(alloc: Global, arguments: &[&[u8]]) -> Result<String, CommandErr
         Ok(info) => {
             let counts = counts(alloc, &info)?;
             let slots = first_slots(alloc, &info)?;
-            Ok(format!(in alloc; "ok {counts} {slots}")?)
+            let mut parts = Parts::new(alloc, " ");
+            parts.push("ok");
+            parts.push(counts);
+            parts.push(slots);
+            parts.finish()
         }
         Err(refusal) => refused(alloc, refusal),
     }
@@ -43,7 +46,7 @@ pub fn empty_script(alloc: Global, ops: &[&[u8]]) -> Result<String, CommandError
 }
 
 fn refused(alloc: Global, refusal: GroupInfoError) -> Result<String, CommandError> {
-    Ok(format!(in alloc; "err {refusal}")?)
+    shown(alloc, Prefixed("err ", refusal))
 }
 
 fn counts(alloc: Global, info: &GroupInfo) -> Result<String, CommandError> {
@@ -135,7 +138,7 @@ fn slots(
     group: usize,
 ) -> Result<String, CommandError> {
     match info.slots(pid, group) {
-        Some((start, end)) => Ok(format!(in alloc; "{start}:{end}")?),
+        Some((start, end)) => shown(alloc, Separated(start, ":", end)),
         None => word(alloc, "_"),
     }
 }
@@ -144,29 +147,8 @@ fn pattern_names(alloc: Global, info: &GroupInfo, pid: PatternID) -> Result<Stri
     hinted_items!(alloc, ",", info.pattern_names(pid), name => Name(name))
 }
 
-// A group of the iterator over all: its pattern, its number and its name.
-#[derive(Clone, Copy)]
-struct NamedGroup<'a> {
-    pattern: usize,
-    group: usize,
-    name: Name<'a>,
-}
-
-impl<'a> fmt::Display for NamedGroup<'a> {
-    fn fmt<W: fmt::Write>(&self, f: &mut fmt::Formatter<W>) -> fmt::Result {
-        let NamedGroup {
-            pattern,
-            group,
-            name,
-        } = *self;
-        write!(f, "{pattern}:{group}:{name}")
-    }
-}
-
+// Each group by its pattern, its number and its name.
 fn all_names(alloc: Global, info: &GroupInfo) -> Result<String, CommandError> {
-    items!(alloc, ",", info.all_names(), (pid, group, name) => NamedGroup {
-        pattern: pid.as_usize(),
-        group,
-        name: Name(name),
-    })
+    items!(alloc, ",", info.all_names(), (pid, group, name) =>
+        Separated(pid.as_usize(), ":", Separated(group, ":", Name(name))))
 }

@@ -1,13 +1,12 @@
 //! The commands of byte sets.
 
 use rsc_alphabet::ByteSet;
-use rsc_compare_protocol::answers::{Byte, Parts, truth_answer};
+use rsc_compare_protocol::answers::{Byte, Parts, Separated, truth_answer};
 use rsc_compare_protocol::error::CommandError;
 use rsc_compare_protocol::error::CommandError::BadCommand;
 use rsc_compare_protocol::items;
 use rsc_compare_protocol::tokens::{byte, bytes, letter, pair, two};
 use std::alloc::Global;
-use std::fmt;
 
 /// The set of the bytes of a token.
 pub fn set_of(alloc: Global, token: &[u8]) -> Result<ByteSet, CommandError> {
@@ -58,16 +57,5 @@ fn members(alloc: Global, set: &ByteSet) -> Result<String, CommandError> {
 }
 
 fn runs(alloc: Global, set: &ByteSet) -> Result<String, CommandError> {
-    items!(alloc, ",", set.iter_ranges(), run => Run(run))
-}
-
-// A run of bytes by its ends.
-#[derive(Clone, Copy)]
-struct Run((u8, u8));
-
-impl fmt::Display for Run {
-    fn fmt<W: fmt::Write>(&self, f: &mut fmt::Formatter<W>) -> fmt::Result {
-        let (start, end) = self.0;
-        write!(f, "{start:02x}-{end:02x}")
-    }
+    items!(alloc, ",", set.iter_ranges(), (start, end) => Separated(Byte(start), "-", Byte(end)))
 }

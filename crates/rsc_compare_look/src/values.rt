@@ -1,6 +1,7 @@
 //! How units, bounds of bytes and assertions are read, and how units are written.
 
 use rsc_alphabet::Unit;
+use rsc_compare_protocol::answers::{Byte, Prefixed};
 use rsc_compare_protocol::error::CommandError;
 use rsc_compare_protocol::error::CommandError::BadCommand;
 use rsc_compare_protocol::tokens::{byte, list_of, number, number_u32};
@@ -63,8 +64,8 @@ pub struct Symbol(pub Unit);
 impl fmt::Display for Symbol {
     fn fmt<W: fmt::Write>(&self, f: &mut fmt::Formatter<W>) -> fmt::Result {
         match (self.0.as_u8(), self.0.as_eoi()) {
-            (Some(byte), None) => write!(f, "b{byte:02x}"),
-            (None, Some(sentinel)) => write!(f, "e{sentinel}"),
+            (Some(byte), None) => fmt::Display::fmt(&Prefixed("b", Byte(byte)), f),
+            (None, Some(sentinel)) => fmt::Display::fmt(&Prefixed("e", sentinel), f),
             _ => f.write_str("neither"),
         }
     }

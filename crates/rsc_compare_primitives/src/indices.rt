@@ -42,7 +42,10 @@ macro_rules! made {
 }
 
 fn accepted(alloc: Global, number: usize) -> Result<String, CommandError> {
-    Ok(format!(in alloc; "ok {number}")?)
+    let mut parts = Parts::new(alloc, " ");
+    parts.push("ok");
+    parts.push(number);
+    parts.finish()
 }
 
 fn refused<E: fmt::Display + Drop>(
@@ -50,7 +53,11 @@ fn refused<E: fmt::Display + Drop>(
     attempted: u64,
     error: E,
 ) -> Result<String, CommandError> {
-    Ok(format!(in alloc; "err {attempted} {error}")?)
+    let mut parts = Parts::new(alloc, " ");
+    parts.push("err");
+    parts.push(attempted);
+    parts.push(error);
+    parts.finish()
 }
 
 /// The constants of a type.

@@ -4,7 +4,9 @@
 mod indices;
 
 use crate::indices::Kind;
-use rsc_compare_protocol::answers::{Byte, order, shown, shown_debug, truth, truth_answer, word};
+use rsc_compare_protocol::answers::{
+    Byte, Parts, Prefixed, order, shown, shown_debug, truth, truth_answer, word,
+};
 use rsc_compare_protocol::error::CommandError;
 use rsc_compare_protocol::error::CommandError::{BadCommand, UnknownName};
 use rsc_compare_protocol::tokens::{byte, bytes, number};
@@ -71,8 +73,10 @@ fn answer_three(
 fn non_max(alloc: Global, token: &[u8]) -> Result<String, CommandError> {
     match NonMaxUsize::new(number(token)?) {
         Some(value) => {
-            let number = value.get();
-            Ok(format!(in alloc; "{number} {value:?}")?)
+            let mut parts = Parts::new(alloc, " ");
+            parts.push(value.get());
+            parts.push_debug(&value);
+            parts.finish()
         }
         None => word(alloc, "_"),
     }
@@ -88,14 +92,8 @@ fn non_max_cmp(alloc: Global, a: &[u8], b: &[u8]) -> Result<String, CommandError
 fn decoded(alloc: Global, decoded: Option<Result<char, u8>>) -> Result<String, CommandError> {
     match decoded {
         None => word(alloc, "_"),
-        Some(Ok(c)) => {
-            let number = c as u32;
-            Ok(format!(in alloc; "ok {number}")?)
-        }
-        Some(Err(byte)) => {
-            let byte = Byte(byte);
-            Ok(format!(in alloc; "err {byte}")?)
-        }
+        Some(Ok(c)) => shown(alloc, Prefixed("ok ", c as u32)),
+        Some(Err(byte)) => shown(alloc, Prefixed("err ", Byte(byte))),
     }
 }
 

@@ -160,6 +160,29 @@ impl<'a> fmt::Display for Name<'a> {
     }
 }
 
+/// A value with a word before it.
+#[derive(Clone, Copy)]
+pub struct Prefixed<T: fmt::Display>(pub &'static str, pub T);
+
+impl<T: fmt::Display> fmt::Display for Prefixed<T> {
+    fn fmt<W: fmt::Write>(&self, f: &mut fmt::Formatter<W>) -> fmt::Result {
+        f.write_str(self.0)?;
+        fmt::Display::fmt(&self.1, f)
+    }
+}
+
+/// Two values with a separator between.
+#[derive(Clone, Copy)]
+pub struct Separated<T: fmt::Display, U: fmt::Display>(pub T, pub &'static str, pub U);
+
+impl<T: fmt::Display, U: fmt::Display> fmt::Display for Separated<T, U> {
+    fn fmt<W: fmt::Write>(&self, f: &mut fmt::Formatter<W>) -> fmt::Result {
+        fmt::Display::fmt(&self.0, f)?;
+        f.write_str(self.1)?;
+        fmt::Display::fmt(&self.2, f)
+    }
+}
+
 /// A size hint: one number where both bounds are it, else both with `~` between.
 #[derive(Clone, Copy)]
 pub struct Hint(pub (usize, Option<usize>));

@@ -2,7 +2,7 @@
 ghost use Rattle.std.specs.Prelude.{IfOk, IsTrue, length};
 ghost use Rattle.rsc_search.specs.Inputs.{IsSpanWithin, span_between};
 
-use crate::modes::{ShownMode, mode};
+use crate::modes::{mode, push_mode};
 use crate::spans::span_of;
 use rsc_compare_protocol::answers::{Bytes, Parts, shown_debug, truth, truth_answer};
 use rsc_compare_protocol::error::CommandError;
@@ -60,7 +60,7 @@ fn state(alloc: Global, input: &Input<'_>) -> Result<String, CommandError> {
     parts.push(input.get_span().end);
     parts.push(input.get_range().start);
     parts.push(input.get_range().end);
-    parts.push(ShownMode(input.get_anchored()));
+    push_mode(&mut parts, input.get_anchored());
     parts.push(truth(input.get_earliest()));
     parts.push(truth(input.is_done()));
     parts.finish()

@@ -1,10 +1,10 @@
 //! How modes are read and written.
 
+use rsc_compare_protocol::answers::{Parts, Prefixed};
 use rsc_compare_protocol::error::CommandError;
 use rsc_compare_protocol::error::CommandError::BadCommand;
 use rsc_compare_protocol::tokens::pattern;
 use rsc_search::Anchored;
-use std::fmt;
 
 /// `no`, `yes`, or `p` with the number of a pattern behind it.
 pub fn mode(token: &[u8]) -> Result<Anchored, CommandError> {
@@ -16,19 +16,11 @@ pub fn mode(token: &[u8]) -> Result<Anchored, CommandError> {
     }
 }
 
-/// A mode as it is read: `no`, `yes`, or `p` with the number of a pattern.
-#[derive(Clone, Copy)]
-pub struct ShownMode(pub Anchored);
-
-impl fmt::Display for ShownMode {
-    fn fmt<W: fmt::Write>(&self, f: &mut fmt::Formatter<W>) -> fmt::Result {
-        match self.0 {
-            Anchored::No => f.write_str("no"),
-            Anchored::Yes => f.write_str("yes"),
-            Anchored::Pattern(pattern) => {
-                let number = pattern.as_usize();
-                write!(f, "p{number}")
-            }
-        }
+/// Writes a mode as it is read.
+pub fn push_mode(parts: &mut Parts, mode: Anchored) {
+    match mode {
+        Anchored::No => parts.push("no"),
+        Anchored::Yes => parts.push("yes"),
+        Anchored::Pattern(pattern) => parts.push(Prefixed("p", pattern.as_usize())),
     }
 }
