@@ -1,4 +1,4 @@
-//! Laws of partitions and of class maps that a caller may cite: functions that do nothing, and whose contracts are the laws.
+//! Laws of sets, partitions, class maps and trait impls that a caller may cite: functions that do nothing, and whose contracts are the laws.
 ghost use Rattle.std.specs.Prelude.{true, ◌≡◌, ◌↔◌, ◌⊎◌, ◌+◌, ◌<◌, ◌≤◌, ◌∷◌, ℕ, Bool, List, length, slice_index, slice_get, Some, All, IsTrue, ◌==◌, ◌&&◌, ◌||◌, nat_lt};
 ghost use Rattle.std.specs.List.{Contains, AllAdjacentBelow};
 ghost use Rattle.std.specs.List.Sorted.{IsStrictlyIncreasing};

@@ -1,4 +1,4 @@
-//! Laws that a caller may cite: functions that do nothing, and whose contracts are the laws.
+//! Laws that a caller may cite: functions that do nothing, and whose contracts are the laws. Those of constants answer the constants.
 ghost use Rattle.std.specs.Prelude.{◌≡◌, ◌↔◌, ◌⊎◌, ◌<◌, ◌≤◌, ◌++◌, ℕ, List, [], length, slice_index, Result, Ok, Some, true, ◌==◌, ◌+◌};
 ghost use Rattle.std.specs.Char.{IsScalar, encode_utf8};
 ghost use Rattle.std.specs.Int.{w32, from_le_bytes, to_le_bytes};
