@@ -34,20 +34,23 @@ pub fn answer_at<A: Allocator + Copy + Drop>(
     let [name, terminator, hay, at] = arguments else {
         return Ok(None);
     };
-    let (Some(look), Some(terminator), Some(at)) = (
-        look_of(name),
-        parse_byte(terminator),
-        parse_number(at),
-    ) else {
+    let Some(look) = look_of(name) else {
         return Ok(None);
     };
-    match parse_hay(alloc, hay)? {
-        Some(haystack) if at <= haystack.len() => {
-            let holds = matcher(terminator).matches(look, haystack.as_slice(), at);
-            Ok(Some(String::from_str(alloc, if holds { "true" } else { "false" })?))
-        }
-        _ => Ok(None),
+    let Some(terminator) = parse_byte(terminator) else {
+        return Ok(None);
+    };
+    let Some(at) = parse_number(at) else {
+        return Ok(None);
+    };
+    let Some(haystack) = parse_hay(alloc, hay)? else {
+        return Ok(None);
+    };
+    if at > haystack.len() {
+        return Ok(None);
     }
+    let holds = matcher(terminator).matches(look, haystack.as_slice(), at);
+    Ok(Some(String::from_str(alloc, if holds { "true" } else { "false" })?))
 }
 
 // The matcher over Unicode's words with that line terminator.
@@ -72,8 +75,15 @@ fn looks_of<A: Allocator + Copy + Drop>(
     Ok(Some(looks))
 }
 
-// The assertion of that name.
+// The assertion of that name. The names are told apart by their first letters, a few in each function.
 fn look_of(name: &[u8]) -> Option<Look> {
+    match name {
+        [b'W', b'o', b'r', b'd', kind @ ..] => word_look_of(kind),
+        _ => anchor_of(name),
+    }
+}
+
+fn anchor_of(name: &[u8]) -> Option<Look> {
     match name {
         b"Start" => Some(Look::Start),
         b"End" => Some(Look::End),
@@ -81,18 +91,41 @@ fn look_of(name: &[u8]) -> Option<Look> {
         b"EndLF" => Some(Look::EndLF),
         b"StartCRLF" => Some(Look::StartCRLF),
         b"EndCRLF" => Some(Look::EndCRLF),
-        b"WordAscii" => Some(Look::WordAscii),
-        b"WordAsciiNegate" => Some(Look::WordAsciiNegate),
-        b"WordUnicode" => Some(Look::WordUnicode),
-        b"WordUnicodeNegate" => Some(Look::WordUnicodeNegate),
-        b"WordStartAscii" => Some(Look::WordStartAscii),
-        b"WordEndAscii" => Some(Look::WordEndAscii),
-        b"WordStartUnicode" => Some(Look::WordStartUnicode),
-        b"WordEndUnicode" => Some(Look::WordEndUnicode),
-        b"WordStartHalfAscii" => Some(Look::WordStartHalfAscii),
-        b"WordEndHalfAscii" => Some(Look::WordEndHalfAscii),
-        b"WordStartHalfUnicode" => Some(Look::WordStartHalfUnicode),
-        b"WordEndHalfUnicode" => Some(Look::WordEndHalfUnicode),
+        _ => None,
+    }
+}
+
+// What stands after `Word`.
+fn word_look_of(kind: &[u8]) -> Option<Look> {
+    match kind {
+        b"Ascii" => Some(Look::WordAscii),
+        b"AsciiNegate" => Some(Look::WordAsciiNegate),
+        b"Unicode" => Some(Look::WordUnicode),
+        b"UnicodeNegate" => Some(Look::WordUnicodeNegate),
+        [b'S', b't', b'a', b'r', b't', characters @ ..] => word_start_of(characters),
+        [b'E', b'n', b'd', characters @ ..] => word_end_of(characters),
+        _ => None,
+    }
+}
+
+// What stands after `WordStart`.
+fn word_start_of(characters: &[u8]) -> Option<Look> {
+    match characters {
+        b"Ascii" => Some(Look::WordStartAscii),
+        b"Unicode" => Some(Look::WordStartUnicode),
+        b"HalfAscii" => Some(Look::WordStartHalfAscii),
+        b"HalfUnicode" => Some(Look::WordStartHalfUnicode),
+        _ => None,
+    }
+}
+
+// What stands after `WordEnd`.
+fn word_end_of(characters: &[u8]) -> Option<Look> {
+    match characters {
+        b"Ascii" => Some(Look::WordEndAscii),
+        b"Unicode" => Some(Look::WordEndUnicode),
+        b"HalfAscii" => Some(Look::WordEndHalfAscii),
+        b"HalfUnicode" => Some(Look::WordEndHalfUnicode),
         _ => None,
     }
 }
