@@ -1,7 +1,10 @@
-use crate::{Captures, GroupInfo, extract_bytes_pair, extract_pair};
+use crate::{
+    Captures, GroupInfo, extract_bytes_pair, extract_bytes_single, extract_bytes_triple,
+    extract_bytes_whole, extract_pair, extract_single, extract_triple, extract_whole,
+};
 use linked_list_allocator::LocalHeap;
 use rsc_primitives::{NonMaxUsize, PatternID};
-use rsc_search::Span;
+use rsc_search::{Match, Span};
 use std::alloc::Global;
 use std::test::Fail;
 
@@ -28,45 +31,53 @@ fn span(start: usize, end: usize) -> Option<Span> {
     Some(Span { start, end })
 }
 
+// The span of a group of captures that `filled` makes.
+fn span_of(
+    alloc: Global,
+    lists: &[&[Option<&str>]],
+    pid: usize,
+    offsets: &[Option<usize>],
+    group: usize,
+) -> Result<Option<Span>, Fail> {
+    let captures = filled(alloc, lists, pid, offsets)?;
+    Ok(captures.get_group(group))
+}
+
 #[test]
 fn spans_of_one_pattern_go_by_place(rt: HostRuntime) -> Result<(), Fail> {
+    for (pid, start, end, group, want) in [
+        (7, Some(3), Some(5), 0, span(3, 5)),
+        (0, Some(5), Some(3), 0, span(5, 3)),
+        (0, Some(5), Some(3), 9223372036854775808, None),
+        (0, Some(5), None, 0, None),
+    ] {
+        let found = span_of(rt.alloc(), &[&[None]], pid, &[start, end], group)?;
+        assert!(rt; found == want, "group {group} of pattern {pid}");
+    }
+    Ok(())
+}
+
+#[test]
+fn no_groups_of_an_unknown_pattern(rt: HostRuntime) -> Result<(), Fail> {
     let captures = filled(rt.alloc(), &[&[None]], 7, &[Some(3), Some(5)])?;
-    assert!(rt; captures.get_group(0) == span(3, 5));
-    assert_eq!(rt; captures.group_len(), 0);
-    assert!(rt; captures.iter().next() == None);
-    let captures = filled(rt.alloc(), &[&[None]], 0, &[Some(5), Some(3)])?;
-    assert!(rt; captures.get_group(0) == span(5, 3));
-    assert!(rt; captures.get_group(9223372036854775808) == None);
-    assert!(rt; captures.extract_from::<&str, 0>("abcdef") == None);
-    let captures = filled(rt.alloc(), &[&[None]], 0, &[Some(5), None])?;
-    assert!(rt; captures.get_group(0) == None);
+    assert!(rt; captures.is_match() && captures.group_len() == 0);
+    assert!(rt; captures.iter().next() == None && captures.get_group_by_name("x") == None);
     Ok(())
 }
 
 #[test]
 fn spans_of_more_patterns_go_by_the_pattern(rt: HostRuntime) -> Result<(), Fail> {
-    let captures = filled(
-        rt.alloc(),
-        &[&[None], &[None]],
-        7,
-        &[Some(3), Some(5), Some(3), Some(5)],
-    )?;
-    assert!(rt; captures.get_group(0) == None);
-    let captures = filled(
-        rt.alloc(),
-        &[&[None], &[None]],
-        2147483646,
-        &[Some(3), Some(5)],
-    )?;
-    assert!(rt; captures.is_match() && captures.iter().next() == None);
-    assert!(rt; captures.get_group_by_name("x") == None);
-    let captures = filled(rt.alloc(), &[], 0, &[])?;
-    assert!(rt; captures.is_match() && captures.get_group(0) == None);
+    let offsets = [None, None, Some(3), Some(5)];
+    for (pid, want) in [(0, None), (1, span(3, 5)), (7, None), (2147483646, None)] {
+        let found = span_of(rt.alloc(), &[&[None], &[None]], pid, &offsets, 0)?;
+        assert!(rt; found == want, "of pattern {pid}");
+    }
+    assert!(rt; span_of(rt.alloc(), &[], 0, &[], 0)? == None);
     Ok(())
 }
 
 #[test]
-fn walks_the_groups(rt: HostRuntime) -> Result<(), Fail> {
+fn iterates_over_the_groups(rt: HostRuntime) -> Result<(), Fail> {
     let info = GroupInfo::new(rt.alloc(), &[&[None, Some("x")], &[None]])?;
     let mut captures = Captures::matches(rt.alloc(), info)?;
     assert_eq!(rt; captures.slots().len(), 4);
@@ -76,11 +87,11 @@ fn walks_the_groups(rt: HostRuntime) -> Result<(), Fail> {
         slots[0] = NonMaxUsize::new(0);
         slots[1] = NonMaxUsize::new(3);
     }
-    let mut walk = captures.iter();
-    assert!(rt; walk.size_hint() == (2, Some(2)) && walk.len() == 2);
-    assert!(rt; walk.next() == Some(span(0, 3)));
-    assert!(rt; walk.next() == Some(None));
-    assert!(rt; walk.next() == None && walk.next() == None);
+    let mut spans = captures.iter();
+    assert!(rt; spans.size_hint() == (2, Some(2)) && spans.len() == 2);
+    assert!(rt; spans.next() == Some(span(0, 3)));
+    assert!(rt; spans.next() == Some(None));
+    assert!(rt; spans.next() == None && spans.next() == None);
     assert_eq!(rt; captures.group_info().pattern_len(), 2);
     Ok(())
 }
@@ -92,7 +103,7 @@ fn captures_without_slots_know_the_pattern(rt: HostRuntime) -> Result<(), Fail> 
     assert!(rt; !captures.is_match());
     captures.set_pattern(Some(PatternID::ZERO));
     assert!(rt; captures.is_match() && captures.pattern() == Some(PatternID::ZERO));
-    assert!(rt; captures.get_group(0) == None);
+    assert!(rt; captures.get_group(0) == None && match_in_order(&captures) == None);
     assert_eq!(rt; captures.group_len(), 1);
     Ok(())
 }
@@ -120,34 +131,89 @@ fn names_and_shown_texts(rt: HostRuntime) -> Result<(), Fail> {
     Ok(())
 }
 
+// Captures of three groups in one pattern: the first holds all of "abc", the others what the offsets say.
+fn three_groups(alloc: Global, offsets: &[Option<usize>]) -> Result<Captures, Fail> {
+    filled(alloc, &[&[None, None, None]], 0, offsets)
+}
+
 #[test]
 fn extracts_the_groups_that_take_part(rt: HostRuntime) -> Result<(), Fail> {
-    let offsets = [Some(0), Some(3), None, None, Some(1), Some(2)];
-    let captures = filled(rt.alloc(), &[&[None, None, None]], 0, &offsets)?;
-    let found: Option<(&str, [&str; 1])> = captures.extract_from("abc");
-    assert!(rt; found.is_some_and(|(whole, parts)| whole == "abc" && parts[0] == "b"));
-    let found: Option<(&[u8], [&[u8]; 1])> = captures.extract_from(b"abc".as_slice());
-    assert!(rt;
-        found.is_some_and(|(whole, parts)| whole == b"abc".as_slice()
-            && parts[0] == b"b".as_slice())
-    );
-    let found: Option<(&str, [&str; 0])> = captures.extract_from("abc");
-    assert!(rt; found.is_some_and(|(whole, _)| whole == "abc"));
-    assert!(rt; captures.extract_from::<&str, 1>("é") == None);
+    let captures = three_groups(
+        rt.alloc(),
+        &[Some(0), Some(3), None, None, Some(1), Some(2)],
+    )?;
+    assert!(rt; captures.extract_from::<&str, 1>("abc") == Some(("abc", ["b"])));
+    assert!(rt; extract_whole(&captures, "abc") == Some(("abc", [])));
+    assert!(rt; extract_single(&captures, "abc") == Some(("abc", ["b"])));
     assert!(rt; extract_pair(&captures, "abc") == None);
-    assert!(rt; extract_bytes_pair(&captures, b"abc") == None);
-    let offsets = [Some(0), Some(3), Some(0), Some(1), Some(1), Some(2)];
-    let captures = filled(rt.alloc(), &[&[None, None, None]], 0, &offsets)?;
-    let found = extract_pair(&captures, "abc");
-    assert!(rt;
-        found.is_some_and(|(whole, parts)| whole == "abc" && parts[0] == "a" && parts[1] == "b")
-    );
-    let found = extract_bytes_pair(&captures, b"abc");
-    assert!(rt;
-        found.is_some_and(|(whole, parts)| whole == b"abc".as_slice()
-            && parts[0] == b"a".as_slice()
-            && parts[1] == b"b".as_slice())
-    );
+    assert!(rt; captures.extract_from::<&str, 1>("é") == None);
+    let reversed = filled(rt.alloc(), &[&[None]], 0, &[Some(5), Some(3)])?;
+    assert!(rt; extract_whole(&reversed, "abcdef") == None);
+    Ok(())
+}
+
+#[test]
+fn extracts_text_by_count(rt: HostRuntime) -> Result<(), Fail> {
+    let captures = three_groups(
+        rt.alloc(),
+        &[Some(0), Some(3), Some(0), Some(1), Some(1), Some(2)],
+    )?;
+    assert!(rt; extract_whole(&captures, "abc") == Some(("abc", [])));
+    assert!(rt; extract_single(&captures, "abc") == Some(("abc", ["a"])));
+    assert!(rt; extract_pair(&captures, "abc") == Some(("abc", ["a", "b"])));
+    assert!(rt; extract_triple(&captures, "abc") == None);
+    Ok(())
+}
+
+#[test]
+fn extracts_bytes_by_count(rt: HostRuntime) -> Result<(), Fail> {
+    let captures = three_groups(
+        rt.alloc(),
+        &[Some(0), Some(3), Some(0), Some(1), Some(1), Some(2)],
+    )?;
+    let (abc, a, b): (&[u8], &[u8], &[u8]) = (b"abc", b"a", b"b");
+    assert!(rt; extract_bytes_whole(&captures, abc) == Some((abc, [])));
+    assert!(rt; extract_bytes_single(&captures, abc) == Some((abc, [a])));
+    assert!(rt; extract_bytes_pair(&captures, abc) == Some((abc, [a, b])));
+    assert!(rt; extract_bytes_triple(&captures, abc) == None);
+    Ok(())
+}
+
+// The match, where its span is in order.
+fn match_in_order(captures: &Captures) -> Option<Match> {
+    if let Some(span) = captures.get_group(0) {
+        if span.start > span.end {
+            return None;
+        }
+    }
+    captures.get_match()
+}
+
+// The match of captures that `filled` makes.
+fn match_of(
+    alloc: Global,
+    lists: &[&[Option<&str>]],
+    pid: usize,
+    offsets: &[Option<usize>],
+) -> Result<Option<Match>, Fail> {
+    let captures = filled(alloc, lists, pid, offsets)?;
+    Ok(match_in_order(&captures))
+}
+
+#[test]
+fn matches_need_the_pattern_and_both_slots(rt: HostRuntime) -> Result<(), Fail> {
+    let alloc = rt.alloc();
+    let found = match_of(
+        alloc,
+        &[&[None], &[None]],
+        1,
+        &[None, None, Some(3), Some(5)],
+    )?;
+    assert!(rt; found == Some(Match::must(1, Span { start: 3, end: 5 })));
+    let one_slot_set = match_of(alloc, &[&[None]], 0, &[Some(3), None])?;
+    assert!(rt; one_slot_set == None);
+    let of_an_unknown_pattern = match_of(alloc, &[&[None], &[None]], 7, &[Some(3), Some(5)])?;
+    assert!(rt; of_an_unknown_pattern == None);
     Ok(())
 }
 

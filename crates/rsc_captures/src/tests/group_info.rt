@@ -58,19 +58,33 @@ fn names_are_local_to_their_pattern(rt: HostRuntime) -> Result<(), Fail> {
     assert!(rt; info.to_name(second, 2) == Some("x"));
     assert!(rt; info.to_name(second, 1) == None);
     assert!(rt; info.to_name(second, 18446744073709551615) == None);
+    assert!(rt; info.pattern_names(unknown).next() == None);
+    Ok(())
+}
+
+#[test]
+fn iterates_over_names(rt: HostRuntime) -> Result<(), Fail> {
+    let info = GroupInfo::new(rt.alloc(), &[&[None, Some("x")], &[None, None, Some("x")]])?;
+    let (first, second) = (pattern(0), pattern(1));
     let mut names = info.pattern_names(second);
     assert!(rt; names.size_hint() == (3, Some(3)) && names.len() == 3);
-    assert!(rt; names.next() == Some(None));
-    assert!(rt; names.next() == Some(None));
-    assert!(rt; names.next() == Some(Some("x")));
-    assert!(rt; names.next() == None && names.next() == None && names.len() == 0);
-    assert!(rt; info.pattern_names(unknown).next() == None);
+    for want in [Some(None), Some(None), Some(Some("x")), None, None] {
+        assert!(rt; names.next() == want);
+    }
+    assert_eq!(rt; names.len(), 0);
     let mut all = info.all_names();
-    assert!(rt; all.next() == Some((first, 0, None)));
-    assert!(rt; all.next() == Some((first, 1, Some("x"))));
-    assert!(rt; all.next() == Some((second, 0, None)));
-    assert!(rt; all.next() == Some((second, 1, None)));
-    assert!(rt; all.next() == Some((second, 2, Some("x"))));
+    for (pid, group, name) in [
+        (first, 0, None),
+        (first, 1, Some("x")),
+        (second, 0, None),
+        (second, 1, None),
+        (second, 2, Some("x")),
+    ] {
+        assert!(rt;
+            all.next() == Some((pid, group, name)),
+            "group {group} of {pid:?}"
+        );
+    }
     assert!(rt; all.next() == None && all.next() == None);
     Ok(())
 }
@@ -164,6 +178,32 @@ fn refuses_the_first_fault(rt: HostRuntime) -> Result<(), Fail> {
             duplicate
         )?
     );
+    Ok(())
+}
+
+#[test]
+fn shows_faults_that_no_list_here_has(rt: HostRuntime) -> Result<(), Fail> {
+    let pattern = pattern(3);
+    let many_groups: GroupInfoErrorKind = GroupInfoErrorKind::TooManyGroups {
+        pattern,
+        minimum: 1073741824,
+    };
+    let text = format!(in rt.alloc(); "{many_groups}")?;
+    assert_eq!(rt;
+        text.as_str(),
+        "too many capture groups (at least 1073741824) were found for pattern 3"
+    );
+    if let Err(err) = PatternID::new(2147483647) {
+        let many_patterns: GroupInfoErrorKind = GroupInfoErrorKind::TooManyPatterns { err };
+        let text = format!(in rt.alloc(); "{many_patterns}")?;
+        assert_eq!(rt;
+            text.as_str(),
+            "too many patterns to build capture info: failed to create PatternID from 2147483647, which exceeds PatternID(2147483646)"
+        );
+    }
+    let out_of_memory: GroupInfoErrorKind = GroupInfoErrorKind::OutOfMemory;
+    let text = format!(in rt.alloc(); "{out_of_memory}")?;
+    assert_eq!(rt; text.as_str(), "out of memory while building capture info");
     Ok(())
 }
 
