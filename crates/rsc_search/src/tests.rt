@@ -1,12 +1,13 @@
 //! What no contract says: worked values from outside, shown texts, and each request for memory refused in turn.
-ghost use Rattle.std.specs.Prelude.{◌≡◌, ◌↔◌, IsTrue, IfOk, IsOk};
+ghost use Rattle.std.specs.Prelude.{◌≡◌};
 
+use crate::laws::clones::{clone_input, clone_iterator, clone_match_error};
+use crate::laws::equality::{are_equal_match_errors, are_equal_pattern_sets, default_match_kind};
 use crate::{
     Anchored, HalfMatch, Input, Match, MatchError, MatchErrorKind, MatchKind, PatternSet, Span,
 };
 use linked_list_allocator::LocalHeap;
 use rsc_primitives::PatternID;
-use std::alloc::AllocError;
 use std::ops::{Bound, Range};
 use std::test::Fail;
 
@@ -68,21 +69,6 @@ fn slices(rt: HostRuntime) {
     assert_eq!(rt; bytes, [1, 9, 9, 4]);
 }
 
-// A clone of an input takes no memory, so it is always there, and it is the same.
-fn input_again<'h>(input: &Input<'h>) -> Result<Input<'h>, AllocError>
-    ensures same { IfOk result (λ copy. copy ≡ input.now) }
-    ensures always { IsOk result }
-{
-    input.clone()
-}
-
-// Equality of sets is equality of capacity and members.
-fn are_same(one: &PatternSet, two: &PatternSet) -> bool
-    ensures { IsTrue result ↔ (one.now ≡ two.now) }
-{
-    one == two
-}
-
 // The slice lives as long as the haystack, and so beyond the input that it came from.
 fn slice_after_its_input(haystack: &[u8]) -> &[u8] {
     let kept;
@@ -118,7 +104,7 @@ fn inputs_by_builders(rt: HostRuntime) -> Result<(), Fail> {
         .earliest(true);
     assert!(rt; input.get_span() == span(0, 2));
     assert!(rt; input.get_anchored() == Anchored::Yes && input.get_earliest());
-    let mut again = input_again(&input)?.span(span(1, 1));
+    let mut again = clone_input(&input)?.span(span(1, 1));
     again.set_anchored(Anchored::No);
     again.set_earliest(false);
     assert!(rt; again.haystack() == abc && !again.is_done() && !again.get_earliest());
@@ -169,7 +155,7 @@ fn modes(rt: HostRuntime) {
         assert!(rt; mode.pattern() == pattern);
     }
     assert!(rt; MatchKind::All.continue_past_first_match());
-    assert!(rt; !MatchKind::default().continue_past_first_match());
+    assert!(rt; !default_match_kind().continue_past_first_match());
 }
 
 #[test]
@@ -182,7 +168,7 @@ fn errors(rt: HostRuntime) -> Result<(), Fail> {
                 offset: 3
             }
     );
-    assert!(rt; quit.clone()? == quit);
+    assert!(rt; are_equal_match_errors(&clone_match_error(&quit)?, &quit));
     for (error, want) in [
         (quit, "quit search after observing byte \\xFF at offset 3"),
         (
@@ -214,14 +200,14 @@ fn errors(rt: HostRuntime) -> Result<(), Fail> {
 }
 
 #[test]
-fn walks_from_both_ends(rt: HostRuntime) -> Result<(), Fail> {
+fn iterates_from_both_ends(rt: HostRuntime) -> Result<(), Fail> {
     let (zero, two) = (PatternID::must(0), PatternID::must(2));
     let mut set = PatternSet::new(rt.alloc(), 3)?;
     assert!(rt; set.insert(two) && set.insert(zero) && !set.insert(zero));
     let mut walk = set.iter();
     assert!(rt; walk.size_hint() == (2, Some(2)) && walk.len() == 2);
     assert!(rt; walk.next_back() == Some(two));
-    let mut rest = walk.clone()?;
+    let mut rest = clone_iterator(&walk)?;
     assert!(rt; walk.next() == Some(zero));
     assert!(rt; walk.next() == None && walk.next_back() == None);
     assert!(rt; rest.next_back() == Some(zero) && rest.len() == 0);
@@ -260,7 +246,7 @@ fn clones_are_sets_of_their_own(rt: HostRuntime) -> Result<(), Fail> {
     let mut set = PatternSet::new(rt.alloc(), 2)?;
     assert!(rt; set.insert(PatternID::must(0)));
     let copy = set.clone()?;
-    assert!(rt; are_same(&copy, &set));
+    assert!(rt; are_equal_pattern_sets(&copy, &set));
     assert!(rt; set.try_insert(PatternID::must(1)).is_ok_and(|new| new) && set.is_full());
     assert!(rt; copy != set && copy.len() == 1);
     set.clear();
