@@ -2,6 +2,7 @@
 use crate::error::BenchError;
 use crate::run::run;
 use linked_list_allocator::LocalHeap;
+use std::alloc::Global;
 use std::io;
 use std::io::{Read, Write};
 use std::test::Fail;
@@ -11,6 +12,14 @@ const MISSING: &str =
 
 const NAMED: &str =
     "first capture group (at index 0) for pattern 0 has a name (it must be unnamed)\n";
+
+// What is written for some lines.
+fn answer_to(alloc: Global, lines: &str) -> Result<String, Fail> {
+    let mut reader = lines.as_bytes();
+    let mut writer = Vec::new(alloc);
+    run(alloc, &mut reader, &mut writer)?;
+    Ok(String::from_utf8_lossy(alloc, writer.as_slice())?)
+}
 
 #[test]
 fn answers_ranges(rt: HostRuntime) -> Result<(), Fail> {
@@ -39,10 +48,8 @@ fn answers_ranges(rt: HostRuntime) -> Result<(), Fail> {
         ),
     ];
     for (input, want) in rows {
-        let mut reader = input.as_bytes();
-        let mut writer = Vec::new(rt.alloc());
-        assert_eq!(rt; run(rt.alloc(), &mut reader, &mut writer), Ok(()));
-        assert_eq!(rt; writer.as_slice(), want.as_bytes(), "at {input:?}");
+        let answer = answer_to(rt.alloc(), input)?;
+        assert_eq!(rt; answer.as_str(), want, "at {input:?}");
     }
     Ok(())
 }
@@ -74,10 +81,8 @@ fn answers_classes_of_assertions(rt: HostRuntime) -> Result<(), Fail> {
         ("looks 0a ", "bad line\n"),
     ];
     for (input, want) in rows {
-        let mut reader = input.as_bytes();
-        let mut writer = Vec::new(rt.alloc());
-        assert_eq!(rt; run(rt.alloc(), &mut reader, &mut writer), Ok(()));
-        assert_eq!(rt; writer.as_slice(), want.as_bytes(), "at {input:?}");
+        let answer = answer_to(rt.alloc(), input)?;
+        assert_eq!(rt; answer.as_str(), want, "at {input:?}");
     }
     Ok(())
 }
@@ -105,10 +110,8 @@ fn answers_assertions_at_positions(rt: HostRuntime) -> Result<(), Fail> {
         ("look End 0a 61 0 0", "bad line\n"),
     ];
     for (input, want) in rows {
-        let mut reader = input.as_bytes();
-        let mut writer = Vec::new(rt.alloc());
-        assert_eq!(rt; run(rt.alloc(), &mut reader, &mut writer), Ok(()));
-        assert_eq!(rt; writer.as_slice(), want.as_bytes(), "at {input:?}");
+        let answer = answer_to(rt.alloc(), input)?;
+        assert_eq!(rt; answer.as_str(), want, "at {input:?}");
     }
     Ok(())
 }
@@ -133,10 +136,8 @@ fn answers_groups(rt: HostRuntime) -> Result<(), Fail> {
         ("groups - -", "bad line\n"),
     ];
     for (input, want) in rows {
-        let mut reader = input.as_bytes();
-        let mut writer = Vec::new(rt.alloc());
-        assert_eq!(rt; run(rt.alloc(), &mut reader, &mut writer), Ok(()));
-        assert_eq!(rt; writer.as_slice(), want.as_bytes(), "at {input:?}");
+        let answer = answer_to(rt.alloc(), input)?;
+        assert_eq!(rt; answer.as_str(), want, "at {input:?}");
     }
     Ok(())
 }
