@@ -1,7 +1,8 @@
 #!/usr/bin/env python3
 """Tries the wrong bodies of each crate, many at a time, and asks that the very function that each changes is refused for what it promises.
 
-    ./wrong-bodies.py [CRATE ..]      # the edits of crates/CRATE/wrong-bodies, all crates without a name
+    ./wrong-bodies.py [CRATE ..]                 # the edits of crates/CRATE/wrong-bodies, all crates without a name
+    KEEP_OUT=1 ./wrong-bodies.py [CRATE ..]      # the same over what earlier checks kept in out/, while you write
 
 A wrong body is a file `NAME.edit`:
 
@@ -137,32 +138,56 @@ def judge(crate, folder, batch, texts):
     return results
 
 
-def try_crate(crate, folder, edits):
-    """Proves the crate as it is, and then tries its edits; returns the results, each with its line."""
-    status, said = check(folder)
-    if status:
-        return [(False, f"{crate}: NOT PROVED as it is: {said.strip().splitlines()[-1][:200]}")]
-    results = []
-    for batch, texts in batches_of(edits, folder):
+def below(crate, known):
+    """Returns a crate's own name and those of all crates that it stands on."""
+    return {crate}.union(*(below(it, known) for it in known[crate]))
+
+
+def prove(crate, room, waits):
+    """Proves a crate as it is, once those below it are proved; returns why it isn't, if so."""
+    if any(it.result() for it in waits):
+        return f"{crate}: NOT PROVED, since a crate below it isn't"
+    status, said = check(f"{room}/crates/{crate}")
+    return f"{crate}: NOT PROVED as it is: {said.strip().splitlines()[-1][:200]}" if status else ""
+
+
+def try_crate(crate, known, room, proved):
+    """Tries a crate's edits in a copy of its own, over what its proof kept; returns the results, each with its line."""
+    if proved.result():
+        return [(False, proved.result())]
+    own = f"{room}/{crate}"
+    for name in below(crate, known):
+        left_out = [] if name == crate else ["incremental"]
+        shutil.copytree(f"{room}/proved/crates/{name}", f"{own}/crates/{name}", ignore=shutil.ignore_patterns(*left_out))
+    shutil.copy(f"{room}/proved/HANDLES", own)
+    with open(f"{ROOT}/crates.txt", encoding="utf-8") as lines:
+        kept = [it for it in lines if it.partition(":")[0].partition(" ")[0] in below(crate, known)]
+    with open(f"{own}/crates.txt", "w", encoding="utf-8") as file:
+        file.writelines(kept)
+    results, folder = [], f"{own}/crates/{crate}"
+    for batch, texts in batches_of(edits_of(crate), folder):
         results += judge(crate, folder, batch, texts)
+    shutil.rmtree(own)
     return results
 
 
 def main():
     known = crates()
     wanted = [it for it in known if (not sys.argv[1:] or it in sys.argv[1:]) and edits_of(it)]
+    needed = set().union(*(below(it, known) for it in wanted)) if wanted else set()
     passed = failed = 0
     with tempfile.TemporaryDirectory(prefix="wrong-bodies-") as room:
-        shutil.copytree(f"{ROOT}/crates", f"{room}/crates", ignore=shutil.ignore_patterns("must-fail", "must-not-compile", "wrong-bodies", *([] if os.environ.get("KEEP_OUT") else ["out"])))
+        left_out = ["must-not-compile", "wrong-bodies"] + ([] if os.environ.get("KEEP_OUT") else ["out"])
+        shutil.copytree(f"{ROOT}/crates", f"{room}/proved/crates", ignore=shutil.ignore_patterns(*left_out))
         for name in ("crates.txt", "HANDLES"):
-            shutil.copy(f"{ROOT}/{name}", room)
+            shutil.copy(f"{ROOT}/{name}", f"{room}/proved")
         with concurrent.futures.ThreadPoolExecutor(max(1, len(os.sched_getaffinity(0)))) as pool:
-            tasks = {}
+            proofs, tasks = {}, {}
             for crate in known:
-                # (a crate is begun once those below it are done: their libraries are made once, and not by each of their users)
-                waits = [tasks[it] for it in known[crate] if it in tasks]
-                if crate in wanted:
-                    tasks[crate] = pool.submit(lambda it, waits: ([one.result() for one in waits], try_crate(it, f"{room}/crates/{it}", edits_of(it)))[1], crate, waits)
+                if crate in needed:
+                    proofs[crate] = pool.submit(prove, crate, f"{room}/proved", [proofs[it] for it in known[crate]])
+            for crate in wanted:
+                tasks[crate] = pool.submit(try_crate, crate, known, room, proofs[crate])
             for crate, task in tasks.items():
                 for is_well, line in task.result():
                     print(line, flush=True)
