@@ -83,7 +83,7 @@ def batches_of(edits, folder):
     batches = []
     for edit in edits:
         for batch in batches:
-            texts = apply(edit, batch[1], folder)
+            texts = None if batch[1] is None else apply(edit, batch[1], folder)
             if texts is not None and all(edit.function != it.function for it in batch[0]):
                 batch[0].append(edit)
                 batch[1] = texts
