@@ -3,8 +3,8 @@
 
     ./gate-times.py [COMMAND ..]        # without a command: ./test.sh
 
-Twice a second it looks at the processes below the command in /proc. A part is a crate's proof, its tests' proof, one must-fail edit
-(summed over the edits of its crate), or what the gate runs besides (compilers, programs, scripts). The processor time of a process is what
+Twice a second it looks at the processes below the command in /proc. A part is a crate's proof, its tests' proof, its wrong
+bodies, or what the gate runs besides (compilers, programs, scripts). The processor time of a process is what
 /proc told last, so a part lacks at most half a second. The memory of a part is the sum over the processes that work on it at one moment,
 with shared pages counted once (Pss), looked at every two seconds.
 """
@@ -59,6 +59,8 @@ def part_of(process):
         folder = ""
     if "rt-edit-" in folder:
         return crate, "edits", folder
+    if "/wrong-bodies-" in folder:
+        return crate, "wrong bodies", ""
     if "/repository/crates/" in folder:
         return "must-not-compile.sh", "", folder
     return crate, "tests" if "--test" in words else "proof", ""
