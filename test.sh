@@ -14,7 +14,7 @@ case ${1:-all} in
     exec ./quick-test.sh
     ;;
   all)
-    step 1/4 "rt ci: proofs, tests, edits that must fail, programs. It prints a crate when it has judged it"
+    step 1/4 "rt ci: proofs, tests, programs. It prints a crate when it has judged it"
     rt ci
     step 2/4 "wrong bodies: each must be refused by the function that it changes"
     ./wrong-bodies.py

@@ -143,16 +143,18 @@ def below(crate, known):
     return {crate}.union(*(below(it, known) for it in known[crate]))
 
 
-def prove(crate, room):
-    """Proves a crate as it is; returns why it isn't, if so."""
+def prove(crate, room, waits):
+    """Proves a crate as it is, once those below it are proved; returns why it isn't, if so."""
+    if any(it.result() for it in waits):
+        return f"{crate}: NOT PROVED, since a crate below it isn't"
     status, said = check(f"{room}/crates/{crate}")
     return f"{crate}: NOT PROVED as it is: {said.strip().splitlines()[-1][:200]}" if status else ""
 
 
-def try_crate(crate, known, room, fault):
+def try_crate(crate, known, room, proved):
     """Tries a crate's edits in a copy of its own, over what its proof kept; returns the results, each with its line."""
-    if fault:
-        return [(False, fault)]
+    if proved.result():
+        return [(False, proved.result())]
     own = f"{room}/{crate}"
     for name in below(crate, known):
         left_out = [] if name == crate else ["incremental"]
@@ -169,21 +171,6 @@ def try_crate(crate, known, room, fault):
     return results
 
 
-def in_lanes(tasks):
-    """Runs tasks side by side, one a processor, and yields each with what it gave. A task is the keys that it waits for and a call that gets what was given."""
-    left, running, given = list(tasks), {}, {}
-    lanes = max(1, len(os.sched_getaffinity(0)))
-    with concurrent.futures.ThreadPoolExecutor(lanes) as pool:
-        while left or running:
-            for key in [it for it in left if all(low in given for low in tasks[it][0])][: lanes - len(running)]:
-                left.remove(key)
-                running[pool.submit(tasks[key][1], given)] = key
-            for it in concurrent.futures.wait(running, return_when=concurrent.futures.FIRST_COMPLETED).done:
-                key = running.pop(it)
-                given[key] = it.result()
-                yield key, given[key]
-
-
 def main():
     known = crates()
     wanted = [it for it in known if (not sys.argv[1:] or it in sys.argv[1:]) and edits_of(it)]
@@ -194,15 +181,18 @@ def main():
         shutil.copytree(f"{ROOT}/crates", f"{room}/proved/crates", ignore=shutil.ignore_patterns(*left_out))
         for name in ("crates.txt", "HANDLES"):
             shutil.copy(f"{ROOT}/{name}", f"{room}/proved")
-        # proofs come first, since other crates wait for them
-        tasks = {(it, "proof"): ([(low, "proof") for low in known[it]], lambda given, it=it: prove(it, f"{room}/proved")) for it in known if it in needed}
-        for crate in wanted:
-            tasks[crate, "edits"] = [(crate, "proof")], lambda given, it=crate: try_crate(it, known, room, given[it, "proof"])
-        for (_, kind), results in in_lanes(tasks):
-            for is_well, line in results if kind == "edits" else ():
-                print(line, flush=True)
-                passed += is_well
-                failed += not is_well
+        with concurrent.futures.ThreadPoolExecutor(max(1, len(os.sched_getaffinity(0)))) as pool:
+            proofs, tasks = {}, {}
+            for crate in known:
+                if crate in needed:
+                    proofs[crate] = pool.submit(prove, crate, f"{room}/proved", [proofs[it] for it in known[crate]])
+            for crate in wanted:
+                tasks[crate] = pool.submit(try_crate, crate, known, room, proofs[crate])
+            for crate, task in tasks.items():
+                for is_well, line in task.result():
+                    print(line, flush=True)
+                    passed += is_well
+                    failed += not is_well
     print(f"wrong-bodies: {passed} passed, {failed} failed")
     return 1 if failed or not passed else 0
 
