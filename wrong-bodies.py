@@ -12,9 +12,10 @@ A wrong body is a file `NAME.edit`:
     new: self.end.wrapping_sub(self.start)     what replaces it; further pairs apply to what the earlier ones made
 
 `rt ci` tries the edits of crates/CRATE/must-fail one by one, each for the price of a start of the checker, and takes any refusal. Here edits of
-different functions are applied together to a copy, and one check judges them all: it goes on behind a refused function, and the callers of a
-function see its contract alone. An edit passes only if its function is refused at a goal that begins as named; a goal that is refused
-because a proof file names what the edit took away does not count.
+different functions are applied together to a copy, and one check of those functions judges them all: it goes on behind a refused function, and
+the callers of a function see its contract alone. An edit passes only if its function is refused at a goal that begins as named; a goal that
+is refused because a proof file names what the edit took away does not count. The crates below are proved first; that the crate itself is proved as it
+is, `rt ci` says.
 """
 import collections
 import concurrent.futures
@@ -107,8 +108,8 @@ def refusals(crate, said):
     return found
 
 
-def check(folder):
-    ran = subprocess.run(["rt", "check", "--jobs", "1"], cwd=folder, stdin=subprocess.DEVNULL, stdout=subprocess.PIPE, stderr=subprocess.STDOUT, errors="replace")
+def rt(folder, *words):
+    ran = subprocess.run(["rt", *words, "--jobs", "1"], cwd=folder, stdin=subprocess.DEVNULL, stdout=subprocess.PIPE, stderr=subprocess.STDOUT, errors="replace")
     return ran.returncode, ran.stdout
 
 
@@ -122,7 +123,7 @@ def judge(crate, folder, batch, texts):
             kept[path] = file.read()
         with open(f"{folder}/{path}", "w", encoding="utf-8") as file:
             file.write(text)
-    status, said = check(folder)
+    status, said = rt(folder, "check", *(word for it in batch for word in ("--only", it.function)))
     for path, text in kept.items():
         with open(f"{folder}/{path}", "w", encoding="utf-8") as file:
             file.write(text)
@@ -139,22 +140,20 @@ def judge(crate, folder, batch, texts):
 
 
 def below(crate, known):
-    """Returns a crate's own name and those of all crates that it stands on."""
+    """Returns a crate's own name and those of all crates below it."""
     return {crate}.union(*(below(it, known) for it in known[crate]))
 
 
-def prove(crate, room, waits):
-    """Proves a crate as it is, once those below it are proved; returns why it isn't, if so."""
-    if any(it.result() for it in waits):
-        return f"{crate}: NOT PROVED, since a crate below it isn't"
-    status, said = check(f"{room}/crates/{crate}")
+def prove(crate, room):
+    """Proves a crate as it is, and builds it for those above; returns why it isn't proved, if so."""
+    status, said = rt(f"{room}/crates/{crate}", "lib")
     return f"{crate}: NOT PROVED as it is: {said.strip().splitlines()[-1][:200]}" if status else ""
 
 
-def try_crate(crate, known, room, proved):
+def try_crate(crate, known, room, fault):
     """Tries a crate's edits in a copy of its own, over what its proof kept; returns the results, each with its line."""
-    if proved.result():
-        return [(False, proved.result())]
+    if fault:
+        return [(False, fault)]
     own = f"{room}/{crate}"
     for name in below(crate, known):
         left_out = [] if name == crate else ["incremental"]
@@ -171,28 +170,41 @@ def try_crate(crate, known, room, proved):
     return results
 
 
+def in_lanes(tasks):
+    """Runs tasks side by side, one a processor, and yields each with what it gave. A task is the keys that it waits for and a call that gets what was given."""
+    left, running, given = list(tasks), {}, {}
+    lanes = max(1, len(os.sched_getaffinity(0)))
+    with concurrent.futures.ThreadPoolExecutor(lanes) as pool:
+        while left or running:
+            for key in [it for it in left if all(low in given for low in tasks[it][0])][: lanes - len(running)]:
+                left.remove(key)
+                running[pool.submit(tasks[key][1], given)] = key
+            for it in concurrent.futures.wait(running, return_when=concurrent.futures.FIRST_COMPLETED).done:
+                key = running.pop(it)
+                given[key] = it.result()
+                yield key, given[key]
+
+
 def main():
     known = crates()
     wanted = [it for it in known if (not sys.argv[1:] or it in sys.argv[1:]) and edits_of(it)]
-    needed = set().union(*(below(it, known) for it in wanted)) if wanted else set()
+    needed = set().union(*(below(it, known) - {it} for it in wanted)) if wanted else set()
     passed = failed = 0
     with tempfile.TemporaryDirectory(prefix="wrong-bodies-") as room:
         left_out = ["must-not-compile", "wrong-bodies"] + ([] if os.environ.get("KEEP_OUT") else ["out"])
         shutil.copytree(f"{ROOT}/crates", f"{room}/proved/crates", ignore=shutil.ignore_patterns(*left_out))
         for name in ("crates.txt", "HANDLES"):
             shutil.copy(f"{ROOT}/{name}", f"{room}/proved")
-        with concurrent.futures.ThreadPoolExecutor(max(1, len(os.sched_getaffinity(0)))) as pool:
-            proofs, tasks = {}, {}
-            for crate in known:
-                if crate in needed:
-                    proofs[crate] = pool.submit(prove, crate, f"{room}/proved", [proofs[it] for it in known[crate]])
-            for crate in wanted:
-                tasks[crate] = pool.submit(try_crate, crate, known, room, proofs[crate])
-            for crate, task in tasks.items():
-                for is_well, line in task.result():
-                    print(line, flush=True)
-                    passed += is_well
-                    failed += not is_well
+        # Proofs come first, since other crates wait for them. A crate that no other waits for isn't proved: its edits are checked from nothing.
+        tasks = {(it, "proof"): ([(low, "proof") for low in known[it]], lambda given, it=it: prove(it, f"{room}/proved")) for it in known if it in needed}
+        for crate in wanted:
+            waits = [(it, "proof") for it in below(crate, known) if (it, "proof") in tasks]
+            tasks[crate, "edits"] = waits, lambda given, it=crate, waits=waits: try_crate(it, known, room, next(filter(None, map(given.get, waits)), ""))
+        for (_, kind), results in in_lanes(tasks):
+            for is_well, line in results if kind == "edits" else ():
+                print(line, flush=True)
+                passed += is_well
+                failed += not is_well
     print(f"wrong-bodies: {passed} passed, {failed} failed")
     return 1 if failed or not passed else 0
 

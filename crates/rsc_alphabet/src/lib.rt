@@ -5,8 +5,6 @@ mod byte_class_set;
 mod byte_classes;
 mod byte_set;
 pub mod laws;
-#[cfg(test)]
-mod tests;
 mod unit;
 
 pub use byte_class_set::{ByteClassSet, classes_of_ranges};

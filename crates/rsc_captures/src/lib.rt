@@ -9,8 +9,6 @@ mod group_info;
 pub mod laws;
 mod name_walks;
 mod names;
-#[cfg(test)]
-mod tests;
 
 pub use captures::{Captures, CapturesPatternIter};
 pub use error::{GroupInfoError, GroupInfoErrorKind};

@@ -7,8 +7,6 @@ pub mod laws;
 mod look_set;
 mod matcher;
 mod side;
-#[cfg(test)]
-mod tests;
 mod word;
 
 pub use assertion::Look;

@@ -5,8 +5,6 @@ mod error;
 pub mod laws;
 mod nfa;
 mod state;
-#[cfg(test)]
-mod tests;
 
 pub use error::BuildError;
 pub use nfa::Nfa;

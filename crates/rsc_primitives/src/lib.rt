@@ -4,8 +4,6 @@
 pub mod escape;
 pub mod laws;
 mod primitives;
-#[cfg(test)]
-mod tests;
 pub mod utf8;
 
 pub use primitives::{

@@ -8,8 +8,6 @@ pub mod laws;
 mod matches;
 mod pattern_set;
 mod span;
-#[cfg(test)]
-mod tests;
 
 pub use anchored::{Anchored, MatchKind};
 pub use error::{MatchError, MatchErrorKind};

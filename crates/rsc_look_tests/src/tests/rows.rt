@@ -4,7 +4,7 @@ ghost use Rattle.rsc_look.specs.Keeping.{IsCoarsestMap};
 ghost use Rattle.rsc_look.specs.Words.{is_unicode_word};
 
 use super::carried::tells;
-use crate::{
+use rsc_look::{
     AsciiWord, Look, LookMatcher, LookSet, UnicodeWord, UnicodeWordBoundaryError, WordClass,
 };
 use rsc_alphabet::{ByteClassSet, ByteClasses};

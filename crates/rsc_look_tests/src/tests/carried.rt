@@ -1,5 +1,5 @@
 //! The tests of lines, text and words that the Rust has, with every value of theirs, as tables.
-use crate::{AsciiWord, Look, LookMatcher, WordClass};
+use rsc_look::{AsciiWord, Look, LookMatcher, WordClass};
 use std::process::Abort;
 
 // The texts of the tests of lines, and for each text the positions at which an assertion holds (`x`) and doesn't (`-`).
@@ -109,7 +109,7 @@ fn look_matches_words(rt: HostRuntime) {
 #[test]
 fn look_matches_words_of_ascii(rt: HostRuntime) {
     for (look, marks) in ON_WORDS {
-        if !crate::LookSet::singleton(look).contains_word_unicode() {
+        if !rsc_look::LookSet::singleton(look).contains_word_unicode() {
             tells(&rt, &LookMatcher::new(AsciiWord), look, &WORDS, marks);
         }
     }

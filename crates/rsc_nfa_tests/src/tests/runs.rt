@@ -1,5 +1,5 @@
 //! The example of the README, and worked rows.
-use crate::{Nfa, State};
+use rsc_nfa::{Nfa, State};
 use rsc_captures::GroupInfo;
 use rsc_look::{AsciiWord, Look, LookMatcher, UnicodeWord};
 use rsc_primitives::{PatternID, SmallIndex, StateID};

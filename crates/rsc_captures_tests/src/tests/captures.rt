@@ -1,4 +1,4 @@
-use crate::{
+use rsc_captures::{
     Captures, GroupInfo, extract_bytes_pair, extract_bytes_single, extract_bytes_triple,
     extract_bytes_whole, extract_pair, extract_single, extract_triple, extract_whole,
 };

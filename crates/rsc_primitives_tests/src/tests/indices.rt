@@ -1,7 +1,7 @@
 ghost use Rattle.std.specs.Prelude.{◌≡◌, ◌↔◌, ◌<◌, ◌≤◌, IsTrue, IsOkAnd, IfOk, Ok, length};
 ghost use Rattle.std.specs.List.{range_with_len};
 
-use crate::{
+use rsc_primitives::{
     NonMaxUsize, PatternID, PatternIDError, PatternIDIter, SmallIndex, SmallIndexError, StateID,
     StateIDError,
 };

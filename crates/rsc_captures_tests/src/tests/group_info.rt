@@ -1,7 +1,7 @@
 //! What no contract says: worked values from outside, shown texts, and each request for memory refused in turn.
 ghost use Rattle.std.specs.Prelude.{◌≤◌};
 
-use crate::{GroupInfo, GroupInfoErrorKind, laws};
+use rsc_captures::{GroupInfo, GroupInfoErrorKind, laws};
 use linked_list_allocator::LocalHeap;
 use rsc_primitives::PatternID;
 use std::alloc::Global;

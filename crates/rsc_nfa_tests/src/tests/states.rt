@@ -1,5 +1,5 @@
 //! Refusals, refused memory, and what is lent.
-use crate::{BuildError, Nfa, State};
+use rsc_nfa::{BuildError, Nfa, State};
 use linked_list_allocator::LocalHeap;
 use rsc_captures::GroupInfo;
 use rsc_look::{AsciiWord, LookMatcher};

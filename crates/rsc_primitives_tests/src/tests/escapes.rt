@@ -1,4 +1,4 @@
-use crate::escape::{DebugByte, DebugHaystack, byte_text, haystack_text};
+use rsc_primitives::escape::{DebugByte, DebugHaystack, byte_text, haystack_text};
 use linked_list_allocator::LocalHeap;
 use std::test::Fail;
 

@@ -1,4 +1,4 @@
-use crate::utf8::{decode, decode_last, is_boundary, is_word_byte};
+use rsc_primitives::utf8::{decode, decode_last, is_boundary, is_word_byte};
 
 #[test]
 fn reads_the_character_at_either_end(rt: HostRuntime) {

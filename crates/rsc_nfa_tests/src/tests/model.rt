@@ -1,5 +1,5 @@
 //! A slow model of runs, read off the table of steps, beside `check_run` and `classes`.
-use crate::{Nfa, State};
+use rsc_nfa::{Nfa, State};
 use rsc_captures::GroupInfo;
 use rsc_look::{AsciiWord, Look, LookMatcher};
 use rsc_primitives::{PatternID, SmallIndex, StateID};
