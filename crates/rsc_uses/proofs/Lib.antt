@@ -1,0 +1,4 @@
+mod Bytes
+mod Characters
+mod ListedLemmas
+mod UnionLemmas

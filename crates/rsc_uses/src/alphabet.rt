@@ -1,0 +1,136 @@
+//! Tables whose columns are the classes of bytes.
+ghost use Rattle.std.specs.Prelude.{◌≡◌, ◌↔◌, ◌+◌, ◌*◌, ◌^◌, ◌<◌, ◌≤◌, ℕ, IsTrue, IfSome, length, slice_index, true};
+ghost use Rattle.std.specs.FinSet as sets;
+ghost use Rattle.rsc_alphabet.specs.ByteSets.{runs};
+ghost use Rattle.rsc_alphabet.specs.Partitions.{Together, edges_of_each};
+ghost use Rattle.rsc_alphabet.specs.Walks.{stride2_of};
+
+use rsc_alphabet::{ByteClassSet, ByteClasses, ByteSet, Unit, classes_of_ranges, laws};
+use std::ops::Bound;
+
+/// Where the cell of a row and a byte is, in a table whose rows are `1 << stride2` cells long.
+pub fn cell_of(map: &ByteClasses, row: usize, byte: u8) -> usize
+    requires rows { row < 2147483647 }
+    requires rises { (b : ℕ) → b < 256 → slice_index map.now b ≤ slice_index map.now 255 }
+    ensures { result ≡ row * 2 ^ stride2_of map.now + slice_index map.now byte }
+{
+    (row << map.stride2()) | usize::from(map.get(byte))
+}
+
+/// A table's cell of a row and a byte.
+pub fn transition(map: &ByteClasses, table: &[u32], row: usize, byte: u8) -> u32
+    requires rows { row < 2147483647 }
+    requires table { (row + 1) * 2 ^ stride2_of map.now ≤ length table.now }
+    requires rises { (b : ℕ) → b < 256 → slice_index map.now b ≤ slice_index map.now 255 }
+    ensures { result ≡ slice_index table.now (row * 2 ^ stride2_of map.now + slice_index map.now byte) }
+{
+    table[(row << map.stride2()) + usize::from(map.get(byte))]
+}
+
+/// The same of the end of the input, whose class is the one after all bytes'.
+pub fn transition_at_end(map: &ByteClasses, table: &[u32], row: usize) -> u32
+    requires rows { row < 2147483647 }
+    requires table { (row + 1) * 2 ^ stride2_of map.now ≤ length table.now }
+    ensures { result ≡ slice_index table.now (row * 2 ^ stride2_of map.now + (slice_index map.now 255 + 1)) }
+{
+    table[(row << map.stride2()) + map.get_by_unit(map.eoi())]
+}
+
+/// A cell of a table over the classes of a partition: `None` where the table has no such row, and never out of bounds, since the
+/// classes of a partition rise.
+pub fn transition_of_partition(
+    partition: &ByteClassSet,
+    table: &[u32],
+    row: usize,
+    byte: u8,
+) -> Option<u32>
+    requires { length table.now < 2147483647 }
+{
+    laws::each_class_comes_once();
+    let map = partition.byte_classes();
+    if row < table.len() >> map.stride2() {
+        Some(transition(&map, table, row, byte))
+    } else {
+        None
+    }
+}
+
+/// Whether two bytes share a column of every table over the classes of the partition: exactly if no boundary lies between them.
+pub fn share_a_column(partition: &ByteClassSet, b: u8, c: u8) -> bool
+    ensures { IsTrue result ↔ Together (sets.contains partition.now) b c }
+{
+    laws::one_class_is_together();
+    let map = partition.byte_classes();
+    map.get(b) == map.get(c)
+}
+
+/// Whether the end of the input has a column that no byte has: it always has.
+pub fn end_is_apart(partition: &ByteClassSet, byte: u8) -> bool
+    ensures { IsTrue result }
+{
+    laws::each_class_comes_once();
+    let map = partition.byte_classes();
+    map.get_by_unit(map.eoi()) != usize::from(map.get(byte))
+}
+
+/// Marks the cell of each class and of the end of the input.
+pub fn fill_row(map: &ByteClasses, row: &mut [u32])
+    requires { slice_index map.now 255 + 2 ≤ length row.old }
+{
+    for unit in map.iter() {
+        row[unit.as_usize()] = 1;
+    }
+}
+
+/// Adds the maximal runs of a set, one by one: what [`ByteClassSet::add_set`] does at once.
+pub fn add_runs(partition: &mut ByteClassSet, set: &ByteSet)
+    ensures { partition.new ≡ sets.union partition.old (edges_of_each (runs set.now)) }
+{
+    for (start, end) in set.iter_ranges() {
+        partition.set_range(start, end);
+    }
+}
+
+/// Whether a range ends where its last byte is told apart from the next: it always does.
+pub fn range_separates(byte: u8) -> bool
+    requires { byte < 255 }
+    ensures { IsTrue result }
+{
+    laws::one_class_is_together();
+    laws::edges_part_a_range();
+    let mut partition = ByteClassSet::empty();
+    partition.set_range(0, byte);
+    let map = partition.byte_classes();
+    map.get(byte) != map.get(byte + 1)
+}
+
+/// The least member of a set.
+pub fn first_byte(set: &ByteSet) -> Option<u8>
+    ensures { IfSome result (λ byte. sets.contains set.now byte ≡ true) }
+{
+    set.iter().next()
+}
+
+/// Whether each byte that the iterator gives is a member: each is.
+pub fn each_is_member(set: &ByteSet) -> bool
+    ensures { IsTrue result }
+{
+    for byte in set.iter() {
+        if !set.contains(byte) {
+            return false;
+        }
+    }
+    true
+}
+
+/// Whether each element of a byte's class has that class: each has.
+pub fn elements_have_the_class(map: &ByteClasses, class: u8) -> bool
+    ensures { IsTrue result }
+{
+    for unit in map.elements(Unit::u8(class)) {
+        if map.get_by_unit(unit) != usize::from(class) {
+            return false;
+        }
+    }
+    true
+}

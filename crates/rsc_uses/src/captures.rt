@@ -1,0 +1,190 @@
+//! Captures: slots written by a match and read back by group and by name, and parts cut out of a haystack.
+ghost use Rattle.std.specs.Prelude.{◌≡◌, ◌+◌, ◌*◌, ◌<◌, ◌≤◌, ◌∷◌, ℕ, All, IsTrue, IfSome, IfOk, Some, None, length, slice_set, slice_range};
+ghost use Rattle.rsc_captures.specs.Groups.{all_groups, group_count, slot_number};
+ghost use Rattle.rsc_captures.specs.Captured.{span_at, group_span, matched_spans, matched_groups, participating};
+
+use rsc_captures::{Captures, GroupInfo, laws};
+use rsc_primitives::{NonMaxUsize, PatternID};
+use rsc_search::{Match, Span};
+use std::alloc::{AllocError, Global};
+
+/// Writes one slot.
+pub fn write_slot(captures: &mut Captures, slot: usize, offset: NonMaxUsize)
+    requires { slot < length captures.old.offsets }
+    ensures { captures.new ≡ record captures.old { offsets = slice_set captures.old.offsets slot (Some offset) } }
+{
+    captures.slots_mut()[slot] = Some(offset);
+}
+
+/// Writes both slots of a group, in captures with room for all groups: no test at run time is needed.
+pub fn write_span(
+    captures: &mut Captures,
+    pid: PatternID,
+    group: usize,
+    start: NonMaxUsize,
+    end: NonMaxUsize,
+)
+    requires room { length captures.old.offsets ≡ 2 * all_groups captures.old.groups }
+    requires group { group < group_count captures.old.groups pid }
+    ensures within { slot_number captures.old.groups pid group + 1 < length captures.old.offsets }
+    ensures written { captures.new ≡ record captures.old {
+      offsets = slice_set (slice_set captures.old.offsets (slot_number captures.old.groups pid group) (Some start))
+          (slot_number captures.old.groups pid group + 1) (Some end);
+    } }
+{
+    if let Some((first, second)) = captures.group_info().slots(pid, group) {
+        write_slot(captures, first, start);
+        write_slot(captures, second, end);
+    }
+}
+
+/// Writes a group's span into new captures, and reads it back: the span that comes out is the one that went in.
+pub fn write_and_read(
+    alloc: Global,
+    info: GroupInfo,
+    pid: PatternID,
+    group: usize,
+    start: NonMaxUsize,
+    end: NonMaxUsize,
+) -> Result<Option<Span>, AllocError>
+    requires pattern { pid < length info }
+    requires group { group < group_count info pid }
+    ensures { IfOk result (λ span. span ≡ Some (record { start = start; end = end })) }
+{
+    let mut captures = Captures::all(alloc, info)?;
+    captures.set_pattern(Some(pid));
+    write_span(&mut captures, pid, group, start, end);
+    Ok(captures.get_group(group))
+}
+
+/// Writes the whole match of a pattern into new captures, and reads the match back.
+pub fn write_match(
+    alloc: Global,
+    info: GroupInfo,
+    pid: PatternID,
+    start: NonMaxUsize,
+    end: NonMaxUsize,
+) -> Result<Option<Match>, AllocError>
+    requires pattern { pid < length info }
+    requires whole { 0 < group_count info pid }
+    requires order { start ≤ end }
+    ensures { IfOk result (λ found. found ≡ Some (record { pattern = pid; span = record { start = start; end = end } })) }
+{
+    let mut captures = Captures::all(alloc, info)?;
+    captures.set_pattern(Some(pid));
+    write_span(&mut captures, pid, 0, start, end);
+    Ok(captures.get_match())
+}
+
+/// The offsets of a named group.
+pub fn offsets_of_name(
+    captures: &Captures,
+    pid: PatternID,
+    name: &str,
+) -> Option<(Option<NonMaxUsize>, Option<NonMaxUsize>)>
+    requires { length captures.now.offsets ≡ 2 * all_groups captures.now.groups }
+{
+    let group = captures.group_info().to_index(pid, name)?;
+    let (first, second) = captures.group_info().slots(pid, group)?;
+    Some((captures.slots()[first], captures.slots()[second]))
+}
+
+/// Whether a group's slots are among all slots: they are.
+pub fn slots_within(info: &GroupInfo, pid: PatternID, group: usize) -> bool
+    ensures { IsTrue result }
+{
+    match info.slots(pid, group) {
+        Some((_, second)) => second < info.slot_len(),
+        None => true,
+    }
+}
+
+/// Whether groups of different patterns have different slots: they have.
+pub fn slots_apart(
+    info: &GroupInfo,
+    pid: PatternID,
+    group: usize,
+    other: PatternID,
+    other_group: usize,
+) -> bool
+    requires { ¬ (pid ≡ other) }
+    ensures { IsTrue result }
+{
+    laws::slots_are_apart();
+    match (info.slot(pid, group), info.slot(other, other_group)) {
+        (Some(slot), Some(other_slot)) => slot != other_slot,
+        _ => true,
+    }
+}
+
+/// Whether each pattern has a group, the whole match: it has.
+pub fn has_whole(info: &GroupInfo, pid: PatternID) -> bool
+    requires { pid < length info.now }
+    ensures { IsTrue result }
+{
+    info.group_len(pid) > 0
+}
+
+/// Whether a named group is one of its pattern's groups: it is.
+pub fn index_within(info: &GroupInfo, pid: PatternID, name: &str) -> bool
+    ensures { IsTrue result }
+{
+    match info.to_index(pid, name) {
+        Some(index) => index < info.group_len(pid),
+        None => true,
+    }
+}
+
+/// How many spans the iterator gives: one for each group of the pattern that matched.
+pub fn count_spans(captures: &Captures) -> usize
+    ensures { result ≡ matched_groups captures.now }
+{
+    captures.iter().len()
+}
+
+/// The spans of the pattern that matched, group by group.
+pub fn spans(alloc: Global, captures: &Captures) -> Result<Vec<Option<Span>>, AllocError>
+    ensures { IfOk result (λ spans. spans.items ≡ matched_spans captures.now) }
+{
+    captures.iter().collect(alloc)
+}
+
+/// Whether what the iterator gives at a place is the span of the group of that number: it is.
+pub fn iterator_agrees(alloc: Global, captures: &Captures, index: usize) -> Result<bool, AllocError>
+    ensures { IfOk result (λ agrees. IsTrue agrees) }
+{
+    laws::spans_by_place();
+    let spans = spans(alloc, captures)?;
+    Ok(index >= spans.len() || spans[index] == captures.get_group(index))
+}
+
+/// The key and the value of a match of `(\w+)=(\w+)`: parts of the haystack itself, nothing is copied. `None` where one of the groups
+/// took no part.
+pub fn key_and_value<'h>(captures: &Captures, haystack: &'h str) -> Option<(&'h str, &'h str)> {
+    let (_, [key, value]) = captures.extract_from::<&str, 2>(haystack)?;
+    Some((key, value))
+}
+
+/// A text with each span of a list replaced: the bytes between the spans stay. The spans come in order and don't overlap.
+pub fn replace_all(
+    alloc: Global,
+    haystack: &[u8],
+    spans: &[Span],
+    replacement: &[u8],
+) -> Result<Vec<u8>, AllocError>
+    requires within { All (λ s. (s.start ≤ s.end) × (s.end ≤ length haystack.now)) spans.now }
+{
+    let mut text = Vec::new(alloc);
+    let mut from = 0;
+    for span in spans {
+        if from <= span.start {
+            text.extend_from_slice(&haystack[from..span.start])?;
+            text.extend_from_slice(replacement)?;
+            from = span.end;
+        }
+    }
+    if from <= haystack.len() {
+        text.extend_from_slice(&haystack[from..])?;
+    }
+    Ok(text)
+}

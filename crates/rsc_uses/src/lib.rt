@@ -1,0 +1,11 @@
+//! What an engine or a tool would write over the libraries: short callers, each with a contract of its own, which is proved from the
+//! contracts, laws and definitions of the libraries alone. Read it as examples.
+#![tactic(auto)]
+
+pub mod alphabet;
+pub mod captures;
+pub mod look;
+pub mod primitives;
+pub mod search;
+#[cfg(test)]
+mod tests;

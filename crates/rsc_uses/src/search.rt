@@ -1,0 +1,150 @@
+//! Inputs that move on, and sets of patterns.
+ghost use Rattle.std.specs.Prelude.{◌≡◌, ◌↔◌, ◌+◌, ◌<◌, ◌≤◌, ◌++◌, ℕ, All, IsTrue, IfOk, IfSome, is_none, slice_range, length, reverse, true};
+ghost use Rattle.rsc_search.specs.PatternSets.{has_member};
+
+use rsc_primitives::PatternID;
+use rsc_search::{Input, Match, PatternSet, Span, laws};
+use std::alloc::{AllocError, Global};
+
+/// What a search is: it answers a span within the input's own, in order.
+pub trait Search {
+    fn find(&self, input: &Input<'_>) -> Option<Span>
+        ensures { IfSome result (λ s. (input.now.span.start ≤ s.start) × (s.start ≤ s.end) × (s.end ≤ input.now.span.end)) };
+}
+
+/// All matches that don't overlap, by any search: after an empty one the search goes on one byte later, so it always ends.
+pub fn all_matches<S: Search>(
+    alloc: Global,
+    search: &S,
+    haystack: &[u8],
+) -> Result<Vec<Span>, AllocError>
+    ensures { IfOk result (λ found. All (λ s. (s.start ≤ s.end) × (s.end ≤ length haystack.now)) found.items) }
+{
+    let mut found = Vec::new(alloc);
+    let mut input = Input::new(haystack);
+    while !input.is_done() {
+        let Some(span) = search.find(&input) else {
+            break;
+        };
+        found.push(span)?;
+        if span.is_empty() {
+            input.set_start(span.end + 1);
+        } else {
+            input.set_start(span.end);
+        }
+    }
+    Ok(found)
+}
+
+/// The bytes that are left to search, cut by the input's range.
+pub fn left<'h>(input: &Input<'h>) -> &'h [u8]
+    requires { input.now.span.start ≤ input.now.span.end }
+    ensures { result.now ≡ slice_range input.now.haystack input.now.span.start input.now.span.end }
+{
+    &input.haystack()[input.get_range()]
+}
+
+/// The same by the input's span, which is out of order once a search is done.
+pub fn left_by_span<'h>(input: &Input<'h>) -> Option<&'h [u8]>
+    ensures { IsTrue (is_none result) ↔ (input.now.span.end < input.now.span.start) }
+{
+    input.get_span().get(input.haystack())
+}
+
+/// The bytes of a match.
+pub fn matched<'h>(haystack: &'h [u8], found: &Match) -> &'h [u8]
+    requires { found.now.span.end ≤ length haystack.now }
+    ensures { result.now ≡ slice_range haystack.now found.now.span.start found.now.span.end }
+{
+    &haystack[found.range()]
+}
+
+/// How many bytes a match has.
+pub fn width(found: &Match) -> usize
+    ensures { result + found.now.span.start ≡ found.now.span.end }
+{
+    found.len()
+}
+
+/// The set of a list's patterns.
+pub fn set_of(alloc: Global, capacity: usize, ids: &[PatternID]) -> Result<PatternSet, AllocError>
+    requires most { capacity ≤ 2147483647 }
+    requires below { All (λ p. p < capacity) ids.now }
+    ensures members { IfOk result (λ set. (q : ℕ) → q < capacity → has_member set.members q ≡ has_member ids.now q) }
+    ensures capacity { IfOk result (λ set. set.capacity ≡ capacity) }
+{
+    laws::insertion_adds_one_member();
+    let mut set = PatternSet::new(alloc, capacity)?;
+    for pid in ids {
+        set.insert(*pid);
+    }
+    Ok(set)
+}
+
+/// The members, ascending.
+pub fn members(alloc: Global, set: &PatternSet) -> Result<Vec<PatternID>, AllocError>
+    ensures { IfOk result (λ ids. ids.items ≡ set.now.members) }
+{
+    set.iter().collect(alloc)
+}
+
+/// The members taken from both ends in turn: those from the front, and those from the back, from the last on. Together they are
+/// all members, each once.
+pub fn from_both_ends(
+    alloc: Global,
+    set: &PatternSet,
+) -> Result<(Vec<PatternID>, Vec<PatternID>), AllocError>
+    ensures { IfOk result (λ both. both.0.items ++ reverse both.1.items ≡ set.now.members) }
+{
+    let mut front = Vec::new(alloc);
+    let mut back = Vec::new(alloc);
+    let mut left = set.iter();
+    while let Some(first) = left.next() {
+        front.push(first)?;
+        if let Some(last) = left.next_back() {
+            back.push(last)?;
+        }
+    }
+    Ok((front, back))
+}
+
+/// The least member.
+pub fn least(set: &PatternSet) -> Option<PatternID>
+    ensures { IfSome result (λ p. (has_member set.now.members p ≡ true)
+        × ((q : ℕ) → has_member set.now.members q ≡ true → p ≤ q)) }
+{
+    laws::members_are_contained();
+    let mut left = set.iter();
+    let first = left.next()?;
+    Some(first)
+}
+
+/// Whether each member that the iterator gives is contained: each is.
+pub fn each_is_contained(set: &PatternSet) -> bool
+    ensures { IsTrue result }
+{
+    for pid in set.iter() {
+        if !set.contains(pid) {
+            return false;
+        }
+    }
+    true
+}
+
+/// The sum of the members' cells in a table of as many cells as the set has room for.
+pub fn sum_of_members(set: &PatternSet, table: &[u64]) -> u64
+    requires { set.now.capacity ≤ length table.now }
+{
+    let mut sum = 0u64;
+    for pid in set.iter() {
+        sum = sum.wrapping_add(table[pid.as_usize()]);
+    }
+    sum
+}
+
+/// How many more patterns the set has room for.
+pub fn room(set: &PatternSet) -> usize
+    ensures { result + length set.now.members ≡ set.now.capacity }
+{
+    set.capacity() - set.len()
+}

@@ -1,0 +1,188 @@
+//! Each caller, run on values.
+use crate::{alphabet, captures, look, primitives, search};
+use rsc_alphabet::{ByteClassSet, ByteSet};
+use rsc_captures::{Captures, GroupInfo};
+use rsc_look::{Look, LookMatcher, LookSet, UnicodeWord};
+use rsc_primitives::{NonMaxUsize, PatternID, StateID};
+use rsc_search::{Input, Match, Span};
+use std::test::Fail;
+
+fn are_positions(found: &[usize], want: &[usize]) -> bool {
+    found == want
+}
+
+fn are_spans(found: &[Span], want: &[Span]) -> bool {
+    found == want
+}
+
+fn are_patterns(found: &[PatternID], want: &[PatternID]) -> bool {
+    found == want
+}
+
+fn are_bytes(found: &[u8], want: &[u8]) -> bool {
+    found == want
+}
+
+#[test]
+fn characters_and_tables(rt: HostRuntime) -> Result<(), Fail> {
+    assert_eq!(rt; primitives::count_characters("größe 日本".as_bytes()), 8);
+    assert_eq!(rt; primitives::count_characters(b"\xFFa\xC3"), 3);
+    assert_eq!(rt; primitives::sum_by_pattern(&[1, 2, 3]), 6);
+    assert!(rt;
+        primitives::pattern_of_state(&[PatternID::ZERO], StateID::ZERO) == Some(PatternID::ZERO)
+    );
+    assert!(rt; primitives::pattern_of_state(&[], StateID::ZERO) == None);
+    assert_eq!(rt; primitives::row_of(StateID::must(3), 2), 12);
+    assert!(rt; primitives::next_state(StateID::must(2147483646)) == None);
+    Ok(())
+}
+
+#[test]
+fn rows_of_classes(rt: HostRuntime) -> Result<(), Fail> {
+    let mut partition = ByteClassSet::empty();
+    let mut letters = ByteSet::empty();
+    for byte in b'a'..b'{' {
+        letters.add(byte);
+    }
+    alphabet::add_runs(&mut partition, &letters);
+    assert!(rt; alphabet::share_a_column(&partition, b'a', b'z'));
+    assert!(rt; !alphabet::share_a_column(&partition, b'a', b'A'));
+    assert!(rt; alphabet::end_is_apart(&partition, 255));
+    let table = [0, 1, 2, 3, 4, 5, 6, 7];
+    assert!(rt; alphabet::transition_of_partition(&partition, &table, 1, b'q') == Some(5));
+    assert!(rt; alphabet::transition_of_partition(&partition, &table, 2, b'q') == None);
+    assert!(rt; alphabet::range_separates(b'z'));
+    assert!(rt; alphabet::first_byte(&letters) == Some(b'a'));
+    assert!(rt; alphabet::each_is_member(&letters));
+    assert!(rt; alphabet::elements_have_the_class(&partition.byte_classes(), 1));
+    Ok(())
+}
+
+#[test]
+fn words_and_lines(rt: HostRuntime) -> Result<(), Fail> {
+    let mut matcher = LookMatcher::new(UnicodeWord);
+    let text = "größe: 日本".as_bytes();
+    assert!(rt; look::is_whole_word(&matcher, text, Span { start: 0, end: 7 }));
+    assert!(rt; !look::is_whole_word(&matcher, text, Span { start: 0, end: 2 }));
+    let ends = look::line_ends(rt.alloc(), &matcher, b"a\nb\n")?;
+    assert!(rt; are_positions(ends.as_slice(), &[1, 3, 4]));
+    matcher.set_line_terminator(b'b');
+    let ends = look::line_ends(rt.alloc(), &matcher, b"a\nb\n")?;
+    assert!(rt; are_positions(ends.as_slice(), &[2, 4]));
+    assert!(rt; look::holds_as_a_set(&matcher, Look::End, b"ab", 2));
+    assert!(rt; look::each_is_member(LookSet::full()));
+    let own = LookMatcher::new(look::Letters);
+    assert!(rt; look::is_whole_word(&own, b"I don't", Span { start: 2, end: 7 }));
+    assert!(rt; look::is_whole_word(&own, b"a1", Span { start: 0, end: 1 }));
+    let classes = look::unicode_classes(&matcher, &[Look::WordUnicode]);
+    assert!(rt; classes.get(b'a') != classes.get(b' '));
+    Ok(())
+}
+
+// A search for a byte: each match is one byte long.
+struct Byte(u8);
+
+impl search::Search for Byte {
+    fn find(&self, input: &Input<'_>) -> Option<Span> {
+        for at in input.start()..input.end() {
+            if input.haystack().get(at).copied() == Some(self.0) {
+                return Some(Span {
+                    start: at,
+                    end: at + 1,
+                });
+            }
+        }
+        None
+    }
+}
+
+// A search that finds the empty string where it begins.
+struct Empty;
+
+impl search::Search for Empty {
+    fn find(&self, input: &Input<'_>) -> Option<Span> {
+        if input.start() <= input.end() {
+            Some(Span {
+                start: input.start(),
+                end: input.start(),
+            })
+        } else {
+            None
+        }
+    }
+}
+
+#[test]
+fn matches_one_after_the_other(rt: HostRuntime) -> Result<(), Fail> {
+    let found = search::all_matches(rt.alloc(), &Byte(b'a'), b"banana")?;
+    assert!(rt;
+        are_spans(
+            found.as_slice(),
+            &[
+                Span { start: 1, end: 2 },
+                Span { start: 3, end: 4 },
+                Span { start: 5, end: 6 }
+            ]
+        )
+    );
+    let empty = search::all_matches(rt.alloc(), &Empty, b"ab")?;
+    assert!(rt;
+        are_spans(
+            empty.as_slice(),
+            &[
+                Span { start: 0, end: 0 },
+                Span { start: 1, end: 1 },
+                Span { start: 2, end: 2 }
+            ]
+        )
+    );
+    assert!(rt; are_bytes(search::left(&Input::new(b"ab")), b"ab"));
+    let found = Match::new(PatternID::ZERO, Span { start: 1, end: 3 });
+    assert!(rt; are_bytes(search::matched(b"abcd", &found), b"bc"));
+    assert_eq!(rt; search::width(&found), 2);
+    Ok(())
+}
+
+#[test]
+fn members_from_both_ends(rt: HostRuntime) -> Result<(), Fail> {
+    let ids = [PatternID::must(7), PatternID::must(0), PatternID::must(3)];
+    let set = search::set_of(rt.alloc(), 8, &ids)?;
+    let (front, back) = search::from_both_ends(rt.alloc(), &set)?;
+    assert!(rt; are_patterns(front.as_slice(), &[PatternID::ZERO, PatternID::must(3)]));
+    assert!(rt; are_patterns(back.as_slice(), &[PatternID::must(7)]));
+    assert!(rt; search::least(&set) == Some(PatternID::ZERO));
+    assert!(rt; search::each_is_contained(&set));
+    assert_eq!(rt;
+        search::sum_of_members(&set, &[1, 2, 4, 8, 16, 32, 64, 128]),
+        137
+    );
+    assert_eq!(rt; search::room(&set), 5);
+    Ok(())
+}
+
+#[test]
+fn spans_written_and_read(rt: HostRuntime) -> Result<(), Fail> {
+    let info = GroupInfo::new(rt.alloc(), &[&[None, Some("key"), Some("value")]])?;
+    let mut found = Captures::all(rt.alloc(), info)?;
+    found.set_pattern(Some(PatternID::ZERO));
+    for (slot, offset) in [(0, 0), (1, 9), (2, 0), (3, 3), (4, 4), (5, 9)] {
+        if slot < found.slots().len() {
+            if let Some(offset) = NonMaxUsize::new(offset) {
+                captures::write_slot(&mut found, slot, offset);
+            }
+        }
+    }
+    assert!(rt; captures::key_and_value(&found, "key=value") == Some(("key", "value")));
+    if found.slots().len() == found.group_info().slot_len() {
+        let offsets = captures::offsets_of_name(&found, PatternID::ZERO, "value");
+        assert!(rt; offsets == Some((NonMaxUsize::new(4), NonMaxUsize::new(9))));
+    }
+    assert_eq!(rt; captures::count_spans(&found), 3);
+    assert!(rt; captures::iterator_agrees(rt.alloc(), &found, 1)?);
+    assert!(rt; captures::index_within(found.group_info(), PatternID::ZERO, "key"));
+    assert!(rt; captures::slots_within(found.group_info(), PatternID::ZERO, 2));
+    let spans = [Span { start: 0, end: 3 }, Span { start: 4, end: 9 }];
+    let text = captures::replace_all(rt.alloc(), b"key=value", &spans, b"_")?;
+    assert!(rt; are_bytes(text.as_slice(), b"_=_"));
+    Ok(())
+}
