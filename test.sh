@@ -20,8 +20,9 @@ case ${1:-all} in
     ./wrong-bodies.py
     step 3/4 "what must not compile"
     ./must-not-compile.sh
-    step 4/4 "documents: every name that a public contract cites is in docs/DEFINITIONS.md"
+    step 4/4 "documents: every name that a public contract cites is in docs/DEFINITIONS.md, and each CALLING.md is as the sources are"
     ./check-documents.py
+    ./calling-pages.py
     ;;
   *)
     echo "usage: ./test.sh [quick]" >&2

@@ -5,6 +5,7 @@
 pub mod alphabet;
 pub mod captures;
 pub mod look;
+pub mod nfa;
 pub mod primitives;
 pub mod search;
 #[cfg(test)]

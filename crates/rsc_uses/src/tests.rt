@@ -1,8 +1,9 @@
 //! Each caller, run on values.
-use crate::{alphabet, captures, look, primitives, search};
+use crate::{alphabet, captures, look, nfa, primitives, search};
 use rsc_alphabet::{ByteClassSet, ByteSet};
 use rsc_captures::{Captures, GroupInfo};
-use rsc_look::{Look, LookMatcher, LookSet, UnicodeWord};
+use rsc_look::{AsciiWord, Look, LookMatcher, LookSet, UnicodeWord};
+use rsc_nfa::{Nfa, State};
 use rsc_primitives::{NonMaxUsize, PatternID, StateID};
 use rsc_search::{Input, Match, Span};
 use std::test::Fail;
@@ -184,5 +185,25 @@ fn spans_written_and_read(rt: HostRuntime) -> Result<(), Fail> {
     let spans = [Span { start: 0, end: 3 }, Span { start: 4, end: 9 }];
     let text = captures::replace_all(rt.alloc(), b"key=value", &spans, b"_")?;
     assert!(rt; are_bytes(text.as_slice(), b"_=_"));
+    Ok(())
+}
+
+#[test]
+fn one_step(rt: HostRuntime) -> Result<(), Fail> {
+    let (from, next) = (StateID::ZERO, StateID::must(1));
+    let states = [
+        State::ByteRange {
+            start: b'a',
+            end: b'z',
+            next,
+        },
+        State::Accept {
+            pattern: PatternID::ZERO,
+        },
+    ];
+    let info = GroupInfo::new(rt.alloc(), &[&[None]])?;
+    let automaton = Nfa::new(rt.alloc(), info, LookMatcher::new(AsciiWord), &states)?;
+    assert!(rt; nfa::accepts_one_byte(&automaton, &Input::new(b"q"), from, (b'a', b'z'), next));
+    assert!(rt; !automaton.check_run(&Input::new(b"Q"), &[(from, 0), (next, 1)]));
     Ok(())
 }

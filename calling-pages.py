@@ -1,0 +1,135 @@
+#!/usr/bin/env python3
+"""Makes the lower part of each library's CALLING.md from the sources, or says which pages are out of date.
+
+    ./calling-pages.py [--write]
+
+A page's upper part is written by hand. It ends with a line `<!-- callers: FILE FUNCTION .. -->`, which names the functions of
+crates/rsc_uses/src/FILE that the page quotes. Below that line all is quoted: the callers, the contract of each public call, and the
+words of specs/ with the comment above each.
+"""
+import pathlib
+import re
+import sys
+
+ROOT = pathlib.Path(__file__).resolve().parent
+LIBRARIES = ("rsc_primitives", "rsc_alphabet", "rsc_look", "rsc_search", "rsc_captures", "rsc_nfa")
+MARK = re.compile(r"<!-- callers: (\S+) (.*) -->\n")
+LAWS = """## Laws, and what else may be cited
+
+A law is a public function of `{crate}::laws` that does nothing, and whose contract is the law. A function whose proof needs it calls it, as
+`laws::{law}();` at its beginning: from there on the law is among the facts that the checker searches.
+
+A contract or a proof of yours may name all of `Rattle.{crate}.specs`. Cite no lemma of `Rattle.{crate}.proofs`: they may change.
+"""
+
+
+def functions(text):
+    """Yields each function of a file: its type or trait, whether the call is public, and its signature with its clauses."""
+    owner, is_open, lines = "", False, None
+    for line in text.splitlines():
+        block = re.match(r"(?:pub )?(impl|trait)\b(?:<.*?>)? ?(.*?) ?\{", line)
+        if block:
+            owner, is_open = block[2], block[1] == "trait" or " for " in block[2]
+        elif line.startswith("}"):
+            owner, is_open = "", False
+        begins = re.match(r"\s*(pub )?(?:const )?fn \w", line)
+        if begins:
+            is_public, lines = bool(begins[1]) or is_open, []
+        if lines is None:
+            continue
+        is_body = re.match(r"\s*\{", line)
+        if not is_body:
+            lines.append(line)
+        if is_body or re.search(r"\{\s*(\}\s*)?$|;$", line) and not re.match(r"\s*(requires|ensures)", line):
+            yield owner, is_public, "\n".join(lines)
+            lines = None
+
+
+def shortened(owner, signature):
+    """Returns a signature as the page shows it: with its type before the name, and no body."""
+    signature = re.sub(r"\s*\{\s*\}?\s*$", "", signature) if not signature.endswith("}") or signature.endswith("{}") else signature
+    indent = re.match(r"\s*", signature)[0]
+    lines = [it.removeprefix(indent) for it in signature.split("\n")]
+    prefix = f"<{owner.replace(' for ', '> for <')}>::" if " for " in owner else f"{owner}::" if owner else ""
+    if " for " in owner:
+        trait, _, of = owner.partition(" for ")
+        prefix = f"<{of} as {trait}>::"
+    lines[0] = re.sub(r"(?:pub )?((?:const )?fn )", lambda it: it[1] + prefix, lines[0], count=1)
+    return "\n".join(lines)
+
+
+def sources(crate):
+    for file in sorted((ROOT / "crates" / crate / "src").glob("**/*.rt")):
+        if "tests" not in file.parts and file.name != "tests.rt":
+            yield file.relative_to(ROOT / "crates" / crate / "src"), file.read_text(encoding="utf-8")
+
+
+def contracts(crate):
+    parts = ["## Contracts", "", f"Quoted from `crates/{crate}/src`; `specs/` defines the words, and the `ghost use` lines of the quoted file say where.", ""]
+    for path, text in sources(crate):
+        shown = [shortened(owner, it) for owner, is_public, it in functions(text) if is_public]
+        if shown:
+            parts += [f"### `{path}`", "", "```text", *shown, "```", ""]
+    return "\n".join(parts)
+
+
+def words(crate):
+    """Returns the definitions of specs/, each with the comment above it; those of lemmas and layout come last."""
+    believed, others = [], []
+    for file in sorted((ROOT / "crates" / crate / "specs").glob("**/*.antt")):
+        comment = ""
+        for line in file.read_text(encoding="utf-8").splitlines():
+            name = re.match(r"(?:abbrev |unfoldable )*pub (?:record |data |class )?([^\s:]+)", line)
+            if line.startswith("-- "):
+                comment = f"{comment} {line[3:]}".strip()
+            elif name and not line.startswith("pub mod") and not line.startswith("  "):
+                rows = others if re.search(r"Laws|Layout|Same", file.stem) else believed
+                if comment or rows is believed:
+                    rows.append(f"| `{file.stem}.{name[1]}` | {comment.replace('|', chr(92) + '|')} |")
+                comment = ""
+            elif not line.strip():
+                comment = ""
+    parts = ["## Words of `specs/`", "", "| Word | What it says |", "|---|---|", *believed, ""]
+    if others:
+        parts += ["These serve proofs and the layout, and need no belief:", "", "| Word | What it says |", "|---|---|", *others, ""]
+    return "\n".join(parts)
+
+
+def caller(path, name):
+    """Returns a function of rsc_uses with the comment above it."""
+    lines = (ROOT / "crates/rsc_uses/src" / path).read_text(encoding="utf-8").splitlines()
+    at = next(k for k, line in enumerate(lines) if re.match(rf"pub fn {name}\b", line))
+    first = at
+    while lines[first - 1].startswith(("///", "#[")):
+        first -= 1
+    last = next(k for k in range(at, len(lines)) if lines[k].startswith("}"))
+    return "\n".join(lines[first : last + 1])
+
+
+def page(crate, text):
+    mark = MARK.search(text)
+    quoted = "\n\n".join(caller(mark[1], it) for it in mark[2].split())
+    laws = (ROOT / "crates" / crate / "src/laws.rt").read_text(encoding="utf-8")
+    law = re.search(r"pub fn (\w+)\(\)", laws)[1]
+    callers = f"## Callers\n\nFrom `crates/rsc_uses/src/{mark[1]}`, proved by the contracts below alone.\n\n```rust\n{quoted}\n```\n"
+    return text[: mark.end()] + "\n" + "\n".join([callers, LAWS.format(crate=crate, law=law), contracts(crate), words(crate)])
+
+
+def main():
+    stale = []
+    for crate in LIBRARIES:
+        file = ROOT / "crates" / crate / "CALLING.md"
+        text = file.read_text(encoding="utf-8")
+        made = page(crate, text)
+        if made != text:
+            stale.append(crate)
+            if "--write" in sys.argv:
+                file.write_text(made, encoding="utf-8")
+    if stale and "--write" not in sys.argv:
+        print(f"calling-pages: out of date: {', '.join(stale)}; ./calling-pages.py --write makes them anew")
+    print(f"calling-pages: {len(LIBRARIES) - len(stale)} passed, {0 if '--write' in sys.argv else len(stale)} failed")
+    return 1 if stale and "--write" not in sys.argv else 0
+
+
+if __name__ == "__main__":
+    sys.exit(main())
