@@ -1,6 +1,9 @@
+pub mod BitsLemmas
+pub mod IteratorLemmas
 pub mod NumbersLemmas
 pub mod PartsLent
 pub mod PatternSetsLemmas
 pub mod Rows
 pub mod SpansLemmas
+pub mod WordsLemmas
 pub mod MembersLemmas

@@ -1,5 +1,5 @@
 -- The test of membership, in std's words.
-use Rattle.std.proofs.Common.{◌≡◌, ℕ, zero, suc, ◌+◌, ◌-◌, ◌<◌, ◌≤◌, ◌↔◌, Bool, true, false, List, [], ◌∷◌, length, get_or, refl, sym, ap, arith, eqb, ◌||◌}
+use Rattle.std.proofs.Common.{◌≡◌, ℕ, zero, suc, ◌+◌, ◌<◌, ◌≤◌, ◌↔◌, true, false, List, [], ◌∷◌, length, get_or, refl, sym, ap, arith, eqb, ◌||◌}
 use Rattle.std.proofs.lemmas.Bool.Decides.{Decides-eqb}
 use Rattle.std.proofs.lemmas.List.Folds.{list_any_at}
 use Rattle.std.proofs.lemmas.List.{get_or_default}
@@ -8,7 +8,6 @@ use Rattle.std.specs.List.{Contains}
 use Rattle.std.specs.List.Sorted.{IsStrictlyIncreasing}
 use mathlib.Core.Bool.{true≢false}
 use Rattle.rsc_search.specs.PatternSets.{has_member}
-use Rattle.rsc_search.specs.PatternSetLayout.{patterns_of, set_between}
 
 to_contains : (members : List ℕ) (p : ℕ) → has_member members p ≡ true → Contains members p
 to_contains [] p h = absurd (true≢false (sym h))
@@ -43,9 +42,3 @@ first_is_least members rest first p parts ascends is =
 -- each member of a list is one of its members
 pub all_members : (members : List ℕ) → All (λ p. has_member members p ≡ true) members
 all_members members k d lt = list_any_at (λ q. eqb q (get_or members k d)) members k d lt ((Decides-eqb (get_or members k d) (get_or members k d)).1 refl)
-
--- what an iterator over the whole set gives are members
-pub each_is_member : (flags walked : List Bool) (n : ℕ) → walked ≡ flags → n ≡ length flags → All (λ p. has_member (patterns_of flags).members p ≡ true) (set_between walked 0 n)
-each_is_member flags walked n same all =
-    let whole : length flags - 0 ≡ length flags = omega arith in
-    rw (same, all, whole) (all_members (patterns_of flags).members)

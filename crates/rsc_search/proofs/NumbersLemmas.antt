@@ -1,5 +1,5 @@
 -- The numbers of a range that pass a test.
-use Rattle.std.proofs.Common.{◌≡◌, ◌≢◌, ℕ, zero, suc, ◌+◌, ◌<◌, ◌≤◌, Bool, true, false, cond, ◌||◌, List, [], ◌∷◌, ◌++◌, length, refl, ap, sym, ◌∙◌, arith, eqb}
+use Rattle.std.proofs.Common.{◌≡◌, ◌≢◌, ℕ, zero, suc, ◌+◌, ◌-◌, ◌<◌, ◌≤◌, Bool, true, false, cond, ◌||◌, List, [], ◌∷◌, ◌++◌, length, refl, ap, sym, ◌∙◌, arith, append-nil, eqb, ltb}
 use Rattle.std.proofs.lemmas.Grind.{common_steps}
 use Rattle.std.specs.List.{filter, range_with_len}
 use Rattle.rsc_search.specs.PatternSets.{has_member}
@@ -52,7 +52,7 @@ module _ (t : ℕ → Bool) where
       has_cond (t a) a q (filter t (range_with_len (a + 1) n))
       ∙ by_place a q (t a) (has_member (filter t (range_with_len (a + 1) n)) q) refl (λ eq. member_below (a + 1) n q (omega arith)) (λ ne. member_in (a + 1) n q (omega arith) (omega arith))
 
-  -- nothing before m passes, so the walk may begin there
+  -- nothing before m passes, so it may begin there
   pub filter_skip : (a n k : ℕ) → ((q : ℕ) → a ≤ q → q < a + k → t q ≡ false) → filter t (range_with_len a (k + n)) ≡ filter t (range_with_len (a + k) n)
   filter_skip a n zero fails = let none : zero + n ≡ n = omega arith in let there : a + zero ≡ a = omega arith in rw (none, there) refl
   filter_skip a n (suc k) fails =
@@ -73,6 +73,51 @@ module _ (t : ℕ → Bool) where
         | true ↦ rw there (ap (λ ps. a ∷ ps) (filter_last (a + 1) n))
         | false ↦ rw there (filter_last (a + 1) n)
       ]
+
+  -- from a on and below b: nothing between a and c passes, so it may begin at c
+  pub skip_front : (a c b : ℕ) → a ≤ c → ((q : ℕ) → a ≤ q → q < c → t q ≡ false) → filter t (range_with_len a (b - a)) ≡ filter t (range_with_len c (b - c))
+  skip_front a c b order fails =
+      elim (ltb b c) as (λ d. ltb b c ≡ d → filter t (range_with_len a (b - a)) ≡ filter t (range_with_len c (b - c))) [
+        | true ↦ λ e.
+            let short : b < c = grind (arith, common_steps) in
+            let none : b - c ≡ 0 = omega arith in
+            rw none (filter_none a (b - a) (λ q from below. fails q from (omega arith)))
+        | false ↦ λ e.
+            let long : c ≤ b = grind (arith, common_steps) in
+            let parts : b - a ≡ (c - a) + (b - c) = omega arith in
+            let there : a + (c - a) ≡ c = omega arith in
+            rw parts (rw there at (filter_skip a (b - c) (c - a) (λ q from below. fails q from (omega arith))))
+      ] refl
+
+  drop_back : (a m n : ℕ) → ((q : ℕ) → a + m ≤ q → q < a + (m + n) → t q ≡ false) → filter t (range_with_len a (m + n)) ≡ filter t (range_with_len a m)
+  drop_back a m zero fails = let none : m + zero ≡ m = omega arith in rw none refl
+  drop_back a m (suc n) fails =
+      let more : m + suc n ≡ suc (m + n) = omega arith in
+      rw more (rw (fails (a + (m + n)) (omega arith) (omega arith), append-nil) at (filter_last a (m + n))) ∙ drop_back a m n (λ q from below. fails q from (omega arith))
+
+  -- nothing between c and b passes, so it may end at c
+  pub skip_back : (a c b : ℕ) → c ≤ b → ((q : ℕ) → c ≤ q → q < b → t q ≡ false) → filter t (range_with_len a (b - a)) ≡ filter t (range_with_len a (c - a))
+  skip_back a c b order fails =
+      elim (ltb c a) as (λ d. ltb c a ≡ d → filter t (range_with_len a (b - a)) ≡ filter t (range_with_len a (c - a))) [
+        | true ↦ λ e.
+            let short : c < a = grind (arith, common_steps) in
+            let none : c - a ≡ 0 = omega arith in
+            rw none (filter_none a (b - a) (λ q from below. fails q (omega arith) (omega arith)))
+        | false ↦ λ e.
+            let long : a ≤ c = grind (arith, common_steps) in
+            let parts : b - a ≡ (c - a) + (b - c) = omega arith in
+            rw parts (drop_back a (c - a) (b - c) (λ q from below. fails q (omega arith) (omega arith)))
+      ] refl
+
+  -- the first and the last of the numbers that pass
+  pub first_passes : (a b : ℕ) → a < b → t a ≡ true → filter t (range_with_len a (b - a)) ≡ a ∷ filter t (range_with_len (a + 1) (b - (a + 1)))
+  first_passes a b lt is = let more : b - a ≡ suc (b - (a + 1)) = omega arith in rw (more, is) refl
+
+  pub last_passes : (a p : ℕ) → a ≤ p → t p ≡ true → filter t (range_with_len a ((p + 1) - a)) ≡ filter t (range_with_len a (p - a)) ++ p ∷ []
+  last_passes a p le is =
+      let more : (p + 1) - a ≡ suc (p - a) = omega arith in
+      let there : a + (p - a) ≡ p = omega arith in
+      rw more (rw (there, is) at (filter_last a (p - a)))
 
 module _ (t u : ℕ → Bool) where
   pub filter_alike : (a n : ℕ) → ((q : ℕ) → a ≤ q → q < a + n → t q ≡ u q) → filter t (range_with_len a n) ≡ filter u (range_with_len a n)

@@ -1,163 +1,124 @@
--- The members of a set, by its flags.
-use Rattle.std.proofs.Common.{◌≡◌, ◌≢◌, ℕ, zero, suc, replicate, ◌+◌, ◌-◌, ◌<◌, ◌≤◌, Bool, true, false, cond, ◌||◌, List, [], ◌∷◌, ◌++◌, length, get_or, set, refl, ap, sym, ◌∙◌, arith, append-nil, eqb, ltb, get_or-set_other, get_or-set_same}
-use Rattle.std.proofs.lemmas.List.{length-set, get_or_past}
+-- The members of a set, by its words.
+use Rattle.std.proofs.Common.{◌≡◌, ◌≢◌, ℕ, zero, suc, replicate, ◌+◌, ◌/◌, ◌%◌, ◌<◌, ◌≤◌, ◌↔◌, Bool, true, false, ◌||◌, ◌&&◌, List, [], length, set, refl, sym, ap, ◌∙◌, arith, eqb, ltb, get_or-set_other, get_or-set_same}
 use Rattle.std.proofs.lemmas.Grind.{common_steps}
 use Rattle.std.proofs.lemmas.Bool.{and_parts}
-use Rattle.std.proofs.lemmas.Bool.Decides.{Decides-eqb}
-use Rattle.std.proofs.lemmas.List.{ext_get_or}
-use Rattle.std.proofs.lemmas.List.Elements.{All-filter}
-use Rattle.std.proofs.lemmas.List.FromFn.{length-range_with_len, get_or-range_with_len}
-use Rattle.std.proofs.lemmas.List.Kept.{IsStrictlyIncreasing-filter}
-use Rattle.std.specs.Prelude.{All}
-use Rattle.std.specs.List.Sorted.{IsStrictlyIncreasing}
+use Rattle.std.proofs.lemmas.Nat.Bits.{bit_at-zero}
 use Rattle.std.proofs.lemmas.Slice.Eq.{bytes_eq-Decides}
-use Rattle.std.proofs.Math.Bool.{beq}
-use Rattle.std.specs.Cmp.{booleans_Decides, both_ways}
-use Rattle.std.specs.Cmp.Lexicographic.{pointwise, pointwise_decides}
+use Rattle.std.specs.Cmp.{both_ways}
+use Rattle.std.specs.Int.{div_ceil}
 use Rattle.std.specs.Str.{bytes_eq}
-use Rattle.std.specs.List.{filter, range_with_len}
+use mathlib.Core.Bool.{true≢false}
 use Rattle.rsc_search.specs.PatternSetsLaws.{same_patterns_equiv}
 use Rattle.rsc_search.specs.PatternSets.{Patterns, has_member, numbers_below, with_member, same_patterns}
-use Rattle.rsc_search.specs.PatternSetLayout.{is_set, set_between, patterns_of}
-use Rattle.rsc_search.proofs.NumbersLemmas.{member_in, member_above, filter_none, filter_skip, filter_last, filter_alike, length_one_more, length_filter_le}
+use Rattle.rsc_search.specs.PatternSetLayout.{patterns_of}
+use Rattle.rsc_search.specs.WordLayout.{has_bit, word_of, is_set, SameBits}
+use Rattle.rsc_search.proofs.BitsLemmas.{differ, same}
+use Rattle.rsc_search.proofs.NumbersLemmas.{member_in, member_above, filter_none, filter_alike, length_one_more, length_filter_le}
 
--- a number is a member exactly if its flag is set
-pub has_member-set : (flags : List Bool) (p : ℕ) → has_member (patterns_of flags).members p ≡ is_set flags p
-has_member-set flags p =
-    elim (ltb p (length flags)) as (λ b. ltb p (length flags) ≡ b → has_member (patterns_of flags).members p ≡ is_set flags p) [
-      | true ↦ λ e. let lt : p < length flags = grind (arith, common_steps) in (member_in (is_set flags) 0 (length flags) p (omega arith) (omega arith))
-      | false ↦ λ e. let le : length flags ≤ p = grind (arith, common_steps) in rw (get_or_past flags p false le) (member_above (is_set flags) 0 (length flags) p (omega arith))
+-- two numbers are the same exactly if their words and their bits are
+by_parts : (q p : ℕ) → eqb q p ≡ (eqb (q / 64) (p / 64) && eqb (q % 64) (p % 64))
+by_parts q p =
+    elim (eqb (q / 64) (p / 64)) as (λ b. eqb (q / 64) (p / 64) ≡ b → eqb q p ≡ (b && eqb (q % 64) (p % 64))) [
+      | true ↦ λ e.
+          let words : q / 64 ≡ p / 64 = grind (arith, common_steps) in
+          elim (eqb (q % 64) (p % 64)) as (λ b. eqb (q % 64) (p % 64) ≡ b → eqb q p ≡ b) [
+            | true ↦ λ f. let bits : q % 64 ≡ p % 64 = grind (arith, common_steps) in same q p (omega (arith, words, bits))
+            | false ↦ λ f. let bits : q % 64 ≢ p % 64 = grind (arith, common_steps) in differ q p (λ eq. bits (ap (λ n. n % 64) eq))
+          ] refl
+      | false ↦ λ e. let words : q / 64 ≢ p / 64 = grind (arith, common_steps) in differ q p (λ eq. words (ap (λ n. n / 64) eq))
     ] refl
 
--- a number whose flag is set is below the capacity
-pub set_below : (flags : List Bool) (p : ℕ) → is_set flags p ≡ true → p < length flags
-set_below [] p is = cc
-set_below (flag ∷ flags) zero is = omega arith
-set_below (flag ∷ flags) (suc p) is = let rest : p < length flags = set_below flags p is in omega arith
-
-eqb_same : (p : ℕ) → eqb p p ≡ true
-eqb_same p = grind (arith, common_steps)
-
-or_false_left : (q p : ℕ) (b : Bool) → q ≢ p → (eqb q p || b) ≡ b
-or_false_left q p b ne = let e : eqb q p ≡ false = grind (arith, common_steps) in rw e refl
-
--- the flag of one number is that of the set with it as a member
-set_flag : (flags : List Bool) (p q : ℕ) → p < length flags → is_set (set flags p true) q ≡ (eqb q p || is_set flags q)
-set_flag flags p q lt =
-    elim (eqb q p) as (λ b. eqb q p ≡ b → is_set (set flags p true) q ≡ (b || is_set flags q)) [
-      | true ↦ λ e. let eq : q ≡ p = grind (arith, common_steps) in rw (eq, get_or-set_same {A = Bool}) refl
-      | false ↦ λ e. let ne : q ≢ p = grind (arith, common_steps) in rw (get_or-set_other {A = Bool}) refl
+-- a word of the list replaced by the same with one more bit
+pub one_more_set : (words : List ℕ) (p word : ℕ) → p / 64 < length words → ((j : ℕ) → has_bit word j ≡ (eqb j (p % 64) || has_bit (word_of words (p / 64)) j))
+    → (q : ℕ) → is_set (set words (p / 64) word) q ≡ (eqb q p || is_set words q)
+one_more_set words p word lt is q =
+    elim (eqb (q / 64) (p / 64)) as (λ b. eqb (q / 64) (p / 64) ≡ b → is_set (set words (p / 64) word) q ≡ (eqb q p || is_set words q)) [
+      | true ↦ λ e.
+          let eq : q / 64 ≡ p / 64 = grind (arith, common_steps) in
+          rw (by_parts q p, e, eq, get_or-set_same {A = ℕ}) (is (q % 64))
+      | false ↦ λ e.
+          let ne : q / 64 ≢ p / 64 = grind (arith, common_steps) in
+          rw (by_parts q p, e, get_or-set_other {A = ℕ}) refl
     ] refl
 
--- writing a flag makes the number a member
-pub set_with_member : (flags : List Bool) (p : ℕ) → p < length flags → patterns_of (set flags p true) ≡ with_member (patterns_of flags) p
-set_with_member flags p lt =
-    let len : length (set flags p true) ≡ length flags = length-set flags p true in
-    let members : filter (is_set (set flags p true)) (range_with_len 0 (length flags)) ≡ filter (λ q. eqb q p || has_member (patterns_of flags).members q) (range_with_len 0 (length flags)) =
-    filter_alike (is_set (set flags p true)) (λ q. eqb q p || has_member (patterns_of flags).members q) 0 (length flags) (λ q from below. set_flag flags p q lt ∙ ap (λ b. eqb q p || b) (sym (has_member-set flags q))) in
-    rw len (ap (λ (ms : List ℕ). let s : Patterns = record { capacity = length flags; members = ms } in s) members)
+-- there is a word for each number below the capacity
+pub has_word : (capacity p n : ℕ) → n ≡ div_ceil capacity 64 → p < capacity → p / 64 < n
+has_word capacity p n is lt = omega (arith, is, lt)
 
--- a member's insertion leaves the set as it is
-pub member_stays : (flags : List Bool) (p : ℕ) → is_set flags p ≡ true → patterns_of flags ≡ with_member (patterns_of flags) p
-member_stays flags p is =
-    let members : filter (is_set flags) (range_with_len 0 (length flags)) ≡ filter (λ q. eqb q p || has_member (patterns_of flags).members q) (range_with_len 0 (length flags)) =
-    filter_alike (is_set flags) (λ q. eqb q p || has_member (patterns_of flags).members q) 0 (length flags) (λ q from below. stays q ∙ ap (λ b. eqb q p || b) (sym (has_member-set flags q))) in
-    (ap (λ (ms : List ℕ). let s : Patterns = record { capacity = length flags; members = ms } in s) members)
+-- no bit of zeros is set
+pub none_of_zeros : (n p : ℕ) → is_set (replicate n 0) p ≡ false
+none_of_zeros n p =
+    let clear : has_bit 0 (p % 64) ≡ false = ap (λ (b : ℕ). eqb b 1) (bit_at-zero (p % 64)) in
+    ap (λ (word : ℕ). has_bit word (p % 64)) (zeros n (p / 64)) ∙ clear
   where
-    stays : (q : ℕ) → is_set flags q ≡ (eqb q p || is_set flags q)
-    stays q = elim (eqb q p) as (λ b. eqb q p ≡ b → is_set flags q ≡ (b || is_set flags q)) [ true ↦ λ e. let eq : q ≡ p = grind (arith, common_steps) in ap (is_set flags) eq ∙ is | false ↦ λ e. refl ] refl
+    zeros : (n i : ℕ) → word_of (replicate n 0) i ≡ 0
+    zeros zero i = refl
+    zeros (suc n) zero = refl
+    zeros (suc n) (suc i) = zeros n i
 
--- the count after a new member
-pub one_more_member : (flags : List Bool) (p : ℕ) → p < length flags → is_set flags p ≡ false → length (numbers_below (length (set flags p true)) (is_set (set flags p true))) ≡ length (numbers_below (length flags) (is_set flags)) + 1
-one_more_member flags p lt out =
-    let len : length (set flags p true) ≡ length flags = length-set flags p true in
-    let in_set : is_set (set flags p true) p ≡ true = set_flag flags p p lt ∙ ap (λ b. b || is_set flags p) (eqb_same p) in
-    rw len (length_one_more (is_set flags) (is_set (set flags p true)) 0 (length flags) p (omega arith) (omega arith) out in_set (λ q ne. sym (set_flag flags p q lt ∙ or_false_left q p (is_set flags q) ne)))
+pub no_members : (capacity n : ℕ) → numbers_below capacity (is_set (replicate n 0)) ≡ []
+no_members capacity n = filter_none (is_set (replicate n 0)) 0 capacity (λ q from below. none_of_zeros n q)
 
-pub members_within : (flags : List Bool) → length (numbers_below (length flags) (is_set flags)) ≤ length flags
-members_within flags = length_filter_le (is_set flags) 0 (length flags)
+pub members_within : (capacity : ℕ) (words : List ℕ) → length (numbers_below capacity (is_set words)) ≤ capacity
+members_within capacity words = length_filter_le (is_set words) 0 capacity
 
--- with no flag set there is no member
-pub none_set : (n : ℕ) → numbers_below (length (replicate n false)) (is_set (replicate n false)) ≡ []
-none_set n = filter_none (is_set (replicate n false)) 0 (length (replicate n false)) (λ q from below. clear n q)
-  where
-    clear : (n q : ℕ) → get_or (replicate n false) q false ≡ false
-    clear zero q = refl
-    clear (suc n) zero = refl
-    clear (suc n) (suc q) = clear n q
+module _ (capacity : ℕ) (words : List ℕ) (spare_clear : (p : ℕ) → capacity ≤ p → is_set words p ≡ false) where
+  -- a number is a member exactly if its bit is set
+  pub has_member-set : (p : ℕ) → has_member (patterns_of capacity words).members p ≡ is_set words p
+  has_member-set p =
+      elim (ltb p capacity) as (λ b. ltb p capacity ≡ b → has_member (patterns_of capacity words).members p ≡ is_set words p) [
+        | true ↦ λ e. let lt : p < capacity = grind (arith, common_steps) in member_in (is_set words) 0 capacity p (omega arith) (omega arith)
+        | false ↦ λ e. let le : capacity ≤ p = grind (arith, common_steps) in member_above (is_set words) 0 capacity p (omega arith) ∙ sym (spare_clear p le)
+      ] refl
 
--- where no flag is set there is nothing to walk
-pub walk_none : (flags : List Bool) (start end : ℕ) → start ≤ end → ((q : ℕ) → start ≤ q → q < end → is_set flags q ≡ false) → set_between flags start end ≡ []
-walk_none flags start end le clear = filter_none (is_set flags) start (end - start) (λ q from below. clear q from (omega arith))
+  -- a number whose bit is set is below the capacity
+  pub set_below : (p : ℕ) → is_set words p ≡ true → p < capacity
+  set_below p is =
+      elim (ltb p capacity) as (λ b. ltb p capacity ≡ b → p < capacity) [
+        | true ↦ λ e. grind (arith, common_steps)
+        | false ↦ λ e. let le : capacity ≤ p = grind (arith, common_steps) in absurd (true≢false (sym is ∙ spare_clear p le))
+      ] refl
 
-pub walk_ended : (flags : List Bool) (at : ℕ) → set_between flags at at ≡ []
-walk_ended flags at = let none : at - at ≡ 0 = omega arith in rw none refl
+  -- words with the bits of one more number, or with the same bits where it is a member, are the set with it as a member
+  pub with_one_more : (others : List ℕ) (p : ℕ) → ((q : ℕ) → is_set others q ≡ (eqb q p || is_set words q)) → patterns_of capacity others ≡ with_member (patterns_of capacity words) p
+  with_one_more others p at =
+      let members : numbers_below capacity (is_set others) ≡ numbers_below capacity (λ q. eqb q p || has_member (patterns_of capacity words).members q) =
+      filter_alike (is_set others) (λ q. eqb q p || has_member (patterns_of capacity words).members q) 0 capacity (λ q from below. at q ∙ ap (λ b. eqb q p || b) (sym (has_member-set q))) in
+      ap (λ (ms : List ℕ). let s : Patterns = record { capacity = capacity; members = ms } in s) members
 
--- the first member of a walk
-pub walk_first : (flags : List Bool) (start p end : ℕ) → start ≤ p → p < end → ((q : ℕ) → start ≤ q → q < p → is_set flags q ≡ false) → is_set flags p ≡ true → set_between flags start end ≡ p ∷ set_between flags (p + 1) end
-walk_first flags start p end from lt clear found =
-    let parts : end - start ≡ (p - start) + (end - p) = omega arith in
-    let there : start + (p - start) ≡ p = omega arith in
-    let more : end - p ≡ suc (end - (p + 1)) = omega arith in
-    let skipped : filter (is_set flags) (range_with_len start ((p - start) + (end - p))) ≡ filter (is_set flags) (range_with_len (start + (p - start)) (end - p)) = filter_skip (is_set flags) start (end - p) (p - start) (λ q a b. clear q a (omega arith)) in
-    let first : filter (is_set flags) (range_with_len p (end - p)) ≡ p ∷ set_between flags (p + 1) end = rw (more, found) refl in
-    rw (parts, skipped, there) first
+  pub member_stays : (p : ℕ) → is_set words p ≡ true → patterns_of capacity words ≡ with_member (patterns_of capacity words) p
+  member_stays p is = with_one_more words p (λ q. elim (eqb q p) as (λ b. eqb q p ≡ b → is_set words q ≡ (b || is_set words q)) [ true ↦ λ e. let eq : q ≡ p = grind (arith, common_steps) in ap (is_set words) eq ∙ is | false ↦ λ e. refl ] refl)
 
--- the last member of a walk
-pub walk_last : (flags : List Bool) (start p end : ℕ) → start ≤ p → p < end → ((q : ℕ) → p + 1 ≤ q → q < end → is_set flags q ≡ false) → is_set flags p ≡ true → set_between flags start end ≡ set_between flags start p ++ p ∷ []
-walk_last flags start p end from lt clear found = back (end - (p + 1)) end (omega arith) clear
-  where
-    back : (n e : ℕ) → e ≡ p + 1 + n → ((q : ℕ) → p + 1 ≤ q → q < e → is_set flags q ≡ false) → set_between flags start e ≡ set_between flags start p ++ p ∷ []
-    back zero e is fails =
-        let all : e - start ≡ suc (p - start) = omega arith in
-        let there : start + (p - start) ≡ p = omega arith in
-        let last : filter (is_set flags) (range_with_len start (suc (p - start))) ≡ set_between flags start p ++ cond (is_set flags (start + (p - start))) ((start + (p - start)) ∷ []) [] = filter_last (is_set flags) start (p - start) in
-        rw all (rw (there, found) at last)
-    back (suc n) e is fails =
-        let all : e - start ≡ suc ((p + 1 + n) - start) = omega arith in
-        let there : start + ((p + 1 + n) - start) ≡ p + 1 + n = omega arith in
-        let out : is_set flags (p + 1 + n) ≡ false = fails (p + 1 + n) (omega arith) (omega arith) in
-        let last : filter (is_set flags) (range_with_len start (suc ((p + 1 + n) - start))) ≡ set_between flags start (p + 1 + n) ++ cond (is_set flags (start + ((p + 1 + n) - start))) ((start + ((p + 1 + n) - start)) ∷ []) [] = filter_last (is_set flags) start ((p + 1 + n) - start) in
-        let rest : set_between flags start (p + 1 + n) ≡ set_between flags start p ++ p ∷ [] = back n (p + 1 + n) refl (λ q a b. fails q a (omega arith)) in
-        rw all ((rw (there, out, append-nil) at last) ∙ rest)
+  -- the bits at and above the capacity stay clear
+  pub spare_stays : (others : List ℕ) (p : ℕ) → p < capacity → ((q : ℕ) → is_set others q ≡ (eqb q p || is_set words q)) → (q : ℕ) → capacity ≤ q → is_set others q ≡ false
+  spare_stays others p lt at q le = at q ∙ rw (differ q p (omega arith), spare_clear q le) refl
 
--- the same, by the place after the last member
-pub walk_last_after : (flags : List Bool) (start after end : ℕ) → start < after → after ≤ end → ((q : ℕ) → after ≤ q → q < end → is_set flags q ≡ false) → is_set flags (after - 1) ≡ true → set_between flags start end ≡ set_between flags start (after - 1) ++ (after - 1) ∷ []
-walk_last_after flags start after end lt le clear found =
-    walk_last flags start (after - 1) end (omega arith) (omega arith) (λ q from below. clear q (omega arith) below) found
-
--- lists of flags are equal exactly if they make equal sets
-pub same_flags : (xs ys : List Bool) → pointwise beq xs ys ≡ same_patterns (patterns_of xs) (patterns_of ys)
-same_flags xs ys = both_ways (pointwise beq xs ys) (same_patterns (patterns_of xs) (patterns_of ys)) to from
-  where
-    to : pointwise beq xs ys ≡ true → same_patterns (patterns_of xs) (patterns_of ys) ≡ true
-    to e = let eq : xs ≡ ys = (pointwise_decides booleans_Decides xs ys).0 e in rw eq (same_patterns_equiv.refl (patterns_of ys))
-
-    from : same_patterns (patterns_of xs) (patterns_of ys) ≡ true → pointwise beq xs ys ≡ true
-    from e =
-        let parts = and_parts (eqb (length xs) (length ys)) (bytes_eq (patterns_of xs).members (patterns_of ys).members) e in
-        let lengths : length xs ≡ length ys = (Decides-eqb (length xs) (length ys)).0 parts.0 in
-        let members : (patterns_of xs).members ≡ (patterns_of ys).members = (bytes_eq-Decides (patterns_of xs).members (patterns_of ys).members).0 parts.1 in
-        let flags : xs ≡ ys = ext_get_or false xs ys lengths (λ p lt. sym (has_member-set xs p) ∙ ap (λ ms. has_member ms p) members ∙ has_member-set ys p) in
-        (pointwise_decides booleans_Decides xs ys).1 flags
-
--- the members of a walk ascend, and are below where it ends
-pub walk_ascends : (flags : List Bool) (start end : ℕ) → IsStrictlyIncreasing (set_between flags start end)
-walk_ascends flags start end = IsStrictlyIncreasing-filter (is_set flags) (range_with_len start (end - start)) rises
-  where
-    rises : IsStrictlyIncreasing (range_with_len start (end - start))
-    rises k within =
-        let count : length (range_with_len start (end - start)) ≡ end - start = length-range_with_len start (end - start) in
-        let here : get_or (range_with_len start (end - start)) k 0 ≡ start + k = get_or-range_with_len start (end - start) k 0 (omega arith) in
-        let next : get_or (range_with_len start (end - start)) (k + 1) 0 ≡ start + (k + 1) = get_or-range_with_len start (end - start) (k + 1) 0 (omega arith) in
-        omega arith
-
-pub walk_below : (flags : List Bool) (start end n : ℕ) → end ≤ n → All (λ p. p < n) (set_between flags start end)
-walk_below flags start end n le = All-filter (is_set flags) (λ p. p < n) (range_with_len start (end - start)) (λ k d within.
-    let count : length (range_with_len start (end - start)) ≡ end - start = length-range_with_len start (end - start) in
-    let here : get_or (range_with_len start (end - start)) k d ≡ start + k = get_or-range_with_len start (end - start) k d (omega arith) in
-    omega arith)
+  -- the count after a new member
+  pub one_more_member : (others : List ℕ) (p : ℕ) → p < capacity → is_set words p ≡ false → ((q : ℕ) → is_set others q ≡ (eqb q p || is_set words q))
+      → length (numbers_below capacity (is_set others)) ≡ length (numbers_below capacity (is_set words)) + 1
+  one_more_member others p lt out at =
+      let is_in : is_set others p ≡ true = at p ∙ rw (same p p refl) refl in
+      length_one_more (is_set words) (is_set others) 0 capacity p (omega arith) (omega arith) out is_in (λ q ne. sym (at q ∙ rw (differ q p ne) refl))
 
 -- a number below the capacity is a member after an insertion exactly if it was one or is the new one
 pub has_member-with_member : (s : Patterns) (p q : ℕ) → q < s.capacity → has_member (with_member s p).members q ≡ (eqb q p || has_member s.members q)
 has_member-with_member s p q lt = member_in (λ r. eqb r p || has_member s.members r) 0 s.capacity q (omega arith) (omega arith)
+
+-- sets of the same capacity are equal exactly if the same bits are set
+module _ (capacity : ℕ) (xs ys : List ℕ) (lengths : length xs ≡ length ys) (xs_spare : (p : ℕ) → capacity ≤ p → is_set xs p ≡ false) (ys_spare : (p : ℕ) → capacity ≤ p → is_set ys p ≡ false) where
+  same_if_bits : SameBits xs ys → same_patterns (patterns_of capacity xs) (patterns_of capacity ys) ≡ true
+  same_if_bits same_bits =
+      let members : (patterns_of capacity xs).members ≡ (patterns_of capacity ys).members = filter_alike (is_set xs) (is_set ys) 0 capacity (λ q from below. same_bits.bits_are q) in
+      rw members (same_patterns_equiv.refl (patterns_of capacity ys))
+
+  bits_if_same : same_patterns (patterns_of capacity xs) (patterns_of capacity ys) ≡ true → SameBits xs ys
+  bits_if_same e =
+      let parts = and_parts (eqb capacity capacity) (bytes_eq (patterns_of capacity xs).members (patterns_of capacity ys).members) e in
+      let members : (patterns_of capacity xs).members ≡ (patterns_of capacity ys).members = (bytes_eq-Decides (patterns_of capacity xs).members (patterns_of capacity ys).members).0 parts.1 in
+      record {
+        as_many = lengths;
+        bits_are = λ p. sym (has_member-set capacity xs xs_spare p) ∙ ap (λ ms. has_member ms p) members ∙ has_member-set capacity ys ys_spare p;
+      }
+
+  pub same_by_bits : (b : Bool) → (b ≡ true) ↔ SameBits xs ys → b ≡ same_patterns (patterns_of capacity xs) (patterns_of capacity ys)
+  same_by_bits b decides = both_ways b (same_patterns (patterns_of capacity xs) (patterns_of capacity ys)) (λ e. same_if_bits (decides.0 e)) (λ e. decides.1 (bits_if_same e))

@@ -8,3 +8,4 @@ pub mod PatternSetsLaws
 pub mod Spans
 pub mod SpansLaws
 pub mod Texts
+pub mod WordLayout

@@ -1,28 +1,27 @@
--- The numbers whose flags are set, as the code holds a set.
-use Rattle.std.specs.Prelude.{◌≡◌, ◌≤◌, ℕ, ◌-◌, Bool, false, List, length, filter, slice_index_or}
-use Rattle.std.specs.List.{range_with_len}
+-- How the code holds a set: by words whose set bits are its members.
+use Rattle.std.specs.Prelude.{◌≡◌, ◌≤◌, ◌<◌, ℕ, true, false, List, length}
+use Rattle.std.specs.Int.{div_ceil}
 use Rattle.rsc_search.specs.PatternSets.{Patterns, numbers_below}
+use Rattle.rsc_search.specs.WordLayout.{is_set, set_between, rest_start, rest_end, IsRestFrom, IsRestTo}
 
--- the flag of p is set
-abbrev pub is_set : List Bool → ℕ → Bool
-is_set flags p = slice_index_or flags p false
+-- the set of that capacity whose members are the numbers with a set bit
+abbrev pub patterns_of : ℕ → List ℕ → Patterns
+patterns_of capacity words = record { capacity = capacity; members = numbers_below capacity (is_set words) }
 
--- the numbers from a on and below b whose flags are set, ascending
-abbrev pub set_between : List Bool → ℕ → ℕ → List ℕ
-set_between flags a b = filter (is_set flags) (range_with_len a (b - a))
+-- a word for each 64 numbers begun, no bit set at or above the capacity, and the count that of the members
+pub record IsPacked (capacity : ℕ) (words : List ℕ) (count : ℕ) : Type 0 where
+  pub fits : capacity ≤ 2147483647
+  pub length_is : length words ≡ div_ceil capacity 64
+  pub spare_clear : (p : ℕ) → capacity ≤ p → is_set words p ≡ false
+  pub count_is : count ≡ length (numbers_below capacity (is_set words))
 
--- the set whose members are the numbers with a set flag
-abbrev pub patterns_of : List Bool → Patterns
-patterns_of flags = record { capacity = length flags; members = numbers_below (length flags) (is_set flags) }
+-- the members that are left between the rests of two words
+abbrev pub left_between : List ℕ → ℕ → ℕ → ℕ → ℕ → List ℕ
+left_between words front_index front back_index back = set_between words (rest_start front_index front) (rest_end back_index back)
 
--- the count is that of the members, and each number below the capacity is a pattern's
-pub record IsCounted (flags : List Bool) (count : ℕ) : Type 0 where
-  pub count_is : count ≡ length (numbers_below (length flags) (is_set flags))
-  pub capacity : length flags ≤ 2147483647
-
--- a walk over the flags from start to end, with so many members left
-pub record IsWalk (flags : List Bool) (start end left : ℕ) : Type 0 where
-  pub order : start ≤ end
-  pub within : end ≤ length flags
-  pub capacity : length flags ≤ 2147483647
-  pub left_is : left ≡ length (set_between flags start end)
+-- an iterator between the rests of two words, the second held from its highest bit down, with so many members left
+pub record IsBetween (words : List ℕ) (front_index front back_index back left : ℕ) : Type 0 where
+  pub front_is : IsRestFrom words front_index front
+  pub back_is : IsRestTo words back_index back
+  pub fits : (p : ℕ) → is_set words p ≡ true → p < 2147483647
+  pub left_is : left ≡ length (left_between words front_index front back_index back)

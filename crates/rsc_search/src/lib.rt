@@ -8,6 +8,7 @@ pub mod laws;
 mod matches;
 mod pattern_set;
 mod span;
+mod words;
 
 pub use anchored::{Anchored, MatchKind};
 pub use error::{MatchError, MatchErrorKind};

@@ -1,11 +1,13 @@
-//! Sets of patterns, and the walk over their members from both ends.
+//! Sets of patterns, and the iterator over their members from both ends.
 ghost use Rattle.std.specs.Prelude.{◌≡◌, ℕ, ◌-◌, ◌<◌, ◌≤◌, ◌↔◌, true, false, not, All, length, IsTrue, IsOk, IfOk, IfErr, IfSome, OnOk, OnErr, Some};
 ghost use Rattle.std.specs.List.Sorted.{IsStrictlyIncreasing};
 ghost use Rattle.std.specs.Iterator.{YieldsFirst, YieldsLast, item_count, UpTo, at_most};
 ghost use Rattle.std.specs.Iterator.SizeHint.{IsWithinCount};
 ghost use Rattle.rsc_search.specs.PatternSets.{Patterns, no_patterns, has_member, with_member};
-ghost use Rattle.rsc_search.specs.PatternSetLayout.{is_set};
 
+use crate::words::{
+    BITS, first_from, has_bit, have_same_bits, last_to, reversed, with_bit, without_lowest, word_at,
+};
 use rsc_primitives::PatternID;
 use std::alloc::{AllocError, Allocator, Global};
 use std::marker::Model;
@@ -16,19 +18,21 @@ use std::{error, fmt};
 /// A contract sees it as its capacity and its members, ascending.
 #[derive(Debug, Drop)]
 pub struct PatternSet<A: Allocator = Global> {
-    which: Vec<bool, A>,
+    // Pattern `p` is a member where bit `p % 64` of word `p / 64` is set.
+    words: Vec<u64, A>,
+    capacity: usize,
     count: usize,
 }
 
 impl<A: Allocator> Model for PatternSet<A> {
     ghost use Rattle.rsc_search.specs.PatternSets.{Patterns};
-    ghost use Rattle.rsc_search.specs.PatternSetLayout.{patterns_of, IsCounted};
+    ghost use Rattle.rsc_search.specs.PatternSetLayout.{patterns_of, IsPacked};
 
     ghost Value = { Patterns };
 
-    ghost view = { λ s. patterns_of s.which.items };
+    ghost view = { λ s. patterns_of s.capacity s.words.items };
 
-    ghost invariant = { λ s. IsCounted s.which.items s.count };
+    ghost invariant = { λ s. IsPacked s.capacity s.words.items s.count };
 }
 
 impl<A: Allocator> PatternSet<A> {
@@ -39,7 +43,8 @@ impl<A: Allocator> PatternSet<A> {
         ensures { IfOk result (λ set. set ≡ no_patterns capacity) }
     {
         Ok(PatternSet {
-            which: vec![in alloc; false; capacity]?,
+            words: vec![in alloc; 0; capacity.div_ceil(BITS)]?,
+            capacity,
             count: 0,
         })
     }
@@ -48,7 +53,7 @@ impl<A: Allocator> PatternSet<A> {
     pub fn clear(&mut self)
         ensures { self.new ≡ no_patterns self.old.capacity }
     {
-        self.which.fill(false);
+        self.words.fill(0);
         self.count = 0;
     }
 
@@ -58,7 +63,8 @@ impl<A: Allocator> PatternSet<A> {
         ensures value { result ≡ has_member self.now.members pid }
         ensures below { IsTrue result → pid < self.now.capacity }
     {
-        is_set(self.which.as_slice(), pid.as_usize())
+        let p = pid.as_usize();
+        has_bit(word_at(self.words.as_slice(), p / BITS), p % BITS)
     }
 
     /// Makes a pattern below the capacity a member, and says whether it is new.
@@ -69,10 +75,11 @@ impl<A: Allocator> PatternSet<A> {
         ensures new { result ≡ not (has_member self.old.members pid) }
     {
         let p = pid.as_usize();
-        if self.which[p] {
+        let word = self.words[p / BITS];
+        if has_bit(word, p % BITS) {
             return false;
         }
-        self.which[p] = true;
+        self.words[p / BITS] = with_bit(word, p % BITS);
         self.count += 1;
         true
     }
@@ -110,7 +117,7 @@ impl<A: Allocator> PatternSet<A> {
     pub fn is_full(&self) -> bool
         ensures { IsTrue result ↔ (length self.now.members ≡ self.now.capacity) }
     {
-        self.count == self.which.len()
+        self.count == self.capacity
     }
 
     /// How many members there are.
@@ -128,7 +135,7 @@ impl<A: Allocator> PatternSet<A> {
         ensures capacity { result ≡ self.now.capacity }
         ensures bound { result ≤ 2147483647 }
     {
-        self.which.len()
+        self.capacity
     }
 
     /// The members, ascending; from the back, descending.
@@ -139,10 +146,14 @@ impl<A: Allocator> PatternSet<A> {
         ensures below { All (λ p. p < self.now.capacity) result }
         ensures contained { All (λ p. has_member self.now.members p ≡ true) result }
     {
+        let words = self.words.as_slice();
+        let last = words.len().saturating_sub(1);
         PatternSetIter {
-            which: self.which.as_slice(),
-            start: 0,
-            end: self.which.len(),
+            words,
+            front_index: 0,
+            front: word_at(words, 0),
+            back_index: last,
+            back: reversed(word_at(words, last)),
             left: self.count,
         }
     }
@@ -155,7 +166,8 @@ impl<A: Allocator + Clone + Drop> PatternSet<A> {
         ensures { IfOk result (λ set. set ≡ self.now) }
     {
         Ok(PatternSet {
-            which: self.which.clone()?,
+            words: self.words.clone()?,
+            capacity: self.capacity,
             count: self.count,
         })
     }
@@ -170,7 +182,8 @@ impl<A: Allocator> PartialEq for PatternSet<A> {
     ghost laws = { same_patterns_partial };
 
     fn eq(&self, other: &Self) -> bool {
-        self.which == other.which
+        self.capacity == other.capacity
+            && have_same_bits(self.words.as_slice(), other.words.as_slice())
     }
 }
 
@@ -180,71 +193,30 @@ impl<A: Allocator> Eq for PatternSet<A> {
     ghost laws = { same_patterns_equiv };
 }
 
-// Whether the flag of `p` is there and set.
-#[inline]
-fn is_set(which: &[bool], p: usize) -> bool
-    ensures { result ≡ is_set which.now p }
-{
-    p < which.len() && which[p]
-}
-
-// The first set flag from `start` on and before `end`, or `end`.
-#[inline]
-fn first_set(which: &[bool], start: usize, end: usize) -> usize
-    requires order { start ≤ end }
-    requires within { end ≤ length which.now }
-    ensures from { start ≤ result }
-    ensures to { result ≤ end }
-    ensures clear { (q : ℕ) → start ≤ q → q < result → is_set which.now q ≡ false }
-    ensures found { result < end → is_set which.now result ≡ true }
-{
-    for p in start..end {
-        if which[p] {
-            return p;
-        }
-    }
-    end
-}
-
-// The place after the last set flag from `start` on and before `end`, or `start`.
-#[inline]
-fn after_last_set(which: &[bool], start: usize, end: usize) -> usize
-    requires order { start ≤ end }
-    requires within { end ≤ length which.now }
-    ensures from { start ≤ result }
-    ensures to { result ≤ end }
-    ensures clear { (q : ℕ) → result ≤ q → q < end → is_set which.now q ≡ false }
-    ensures found { start < result → is_set which.now (result - 1) ≡ true }
-{
-    let mut after = end;
-    while after > start {
-        if which[after - 1] {
-            return after;
-        }
-        after -= 1;
-    }
-    start
-}
-
-/// The walk over a set's members, made by [`PatternSet::iter`]. A contract sees it as the list of those that are left:
+/// The iterator over a set's members, made by [`PatternSet::iter`]. A contract sees it as the list of those that are left:
 /// `next` takes the first and `next_back` the last, so each comes once however they are mixed.
 #[derive(Clone, Debug, Drop)]
 pub struct PatternSetIter<'a> {
-    which: &'a [bool],
-    start: usize,
-    end: usize,
+    words: &'a [u64],
+    // Of the two words that were read last from either end what isn't given yet by that end. The back word is held in
+    // the other order, so that both take the lowest set bit. Where both are of one word, what the other end has given
+    // is in them still: the count of those that are left says when to stop.
+    front_index: usize,
+    front: u64,
+    back_index: usize,
+    back: u64,
     left: usize,
 }
 
 impl<'a> Model for PatternSetIter<'a> {
     ghost use Rattle.std.specs.Prelude.{ℕ, List};
-    ghost use Rattle.rsc_search.specs.PatternSetLayout.{set_between, IsWalk};
+    ghost use Rattle.rsc_search.specs.PatternSetLayout.{left_between, IsBetween};
 
     ghost Value = { List ℕ };
 
-    ghost view = { λ w. set_between w.which.now w.start w.end };
+    ghost view = { λ it. left_between it.words.now it.front_index it.front it.back_index it.back };
 
-    ghost invariant = { λ w. IsWalk w.which.now w.start w.end w.left };
+    ghost invariant = { λ it. IsBetween it.words.now it.front_index it.front it.back_index it.back it.left };
 }
 
 impl<'a> PatternSetIter<'a> {
@@ -266,12 +238,13 @@ impl<'a> Iterator for PatternSetIter<'a> {
 
     #[inline]
     fn next(&mut self) -> Option<PatternID> {
-        let p = first_set(self.which, self.start, self.end);
-        if p == self.end {
-            self.start = self.end;
+        if self.left == 0 {
             return None;
         }
-        self.start = p + 1;
+        let (index, word) = first_from(self.words, self.front_index, self.front);
+        let p = BITS * index + word.trailing_zeros() as usize;
+        self.front_index = index;
+        self.front = without_lowest(word);
         self.left -= 1;
         Some(PatternID::must(p))
     }
@@ -292,14 +265,15 @@ impl<'a> DoubleEndedIterator for PatternSetIter<'a> {
 
     #[inline]
     fn next_back(&mut self) -> Option<PatternID> {
-        let after = after_last_set(self.which, self.start, self.end);
-        if after == self.start {
-            self.end = self.start;
+        if self.left == 0 {
             return None;
         }
-        self.end = after - 1;
+        let (index, word) = last_to(self.words, self.back_index, self.back);
+        let p = BITS * index + (BITS - 1 - word.trailing_zeros() as usize);
+        self.back_index = index;
+        self.back = without_lowest(word);
         self.left -= 1;
-        Some(PatternID::must(after - 1))
+        Some(PatternID::must(p))
     }
 }
 

@@ -204,13 +204,50 @@ fn iterates_from_both_ends(rt: HostRuntime) -> Result<(), Fail> {
     let (zero, two) = (PatternID::must(0), PatternID::must(2));
     let mut set = PatternSet::new(rt.alloc(), 3)?;
     assert!(rt; set.insert(two) && set.insert(zero) && !set.insert(zero));
-    let mut walk = set.iter();
-    assert!(rt; walk.size_hint() == (2, Some(2)) && walk.len() == 2);
-    assert!(rt; walk.next_back() == Some(two));
-    let mut rest = clone_iterator(&walk)?;
-    assert!(rt; walk.next() == Some(zero));
-    assert!(rt; walk.next() == None && walk.next_back() == None);
+    let mut members = set.iter();
+    assert!(rt; members.size_hint() == (2, Some(2)) && members.len() == 2);
+    assert!(rt; members.next_back() == Some(two));
+    let mut rest = clone_iterator(&members)?;
+    assert!(rt; members.next() == Some(zero));
+    assert!(rt; members.next() == None && members.next_back() == None);
     assert!(rt; rest.next_back() == Some(zero) && rest.len() == 0);
+    Ok(())
+}
+
+#[test]
+fn iterates_over_words_from_both_ends(rt: HostRuntime) -> Result<(), Fail> {
+    let (zero, last, first) = (PatternID::must(0), PatternID::must(63), PatternID::must(64));
+    let mut set = PatternSet::new(rt.alloc(), 65)?;
+    assert!(rt; set.insert(first) && set.insert(zero) && set.insert(last));
+    let mut members = set.iter();
+    assert!(rt; members.size_hint() == (3, Some(3)));
+    assert!(rt; members.next() == Some(zero) && members.next_back() == Some(first));
+    assert!(rt; members.next_back() == Some(last));
+    assert!(rt; members.next() == None && members.next_back() == None);
+    Ok(())
+}
+
+#[test]
+fn words_at_the_capacity(rt: HostRuntime) -> Result<(), Fail> {
+    let mut whole = PatternSet::new(rt.alloc(), 64)?;
+    for p in 0..64usize {
+        assert!(rt;
+            whole.try_insert(PatternID::must(p)).is_ok_and(|new| new),
+            "{p}"
+        );
+    }
+    assert!(rt; whole.is_full() && whole.iter().next_back() == Some(PatternID::must(63)));
+    let past = PatternID::must(64);
+    assert!(rt; !whole.contains(past) && whole.try_insert(past).is_err());
+
+    let last = PatternID::must(129);
+    let mut third = PatternSet::new(rt.alloc(), 130)?;
+    assert!(rt; third.insert(last) && third.contains(last) && !third.is_full());
+    let mut members = third.iter();
+    assert!(rt; members.next() == Some(last) && members.next_back() == None);
+
+    let none = PatternSet::new(rt.alloc(), 0)?;
+    assert!(rt; none.iter().next() == None && none.iter().next_back() == None);
     Ok(())
 }
 
@@ -270,7 +307,7 @@ fn pattern_sets_by_capacity(rt: HostRuntime) -> Result<(), Fail> {
 // Over memory of that size: whether a set could be made, and whether it and its clone could. The set answers as before
 // where its clone was refused.
 fn made_and_cloned(heap: &LocalHeap) -> (bool, bool) {
-    let Ok(mut set) = PatternSet::new(heap, 40) else {
+    let Ok(mut set) = PatternSet::new(heap, 320) else {
         return (false, false);
     };
     let seven = PatternID::must(7);
@@ -279,7 +316,7 @@ fn made_and_cloned(heap: &LocalHeap) -> (bool, bool) {
         Ok(copy) => copy == set,
         Err(_) => false,
     };
-    let as_before = set.len() == 1 && set.capacity() == 40 && set.contains(seven);
+    let as_before = set.len() == 1 && set.capacity() == 320 && set.contains(seven);
     (inserted && as_before, cloned)
 }
 

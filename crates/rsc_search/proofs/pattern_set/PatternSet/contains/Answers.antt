@@ -1,17 +1,10 @@
-use Rattle.std.proofs.Common.{◌≡◌, ◌<◌, ap, sym, ◌∙◌, true}
-use Rattle.rsc_search.specs.PatternSets.{Patterns, has_member}
-use Rattle.rsc_search.specs.PatternSetLayout.{is_set}
-use Rattle.rsc_search.proofs.PatternSetsLemmas.{has_member-set, set_below}
+use Rattle.std.proofs.Common.{◌≡◌, sym, ◌∙◌}
+use Rattle.rsc_search.specs.WordLayout.{is_set}
+use Rattle.rsc_search.proofs.PatternSetsLemmas.{has_member-set}
 use Rattle.rsc_search.proofs.pattern_set.PatternSet.contains.Goals as goal
 
 pub returns-clause-value : goal.returns-clause-value
 returns-clause-value g c =
-    let flag : c.is_set.result ≡ is_set c.self.inside.which.items c.args.pid =
-    rw (c.as_usize.ensures.value, c.as_slice.ensures.value) at c.is_set.ensures in
-    flag ∙ sym (has_member-set c.self.inside.which.items c.args.pid) ∙ ap (λ (s : Patterns). has_member s.members c.args.pid) c.self.view_is
-
-pub returns-clause-below : goal.returns-clause-below
-returns-clause-below g c =
-    let flag : c.is_set.result ≡ is_set c.self.inside.which.items c.args.pid =
-    rw (c.as_usize.ensures.value, c.as_slice.ensures.value) at c.is_set.ensures in
-    λ yes. rw (← c.self.view_is) (set_below c.self.inside.which.items c.args.pid (sym flag ∙ yes))
+    let bit : c.has_bit.result ≡ is_set c.self.inside.words.items c.args.pid =
+    rw (c.word_at.ensures, c.as_slice.ensures.value, c.as_usize-p.ensures.value) at c.has_bit.ensures in
+    rw (← c.self.view_is) (bit ∙ sym (has_member-set c.self.inside.capacity c.self.inside.words.items c.self.invariant.spare_clear c.args.pid))

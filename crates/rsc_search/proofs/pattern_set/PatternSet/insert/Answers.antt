@@ -1,40 +1,56 @@
-use Rattle.std.proofs.Common.{◌≡◌, ◌<◌, ◌+◌, length, not, true, false, ap, sym, ◌∙◌, arith}
+use Rattle.std.proofs.Common.{◌≡◌, ◌<◌, ◌+◌, ◌/◌, ◌||◌, ℕ, length, not, set, true, false, ap, sym, ◌∙◌, arith, eqb}
 use Rattle.std.proofs.lemmas.List.{get_or_default, length-set}
-use Rattle.rsc_search.specs.PatternSetLayout.{is_set}
-use Rattle.rsc_search.proofs.PatternSetsLemmas.{has_member-set, set_with_member, member_stays, one_more_member, members_within}
+use Rattle.rsc_search.specs.WordLayout.{word_of, is_set}
+use Rattle.rsc_search.proofs.PatternSetsLemmas.{has_word, has_member-set, with_one_more, member_stays, spare_stays, one_more_member, one_more_set, members_within}
 use Rattle.rsc_search.proofs.pattern_set.PatternSet.insert.Goals as goal
 
-pub returns-then-index-clause-set : goal.returns-then-index-clause-set
-returns-then-index-clause-set g c =
-    let lt : c.args.pid < length c.self.inside.which.items = rw (← c.self.view_is) at c.requires in
-    let is : is_set c.self.inside.which.items c.args.pid ≡ true = get_or_default c.self.inside.which.items c.args.pid false _ lt ∙ sym (rw c.as_usize-p.ensures.value at c.index.ensures) ∙ c.if-index.true in
-    rw (← c.self.view_is) (member_stays c.self.inside.which.items c.args.pid is)
+pub returns-then-has_bit-clause-set : goal.returns-then-has_bit-clause-set
+returns-then-has_bit-clause-set g c =
+    let below : c.args.pid < c.self.inside.capacity = rw (← c.self.view_is) at c.requires in
+    let lt : c.args.pid / 64 < length c.self.inside.words.items = has_word c.self.inside.capacity c.args.pid _ c.self.invariant.length_is below in
+    let word : c.index-word.result.now ≡ word_of c.self.inside.words.items (c.args.pid / 64) = rw c.as_usize-p.ensures.value at c.index-word.ensures ∙ get_or_default c.self.inside.words.items (c.args.pid / 64) _ 0 lt in
+    let bit : is_set c.self.inside.words.items c.args.pid ≡ true = sym (rw (word, c.as_usize-p.ensures.value) at c.has_bit.ensures) ∙ c.if-has_bit.true in
+    rw (← c.self.view_is) (member_stays c.self.inside.capacity c.self.inside.words.items c.self.invariant.spare_clear c.args.pid bit)
 
-pub returns-then-index-clause-new : goal.returns-then-index-clause-new
-returns-then-index-clause-new g c =
-    let lt : c.args.pid < length c.self.inside.which.items = rw (← c.self.view_is) at c.requires in
-    let is : is_set c.self.inside.which.items c.args.pid ≡ true = get_or_default c.self.inside.which.items c.args.pid false _ lt ∙ sym (rw c.as_usize-p.ensures.value at c.index.ensures) ∙ c.if-index.true in
-    rw (← c.self.view_is) (ap not (sym (has_member-set c.self.inside.which.items c.args.pid ∙ is)))
+pub returns-then-has_bit-clause-new : goal.returns-then-has_bit-clause-new
+returns-then-has_bit-clause-new g c =
+    let below : c.args.pid < c.self.inside.capacity = rw (← c.self.view_is) at c.requires in
+    let lt : c.args.pid / 64 < length c.self.inside.words.items = has_word c.self.inside.capacity c.args.pid _ c.self.invariant.length_is below in
+    let word : c.index-word.result.now ≡ word_of c.self.inside.words.items (c.args.pid / 64) = rw c.as_usize-p.ensures.value at c.index-word.ensures ∙ get_or_default c.self.inside.words.items (c.args.pid / 64) _ 0 lt in
+    let bit : is_set c.self.inside.words.items c.args.pid ≡ true = sym (rw (word, c.as_usize-p.ensures.value) at c.has_bit.ensures) ∙ c.if-has_bit.true in
+    rw (← c.self.view_is) (ap not (sym (has_member-set c.self.inside.capacity c.self.inside.words.items c.self.invariant.spare_clear c.args.pid ∙ bit)))
 
 pub overflow_add-self : goal.overflow_add-self
-overflow_add-self g c = omega (arith, c.self.invariant.count_is, c.self.invariant.capacity, members_within c.self.inside.which.items)
+overflow_add-self g c = omega (arith, c.self.invariant.count_is, c.self.invariant.fits, members_within c.self.inside.capacity c.self.inside.words.items)
 
 pub invariant_of-self : goal.invariant_of-self
 invariant_of-self g c =
-    let lt : c.args.pid < length c.self.inside.which.items = rw (← c.self.view_is) at c.requires in
-    let out : is_set c.self.inside.which.items c.args.pid ≡ false = get_or_default c.self.inside.which.items c.args.pid false _ lt ∙ sym (rw c.as_usize-p.ensures.value at c.index.ensures) ∙ c.if-index.false in
+    let below : c.args.pid < c.self.inside.capacity = rw (← c.self.view_is) at c.requires in
+    let lt : c.args.pid / 64 < length c.self.inside.words.items = has_word c.self.inside.capacity c.args.pid _ c.self.invariant.length_is below in
+    let word : c.index-word.result.now ≡ word_of c.self.inside.words.items (c.args.pid / 64) = rw c.as_usize-p.ensures.value at c.index-word.ensures ∙ get_or_default c.self.inside.words.items (c.args.pid / 64) _ 0 lt in
+    let bit : is_set c.self.inside.words.items c.args.pid ≡ false = sym (rw (word, c.as_usize-p.ensures.value) at c.has_bit.ensures) ∙ c.if-has_bit.false in
+    let at : (q : ℕ) → is_set (set c.self.inside.words.items (c.args.pid / 64) c.with_bit.result) q ≡ (eqb q c.args.pid || is_set c.self.inside.words.items q) =
+    one_more_set c.self.inside.words.items c.args.pid c.with_bit.result lt (rw (word, c.as_usize-p.ensures.value) at c.with_bit.ensures) in
     rw c.as_usize-p.ensures.value (record {
-      count_is = ap (λ n. n + 1) c.self.invariant.count_is ∙ sym (one_more_member c.self.inside.which.items c.args.pid lt out);
-      capacity = rw length-set c.self.invariant.capacity;
+      fits = c.self.invariant.fits;
+      length_is = rw length-set c.self.invariant.length_is;
+      spare_clear = spare_stays c.self.inside.capacity c.self.inside.words.items c.self.invariant.spare_clear _ c.args.pid below at;
+      count_is = ap (λ n. n + 1) c.self.invariant.count_is ∙ sym (one_more_member c.self.inside.capacity c.self.inside.words.items c.self.invariant.spare_clear _ c.args.pid below bit at);
     })
 
 pub returns-clause-set : goal.returns-clause-set
 returns-clause-set g c =
-    let lt : c.args.pid < length c.self.inside.which.items = rw (← c.self.view_is) at c.requires in
-    rw (← c.self.view_is, c.as_usize-p.ensures.value) (set_with_member c.self.inside.which.items c.args.pid lt)
+    let below : c.args.pid < c.self.inside.capacity = rw (← c.self.view_is) at c.requires in
+    let lt : c.args.pid / 64 < length c.self.inside.words.items = has_word c.self.inside.capacity c.args.pid _ c.self.invariant.length_is below in
+    let word : c.index-word.result.now ≡ word_of c.self.inside.words.items (c.args.pid / 64) = rw c.as_usize-p.ensures.value at c.index-word.ensures ∙ get_or_default c.self.inside.words.items (c.args.pid / 64) _ 0 lt in
+    let at : (q : ℕ) → is_set (set c.self.inside.words.items (c.args.pid / 64) c.with_bit.result) q ≡ (eqb q c.args.pid || is_set c.self.inside.words.items q) =
+    one_more_set c.self.inside.words.items c.args.pid c.with_bit.result lt (rw (word, c.as_usize-p.ensures.value) at c.with_bit.ensures) in
+    rw (← c.self.view_is, c.as_usize-p.ensures.value) (with_one_more c.self.inside.capacity c.self.inside.words.items c.self.invariant.spare_clear _ c.args.pid at)
 
 pub returns-clause-new : goal.returns-clause-new
 returns-clause-new g c =
-    let lt : c.args.pid < length c.self.inside.which.items = rw (← c.self.view_is) at c.requires in
-    let out : is_set c.self.inside.which.items c.args.pid ≡ false = get_or_default c.self.inside.which.items c.args.pid false _ lt ∙ sym (rw c.as_usize-p.ensures.value at c.index.ensures) ∙ c.if-index.false in
-    rw (← c.self.view_is) (ap not (sym (has_member-set c.self.inside.which.items c.args.pid ∙ out)))
+    let below : c.args.pid < c.self.inside.capacity = rw (← c.self.view_is) at c.requires in
+    let lt : c.args.pid / 64 < length c.self.inside.words.items = has_word c.self.inside.capacity c.args.pid _ c.self.invariant.length_is below in
+    let word : c.index-word.result.now ≡ word_of c.self.inside.words.items (c.args.pid / 64) = rw c.as_usize-p.ensures.value at c.index-word.ensures ∙ get_or_default c.self.inside.words.items (c.args.pid / 64) _ 0 lt in
+    let bit : is_set c.self.inside.words.items c.args.pid ≡ false = sym (rw (word, c.as_usize-p.ensures.value) at c.has_bit.ensures) ∙ c.if-has_bit.false in
+    rw (← c.self.view_is) (ap not (sym (has_member-set c.self.inside.capacity c.self.inside.words.items c.self.invariant.spare_clear c.args.pid ∙ bit)))

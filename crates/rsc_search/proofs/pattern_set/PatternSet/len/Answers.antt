@@ -1,6 +1,6 @@
-use Rattle.std.proofs.Common.{◌≤◌, arith}
+use Rattle.std.proofs.Common.{arith}
 use Rattle.rsc_search.proofs.PatternSetsLemmas.{members_within}
 use Rattle.rsc_search.proofs.pattern_set.PatternSet.len.Goals as goal
 
 pub returns-clause-within : goal.returns-clause-within
-returns-clause-within g c = rw (← c.self.view_is) (omega (arith, c.self.invariant.count_is, members_within c.self.inside.which.items))
+returns-clause-within g c = rw (← c.self.view_is) (omega (arith, c.self.invariant.count_is, members_within c.self.inside.capacity c.self.inside.words.items))

@@ -1,49 +1,46 @@
-use Rattle.std.proofs.Common.{◌≡◌, ◌<◌, ◌-◌, [], ◌∷◌, ◌++◌, length, rules, ap, sym, ◌∙◌, arith, length-append}
-use Rattle.rsc_search.specs.PatternSetLayout.{set_between}
-use Rattle.rsc_search.proofs.PatternSetsLemmas.{walk_none, walk_ended, walk_last_after}
+use Rattle.std.proofs.Common.{◌≡◌, ◌<◌, ◌+◌, ◌-◌, ◌*◌, [], ◌∷◌, ◌++◌, length, rules, ap, sym, ◌∙◌, arith, length-append, w64}
+use Rattle.std.specs.Int.{trailing_zeros}
+use Rattle.rsc_search.specs.PatternSetLayout.{left_between}
+use Rattle.rsc_search.proofs.IteratorLemmas.{back_some, back_within, back_set, back_rest, back_step}
 use Rattle.rsc_search.proofs.pattern_set.PatternSetIterDoubleEndedIterator.next_back.Goals as goal
+
+pub overflow_mul-p : goal.overflow_mul-p
+overflow_mul-p c =
+    let small : 64 * c.last_to-index.result.0 + (63 - trailing_zeros w64 c.last_to-index.result.1) < 2147483647 = c.self.invariant.fits _ (back_set c.self.inside.words.now c.self.inside.front_index c.self.inside.front c.self.inside.back_index c.self.inside.back c.self.inside.left c.self.invariant.left_is c.if-self-eq0.false c.last_to-index.result.0 c.last_to-index.result.1 c.last_to-index.ensures) in
+    omega (arith, small)
+
+pub overflow_sub-p-2 : goal.overflow_sub-p-2
+overflow_sub-p-2 c =
+    let small : trailing_zeros w64 c.last_to-index.result.1 < 64 = back_within c.self.inside.words.now c.self.inside.front_index c.self.inside.front c.self.inside.back_index c.self.inside.back c.self.inside.left c.self.invariant.left_is c.if-self-eq0.false c.last_to-index.result.0 c.last_to-index.result.1 c.last_to-index.ensures in
+    omega (arith, small)
+
+pub overflow_add-p : goal.overflow_add-p
+overflow_add-p c =
+    let small : 64 * c.last_to-index.result.0 + (63 - trailing_zeros w64 c.last_to-index.result.1) < 2147483647 = c.self.invariant.fits _ (back_set c.self.inside.words.now c.self.inside.front_index c.self.inside.front c.self.inside.back_index c.self.inside.back c.self.inside.left c.self.invariant.left_is c.if-self-eq0.false c.last_to-index.result.0 c.last_to-index.result.1 c.last_to-index.ensures) in
+    omega (arith, small)
+
+pub without_lowest-self-inside-requires : goal.without_lowest-self-inside-requires
+without_lowest-self-inside-requires c = back_some c.self.inside.words.now c.self.inside.front_index c.self.inside.front c.self.inside.back_index c.self.inside.back c.self.inside.left c.self.invariant.left_is c.if-self-eq0.false c.last_to-index.result.0 c.last_to-index.result.1 c.last_to-index.ensures
+
+pub must-requires : goal.must-requires
+must-requires c =
+    let small : 64 * c.last_to-index.result.0 + (63 - trailing_zeros w64 c.last_to-index.result.1) < 2147483647 = c.self.invariant.fits _ (back_set c.self.inside.words.now c.self.inside.front_index c.self.inside.front c.self.inside.back_index c.self.inside.back c.self.inside.left c.self.invariant.left_is c.if-self-eq0.false c.last_to-index.result.0 c.last_to-index.result.1 c.last_to-index.ensures) in
+    omega (arith, small)
 
 pub invariant_of-self : goal.invariant_of-self
 invariant_of-self c =
-    let none : set_between c.self.inside.which.now c.self.inside.start c.self.inside.end ≡ [] = walk_none _ _ _ c.self.invariant.order (rw c.if-after-self.true at c.after_last_set-after.ensures.clear) in
+    let step : left_between c.self.inside.words.now c.self.inside.front_index c.self.inside.front c.self.inside.back_index c.self.inside.back ≡ left_between c.self.inside.words.now c.self.inside.front_index c.self.inside.front c.last_to-index.result.0 c.without_lowest-self-inside.result ++ (64 * c.last_to-index.result.0 + (63 - trailing_zeros w64 c.last_to-index.result.1)) ∷ [] = back_step c.self.inside.words.now c.self.inside.front_index c.self.inside.front c.self.inside.back_index c.self.inside.back c.self.inside.left c.self.invariant.left_is c.if-self-eq0.false c.last_to-index.result.0 c.last_to-index.result.1 c.last_to-index.ensures c.without_lowest-self-inside.result c.without_lowest-self-inside.type_inv c.without_lowest-self-inside.ensures in
     record {
-      order = omega arith;
-      within = omega (arith, c.self.invariant.order, c.self.invariant.within);
-      capacity = c.self.invariant.capacity;
-      left_is = c.self.invariant.left_is ∙ ap length (none ∙ sym (walk_ended c.self.inside.which.now c.self.inside.start));
-    }
-
-pub returns-then-after-self-clause-steps : goal.returns-then-after-self-clause-steps
-returns-then-after-self-clause-steps c =
-    (sym c.self.view_is ∙ walk_none c.self.inside.which.now c.self.inside.start c.self.inside.end c.self.invariant.order (rw c.if-after-self.true at c.after_last_set-after.ensures.clear), walk_ended c.self.inside.which.now c.self.inside.start)
-
-pub overflow_sub-self-2 : goal.overflow_sub-self-2
-overflow_sub-self-2 c =
-    let lt : c.self.inside.start < c.after_last_set-after.result = omega (arith, c.after_last_set-after.ensures.from, c.if-after-self.false) in
-    let last : set_between c.self.inside.which.now c.self.inside.start c.self.inside.end ≡ set_between c.self.inside.which.now c.self.inside.start (c.after_last_set-after.result - 1) ++ (c.after_last_set-after.result - 1) ∷ [] =
-    walk_last_after _ _ _ _ lt c.after_last_set-after.ensures.to c.after_last_set-after.ensures.clear (c.after_last_set-after.ensures.found lt) in
-    omega (arith, c.self.invariant.left_is, ap length last, length-append (set_between c.self.inside.which.now c.self.inside.start (c.after_last_set-after.result - 1)) ((c.after_last_set-after.result - 1) ∷ []))
-
-pub invariant_of-self-2 : goal.invariant_of-self-2
-invariant_of-self-2 c =
-    let lt : c.self.inside.start < c.after_last_set-after.result = omega (arith, c.after_last_set-after.ensures.from, c.if-after-self.false) in
-    let last : set_between c.self.inside.which.now c.self.inside.start c.self.inside.end ≡ set_between c.self.inside.which.now c.self.inside.start (c.after_last_set-after.result - 1) ++ (c.after_last_set-after.result - 1) ∷ [] =
-    walk_last_after _ _ _ _ lt c.after_last_set-after.ensures.to c.after_last_set-after.ensures.clear (c.after_last_set-after.ensures.found lt) in
-    record {
-      order = omega arith;
-      within = omega (arith, c.self.invariant.within, c.after_last_set-after.ensures.to);
-      capacity = c.self.invariant.capacity;
-      left_is = omega (arith, c.self.invariant.left_is, ap length last, length-append (set_between c.self.inside.which.now c.self.inside.start (c.after_last_set-after.result - 1)) ((c.after_last_set-after.result - 1) ∷ []));
+      front_is = c.self.invariant.front_is;
+      back_is = back_rest c.self.inside.words.now c.self.inside.front_index c.self.inside.front c.self.inside.back_index c.self.inside.back c.self.inside.left c.self.invariant.left_is c.if-self-eq0.false c.last_to-index.result.0 c.last_to-index.result.1 c.last_to-index.ensures c.without_lowest-self-inside.result c.without_lowest-self-inside.type_inv c.without_lowest-self-inside.ensures;
+      fits = c.self.invariant.fits;
+      left_is = omega (arith, c.self.invariant.left_is, ap length step, length-append (left_between c.self.inside.words.now c.self.inside.front_index c.self.inside.front c.last_to-index.result.0 c.without_lowest-self-inside.result) ((64 * c.last_to-index.result.0 + (63 - trailing_zeros w64 c.last_to-index.result.1)) ∷ []));
     }
 
 pub returns-clause-steps : goal.returns-clause-steps
-returns-clause-steps c =
-    let lt : c.self.inside.start < c.after_last_set-after.result = omega (arith, c.after_last_set-after.ensures.from, c.if-after-self.false) in
-    rw c.must.ensures (sym c.self.view_is ∙ walk_last_after _ _ _ _ lt c.after_last_set-after.ensures.to c.after_last_set-after.ensures.clear (c.after_last_set-after.ensures.found lt))
+returns-clause-steps c = rw c.must.ensures (sym c.self.view_is ∙ back_step c.self.inside.words.now c.self.inside.front_index c.self.inside.front c.self.inside.back_index c.self.inside.back c.self.inside.left c.self.invariant.left_is c.if-self-eq0.false c.last_to-index.result.0 c.last_to-index.result.1 c.last_to-index.ensures c.without_lowest-self-inside.result c.without_lowest-self-inside.type_inv c.without_lowest-self-inside.ensures)
 
 pub returns-clause-goes : goal.returns-clause-goes
 returns-clause-goes c =
-    let lt : c.self.inside.start < c.after_last_set-after.result = omega (arith, c.after_last_set-after.ensures.from, c.if-after-self.false) in
-    let steps : c.args.self.now ≡ set_between c.self.inside.which.now c.self.inside.start (c.after_last_set-after.result - 1) ++ (c.after_last_set-after.result - 1) ∷ [] =
-    sym c.self.view_is ∙ walk_last_after _ _ _ _ lt c.after_last_set-after.ensures.to c.after_last_set-after.ensures.clear (c.after_last_set-after.ensures.found lt) in
-    rw steps (search (rules, length-append))
+    let step : c.args.self.now ≡ left_between c.self.inside.words.now c.self.inside.front_index c.self.inside.front c.last_to-index.result.0 c.without_lowest-self-inside.result ++ (64 * c.last_to-index.result.0 + (63 - trailing_zeros w64 c.last_to-index.result.1)) ∷ [] = sym c.self.view_is ∙ back_step c.self.inside.words.now c.self.inside.front_index c.self.inside.front c.self.inside.back_index c.self.inside.back c.self.inside.left c.self.invariant.left_is c.if-self-eq0.false c.last_to-index.result.0 c.last_to-index.result.1 c.last_to-index.ensures c.without_lowest-self-inside.result c.without_lowest-self-inside.type_inv c.without_lowest-self-inside.ensures in
+    rw step (search (rules, length-append))

@@ -1,49 +1,41 @@
-use Rattle.std.proofs.Common.{◌≡◌, ◌<◌, ◌+◌, [], ◌∷◌, length, rules, ap, sym, ◌∙◌, arith}
-use Rattle.rsc_search.specs.PatternSetLayout.{set_between}
-use Rattle.rsc_search.proofs.PatternSetsLemmas.{walk_none, walk_ended, walk_first}
+use Rattle.std.proofs.Common.{◌≡◌, ◌<◌, ◌+◌, ◌*◌, ◌∷◌, length, rules, ap, sym, ◌∙◌, arith, w64}
+use Rattle.std.specs.Int.{trailing_zeros}
+use Rattle.rsc_search.specs.PatternSetLayout.{left_between}
+use Rattle.rsc_search.proofs.IteratorLemmas.{front_some, front_set, front_rest, front_step}
 use Rattle.rsc_search.proofs.pattern_set.PatternSetIterIterator.next.Goals as goal
+
+pub overflow_mul-p : goal.overflow_mul-p
+overflow_mul-p c =
+    let small : 64 * c.first_from-index.result.0 + trailing_zeros w64 c.first_from-index.result.1 < 2147483647 = c.self.invariant.fits _ (front_set c.self.inside.words.now c.self.inside.front_index c.self.inside.front c.self.inside.back_index c.self.inside.back c.self.inside.left c.self.invariant.left_is c.if-self-eq0.false c.first_from-index.result.0 c.first_from-index.result.1 c.first_from-index.ensures) in
+    omega (arith, small)
+
+pub overflow_add-p : goal.overflow_add-p
+overflow_add-p c =
+    let small : 64 * c.first_from-index.result.0 + trailing_zeros w64 c.first_from-index.result.1 < 2147483647 = c.self.invariant.fits _ (front_set c.self.inside.words.now c.self.inside.front_index c.self.inside.front c.self.inside.back_index c.self.inside.back c.self.inside.left c.self.invariant.left_is c.if-self-eq0.false c.first_from-index.result.0 c.first_from-index.result.1 c.first_from-index.ensures) in
+    omega (arith, small)
+
+pub without_lowest-self-inside-requires : goal.without_lowest-self-inside-requires
+without_lowest-self-inside-requires c = front_some c.self.inside.words.now c.self.inside.front_index c.self.inside.front c.self.inside.back_index c.self.inside.back c.self.inside.left c.self.invariant.left_is c.if-self-eq0.false c.first_from-index.result.0 c.first_from-index.result.1 c.first_from-index.ensures
+
+pub must-requires : goal.must-requires
+must-requires c =
+    let small : 64 * c.first_from-index.result.0 + trailing_zeros w64 c.first_from-index.result.1 < 2147483647 = c.self.invariant.fits _ (front_set c.self.inside.words.now c.self.inside.front_index c.self.inside.front c.self.inside.back_index c.self.inside.back c.self.inside.left c.self.invariant.left_is c.if-self-eq0.false c.first_from-index.result.0 c.first_from-index.result.1 c.first_from-index.ensures) in
+    omega (arith, small)
 
 pub invariant_of-self : goal.invariant_of-self
 invariant_of-self c =
-    let none : set_between c.self.inside.which.now c.self.inside.start c.self.inside.end ≡ [] = walk_none _ _ _ c.self.invariant.order (rw c.if-p-self.true at c.first_set-p.ensures.clear) in
+    let step : left_between c.self.inside.words.now c.self.inside.front_index c.self.inside.front c.self.inside.back_index c.self.inside.back ≡ (64 * c.first_from-index.result.0 + trailing_zeros w64 c.first_from-index.result.1) ∷ left_between c.self.inside.words.now c.first_from-index.result.0 c.without_lowest-self-inside.result c.self.inside.back_index c.self.inside.back = front_step c.self.inside.words.now c.self.inside.front_index c.self.inside.front c.self.inside.back_index c.self.inside.back c.self.inside.left c.self.invariant.left_is c.if-self-eq0.false c.first_from-index.result.0 c.first_from-index.result.1 c.first_from-index.ensures c.without_lowest-self-inside.result c.without_lowest-self-inside.type_inv c.without_lowest-self-inside.ensures in
     record {
-      order = omega arith;
-      within = c.self.invariant.within;
-      capacity = c.self.invariant.capacity;
-      left_is = c.self.invariant.left_is ∙ ap length (none ∙ sym (walk_ended c.self.inside.which.now c.self.inside.end));
-    }
-
-pub returns-then-p-self-clause-steps : goal.returns-then-p-self-clause-steps
-returns-then-p-self-clause-steps c =
-    (sym c.self.view_is ∙ walk_none c.self.inside.which.now c.self.inside.start c.self.inside.end c.self.invariant.order (rw c.if-p-self.true at c.first_set-p.ensures.clear), walk_ended c.self.inside.which.now c.self.inside.end)
-
-pub overflow_sub-self : goal.overflow_sub-self
-overflow_sub-self c =
-    let lt : c.first_set-p.result < c.self.inside.end = omega (arith, c.first_set-p.ensures.to, c.if-p-self.false) in
-    let first : set_between c.self.inside.which.now c.self.inside.start c.self.inside.end ≡ c.first_set-p.result ∷ set_between c.self.inside.which.now (c.first_set-p.result + 1) c.self.inside.end =
-    walk_first _ _ _ _ c.first_set-p.ensures.from lt c.first_set-p.ensures.clear (c.first_set-p.ensures.found lt) in
-    rw (c.self.invariant.left_is, first) (omega arith)
-
-pub invariant_of-self-2 : goal.invariant_of-self-2
-invariant_of-self-2 c =
-    let lt : c.first_set-p.result < c.self.inside.end = omega (arith, c.first_set-p.ensures.to, c.if-p-self.false) in
-    let first : set_between c.self.inside.which.now c.self.inside.start c.self.inside.end ≡ c.first_set-p.result ∷ set_between c.self.inside.which.now (c.first_set-p.result + 1) c.self.inside.end =
-    walk_first _ _ _ _ c.first_set-p.ensures.from lt c.first_set-p.ensures.clear (c.first_set-p.ensures.found lt) in
-    record {
-      order = omega arith;
-      within = c.self.invariant.within;
-      capacity = c.self.invariant.capacity;
-      left_is = omega (arith, c.self.invariant.left_is, ap length first);
+      front_is = front_rest c.self.inside.words.now c.self.inside.front_index c.self.inside.front c.self.inside.back_index c.self.inside.back c.self.inside.left c.self.invariant.left_is c.if-self-eq0.false c.first_from-index.result.0 c.first_from-index.result.1 c.first_from-index.ensures c.without_lowest-self-inside.result c.without_lowest-self-inside.type_inv c.without_lowest-self-inside.ensures;
+      back_is = c.self.invariant.back_is;
+      fits = c.self.invariant.fits;
+      left_is = omega (arith, c.self.invariant.left_is, ap length step);
     }
 
 pub returns-clause-steps : goal.returns-clause-steps
-returns-clause-steps c =
-    let lt : c.first_set-p.result < c.self.inside.end = omega (arith, c.first_set-p.ensures.to, c.if-p-self.false) in
-    rw c.must.ensures (sym c.self.view_is ∙ walk_first _ _ _ _ c.first_set-p.ensures.from lt c.first_set-p.ensures.clear (c.first_set-p.ensures.found lt))
+returns-clause-steps c = rw c.must.ensures (sym c.self.view_is ∙ front_step c.self.inside.words.now c.self.inside.front_index c.self.inside.front c.self.inside.back_index c.self.inside.back c.self.inside.left c.self.invariant.left_is c.if-self-eq0.false c.first_from-index.result.0 c.first_from-index.result.1 c.first_from-index.ensures c.without_lowest-self-inside.result c.without_lowest-self-inside.type_inv c.without_lowest-self-inside.ensures)
 
 pub returns-clause-goes : goal.returns-clause-goes
 returns-clause-goes c =
-    let lt : c.first_set-p.result < c.self.inside.end = omega (arith, c.first_set-p.ensures.to, c.if-p-self.false) in
-    let steps : c.args.self.now ≡ c.first_set-p.result ∷ set_between c.self.inside.which.now (c.first_set-p.result + 1) c.self.inside.end =
-    sym c.self.view_is ∙ walk_first _ _ _ _ c.first_set-p.ensures.from lt c.first_set-p.ensures.clear (c.first_set-p.ensures.found lt) in
-    rw steps (search rules)
+    let step : c.args.self.now ≡ (64 * c.first_from-index.result.0 + trailing_zeros w64 c.first_from-index.result.1) ∷ left_between c.self.inside.words.now c.first_from-index.result.0 c.without_lowest-self-inside.result c.self.inside.back_index c.self.inside.back = sym c.self.view_is ∙ front_step c.self.inside.words.now c.self.inside.front_index c.self.inside.front c.self.inside.back_index c.self.inside.back c.self.inside.left c.self.invariant.left_is c.if-self-eq0.false c.first_from-index.result.0 c.first_from-index.result.1 c.first_from-index.ensures c.without_lowest-self-inside.result c.without_lowest-self-inside.type_inv c.without_lowest-self-inside.ensures in
+    rw step (search rules)

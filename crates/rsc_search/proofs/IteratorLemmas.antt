@@ -1,0 +1,195 @@
+-- What the iterator over a set has left, and its steps from either end.
+use Rattle.std.proofs.Common.{◌≡◌, ◌≢◌, ℕ, zero, suc, ◌+◌, ◌-◌, ◌*◌, ◌^◌, ◌<◌, ◌≤◌, Bool, true, false, not, ◌&&◌, List, [], ◌∷◌, ◌++◌, length, get_or, refl, sym, ap, ◌∙◌, arith, w64, eqb, ltb}
+use Rattle.std.specs.Int.{trailing_zeros}
+use Rattle.std.proofs.lemmas.Grind.{common_steps}
+use Rattle.std.proofs.lemmas.Nat.Bits.{bit_at-trailing_zeros}
+use Rattle.std.proofs.lemmas.List.Elements.{All-filter}
+use Rattle.std.proofs.lemmas.List.FromFn.{length-range_with_len, get_or-range_with_len}
+use Rattle.std.proofs.lemmas.List.Kept.{IsStrictlyIncreasing-filter}
+use mathlib.Core.Bool.{true≢false}
+use Rattle.std.specs.Prelude.{All}
+use Rattle.std.specs.List.Sorted.{IsStrictlyIncreasing}
+use Rattle.std.specs.List.{filter, range_with_len}
+use Rattle.rsc_search.specs.PatternSets.{numbers_below, has_member}
+use Rattle.rsc_search.specs.PatternSetLayout.{patterns_of, left_between, IsPacked, IsBetween}
+use Rattle.rsc_search.specs.WordLayout.{has_bit, word_of, is_set, set_between, rest_start, rest_end, IsRestFrom, IsRestTo, IsWordFrom, IsWordTo}
+use Rattle.rsc_search.proofs.BitsLemmas.{none_under, lowest_set, differ, same, by_order}
+use Rattle.rsc_search.proofs.NumbersLemmas.{filter_none, skip_front, skip_back, first_passes, last_passes}
+use Rattle.rsc_search.proofs.WordsLemmas.{at_word, at_number, clear_before, clear_after, at_most_64, covers, whole_from, whole_to}
+use Rattle.rsc_search.proofs.MembersLemmas.{all_members}
+use Rattle.rsc_search.proofs.PatternSetsLemmas.{set_below}
+
+-- ---- the members of a set ascend, and are below its capacity
+pub members_ascend : (t : ℕ → Bool) (n : ℕ) → IsStrictlyIncreasing (numbers_below n t)
+members_ascend t n = IsStrictlyIncreasing-filter t (range_with_len 0 n) rises
+  where
+    rises : IsStrictlyIncreasing (range_with_len 0 n)
+    rises k within =
+        let count : length (range_with_len 0 n) ≡ n = length-range_with_len 0 n in
+        let here : get_or (range_with_len 0 n) k 0 ≡ 0 + k = get_or-range_with_len 0 n k 0 (omega arith) in
+        let next : get_or (range_with_len 0 n) (k + 1) 0 ≡ 0 + (k + 1) = get_or-range_with_len 0 n (k + 1) 0 (omega arith) in
+        omega arith
+
+pub members_below : (t : ℕ → Bool) (n : ℕ) → All (λ p. p < n) (numbers_below n t)
+members_below t n = All-filter t (λ p. p < n) (range_with_len 0 n) (λ k d within.
+    let count : length (range_with_len 0 n) ≡ n = length-range_with_len 0 n in
+    let here : get_or (range_with_len 0 n) k d ≡ 0 + k = get_or-range_with_len 0 n k d (omega arith) in
+    omega arith)
+
+-- an iterator between whole words at both ends has all members left
+pub all_left : (capacity : ℕ) (words : List ℕ) (front last back : ℕ) → ((p : ℕ) → capacity ≤ p → is_set words p ≡ false) → capacity ≤ 64 * last + 64
+    → front < 2 ^ 64 → front ≡ word_of words 0 → back < 2 ^ 64 → ((j : ℕ) → j < 64 → has_bit back j ≡ has_bit (word_of words last) (63 - j))
+    → left_between words 0 front last back ≡ numbers_below capacity (is_set words)
+all_left capacity words front last back spare_clear covers front_fits front_is back_fits back_is =
+    let none : capacity - 0 ≡ capacity = omega arith in
+    let from_zero : set_between words 0 (rest_end last back) ≡ left_between words 0 front last back =
+    skip_front (is_set words) 0 (rest_start 0 front) (rest_end last back) (omega arith) (λ q from below. clear_before words 0 front front_fits front_is (at_most_64 front) q (omega arith) below) in
+    let to_last : set_between words 0 (64 * last + 64) ≡ set_between words 0 (rest_end last back) =
+    skip_back (is_set words) 0 (rest_end last back) (64 * last + 64) (omega arith) (clear_after words last back back_fits back_is) in
+    let to_capacity : set_between words 0 (64 * last + 64) ≡ set_between words 0 capacity =
+    skip_back (is_set words) 0 capacity (64 * last + 64) covers (λ q from below. spare_clear q from) in
+    sym from_zero ∙ sym to_last ∙ to_capacity ∙ ap (λ n. filter (is_set words) (range_with_len 0 n)) none
+
+-- ---- a word and the rest of it without its lowest set bit
+module _ (word rest : ℕ) (fits : word < 2 ^ 64) (rest_fits : rest < 2 ^ 64) (within : trailing_zeros w64 word < 64)
+    (taken : (j : ℕ) → has_bit rest j ≡ (not (eqb j (trailing_zeros w64 word)) && has_bit word j)) where
+  rest_bit : (j : ℕ) → j ≢ trailing_zeros w64 word → has_bit rest j ≡ has_bit word j
+  rest_bit j ne = taken j ∙ rw (differ j (trailing_zeros w64 word) ne) refl
+
+  rises : trailing_zeros w64 word < trailing_zeros w64 rest
+  rises =
+      by_order (trailing_zeros w64 rest) (trailing_zeros w64 word)
+      (λ below. absurd (true≢false (sym (lowest_set rest rest_fits (omega arith)) ∙ rest_bit (trailing_zeros w64 rest) (omega arith) ∙ none_under word (trailing_zeros w64 rest) fits below)))
+      (λ here. absurd (true≢false (sym (lowest_set rest rest_fits (omega arith)) ∙ taken (trailing_zeros w64 rest) ∙ rw (same (trailing_zeros w64 rest) (trailing_zeros w64 word) here) refl)))
+      (λ above. above)
+
+  rest_clear : (j : ℕ) → trailing_zeros w64 word < j → j < trailing_zeros w64 rest → has_bit word j ≡ false
+  rest_clear j above below = sym (rest_bit j (omega arith)) ∙ none_under rest j rest_fits below
+
+-- ---- a step from either end, where a member is left
+module _ (words : List ℕ) (front_index front back_index back left : ℕ) (left_is : left ≡ length (left_between words front_index front back_index back)) (some : left ≢ 0) where
+  not_none : left_between words front_index front back_index back ≡ [] → ⊥
+  not_none none = some (left_is ∙ ap length none)
+
+  nonzero : (n : ℕ) → (n ≡ 0 → ⊥) → 0 < n
+  nonzero zero ne = absurd (ne refl)
+  nonzero (suc n) ne = omega arith
+
+  module _ (index word : ℕ) (found : IsWordFrom words front_index front index word) where
+    pub front_some : 0 < word
+    front_some = nonzero word (λ none. not_none (filter_none (is_set words) (rest_start front_index front) (rest_end back_index back - rest_start front_index front) (λ q from below. found.none none q from)))
+
+    pub front_within : trailing_zeros w64 word < 64
+    front_within = (bit_at-trailing_zeros w64 word front_some found.fits).0
+
+    -- the number that is given is a member
+    pub front_set : is_set words (rest_start index word) ≡ true
+    front_set = at_word words index (trailing_zeros w64 word) front_within ∙ sym (found.is_rest.bits_are (trailing_zeros w64 word) (omega arith) front_within) ∙ lowest_set word found.fits front_within
+
+    begins : left_between words front_index front back_index back ≡ left_between words index word back_index back
+    begins = skip_front (is_set words) (rest_start front_index front) (rest_start index word) (rest_end back_index back) found.order found.clear
+
+    before_end : rest_start index word < rest_end back_index back
+    before_end =
+        elim (ltb (rest_start index word) (rest_end back_index back)) as (λ b. ltb (rest_start index word) (rest_end back_index back) ≡ b → rest_start index word < rest_end back_index back) [
+          | true ↦ λ e. grind (arith, common_steps)
+          | false ↦ λ e.
+              let past : rest_end back_index back ≤ rest_start index word = grind (arith, common_steps) in
+              let none : rest_end back_index back - rest_start index word ≡ 0 = omega (arith, past) in
+              absurd (not_none (begins ∙ ap (λ n. filter (is_set words) (range_with_len (rest_start index word) n)) none))
+        ] refl
+
+    module _ (rest : ℕ) (rest_fits : rest < 2 ^ 64) (taken : (j : ℕ) → has_bit rest j ≡ (not (eqb j (trailing_zeros w64 word)) && has_bit word j)) where
+      pub front_rest : IsRestFrom words index rest
+      front_rest =
+          let later : trailing_zeros w64 word < trailing_zeros w64 rest = rises word rest found.fits rest_fits front_within taken in
+          record { bits_are = λ i from below. rest_bit word rest found.fits rest_fits front_within taken i (omega (arith, later, from)) ∙ found.is_rest.bits_are i (omega (arith, later, from)) below }
+
+      clear_between : (q : ℕ) → rest_start index word + 1 ≤ q → q < rest_start index rest → is_set words q ≡ false
+      clear_between q from below =
+          let le : trailing_zeros w64 rest ≤ 64 = at_most_64 rest in
+          at_number words index q (omega arith) (omega (arith, le, below)) ∙ sym (found.is_rest.bits_are (q - 64 * index) (omega arith) (omega (arith, le, below))) ∙ rest_clear word rest found.fits rest_fits front_within taken (q - 64 * index) (omega arith) (omega arith)
+
+      pub front_step : left_between words front_index front back_index back ≡ rest_start index word ∷ left_between words index rest back_index back
+      front_step =
+          let later : trailing_zeros w64 word < trailing_zeros w64 rest = rises word rest found.fits rest_fits front_within taken in
+          begins
+          ∙ first_passes (is_set words) (rest_start index word) (rest_end back_index back) before_end front_set
+          ∙ ap (λ (ps : List ℕ). rest_start index word ∷ ps) (skip_front (is_set words) (rest_start index word + 1) (rest_start index rest) (rest_end back_index back) (omega (arith, later)) clear_between)
+
+  module _ (index word : ℕ) (found : IsWordTo words back_index back index word) where
+    pub back_some : 0 < word
+    back_some = nonzero word (λ none. not_none (filter_none (is_set words) (rest_start front_index front) (rest_end back_index back - rest_start front_index front) (λ q from below. found.none none q (omega arith))))
+
+    pub back_within : trailing_zeros w64 word < 64
+    back_within = (bit_at-trailing_zeros w64 word back_some found.fits).0
+
+    -- the number that is given is a member
+    pub back_set : is_set words (64 * index + (63 - trailing_zeros w64 word)) ≡ true
+    back_set = at_word words index (63 - trailing_zeros w64 word) (omega arith) ∙ sym (found.is_rest.bits_are (trailing_zeros w64 word) (omega arith) back_within) ∙ lowest_set word found.fits back_within
+
+    ends : left_between words front_index front back_index back ≡ set_between words (rest_start front_index front) (rest_end index word)
+    ends = skip_back (is_set words) (rest_start front_index front) (rest_end index word) (rest_end back_index back) found.order found.clear
+
+    after_start : rest_start front_index front < rest_end index word
+    after_start =
+        elim (ltb (rest_start front_index front) (rest_end index word)) as (λ b. ltb (rest_start front_index front) (rest_end index word) ≡ b → rest_start front_index front < rest_end index word) [
+          | true ↦ λ e. grind (arith, common_steps)
+          | false ↦ λ e.
+              let past : rest_end index word ≤ rest_start front_index front = grind (arith, common_steps) in
+              let none : rest_end index word - rest_start front_index front ≡ 0 = omega (arith, past) in
+              absurd (not_none (ends ∙ ap (λ n. filter (is_set words) (range_with_len (rest_start front_index front) n)) none))
+        ] refl
+
+    module _ (rest : ℕ) (rest_fits : rest < 2 ^ 64) (taken : (j : ℕ) → has_bit rest j ≡ (not (eqb j (trailing_zeros w64 word)) && has_bit word j)) where
+      pub back_rest : IsRestTo words index rest
+      back_rest =
+          let later : trailing_zeros w64 word < trailing_zeros w64 rest = rises word rest found.fits rest_fits back_within taken in
+          record { bits_are = λ i from below. rest_bit word rest found.fits rest_fits back_within taken i (omega (arith, later, from)) ∙ found.is_rest.bits_are i (omega (arith, later, from)) below }
+
+      clear_behind : (q : ℕ) → rest_end index rest ≤ q → q < 64 * index + (63 - trailing_zeros w64 word) → is_set words q ≡ false
+      clear_behind q from below =
+          let back : 63 - (63 - (q - 64 * index)) ≡ q - 64 * index = omega arith in
+          at_number words index q (omega arith) (omega arith)
+          ∙ ap (has_bit (word_of words index)) (sym back)
+          ∙ sym (found.is_rest.bits_are (63 - (q - 64 * index)) (omega arith) (omega arith))
+          ∙ rest_clear word rest found.fits rest_fits back_within taken (63 - (q - 64 * index)) (omega arith) (omega arith)
+
+      pub back_step : left_between words front_index front back_index back ≡ left_between words front_index front index rest ++ (64 * index + (63 - trailing_zeros w64 word)) ∷ []
+      back_step =
+          let later : trailing_zeros w64 word < trailing_zeros w64 rest = rises word rest found.fits rest_fits back_within taken in
+          let next : rest_end index word ≡ (64 * index + (63 - trailing_zeros w64 word)) + 1 = omega (arith, back_within) in
+          ends
+          ∙ ap (set_between words (rest_start front_index front)) next
+          ∙ last_passes (is_set words) (rest_start front_index front) (64 * index + (63 - trailing_zeros w64 word)) (omega (arith, after_start, back_within)) back_set
+          ∙ ap (λ (ps : List ℕ). ps ++ (64 * index + (63 - trailing_zeros w64 word)) ∷ []) (skip_back (is_set words) (rest_start front_index front) (rest_end index rest) (64 * index + (63 - trailing_zeros w64 word)) (omega (arith, later)) clear_behind)
+
+-- ---- the iterator over a whole set
+module _ (capacity count : ℕ) (items : List ℕ) (packed : IsPacked capacity items count) (words : List ℕ) (words_are : words ≡ items)
+    (last : ℕ) (last_is : last ≡ length words - 1) (front : ℕ) (front_fits : front < 2 ^ 64) (front_is : front ≡ word_of words 0)
+    (last_word : ℕ) (last_word_is : last_word ≡ word_of words last) (back : ℕ) (back_fits : back < 2 ^ 64) (back_is : (j : ℕ) → j < 64 → has_bit back j ≡ has_bit last_word (63 - j)) where
+  back_word : (j : ℕ) → j < 64 → has_bit back j ≡ has_bit (word_of words last) (63 - j)
+  back_word = rw last_word_is at back_is
+
+  pub left_members : left_between words 0 front last back ≡ numbers_below capacity (is_set items)
+  left_members =
+      let spare : (p : ℕ) → capacity ≤ p → is_set words p ≡ false = rw words_are packed.spare_clear in
+      let begun : capacity ≤ 64 * (length words - 1) + 64 = covers capacity (length words) (ap length words_are ∙ packed.length_is) in
+      all_left capacity words front last back spare (rw last_is begun) front_fits front_is back_fits back_word ∙ ap (λ ws. numbers_below capacity (is_set ws)) words_are
+
+  pub begins_between : IsBetween words 0 front last back count
+  begins_between = record {
+    front_is = whole_from words 0 front front_is;
+    back_is = whole_to words last back back_word;
+    fits = λ p is. let lt : p < capacity = set_below capacity items packed.spare_clear p (ap (λ ws. is_set ws p) (sym words_are) ∙ is) in omega (arith, lt, packed.fits);
+    left_is = packed.count_is ∙ ap length (sym left_members);
+  }
+
+  pub left_ascend : IsStrictlyIncreasing (left_between words 0 front last back)
+  left_ascend = rw left_members (members_ascend (is_set items) capacity)
+
+  pub left_below : All (λ p. p < capacity) (left_between words 0 front last back)
+  left_below = rw left_members (members_below (is_set items) capacity)
+
+  pub left_contained : All (λ p. has_member (patterns_of capacity items).members p ≡ true) (left_between words 0 front last back)
+  left_contained = rw left_members (all_members (patterns_of capacity items).members)

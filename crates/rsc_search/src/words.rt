@@ -1,0 +1,89 @@
+//! Words of 64 bits, and lists of them: bit `i` of word `w` is that of the number `64 * w + i`.
+ghost use Rattle.std.specs.Prelude.{◌≡◌, ℕ, ◌-◌, ◌<◌, ◌≤◌, ◌==◌, ◌||◌, ◌&&◌, ◌↔◌, not, IsTrue};
+ghost use Rattle.std.specs.Int.{trailing_zeros, w64};
+ghost use Rattle.rsc_search.specs.WordLayout.{word_of, has_bit, SameBits, IsRestFrom, IsRestTo, IsWordFrom, IsWordTo};
+
+/// How many bits a word has.
+pub(crate) const BITS: usize = 64;
+
+/// Whether bit `i` is set.
+#[inline(always)]
+pub(crate) fn has_bit(word: u64, i: usize) -> bool
+    requires { i < 64 }
+    ensures { result ≡ has_bit word i }
+{
+    (word >> i) & 1 == 1
+}
+
+/// The word with bit `i` set.
+#[inline(always)]
+pub(crate) fn with_bit(word: u64, i: usize) -> u64
+    requires { i < 64 }
+    ensures { (j : ℕ) → has_bit result j ≡ (j == i || has_bit word j) }
+{
+    word | (1 << i)
+}
+
+/// The word without its lowest set bit.
+#[inline(always)]
+pub(crate) fn without_lowest(word: u64) -> u64
+    requires { 0 < word }
+    ensures { (j : ℕ) → has_bit result j ≡ (not (j == trailing_zeros w64 word) && has_bit word j) }
+{
+    word & (word - 1)
+}
+
+/// The word with its bits in the other order, so that its lowest set bit was the highest.
+#[inline(always)]
+pub(crate) fn reversed(word: u64) -> u64
+    ensures { (j : ℕ) → j < 64 → has_bit result j ≡ has_bit word (63 - j) }
+{
+    word.reverse_bits()
+}
+
+/// A word of the list, or zero past its end.
+#[inline(always)]
+pub(crate) fn word_at(words: &[u64], index: usize) -> u64
+    ensures { result ≡ word_of words.now index }
+{
+    words.get(index).copied().unwrap_or(0)
+}
+
+/// Whether two lists have as many words, and the same bits are set in both.
+#[inline(always)]
+pub(crate) fn have_same_bits(words: &[u64], others: &[u64]) -> bool
+    ensures { IsTrue result ↔ SameBits words.now others.now }
+{
+    words == others
+}
+
+/// The first word that isn't zero, from the one of that number on, of which only `rest` is left: its number, and what is
+/// left of it. Where each is zero, so is the answer.
+#[inline(always)]
+pub(crate) fn first_from(words: &[u64], index: usize, rest: u64) -> (usize, u64)
+    requires { IsRestFrom words.now index rest }
+    ensures { IsWordFrom words.now index rest result.0 result.1 }
+{
+    let last = words.len().saturating_sub(1);
+    let (mut found, mut word) = (index, rest);
+    while word == 0 && found < last {
+        found += 1;
+        word = words[found];
+    }
+    (found, word)
+}
+
+/// The last word that isn't zero, down from the one of that number, of which only `rest` is left: its number, and what is
+/// left of it. Where each is zero, so is the answer. What is left of a word has its bits in the other order.
+#[inline(always)]
+pub(crate) fn last_to(words: &[u64], index: usize, rest: u64) -> (usize, u64)
+    requires { IsRestTo words.now index rest }
+    ensures { IsWordTo words.now index rest result.0 result.1 }
+{
+    let (mut found, mut word) = (index, rest);
+    while word == 0 && 0 < found {
+        found -= 1;
+        word = reversed(word_at(words, found));
+    }
+    (found, word)
+}
