@@ -344,8 +344,8 @@ pub fn all() -> Vec<Workload> {
     add("lookset_iter", LOOKSET_ITER, &words(sets), 0, members);
 
     // rsc_search
-    for capacity in [1000u32, 100_000] {
-        for (name, members) in [("sparse", capacity / 100), ("dense", capacity)] {
+    for capacity in [64u32, 65, 1000, 4096, 100_000] {
+        for (name, members) in [("sparse", (capacity / 100).max(1)), ("dense", capacity)] {
             let data = pattern_set(capacity, members);
             let (param, size) = (u64::from(capacity), u64::from(members));
             let mut add = |call: &str, kernel: u32, ops: u64, less: Option<u32>| {
