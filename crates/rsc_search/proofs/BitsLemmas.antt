@@ -1,11 +1,14 @@
--- The bits of a word: its lowest set bit taken out, and its bits in the other order.
-use Rattle.std.proofs.Common.{◌≡◌, ◌≢◌, ℕ, zero, suc, ◌+◌, ◌-◌, ◌*◌, ◌/◌, ◌%◌, ◌^◌, ◌<◌, ◌≤◌, min, Bool, true, false, not, ◌&&◌, ◌||◌, refl, ap, sym, ◌∙◌, arith, w64, bit_and, eqb, ltb}
-use Rattle.std.specs.Int.{bit_at, trailing_zeros, reverse_bits, reverse_bits_onto}
+-- The bits of a word: its lowest and its highest set bit, and the word without either.
+use Rattle.std.proofs.Common.{◌≡◌, ◌≢◌, ℕ, zero, suc, ◌+◌, ◌-◌, ◌*◌, ◌/◌, ◌%◌, ◌^◌, ◌<◌, ◌≤◌, min, Bool, true, false, not, ◌&&◌, ◌||◌, refl, ap, sym, ◌∙◌, arith, w64, bit_and, add-one, eqb, ltb}
+use Rattle.std.specs.Int.{bit_at, bit_not, trailing_zeros}
 use Rattle.std.specs.Int.Count.{trailing_of_zero}
 use Rattle.std.specs.Int.RustNames.{bit_or}
 use Rattle.std.proofs.lemmas.Grind.{common_steps}
-use Rattle.std.proofs.lemmas.Nat.Bits.{bit_at_lowest, bit_at-suc, bit_at-zero, bit_at_and, bit_at-trailing_zeros, bit_at_set_same, bit_at_set_other}
-use Rattle.rsc_search.specs.WordLayout.{has_bit}
+use Rattle.std.proofs.lemmas.Nat.Bits.{bit_at_above, bit_at_clear_same, bit_at_clear_other, bit_at_lowest, bit_at-suc, bit_at-zero, bit_at_and, bit_at-trailing_zeros, bit_at_set_same, bit_at_set_other}
+use Rattle.std.proofs.lemmas.Nat.{leading_length, pow_pos}
+use native.Mathlib.Numerals.{unary_clauses}
+use Rattle.std.proofs.Math.Nat.{div-lt_iff_lt-mul}
+use Rattle.rsc_search.specs.WordLayout.{has_bit, bit_length}
 
 -- one less has no bit at the lowest set one, and the same above it
 pred_lowest : (j n : ℕ) → 0 < n → bit_at n j ≡ 1 → ((i : ℕ) → i < j → bit_at n i ≡ 0) → bit_at (n - 1) j ≡ 0
@@ -86,33 +89,59 @@ bit_set n k within j =
       | false ↦ λ e. let ne : j ≢ k = grind (arith, common_steps) in rw (bit_at_set_other w64 n k within j ne) refl
     ] refl
 
-onto_high : (k n a i : ℕ) → k ≤ i → bit_at (reverse_bits_onto k n a) i ≡ bit_at a (i - k)
-unfolding reverse_bits_onto
-onto_high zero n a i le = let none : i - zero ≡ i = omega arith in rw none refl
-onto_high (suc k) n a i le =
-    let more : i - k ≡ suc (i - suc k) = omega arith in
-    let half : (a * 2 + n % 2) / 2 ≡ a = omega arith in
-    onto_high k (n / 2) (a * 2 + n % 2) i (omega arith) ∙ ap (bit_at (a * 2 + n % 2)) more ∙ bit_at-suc (a * 2 + n % 2) (i - suc k) ∙ ap (λ m. bit_at m (i - suc k)) half
+-- ---- the highest set bit
+length_of : (n : ℕ) → n < 2 ^ 64 → (n < 2 ^ bit_length n) × (2 ^ bit_length n ≤ 2 * n + 1)
+length_of n fits =
+    let found = leading_length 64 n fits in
+    let is : bit_length n ≡ found.0 = omega (arith, found.1) in
+    rw is (found.2, found.3)
 
-onto_low : (k n a i : ℕ) → i < k → bit_at (reverse_bits_onto k n a) i ≡ bit_at n (k - 1 - i)
-unfolding reverse_bits_onto
-onto_low zero n a i lt = absurd (omega arith)
-onto_low (suc k) n a i lt =
-    elim (ltb i k) as (λ b. ltb i k ≡ b → bit_at (reverse_bits_onto (suc k) n a) i ≡ bit_at n (suc k - 1 - i)) [
-      | true ↦ λ e.
-          let below : i < k = grind (arith, common_steps) in
-          let more : suc k - 1 - i ≡ suc (k - 1 - i) = omega arith in
-          onto_low k (n / 2) (a * 2 + n % 2) i below ∙ sym (bit_at-suc n (k - 1 - i)) ∙ ap (bit_at n) (sym more)
-      | false ↦ λ e.
-          let le : k ≤ i = grind (arith, common_steps) in
-          let none : i - k ≡ 0 = omega arith in
-          let last : suc k - 1 - i ≡ 0 = omega arith in
-          let lowest : (a * 2 + n % 2) % 2 ≡ n % 2 = omega arith in
-          onto_high k (n / 2) (a * 2 + n % 2) i le ∙ ap (bit_at (a * 2 + n % 2)) none ∙ bit_at_lowest (a * 2 + n % 2) ∙ lowest ∙ sym (bit_at_lowest n) ∙ ap (bit_at n) (sym last)
-    ] refl
+-- no bit is set from the length on
+pub none_above : (n i : ℕ) → n < 2 ^ 64 → bit_length n ≤ i → has_bit n i ≡ false
+none_above n i fits le = rw (bit_at_above n (bit_length n) i (length_of n fits).0 le) refl
 
-pub bit_reversed : (n j : ℕ) → j < 64 → has_bit (reverse_bits w64 n) j ≡ has_bit n (63 - j)
-bit_reversed n j lt = ap (λ b. eqb b 1) (onto_low 64 n 0 j lt)
+pub length_some : (n : ℕ) → 0 < n → n < 2 ^ 64 → 0 < bit_length n
+length_some n some fits = by_order (bit_length n) 1 (λ none.
+    let is : bit_length n ≡ 0 = omega (arith, none) in
+    let short : n < 2 ^ 0 = rw is at (length_of n fits).0 in
+    absurd (omega (arith, short))) (λ one. omega (arith, one)) (λ more. omega (arith, more))
+
+at_least_one : (n m : ℕ) → 0 < m → m ≤ n → 0 < n / m
+at_least_one n m some le = by_order (n / m) 1 (λ none.
+    let short : n < 1 * m = (div-lt_iff_lt-mul some).0 none in
+    absurd (omega (arith, short))) (λ one. omega (arith, one)) (λ more. omega (arith, more))
+
+-- the last bit of the length is set
+pub highest_set : (n : ℕ) → n < 2 ^ 64 → 0 < bit_length n → has_bit n (bit_length n - 1) ≡ true
+highest_set n fits some = top (bit_length n - 1) (omega (arith, some)) (length_of n fits).0 (length_of n fits).1
+  where
+    top : (k : ℕ) → bit_length n ≡ k + 1 → n < 2 ^ bit_length n → 2 ^ bit_length n ≤ 2 * n + 1 → has_bit n k ≡ true
+    top k is below above =
+        let double : 2 ^ (k + 1) ≡ 2 * 2 ^ k = rw add-one (simp unary_clauses (omega arith)) in
+        let high : n < 2 ^ (k + 1) = rw is at below in
+        let low : 2 ^ (k + 1) ≤ 2 * n + 1 = rw is at above in
+        let within : 2 ^ k ≤ n = omega (arith, double, low) in
+        let under : n / 2 ^ k < 2 = (div-lt_iff_lt-mul (pow_pos k)).1 (omega (arith, double, high)) in
+        let over : 0 < n / 2 ^ k = at_least_one n (2 ^ k) (pow_pos k) within in
+        let one : n / 2 ^ k ≡ 1 = omega (arith, under, over) in
+        rw one refl
+
+-- `n & !(1 << k)` has the bits of n but bit k
+pub bit_cleared : (n k : ℕ) → n < 2 ^ 64 → k < 64 → (j : ℕ) → has_bit (bit_and n (bit_not w64 (1 * 2 ^ k % 2 ^ 64))) j ≡ (not (eqb j k) && has_bit n j)
+bit_cleared n k fits within j =
+    by_order j 64
+    (λ below. elim (eqb j k) as (λ b. eqb j k ≡ b → has_bit (bit_and n (bit_not w64 (1 * 2 ^ k % 2 ^ 64))) j ≡ (not b && has_bit n j)) [
+      | true ↦ λ e. let eq : j ≡ k = grind (arith, common_steps) in rw (eq, bit_at_clear_same w64 n k within) refl
+      | false ↦ λ e. let ne : j ≢ k = grind (arith, common_steps) in rw (bit_at_clear_other w64 n k within j below ne) refl
+    ] refl)
+    (λ at_64. past (omega (arith, at_64)))
+    (λ above. past (omega (arith, above)))
+  where
+    past : 64 ≤ j → has_bit (bit_and n (bit_not w64 (1 * 2 ^ k % 2 ^ 64))) j ≡ (not (eqb j k) && has_bit n j)
+    past le =
+        let none : bit_at n j ≡ 0 = bit_at_above n 64 j fits le in
+        let clear : min 0 (bit_at (bit_not w64 (1 * 2 ^ k % 2 ^ 64)) j) ≡ 0 = omega arith in
+        rw (bit_at_and n (bit_not w64 (1 * 2 ^ k % 2 ^ 64)) j, none, clear) (sym (and_false (not (eqb j k))))
 
 -- no bit is set below the lowest set one, and none of zero
 pub none_under : (n i : ℕ) → n < 2 ^ 64 → i < trailing_zeros w64 n → has_bit n i ≡ false

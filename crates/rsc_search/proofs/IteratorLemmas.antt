@@ -1,6 +1,6 @@
 -- What the iterator over a set has left, and its steps from either end.
 use Rattle.std.proofs.Common.{◌≡◌, ◌≢◌, ℕ, zero, suc, ◌+◌, ◌-◌, ◌*◌, ◌^◌, ◌<◌, ◌≤◌, Bool, true, false, not, ◌&&◌, List, [], ◌∷◌, ◌++◌, length, get_or, refl, sym, ap, ◌∙◌, arith, w64, eqb, ltb}
-use Rattle.std.specs.Int.{trailing_zeros}
+use Rattle.std.specs.Int.{leading_zeros, trailing_zeros}
 use Rattle.std.proofs.lemmas.Grind.{common_steps}
 use Rattle.std.proofs.lemmas.Nat.Bits.{bit_at-trailing_zeros}
 use Rattle.std.proofs.lemmas.List.Elements.{All-filter}
@@ -12,8 +12,8 @@ use Rattle.std.specs.List.Sorted.{IsStrictlyIncreasing}
 use Rattle.std.specs.List.{filter, range_with_len}
 use Rattle.rsc_search.specs.PatternSets.{numbers_below, has_member}
 use Rattle.rsc_search.specs.PatternSetLayout.{patterns_of, left_between, IsPacked, IsBetween}
-use Rattle.rsc_search.specs.WordLayout.{has_bit, word_of, is_set, set_between, rest_start, rest_end, IsRestFrom, IsRestTo, IsWordFrom, IsWordTo}
-use Rattle.rsc_search.proofs.BitsLemmas.{none_under, lowest_set, differ, same, by_order}
+use Rattle.rsc_search.specs.WordLayout.{bit_length, has_bit, word_of, is_set, set_between, rest_start, rest_end, IsRestFrom, IsRestTo, IsWordFrom, IsWordTo}
+use Rattle.rsc_search.proofs.BitsLemmas.{none_under, none_above, highest_set, length_some, lowest_set, differ, same, by_order}
 use Rattle.rsc_search.proofs.NumbersLemmas.{filter_none, skip_front, skip_back, first_passes, last_passes}
 use Rattle.rsc_search.proofs.WordsLemmas.{at_word, at_number, clear_before, clear_after, at_most_64, covers, whole_from, whole_to}
 use Rattle.rsc_search.proofs.MembersLemmas.{all_members}
@@ -38,7 +38,7 @@ members_below t n = All-filter t (λ p. p < n) (range_with_len 0 n) (λ k d with
 
 -- an iterator between whole words at both ends has all members left
 pub all_left : (capacity : ℕ) (words : List ℕ) (front last back : ℕ) → ((p : ℕ) → capacity ≤ p → is_set words p ≡ false) → capacity ≤ 64 * last + 64
-    → front < 2 ^ 64 → front ≡ word_of words 0 → back < 2 ^ 64 → ((j : ℕ) → j < 64 → has_bit back j ≡ has_bit (word_of words last) (63 - j))
+    → front < 2 ^ 64 → front ≡ word_of words 0 → back < 2 ^ 64 → back ≡ word_of words last
     → left_between words 0 front last back ≡ numbers_below capacity (is_set words)
 all_left capacity words front last back spare_clear covers front_fits front_is back_fits back_is =
     let none : capacity - 0 ≡ capacity = omega arith in
@@ -65,6 +65,22 @@ module _ (word rest : ℕ) (fits : word < 2 ^ 64) (rest_fits : rest < 2 ^ 64) (w
 
   rest_clear : (j : ℕ) → trailing_zeros w64 word < j → j < trailing_zeros w64 rest → has_bit word j ≡ false
   rest_clear j above below = sym (rest_bit j (omega arith)) ∙ none_under rest j rest_fits below
+
+-- the same without its highest
+module _ (word rest : ℕ) (fits : word < 2 ^ 64) (rest_fits : rest < 2 ^ 64) (some : 0 < bit_length word)
+    (taken : (j : ℕ) → has_bit rest j ≡ (not (eqb j (63 - leading_zeros w64 word)) && has_bit word j)) where
+  kept_bit : (j : ℕ) → j ≢ 63 - leading_zeros w64 word → has_bit rest j ≡ has_bit word j
+  kept_bit j ne = taken j ∙ rw (differ j (63 - leading_zeros w64 word) ne) refl
+
+  falls : bit_length rest ≤ 63 - leading_zeros w64 word
+  falls =
+      by_order (bit_length rest) (bit_length word)
+      (λ below. omega (arith, below))
+      (λ here. absurd (true≢false (sym (highest_set rest rest_fits (omega (arith, here, some))) ∙ taken (bit_length rest - 1) ∙ rw (same (bit_length rest - 1) (63 - leading_zeros w64 word) (omega (arith, here, some))) refl)))
+      (λ above. absurd (true≢false (sym (highest_set rest rest_fits (omega (arith, above))) ∙ kept_bit (bit_length rest - 1) (omega (arith, above, some)) ∙ none_above word (bit_length rest - 1) fits (omega (arith, above)))))
+
+  kept_clear : (j : ℕ) → bit_length rest ≤ j → j < 63 - leading_zeros w64 word → has_bit word j ≡ false
+  kept_clear j above below = sym (kept_bit j (omega arith)) ∙ none_above rest j rest_fits above
 
 -- ---- a step from either end, where a member is left
 module _ (words : List ℕ) (front_index front back_index back left : ℕ) (left_is : left ≡ length (left_between words front_index front back_index back)) (some : left ≢ 0) where
@@ -121,12 +137,14 @@ module _ (words : List ℕ) (front_index front back_index back left : ℕ) (left
     pub back_some : 0 < word
     back_some = nonzero word (λ none. not_none (filter_none (is_set words) (rest_start front_index front) (rest_end back_index back - rest_start front_index front) (λ q from below. found.none none q (omega arith))))
 
-    pub back_within : trailing_zeros w64 word < 64
-    back_within = (bit_at-trailing_zeros w64 word back_some found.fits).0
+    pub back_within : 0 < bit_length word
+    back_within = length_some word back_some found.fits
 
     -- the number that is given is a member
-    pub back_set : is_set words (64 * index + (63 - trailing_zeros w64 word)) ≡ true
-    back_set = at_word words index (63 - trailing_zeros w64 word) (omega arith) ∙ sym (found.is_rest.bits_are (trailing_zeros w64 word) (omega arith) back_within) ∙ lowest_set word found.fits back_within
+    pub back_set : is_set words (64 * index + (63 - leading_zeros w64 word)) ≡ true
+    back_set =
+        let highest : bit_length word - 1 ≡ 63 - leading_zeros w64 word = omega arith in
+        at_word words index (63 - leading_zeros w64 word) (omega arith) ∙ sym (found.is_rest.bits_are (63 - leading_zeros w64 word) (omega (arith, back_within))) ∙ rw highest at (highest_set word found.fits back_within)
 
     ends : left_between words front_index front back_index back ≡ set_between words (rest_start front_index front) (rest_end index word)
     ends = skip_back (is_set words) (rest_start front_index front) (rest_end index word) (rest_end back_index back) found.order found.clear
@@ -141,46 +159,41 @@ module _ (words : List ℕ) (front_index front back_index back left : ℕ) (left
               absurd (not_none (ends ∙ ap (λ n. filter (is_set words) (range_with_len (rest_start front_index front) n)) none))
         ] refl
 
-    module _ (rest : ℕ) (rest_fits : rest < 2 ^ 64) (taken : (j : ℕ) → has_bit rest j ≡ (not (eqb j (trailing_zeros w64 word)) && has_bit word j)) where
+    module _ (rest : ℕ) (rest_fits : rest < 2 ^ 64) (taken : (j : ℕ) → has_bit rest j ≡ (not (eqb j (63 - leading_zeros w64 word)) && has_bit word j)) where
       pub back_rest : IsRestTo words index rest
       back_rest =
-          let later : trailing_zeros w64 word < trailing_zeros w64 rest = rises word rest found.fits rest_fits back_within taken in
-          record { bits_are = λ i from below. rest_bit word rest found.fits rest_fits back_within taken i (omega (arith, later, from)) ∙ found.is_rest.bits_are i (omega (arith, later, from)) below }
+          let later : bit_length rest ≤ 63 - leading_zeros w64 word = falls word rest found.fits rest_fits back_within taken in
+          record { bits_are = λ i below. kept_bit word rest found.fits rest_fits back_within taken i (omega (arith, later, below)) ∙ found.is_rest.bits_are i (omega (arith, later, below)) }
 
-      clear_behind : (q : ℕ) → rest_end index rest ≤ q → q < 64 * index + (63 - trailing_zeros w64 word) → is_set words q ≡ false
+      clear_behind : (q : ℕ) → rest_end index rest ≤ q → q < 64 * index + (63 - leading_zeros w64 word) → is_set words q ≡ false
       clear_behind q from below =
-          let back : 63 - (63 - (q - 64 * index)) ≡ q - 64 * index = omega arith in
-          at_number words index q (omega arith) (omega arith)
-          ∙ ap (has_bit (word_of words index)) (sym back)
-          ∙ sym (found.is_rest.bits_are (63 - (q - 64 * index)) (omega arith) (omega arith))
-          ∙ rest_clear word rest found.fits rest_fits back_within taken (63 - (q - 64 * index)) (omega arith) (omega arith)
+          at_number words index q (omega arith) (omega arith) ∙ sym (found.is_rest.bits_are (q - 64 * index) (omega arith)) ∙ kept_clear word rest found.fits rest_fits back_within taken (q - 64 * index) (omega arith) (omega arith)
 
-      pub back_step : left_between words front_index front back_index back ≡ left_between words front_index front index rest ++ (64 * index + (63 - trailing_zeros w64 word)) ∷ []
+      pub back_step : left_between words front_index front back_index back ≡ left_between words front_index front index rest ++ (64 * index + (63 - leading_zeros w64 word)) ∷ []
       back_step =
-          let later : trailing_zeros w64 word < trailing_zeros w64 rest = rises word rest found.fits rest_fits back_within taken in
-          let next : rest_end index word ≡ (64 * index + (63 - trailing_zeros w64 word)) + 1 = omega (arith, back_within) in
+          let later : bit_length rest ≤ 63 - leading_zeros w64 word = falls word rest found.fits rest_fits back_within taken in
+          let next : rest_end index word ≡ (64 * index + (63 - leading_zeros w64 word)) + 1 = omega (arith, back_within) in
           ends
           ∙ ap (set_between words (rest_start front_index front)) next
-          ∙ last_passes (is_set words) (rest_start front_index front) (64 * index + (63 - trailing_zeros w64 word)) (omega (arith, after_start, back_within)) back_set
-          ∙ ap (λ (ps : List ℕ). ps ++ (64 * index + (63 - trailing_zeros w64 word)) ∷ []) (skip_back (is_set words) (rest_start front_index front) (rest_end index rest) (64 * index + (63 - trailing_zeros w64 word)) (omega (arith, later)) clear_behind)
+          ∙ last_passes (is_set words) (rest_start front_index front) (64 * index + (63 - leading_zeros w64 word)) (omega (arith, after_start, back_within)) back_set
+          ∙ ap
+          (λ (ps : List ℕ). ps ++ (64 * index + (63 - leading_zeros w64 word)) ∷ [])
+          (skip_back (is_set words) (rest_start front_index front) (rest_end index rest) (64 * index + (63 - leading_zeros w64 word)) (omega (arith, later)) clear_behind)
 
 -- ---- the iterator over a whole set
 module _ (capacity count : ℕ) (items : List ℕ) (packed : IsPacked capacity items count) (words : List ℕ) (words_are : words ≡ items)
     (last : ℕ) (last_is : last ≡ length words - 1) (front : ℕ) (front_fits : front < 2 ^ 64) (front_is : front ≡ word_of words 0)
-    (last_word : ℕ) (last_word_is : last_word ≡ word_of words last) (back : ℕ) (back_fits : back < 2 ^ 64) (back_is : (j : ℕ) → j < 64 → has_bit back j ≡ has_bit last_word (63 - j)) where
-  back_word : (j : ℕ) → j < 64 → has_bit back j ≡ has_bit (word_of words last) (63 - j)
-  back_word = rw last_word_is at back_is
-
+    (back : ℕ) (back_fits : back < 2 ^ 64) (back_is : back ≡ word_of words last) where
   pub left_members : left_between words 0 front last back ≡ numbers_below capacity (is_set items)
   left_members =
       let spare : (p : ℕ) → capacity ≤ p → is_set words p ≡ false = rw words_are packed.spare_clear in
       let begun : capacity ≤ 64 * (length words - 1) + 64 = covers capacity (length words) (ap length words_are ∙ packed.length_is) in
-      all_left capacity words front last back spare (rw last_is begun) front_fits front_is back_fits back_word ∙ ap (λ ws. numbers_below capacity (is_set ws)) words_are
+      all_left capacity words front last back spare (rw last_is begun) front_fits front_is back_fits back_is ∙ ap (λ ws. numbers_below capacity (is_set ws)) words_are
 
   pub begins_between : IsBetween words 0 front last back count
   begins_between = record {
     front_is = whole_from words 0 front front_is;
-    back_is = whole_to words last back back_word;
+    back_is = whole_to words last back back_is;
     fits = λ p is. let lt : p < capacity = set_below capacity items packed.spare_clear p (ap (λ ws. is_set ws p) (sym words_are) ∙ is) in omega (arith, lt, packed.fits);
     left_is = packed.count_is ∙ ap length (sym left_members);
   }

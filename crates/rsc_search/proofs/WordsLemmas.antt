@@ -1,15 +1,15 @@
 -- Words in a list: what is left of one, and the next that isn't zero, from either end.
 use Rattle.std.proofs.Common.{◌≡◌, ◌≢◌, ℕ, ◌+◌, ◌-◌, ◌*◌, ◌/◌, ◌%◌, ◌^◌, ◌<◌, ◌≤◌, ◌↔◌, Bool, true, false, List, length, get_or, refl, ap, sym, ◌∙◌, arith, w64, eqb, ltb}
-use Rattle.std.specs.Int.{bit_at, trailing_zeros, div_ceil}
+use Rattle.std.specs.Int.{bit_at, leading_zeros, trailing_zeros, div_ceil}
 use Rattle.std.specs.Str.{bytes_eq}
 use Rattle.std.proofs.lemmas.Slice.Eq.{bytes_eq-Decides}
-use Rattle.std.specs.Int.Count.{trailing_of_zero}
+use Rattle.std.specs.Int.Count.{trailing_of_zero, leading_of_zero}
 use Rattle.std.proofs.lemmas.Nat.Bits.{bit_at-zero, bit_at-lt, same_from_bits_below}
 use Rattle.std.proofs.lemmas.List.{get_or_past, ext_get_or}
 use Rattle.std.proofs.lemmas.Nat.{trailing_le}
 use Rattle.std.proofs.lemmas.Grind.{common_steps}
-use Rattle.rsc_search.specs.WordLayout.{has_bit, word_of, is_set, SameBits, rest_start, rest_end, IsRestFrom, IsRestTo}
-use Rattle.rsc_search.proofs.BitsLemmas.{none_under}
+use Rattle.rsc_search.specs.WordLayout.{bit_length, has_bit, word_of, is_set, SameBits, rest_start, rest_end, IsRestFrom, IsRestTo}
+use Rattle.rsc_search.proofs.BitsLemmas.{none_under, none_above}
 
 zero_has_none : (i : ℕ) → has_bit 0 i ≡ false
 zero_has_none i = rw (bit_at-zero i) refl
@@ -36,8 +36,8 @@ past_words words q past =
 pub whole_from : (words : List ℕ) (w word : ℕ) → word ≡ word_of words w → IsRestFrom words w word
 whole_from words w word is = record { bits_are = λ i from below. rw is refl }
 
-pub whole_to : (words : List ℕ) (w word : ℕ) → ((j : ℕ) → j < 64 → has_bit word j ≡ has_bit (word_of words w) (63 - j)) → IsRestTo words w word
-whole_to words w word is = record { bits_are = λ i from below. is i below }
+pub whole_to : (words : List ℕ) (w word : ℕ) → word ≡ word_of words w → IsRestTo words w word
+whole_to words w word is = record { bits_are = λ i below. rw is refl }
 
 -- below the lowest set bit of a whole word no number of it is set
 pub clear_before : (words : List ℕ) (w word : ℕ) → word < 2 ^ 64 → word ≡ word_of words w → trailing_zeros w64 word ≤ 64 → (q : ℕ) → 64 * w ≤ q → q < rest_start w word → is_set words q ≡ false
@@ -45,14 +45,14 @@ clear_before words w word fits is within q from below =
     at_number words w q from (omega (arith, below, within)) ∙ rw (← is) (none_under word (q - 64 * w) fits (omega arith))
 
 -- nor above its highest
-pub clear_after : (words : List ℕ) (w word : ℕ) → word < 2 ^ 64 → ((j : ℕ) → j < 64 → has_bit word j ≡ has_bit (word_of words w) (63 - j)) → (q : ℕ) → rest_end w word ≤ q → q < 64 * w + 64 → is_set words q ≡ false
-clear_after words w word fits is q from below =
-    let under : 63 - (q - 64 * w) < trailing_zeros w64 word = omega arith in
-    let back : 63 - (63 - (q - 64 * w)) ≡ q - 64 * w = omega arith in
-    at_number words w q (omega arith) below ∙ ap (has_bit (word_of words w)) (sym back) ∙ sym (is (63 - (q - 64 * w)) (omega arith)) ∙ none_under word (63 - (q - 64 * w)) fits under
+pub clear_after : (words : List ℕ) (w word : ℕ) → word < 2 ^ 64 → word ≡ word_of words w → (q : ℕ) → rest_end w word ≤ q → q < 64 * w + 64 → is_set words q ≡ false
+clear_after words w word fits is q from below = at_number words w q (omega arith) below ∙ rw (← is) (none_above word (q - 64 * w) fits (omega arith))
 
 pub of_zero : trailing_zeros w64 0 ≡ 64
 of_zero = trailing_of_zero 64
+
+length_of_zero : bit_length 0 ≡ 0
+length_of_zero = let all : leading_zeros w64 0 ≡ 64 = leading_of_zero 64 in omega arith
 
 pub at_most_64 : (word : ℕ) → trailing_zeros w64 word ≤ 64
 at_most_64 word = trailing_le 64 word
@@ -81,20 +81,20 @@ module _ (words : List ℕ) (index rest found : ℕ) where
       ] refl
 
   pub order_to : (next : ℕ) → 0 < found → rest_end found 0 ≤ rest_end index rest → rest_end (found - 1) next ≤ rest_end index rest
-  order_to next some order = let all : trailing_zeros w64 0 ≡ 64 = of_zero in omega arith
+  order_to next some order = let none : bit_length 0 ≡ 0 = length_of_zero in omega arith
 
-  pub clear_to : (next : ℕ) → 0 < found → next < 2 ^ 64 → ((j : ℕ) → j < 64 → has_bit next j ≡ has_bit (word_of words (found - 1)) (63 - j))
+  pub clear_to : (next : ℕ) → 0 < found → next < 2 ^ 64 → next ≡ word_of words (found - 1)
       → ((q : ℕ) → rest_end found 0 ≤ q → q < rest_end index rest → is_set words q ≡ false)
       → (q : ℕ) → rest_end (found - 1) next ≤ q → q < rest_end index rest → is_set words q ≡ false
   clear_to next some fits is clear q from below =
-      let all : trailing_zeros w64 0 ≡ 64 = of_zero in
+      let none : bit_length 0 ≡ 0 = length_of_zero in
       elim (ltb q (rest_end found 0)) as (λ b. ltb q (rest_end found 0) ≡ b → is_set words q ≡ false) [
-        | true ↦ λ e. let under : q < rest_end found 0 = grind (arith, common_steps) in clear_after words (found - 1) next fits is q from (omega (arith, all, under))
+        | true ↦ λ e. let under : q < rest_end found 0 = grind (arith, common_steps) in clear_after words (found - 1) next fits is q from (omega (arith, none, under))
         | false ↦ λ e. clear q (grind (arith, common_steps)) below
       ] refl
 
   pub none_to : found ≡ 0 → ((q : ℕ) → rest_end found 0 ≤ q → q < rest_end index rest → is_set words q ≡ false) → (q : ℕ) → q < rest_end index rest → is_set words q ≡ false
-  none_to ended clear q below = let all : trailing_zeros w64 0 ≡ 64 = of_zero in clear q (omega (arith, all)) below
+  none_to ended clear q below = let none : bit_length 0 ≡ 0 = length_of_zero in clear q (omega (arith, ended, none)) below
 
 -- the numbers below the capacity are those of the words up to the last
 pub covers : (capacity n : ℕ) → n ≡ div_ceil capacity 64 → capacity ≤ 64 * (n - 1) + 64

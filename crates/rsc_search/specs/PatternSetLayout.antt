@@ -19,7 +19,7 @@ pub record IsPacked (capacity : ℕ) (words : List ℕ) (count : ℕ) : Type 0 w
 abbrev pub left_between : List ℕ → ℕ → ℕ → ℕ → ℕ → List ℕ
 left_between words front_index front back_index back = set_between words (rest_start front_index front) (rest_end back_index back)
 
--- an iterator between the rests of two words, the second held from its highest bit down, with so many members left
+-- an iterator between the rests of two words, with so many members left
 pub record IsBetween (words : List ℕ) (front_index front back_index back left : ℕ) : Type 0 where
   pub front_is : IsRestFrom words front_index front
   pub back_is : IsRestTo words back_index back

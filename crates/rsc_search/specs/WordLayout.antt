@@ -1,6 +1,6 @@
 -- Words of 64 bits, and lists of them.
 use Rattle.std.specs.Prelude.{◌≡◌, ◌<◌, ◌≤◌, ◌==◌, ◌+◌, ◌-◌, ◌*◌, ◌/◌, ◌%◌, ◌^◌, ℕ, Bool, false, List, length, filter, slice_index_or}
-use Rattle.std.specs.Int.{bit_at, trailing_zeros, w64}
+use Rattle.std.specs.Int.{bit_at, leading_zeros, trailing_zeros, w64}
 use Rattle.std.specs.List.{range_with_len}
 
 -- bit i of the word is set
@@ -28,17 +28,21 @@ pub record SameBits (words others : List ℕ) : Type 0 where
 abbrev pub rest_start : ℕ → ℕ → ℕ
 rest_start index rest = 64 * index + trailing_zeros w64 rest
 
--- where the rest of a word ends that is held from its highest bit down: past its highest set bit, or with the word before
+-- how many bits a word has up to its highest set one
+abbrev pub bit_length : ℕ → ℕ
+bit_length word = 64 - leading_zeros w64 word
+
+-- where the rest of a word ends: past its highest set bit, or with the word before
 abbrev pub rest_end : ℕ → ℕ → ℕ
-rest_end index rest = 64 * index + (64 - trailing_zeros w64 rest)
+rest_end index rest = 64 * index + bit_length rest
 
 -- from its lowest set bit on the rest is the word of that number
 pub record IsRestFrom (words : List ℕ) (index rest : ℕ) : Type 0 where
   pub bits_are : (i : ℕ) → trailing_zeros w64 rest ≤ i → i < 64 → has_bit rest i ≡ has_bit (word_of words index) i
 
--- the same of a rest that is held from its highest bit down
+-- up to its highest set bit the rest is the word of that number
 pub record IsRestTo (words : List ℕ) (index rest : ℕ) : Type 0 where
-  pub bits_are : (i : ℕ) → trailing_zeros w64 rest ≤ i → i < 64 → has_bit rest i ≡ has_bit (word_of words index) (63 - i)
+  pub bits_are : (i : ℕ) → i < bit_length rest → has_bit rest i ≡ has_bit (word_of words index) i
 
 -- the first rest that isn't zero, after a rest
 pub record IsWordFrom (words : List ℕ) (index rest found word : ℕ) : Type 0 where

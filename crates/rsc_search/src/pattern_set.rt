@@ -6,7 +6,8 @@ ghost use Rattle.std.specs.Iterator.SizeHint.{IsWithinCount};
 ghost use Rattle.rsc_search.specs.PatternSets.{Patterns, no_patterns, has_member, with_member};
 
 use crate::words::{
-    BITS, first_from, has_bit, have_same_bits, last_to, reversed, with_bit, without_lowest, word_at,
+    BITS, first_from, has_bit, have_same_bits, last_to, with_bit, without_highest, without_lowest,
+    word_at,
 };
 use rsc_primitives::PatternID;
 use std::alloc::{AllocError, Allocator, Global};
@@ -153,7 +154,7 @@ impl<A: Allocator> PatternSet<A> {
             front_index: 0,
             front: word_at(words, 0),
             back_index: last,
-            back: reversed(word_at(words, last)),
+            back: word_at(words, last),
             left: self.count,
         }
     }
@@ -198,9 +199,8 @@ impl<A: Allocator> Eq for PatternSet<A> {
 #[derive(Clone, Debug, Drop)]
 pub struct PatternSetIter<'a> {
     words: &'a [u64],
-    // Of the two words that were read last from either end what isn't given yet by that end. The back word is held in
-    // the other order, so that both take the lowest set bit. Where both are of one word, what the other end has given
-    // is in them still: the count of those that are left says when to stop.
+    // Of the two words that were read last from either end what that end hasn't given yet. Where both are one word, what
+    // the other end has given is in them still: the count of those that are left says when to stop.
     front_index: usize,
     front: u64,
     back_index: usize,
@@ -269,9 +269,9 @@ impl<'a> DoubleEndedIterator for PatternSetIter<'a> {
             return None;
         }
         let (index, word) = last_to(self.words, self.back_index, self.back);
-        let p = BITS * index + (BITS - 1 - word.trailing_zeros() as usize);
+        let p = BITS * index + (BITS - 1 - word.leading_zeros() as usize);
         self.back_index = index;
-        self.back = without_lowest(word);
+        self.back = without_highest(word);
         self.left -= 1;
         Some(PatternID::must(p))
     }

@@ -1,6 +1,6 @@
 //! Words of 64 bits, and lists of them: bit `i` of word `w` is that of the number `64 * w + i`.
 ghost use Rattle.std.specs.Prelude.{◌≡◌, ℕ, ◌-◌, ◌<◌, ◌≤◌, ◌==◌, ◌||◌, ◌&&◌, ◌↔◌, not, IsTrue};
-ghost use Rattle.std.specs.Int.{trailing_zeros, w64};
+ghost use Rattle.std.specs.Int.{leading_zeros, trailing_zeros, w64};
 ghost use Rattle.rsc_search.specs.WordLayout.{word_of, has_bit, SameBits, IsRestFrom, IsRestTo, IsWordFrom, IsWordTo};
 
 /// How many bits a word has.
@@ -33,12 +33,13 @@ pub(crate) fn without_lowest(word: u64) -> u64
     word & (word - 1)
 }
 
-/// The word with its bits in the other order, so that its lowest set bit was the highest.
+/// The word without its highest set bit.
 #[inline(always)]
-pub(crate) fn reversed(word: u64) -> u64
-    ensures { (j : ℕ) → j < 64 → has_bit result j ≡ has_bit word (63 - j) }
+pub(crate) fn without_highest(word: u64) -> u64
+    requires { 0 < word }
+    ensures { (j : ℕ) → has_bit result j ≡ (not (j == 63 - leading_zeros w64 word) && has_bit word j) }
 {
-    word.reverse_bits()
+    word & !(1 << (63 - word.leading_zeros()))
 }
 
 /// A word of the list, or zero past its end.
@@ -64,6 +65,9 @@ pub(crate) fn first_from(words: &[u64], index: usize, rest: u64) -> (usize, u64)
     requires { IsRestFrom words.now index rest }
     ensures { IsWordFrom words.now index rest result.0 result.1 }
 {
+    if rest != 0 {
+        return (index, rest);
+    }
     let last = words.len().saturating_sub(1);
     let (mut found, mut word) = (index, rest);
     while word == 0 && found < last {
@@ -74,16 +78,19 @@ pub(crate) fn first_from(words: &[u64], index: usize, rest: u64) -> (usize, u64)
 }
 
 /// The last word that isn't zero, down from the one of that number, of which only `rest` is left: its number, and what is
-/// left of it. Where each is zero, so is the answer. What is left of a word has its bits in the other order.
+/// left of it. Where each is zero, so is the answer.
 #[inline(always)]
 pub(crate) fn last_to(words: &[u64], index: usize, rest: u64) -> (usize, u64)
     requires { IsRestTo words.now index rest }
     ensures { IsWordTo words.now index rest result.0 result.1 }
 {
+    if rest != 0 {
+        return (index, rest);
+    }
     let (mut found, mut word) = (index, rest);
     while word == 0 && 0 < found {
         found -= 1;
-        word = reversed(word_at(words, found));
+        word = word_at(words, found);
     }
     (found, word)
 }
