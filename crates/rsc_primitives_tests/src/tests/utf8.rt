@@ -113,7 +113,7 @@ fn knows_the_word_bytes(rt: HostRuntime) {
     for byte in *b"09AZ_az" {
         assert!(rt; is_word_byte(byte), "{byte}");
     }
-    for byte in *b"/:@[^`{" {
+    for byte in *b"/:@[^`{\x7F\x80\xB0\xDF\xE1\xFF" {
         assert!(rt; !is_word_byte(byte), "{byte}");
     }
 }
