@@ -8,10 +8,9 @@ use Rattle.std.specs.FinSet.{contains-empty, same_set, nat_cmp-IsAntisymmetric}
 use Rattle.std.proofs.lemmas.Bool.{cases_lt, cases_Bool, cases_eq, eq-eqb, ne_eqb, le-leb, true≢false, leb-true, and_parts}
 use Rattle.std.proofs.lemmas.Bool.Decides.{nat_tests}
 use Rattle.rsc_alphabet.specs.ByteSets.{Numbers, ends_run, runs}
-use Rattle.rsc_alphabet.specs.ByteSetLayout.{runs_from, parts_no_run}
 use Rattle.rsc_alphabet.specs.Partitions.{edges_of, edges_of_each, changes_at}
 use Rattle.rsc_alphabet.proofs.PartitionsLemmas.{contains-edges_of, c-union}
-use Rattle.rsc_alphabet.proofs.RunsLemmas.{runs_from_first, runs_from_skip, runs_from_none, parts_no_run-after, parts_no_run-skip}
+use Rattle.rsc_alphabet.proofs.RunsLemmas.{runs_from, parts_no_run, runs_from_first, runs_from_skip, runs_from_none, parts_no_run-after, parts_no_run-skip}
 
 abbrev pub changes : Numbers → ℕ → Bool
 changes s k = (sets.contains s k && not (sets.contains s (k + 1))) || (not (sets.contains s k) && sets.contains s (k + 1))

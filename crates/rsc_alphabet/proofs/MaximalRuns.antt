@@ -1,19 +1,18 @@
 -- The pairs of a set's runs are its maximal runs, each apart from the next; its members are all its bytes, ascending.
-use Rattle.std.proofs.Common.{◌≡◌, ◌≢◌, ◌↔◌, ◌⊎◌, inl, inr, ⊎_elim, ℕ, zero, suc, ◌+◌, ◌-◌, ◌<◌, ◌≤◌, Bool, true, false, not, ◌&&◌, ◌||◌, cond, List, [], ◌∷◌, length, get_or, filter, refl, sym, ap, ap₂, ◌∙◌, arith, nat_eq, nat_lt, nat_le, subst}
+use Rattle.std.proofs.Common.{◌≡◌, ◌≢◌, ◌↔◌, ◌⊎◌, inl, inr, ⊎_elim, ℕ, zero, suc, ◌+◌, ◌-◌, ◌<◌, ◌≤◌, Bool, true, false, not, ◌&&◌, ◌||◌, cond, List, [], ◌∷◌, length, get_or, filter, refl, sym, ap, ap₂, ◌∙◌, arith, nat_eq, nat_lt, subst}
 use Rattle.std.specs.List.{All, Contains, AllAdjacentBelow}
 use Rattle.std.specs.List.Sorted.{IsStrictlyIncreasing}
 use Rattle.std.specs.FinSet as sets
-use Rattle.std.proofs.lemmas.Bool.{cases_lt, cases_Bool, cases_eq, eq-eqb, ne_eqb, true≢false, leb-true}
+use Rattle.std.proofs.lemmas.Bool.{cases_lt, cases_Bool, cases_eq, eq-eqb, true≢false, leb-true}
 use Rattle.std.proofs.lemmas.Bool.Decides.{nat_tests}
 use Rattle.std.proofs.lemmas.List.Elements.{All-contains, All-weaker, filter_passes}
 use Rattle.std.proofs.lemmas.List.Kept.{IsStrictlyIncreasing-filter}
 use Rattle.std.proofs.lemmas.List.Sums.{AllPass-from_list_all}
-use Rattle.rsc_alphabet.specs.Bytes.{from_to, bytes}
+use Rattle.rsc_alphabet.specs.Bytes.{bytes}
 use Rattle.rsc_alphabet.specs.BytesLaws.{length-from_to, get_or-from_to}
 use Rattle.rsc_alphabet.specs.ByteSets.{Numbers, members, runs, ends_run, IsMaximalRun}
-use Rattle.rsc_alphabet.specs.ByteSetLayout.{runs_from, parts_no_run}
 use Rattle.rsc_alphabet.proofs.EdgesLemmas.{EndsAt, find_end, is_ordered, ordered_runs}
-use Rattle.rsc_alphabet.proofs.RunsLemmas.{runs_from_first, runs_from_skip, runs_from_none, parts_no_run-after, parts_no_run-skip}
+use Rattle.rsc_alphabet.proofs.RunsLemmas.{runs_from, parts_no_run, runs_from_first, runs_from_skip, runs_from_none, parts_no_run-after, parts_no_run-skip}
 
 -- ---- lists
 

@@ -1,5 +1,5 @@
 -- Boundaries, classes and ranges.
-use Rattle.std.proofs.Common.{◌≡◌, ◌↔◌, ◌⊎◌, inl, inr, ⊎_elim, min, max, ℕ, zero, suc, ◌+◌, ◌-◌, ◌<◌, ◌≤◌, Bool, true, false, not, ◌&&◌, ◌||◌, cond, List, [], ◌∷◌, ◌++◌, length, set, refl, sym, ap, ◌∙◌, arith, nat_eq, nat_lt, ap₂, below_more, get_or-set_same, get_or-set_other, count_by, slice_index}
+use Rattle.std.proofs.Common.{◌≡◌, ◌↔◌, ◌⊎◌, inl, inr, ⊎_elim, min, max, ℕ, zero, suc, ◌+◌, ◌-◌, ◌<◌, ◌≤◌, Bool, true, false, not, ◌&&◌, ◌||◌, cond, List, [], ◌∷◌, ◌++◌, length, refl, sym, ap, ◌∙◌, arith, nat_eq, nat_lt, ap₂, count_by, slice_index}
 use Rattle.std.specs.List.{list_any}
 use Rattle.std.specs.Ordering.{nat_cmp}
 use Rattle.std.specs.Cmp.{nat_cmp_total, unsigned_tied}
@@ -12,6 +12,7 @@ use Rattle.std.proofs.lemmas.List.FromFn.{fill_by_all, length-map-range_with_len
 use Rattle.rsc_alphabet.specs.Bytes.{from_to}
 use Rattle.rsc_alphabet.specs.BytesLaws.{from_to_none, from_to_first, from_to_parts, length-from_to}
 use Rattle.rsc_alphabet.specs.ByteSets.{Numbers}
+use Rattle.rsc_alphabet.specs.ByteSetLayout.{is_one}
 use Rattle.rsc_alphabet.specs.Partitions.{Together, class_of, class_map, edges_of}
 
 -- ---- sets of numbers
@@ -203,14 +204,8 @@ class_reached p c l =
 
 -- ---- the boundary 255, which separates nothing
 
-pub end_is_boundary : (ends : Numbers) (b : ℕ) → b < 255 → sets.contains ends b ≡ true → sets.contains (sets.remove ends 255) b ≡ true
-end_is_boundary ends b h is = c-remove ends 255 b ∙ rw (is, ne_eqb b 255 (λ e. omega arith)) refl
-
-pub end_is_none : (ends : Numbers) (b : ℕ) → sets.contains ends b ≡ false → sets.contains (sets.remove ends 255) b ≡ false
-end_is_none ends b none = c-remove ends 255 b ∙ rw none (grind (arith, nat_tests))
-
-pub last_is_none : (ends : Numbers) (b : ℕ) → 255 ≤ b → b ≤ 255 → sets.contains (sets.remove ends 255) b ≡ false
-last_is_none ends b low high = let e : b ≡ 255 = omega arith in rw e (c-remove ends 255 255)
+inner_boundary : (ends : Numbers) (b : ℕ) → b < 255 → sets.contains ends b ≡ sets.contains (sets.remove ends 255) b
+inner_boundary ends b l = sym (c-remove ends 255 b ∙ rw (ne_eqb b 255 (λ e. omega arith)) refl)
 
 pub boundary_below : (ends : Numbers) → ((b : ℕ) → sets.contains ends b ≡ true → b < 256) → (k : ℕ) → sets.contains (sets.remove ends 255) k ≡ true → k < 255
 boundary_below ends bytes k is = parts (sets.contains ends k) (bytes k) (sym (c-remove ends 255 k) ∙ is)
@@ -219,17 +214,39 @@ boundary_below ends bytes k is = parts (sets.contains ends k) (bytes k) (sym (c-
     parts true low test = let l = low refl in grind (arith, nat_tests)
     parts false low test = grind (arith, nat_tests)
 
--- ---- the walk that numbers the classes
+-- ---- the classes of two halves
 
-pub classes_more : (p : ℕ → Bool) (classes : List ℕ) (class b : ℕ) → ((k : ℕ) → k < b → slice_index classes k ≡ class_of p k) → class ≡ class_of p b → length classes ≡ 256 → b ≤ 255 →
-    (k : ℕ) → k < b + 1 → slice_index (set classes b class) k ≡ class_of p k
-classes_more p classes class b before here long h =
-    below_more _ b
-    (λ k l. get_or-set_other classes b k class 0 (omega arith) ∙ before k l)
-    (get_or-set_same classes b class 0 (omega arith) ∙ here)
+class_of-parts : (p : ℕ → Bool) (a n : ℕ) → class_of p (a + n) ≡ class_of p a + class_of (λ k. p (a + k)) n
+class_of-parts p a zero = let e : a + zero ≡ a = omega arith in rw (e, class_of_none (λ k. p (a + k))) (omega arith)
+class_of-parts p a (suc n) =
+    let e : a + suc n ≡ a + n + 1 = omega arith in
+    let f : suc n ≡ n + 1 = omega arith in
+    ap (class_of p) e ∙ class_of_more p (a + n) ∙ ap (λ x. x + cond (p (a + n)) 1 0) (class_of-parts p a n)
+    ∙ regroup (class_of p a) (class_of (λ k. p (a + k)) n) (cond (p (a + n)) 1 0)
+    ∙ sym (ap (λ x. class_of p a + x) (ap (class_of (λ k. p (a + k))) f ∙ class_of_more (λ k. p (a + k)) n))
+  where
+    regroup : (x y z : ℕ) → x + y + z ≡ x + (y + z)
+    regroup x y z = omega arith
 
-pub class_yes : (p : ℕ → Bool) (class b : ℕ) → class ≡ class_of p b → p b ≡ true → class + 1 ≡ class_of p (b + 1)
-class_yes p class b here is = sym (class_of_more p b ∙ rw (is, ← here) refl)
+-- a boundary but for the byte 255
+abbrev is_inner : Numbers → ℕ → Bool
+is_inner ends = sets.contains (sets.remove ends 255)
 
-pub class_no : (p : ℕ → Bool) (class b : ℕ) → class ≡ class_of p b → p b ≡ false → class ≡ class_of p (b + 1)
-class_no p class b here none = sym (class_of_more p b ∙ rw (none, ← here) (omega arith))
+-- the classes of the bytes below 128 by the bits of one number, and of those above by the bits of another
+pub map_of_halves : (ends : Numbers) (low high : ℕ) (classes : List ℕ) → length classes ≡ 256 →
+    ((b : ℕ) → b < 128 → is_one low b ≡ sets.contains ends b) → ((b : ℕ) → b < 128 → is_one high b ≡ sets.contains ends (128 + b)) →
+    ((b : ℕ) → b < 128 → slice_index classes b ≡ class_of (is_one low) b) → ((b : ℕ) → b < 128 → slice_index classes (128 + b) ≡ class_of (is_one low) 128 + class_of (is_one high) b) →
+    classes ≡ class_map (is_inner ends)
+map_of_halves ends low high classes long lower upper first last =
+    class_map_is (is_inner ends) classes long (λ k h. ⊎_elim
+    (λ (l : k < 128). first k l ∙ in_low k (omega arith))
+    (λ (l : 128 ≤ k). let e : 128 + (k - 128) ≡ k = omega arith in
+    ap (slice_index classes) (sym e) ∙ last (k - 128) (omega arith) ∙ ap₂ (λ x y. x + y) (in_low 128 (omega arith)) (in_high (k - 128) (omega arith))
+    ∙ sym (class_of-parts (is_inner ends) 128 (k - 128)) ∙ ap (class_of (is_inner ends)) e)
+    (cases_lt k 128))
+  where
+    in_low : (k : ℕ) → k ≤ 128 → class_of (is_one low) k ≡ class_of (is_inner ends) k
+    in_low k l = class_of_same (is_one low) (is_inner ends) k (λ j h. lower j (omega arith) ∙ inner_boundary ends j (omega arith))
+
+    in_high : (k : ℕ) → k < 128 → class_of (is_one high) k ≡ class_of (λ j. is_inner ends (128 + j)) k
+    in_high k l = class_of_same (is_one high) (λ j. is_inner ends (128 + j)) k (λ j h. upper j (omega arith) ∙ inner_boundary ends (128 + j) (omega arith))

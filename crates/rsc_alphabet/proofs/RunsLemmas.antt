@@ -1,25 +1,21 @@
--- The steps of the walks of a set of bytes: its members, and its maximal runs.
-use Rattle.std.proofs.Common.{◌≡◌, ℕ, ◌+◌, ◌-◌, ◌<◌, ◌≤◌, Bool, true, false, not, ◌&&◌, ◌||◌, [], ◌∷◌, ◌++◌, filter, refl, ap, ap₂, ◌∙◌, arith, nat_eq, nat_lt}
+-- The maximal runs of a set of bytes, one after the other.
+use Rattle.std.proofs.Common.{◌≡◌, ℕ, ◌+◌, ◌-◌, ◌<◌, ◌≤◌, Bool, true, false, not, ◌&&◌, ◌||◌, List, [], ◌∷◌, ◌++◌, filter, refl, ap, ap₂, ◌∙◌, arith, nat_eq, nat_lt}
 use Rattle.std.specs.List.{zip}
 use Rattle.std.specs.FinSet as sets
 use Rattle.std.proofs.lemmas.Bool.{ne_eqb}
 use Rattle.std.proofs.lemmas.Bool.Decides.{nat_tests}
 use Rattle.std.proofs.lemmas.List.Elements.{filter-append}
 use Rattle.rsc_alphabet.specs.Bytes.{from_to}
-use Rattle.rsc_alphabet.specs.BytesLaws.{from_to_none, from_to_parts, filter_none, filter_first, filter_skip}
-use Rattle.rsc_alphabet.specs.ByteSets.{Numbers, begins_run, ends_run}
-use Rattle.rsc_alphabet.specs.ByteSetLayout.{members_from, runs_from, parts_no_run}
+use Rattle.rsc_alphabet.specs.BytesLaws.{from_to_none, from_to_parts, filter_none, filter_first, filter_skip, filter_same}
+use Rattle.rsc_alphabet.specs.ByteSets.{Numbers, members, runs, begins_run, ends_run}
 
-pub members_from_first : (s : Numbers) (b : ℕ) → b ≤ 255 → sets.contains s b ≡ true → members_from s b ≡ b ∷ members_from s (b + 1)
-members_from_first s b l is = filter_first (λ k. sets.contains s k) b 256 (omega arith) is
+-- the maximal runs from `low` on
+abbrev pub runs_from : Numbers → ℕ → List (ℕ × ℕ)
+runs_from s low = zip (filter (begins_run s) (from_to low 256)) (filter (ends_run s) (from_to low 256))
 
-pub members_from_skip : (s : Numbers) (b : ℕ) → b ≤ 255 → sets.contains s b ≡ false → members_from s b ≡ members_from s (b + 1)
-members_from_skip s b l none = filter_skip (λ k. sets.contains s k) b 256 (omega arith) none
-
-pub members_from_none : (s : Numbers) (b : ℕ) → 255 < b → members_from s b ≡ []
-members_from_none s b l = rw (from_to_none b 256 (omega arith)) refl
-
--- ---- runs
+-- `low` doesn't stand inside a run: it is 0, or past the bytes, or it or the byte before it is no member
+abbrev pub parts_no_run : Numbers → ℕ → Bool
+parts_no_run s low = nat_eq low 0 || (nat_lt 255 low || (not (sets.contains s (low - 1)) || not (sets.contains s low)))
 
 begins : (s : Numbers) (b : ℕ) → b ≤ 255 → parts_no_run s b ≡ true → sets.contains s b ≡ true → begins_run s b ≡ true
 begins s b l clean is = tests (sets.contains s b) (sets.contains s (b - 1)) is clean
@@ -82,3 +78,12 @@ runs_from_none s b l = rw (from_to_none b 256 (omega arith)) refl
 -- past a byte that isn't a member, no run is parted
 pub parts_no_run-skip : (s : Numbers) (b : ℕ) → sets.contains s b ≡ false → parts_no_run s (b + 1) ≡ true
 parts_no_run-skip s b none = let e : b + 1 - 1 ≡ b = omega arith in rw (e, none) (grind (arith, nat_tests))
+
+-- the pairs of the first and the last bytes are the runs
+pub zip-runs : (s starts ends : Numbers) → ((b : ℕ) → sets.contains starts b ≡ begins_run s b) → ((b : ℕ) → sets.contains ends b ≡ ends_run s b) → zip (members starts) (members ends) ≡ runs s
+zip-runs s starts ends first last =
+    ap₂ (λ t u. zip t u) (filter_same (λ b. sets.contains starts b) (begins_run s) 0 256 (λ k l h. first k)) (filter_same (λ b. sets.contains ends b) (ends_run s) 0 256 (λ k l h. last k))
+
+pub zip_none : {A B : Type 0} (xs : List A) (ys : List B) → ys ≡ [] → zip xs ys ≡ []
+zip_none [] ys none = refl
+zip_none (x ∷ xs) ys none = ap (zip (x ∷ xs)) none

@@ -1,26 +1,31 @@
--- How the code holds a set of bytes, as 256 flags, and how far a walk over it has come.
-use Rattle.std.specs.Prelude.{ℕ, ◌-◌, ◌==◌, ◌||◌, Bool, not, nat_lt, List, filter, map, false, slice_index_or}
-use Rattle.std.specs.List.{zip}
+-- How the code holds a set of bytes, as two numbers of 128 bits, and how far an iterator over it has come.
+use Rattle.std.specs.Prelude.{ℕ, ◌+◌, ◌-◌, ◌*◌, ◌^◌, ◌==◌, Bool, zero, suc, nat_lt, List, ◌++◌, filter, if◌then◌else◌}
+use Rattle.std.specs.Int.{bit_at}
 use Rattle.std.specs.FinSet as sets
 use Rattle.rsc_alphabet.specs.Bytes.{from_to, bytes}
-use Rattle.rsc_alphabet.specs.ByteSets.{Numbers, begins_run, ends_run}
+use Rattle.rsc_alphabet.specs.ByteSets.{Numbers}
 
--- the bytes whose flag is true
-abbrev pub flagged : List Bool → Numbers
-flagged flags = sets.from_list (filter (λ b. slice_index_or flags b false) bytes)
+-- a bit is 1
+abbrev pub is_one : ℕ → ℕ → Bool
+is_one mask i = bit_at mask i == 1
 
--- the flag of each byte
-abbrev pub flags_of : Numbers → List Bool
-flags_of s = map (λ b. sets.contains s b) bytes
+-- bit b of the low number stands for the byte b, and bit b of the high one for the byte b + 128
+abbrev pub is_masked : ℕ → ℕ → ℕ → Bool
+is_masked low high b = if nat_lt b 128 then is_one low b else is_one high (b - 128)
+
+-- the bytes whose bit is 1
+abbrev pub masked : ℕ → ℕ → Numbers
+masked low high = sets.from_list (filter (is_masked low high) bytes)
+
+-- the number whose n lowest bits are those at which the test gives true
+unfoldable pub mask_of : (ℕ → Bool) → ℕ → ℕ
+mask_of p zero = 0
+mask_of p (suc n) = (if p n then 1 else 0) * 2 ^ n + mask_of p n
 
 -- the members from `low` on
 abbrev pub members_from : Numbers → ℕ → List ℕ
 members_from s low = filter (λ b. sets.contains s b) (from_to low 256)
 
--- the maximal runs from `low` on
-abbrev pub runs_from : Numbers → ℕ → List (ℕ × ℕ)
-runs_from s low = zip (filter (begins_run s) (from_to low 256)) (filter (ends_run s) (from_to low 256))
-
--- `low` doesn't stand inside a run: it is 0, or past the bytes, or it or the byte before it is no member
-abbrev pub parts_no_run : Numbers → ℕ → Bool
-parts_no_run s low = low == 0 || (nat_lt 255 low || (not (sets.contains s (low - 1)) || not (sets.contains s low)))
+-- of the 64 bytes of a word those whose bit is 1, and the members above them
+abbrev pub members_left : Numbers → ℕ → ℕ → List ℕ
+members_left s number word = filter (λ b. is_one word (b - 64 * number)) (from_to (64 * number) (64 * number + 64)) ++ members_from s (64 * number + 64)

@@ -1,17 +1,16 @@
--- What 256 flags say of a set of bytes.
-use Rattle.std.proofs.Common.{◌≡◌, ◌≢◌, ℕ, ◌<◌, ◌≤◌, Bool, true, false, ◌&&◌, ◌||◌, cond, List, [], ◌∷◌, length, get_or, set, filter, refl, sym, ap, ◌∙◌, arith, nat_eq, get_or-set_same, get_or-set_other, length-set, ⊎_elim}
+-- What two numbers of 128 bits say of a set of bytes.
+use Rattle.std.proofs.Common.{◌≡◌, ◌≢◌, ℕ, zero, suc, ◌+◌, ◌-◌, ◌*◌, ◌^◌, ◌<◌, ◌≤◌, Bool, true, false, ◌&&◌, ◌||◌, cond, List, [], ◌∷◌, filter, refl, sym, ap, ◌∙◌, arith, nat_eq, ⊎_elim}
+use Rattle.std.specs.Int.{bit_at}
 use Rattle.std.specs.List.{list_any}
-use Rattle.std.specs.Ordering.{nat_cmp}
 use Rattle.std.specs.Cmp.{nat_cmp_total}
 use Rattle.std.specs.FinSet as sets
-use Rattle.std.specs.FinSet.{contains-from_list_nat, contains-insert, contains-remove, contains-empty, same_set, nat_cmp-IsAntisymmetric}
-use Rattle.std.proofs.lemmas.Bool.{cases_lt, cases_eq, cases_Bool, eq-eqb, ne_eqb, both_ways, true≢false}
-use Rattle.std.proofs.lemmas.Bool.Decides.{nat_tests}
-use Rattle.std.proofs.lemmas.List.{get_or_past}
-use Rattle.std.proofs.lemmas.List.FromFn.{fill_by_all}
+use Rattle.std.specs.FinSet.{contains-from_list_nat, same_set, nat_cmp-IsAntisymmetric}
+use Rattle.std.proofs.lemmas.Bool.{cases_lt, cases_eq, cases_Bool, eq-eqb, ne_eqb, lt-ltb, le-ltb, both_ways}
+use Rattle.std.proofs.lemmas.Nat.Bits.{bit_at-lt, bit_at_above, bit_at_cat_low, bit_at_cat_high, same_from_bits_below}
+use Rattle.std.proofs.Math.Nat.{pow-suc}
 use Rattle.rsc_alphabet.specs.Bytes.{from_to, bytes}
 use Rattle.rsc_alphabet.specs.ByteSets.{Numbers}
-use Rattle.rsc_alphabet.specs.ByteSetLayout.{flagged, flags_of}
+use Rattle.rsc_alphabet.specs.ByteSetLayout.{is_one, is_masked, masked, mask_of}
 use Rattle.rsc_alphabet.specs.BytesLaws.{any_from_to, none_from_to}
 
 any-filter : {X : Type 0} (t p : X → Bool) (xs : List X) → list_any t (filter p xs) ≡ list_any (λ y. p y && t y) xs
@@ -33,49 +32,76 @@ any_kept p high q past =
     both_false true = refl
     both_false false = refl
 
-pub contains-flagged : (flags : List Bool) → length flags ≡ 256 → (q : ℕ) → sets.contains (flagged flags) q ≡ get_or flags q false
-contains-flagged flags long q =
-    contains-from_list_nat (filter (λ b. get_or flags b false) bytes) q
-    ∙ any_kept (λ b. get_or flags b false) 256 q (λ h. get_or_past flags q false (omega arith))
+-- ---- the bytes whose bit is 1
 
--- what has a flag is a byte
-pub flagged_below : (flags : List Bool) → length flags ≡ 256 → (q : ℕ) → sets.contains (flagged flags) q ≡ true → q < 256
-flagged_below flags long q is =
-    ⊎_elim (λ (h : q < 256). h) (λ (h : 256 ≤ q). absurd (true≢false (sym is ∙ contains-flagged flags long q ∙ get_or_past flags q false (omega arith)))) (cases_lt q 256)
+pub is_masked-low : (low high b : ℕ) → b < 128 → is_masked low high b ≡ is_one low b
+is_masked-low low high b l = rw (lt-ltb b 128 l) refl
 
-pub flags_of-flagged : (flags : List Bool) → length flags ≡ 256 → flags_of (flagged flags) ≡ flags
-unfolding from_to
-flags_of-flagged flags long = sym (fill_by_all (λ b. sets.contains (flagged flags) b) flags 256 false long (λ k h. sym (contains-flagged flags long k)))
+pub is_masked-high : (low high b : ℕ) → 128 ≤ b → is_masked low high b ≡ is_one high (b - 128)
+is_masked-high low high b l = rw (le-ltb b 128 l) refl
 
--- two lists of flags with the same answers are the same set
-pub flagged_is : (flags : List Bool) → length flags ≡ 256 → (s : Numbers) → ((q : ℕ) → get_or flags q false ≡ sets.contains s q) → flagged flags ≡ s
-flagged_is flags long s same = same_set nat_cmp_total nat_cmp-IsAntisymmetric _ _ (λ q. contains-flagged flags long q ∙ same q)
+pub is_masked-past : (low high b : ℕ) → high < 2 ^ 128 → 256 ≤ b → is_masked low high b ≡ false
+is_masked-past low high b fits l = is_masked-high low high b (omega arith) ∙ rw (bit_at_above high 128 (b - 128) fits (omega arith)) refl
 
-pub flagged_set_true : (flags : List Bool) → length flags ≡ 256 → (b : ℕ) → b < 256 → flagged (set flags b true) ≡ sets.insert (flagged flags) b
-flagged_set_true flags long b h =
-    flagged_is (set flags b true) (length-set flags b true ∙ long) _ (λ q.
+pub contains-masked : (low high : ℕ) → high < 2 ^ 128 → (q : ℕ) → sets.contains (masked low high) q ≡ is_masked low high q
+contains-masked low high fits q =
+    contains-from_list_nat (filter (is_masked low high) bytes) q ∙ any_kept (is_masked low high) 256 q (λ l. is_masked-past low high q fits l)
+
+-- two numbers with the same answers as a set are that set
+pub masked_is : (low high : ℕ) → high < 2 ^ 128 → (s : Numbers) → ((q : ℕ) → is_masked low high q ≡ sets.contains s q) → masked low high ≡ s
+masked_is low high fits s same = same_set nat_cmp_total nat_cmp-IsAntisymmetric _ _ (λ q. contains-masked low high fits q ∙ same q)
+
+-- ---- from a set back to its numbers
+
+mask_of-lt : (p : ℕ → Bool) (n : ℕ) → mask_of p n < 2 ^ n
+unfolding mask_of
+mask_of-lt p zero = omega arith
+mask_of-lt p (suc n) = rw (pow-suc 2 n) (fits (cond (p n) 1 0) (2 ^ n) (mask_of p n) (digit-lt (p n)) (mask_of-lt p n))
+  where
+    digit-lt : (b : Bool) → cond b 1 0 < 2
+    digit-lt true = omega arith
+    digit-lt false = omega arith
+
+    fits : (d w r : ℕ) → d < 2 → r < w → d * w + r < w * 2
+    fits zero w r l h = omega arith
+    fits (suc zero) w r l h = omega arith
+    fits (suc (suc d)) w r l h = absurd (omega arith)
+
+is_one-mask_of : (p : ℕ → Bool) (n i : ℕ) → i < n → is_one (mask_of p n) i ≡ p i
+unfolding mask_of
+is_one-mask_of p zero i l = absurd (omega arith)
+is_one-mask_of p (suc n) i l =
     ⊎_elim
-    (λ (e : q ≡ b). let here : get_or (set flags q true) q false ≡ true = get_or-set_same flags q true false (omega arith) in
-    rw (← e) (here ∙ sym (contains-insert nat_cmp_total _ q q ∙ grind (arith, nat_tests))))
-    (λ (ne : q ≢ b). get_or-set_other flags b q true false ne ∙ sym (contains-insert nat_cmp_total _ b q ∙ rw (contains-flagged flags long q) (grind (arith, nat_tests))))
-    (cases_eq q b))
+    (λ (h : i < n). ap (λ x. nat_eq x 1) (bit_at_cat_low (cond (p n) 1 0) n (mask_of p n) i h) ∙ is_one-mask_of p n i h)
+    (λ (h : n ≤ i). let e : i ≡ n = omega arith in let z : n - n ≡ 0 = omega arith in
+    rw e (ap (λ x. nat_eq x 1) (bit_at_cat_high (cond (p n) 1 0) n (mask_of p n) n (mask_of-lt p n) (omega arith) ∙ ap (bit_at (cond (p n) 1 0)) z) ∙ top (p n)))
+    (cases_lt i n)
+  where
+    top : (b : Bool) → nat_eq (bit_at (cond b 1 0) 0) 1 ≡ b
+    top true = refl
+    top false = refl
 
-pub flagged_set_false : (flags : List Bool) → length flags ≡ 256 → (b : ℕ) → b < 256 → flagged (set flags b false) ≡ sets.remove (flagged flags) b
-flagged_set_false flags long b h =
-    flagged_is (set flags b false) (length-set flags b false ∙ long) _ (λ q.
-    ⊎_elim
-    (λ (e : q ≡ b). let here : get_or (set flags q false) q false ≡ false = get_or-set_same flags q false false (omega arith) in
-    rw (← e) (here ∙ sym (contains-remove nat_cmp_total _ q q ∙ grind (arith, nat_tests))))
-    (λ (ne : q ≢ b). get_or-set_other flags b q false false ne ∙ sym (contains-remove nat_cmp_total _ b q ∙ rw (contains-flagged flags long q) (grind (arith, nat_tests))))
-    (cases_eq q b))
+-- two bits are equal if both or neither is 1
+pub same_digit : (x y : ℕ) → x < 2 → y < 2 → nat_eq x 1 ≡ nat_eq y 1 → x ≡ y
+same_digit zero zero lx ly e = refl
+same_digit zero (suc zero) lx ly e = cc
+same_digit (suc zero) zero lx ly e = cc
+same_digit (suc zero) (suc zero) lx ly e = refl
+same_digit (suc (suc x)) y lx ly e = absurd (omega arith)
+same_digit x (suc (suc y)) lx ly e = absurd (omega arith)
 
-pub flagged_none : (flags : List Bool) → length flags ≡ 256 → ((b : ℕ) → b < 256 → get_or flags b false ≡ false) → flagged flags ≡ sets.empty
-flagged_none flags long clear =
-    flagged_is flags long sets.empty (λ q. ⊎_elim (λ (h : q < 256). clear q h) (λ (h : 256 ≤ q). get_or_past flags q false (omega arith)) (cases_lt q 256) ∙ sym (contains-empty nat_cmp q))
+-- a number of n bits is made of its bits
+mask_of_bits : (mask n : ℕ) (p : ℕ → Bool) → mask < 2 ^ n → ((i : ℕ) → i < n → p i ≡ is_one mask i) → mask_of p n ≡ mask
+mask_of_bits mask n p fits same =
+    same_from_bits_below n (mask_of p n) mask (mask_of-lt p n) fits (λ i l.
+    same_digit (bit_at (mask_of p n) i) (bit_at mask i) (bit_at-lt _ i) (bit_at-lt mask i) (is_one-mask_of p n i l ∙ same i l))
 
-pub flagged_one : (flags : List Bool) → length flags ≡ 256 → (b : ℕ) → get_or flags b false ≡ true → flagged flags ≡ sets.empty → ⊥
-flagged_one flags long b is none = true≢false (sym is ∙ sym (contains-flagged flags long b) ∙ ap (λ s. sets.contains s b) none ∙ contains-empty nat_cmp b)
+pub low_again : (low high : ℕ) → low < 2 ^ 128 → high < 2 ^ 128 → mask_of (sets.contains (masked low high)) 128 ≡ low
+low_again low high fl fh =
+    mask_of_bits low 128 (sets.contains (masked low high)) fl (λ i l. contains-masked low high fh i ∙ is_masked-low low high i l)
 
--- two lists of flags are equal if their sets are
-pub flags_same : (xs ys : List Bool) → length xs ≡ 256 → length ys ≡ 256 → flagged xs ≡ flagged ys → xs ≡ ys
-flags_same xs ys lx ly e = sym (flags_of-flagged xs lx) ∙ ap flags_of e ∙ flags_of-flagged ys ly
+pub high_again : (low high : ℕ) → high < 2 ^ 128 → mask_of (λ b. sets.contains (masked low high) (b + 128)) 128 ≡ high
+high_again low high fh =
+    mask_of_bits high 128 (λ b. sets.contains (masked low high) (b + 128)) fh (λ i l.
+    let e : i + 128 - 128 ≡ i = omega arith in
+    contains-masked low high fh (i + 128) ∙ is_masked-high low high (i + 128) (omega arith) ∙ ap (is_one high) e)

@@ -1,10 +1,12 @@
 //! Partitions of the bytes into intervals, and the class maps that they make.
-ghost use Rattle.std.specs.Prelude.{◌≡◌, ℕ, ◌+◌, ◌<◌, ◌≤◌, ◌↔◌, ◌==◌, ◌&&◌, ◌||◌, nat_lt, true, false, IsTrue, All, slice_index};
+ghost use Rattle.std.specs.Prelude.{◌≡◌, ℕ, ◌+◌, ◌<◌, ◌≤◌, ◌↔◌, ◌==◌, ◌&&◌, ◌||◌, nat_lt, true, false, IsTrue, All, length, slice_index};
 ghost use Rattle.std.specs.FinSet as sets;
 ghost use Rattle.rsc_alphabet.specs.ByteSets.{runs};
-ghost use Rattle.rsc_alphabet.specs.Partitions.{changes_at, class_map, edges_of, edges_of_each};
+ghost use Rattle.rsc_alphabet.specs.ByteSetLayout.{is_one};
+ghost use Rattle.rsc_alphabet.specs.Partitions.{changes_at, class_map, class_of, edges_of, edges_of_each};
 ghost use Rattle.rsc_alphabet.specs.Ranges.{are_alike, separates};
 
+use crate::masks::{ones, ones_below};
 use crate::{ByteClasses, ByteSet};
 use std::marker::Model;
 
@@ -83,15 +85,23 @@ impl ByteClassSet {
         ensures map { result ≡ class_map (sets.contains self.now) }
         ensures below { (k : ℕ) → sets.contains self.now k ≡ true → k < 255 }
     {
+        let low = self.ends.low_mask();
         let mut classes = ByteClasses::empty();
-        let mut class = 0u8;
-        for byte in 0..=255u8 {
-            classes.set(byte, class);
-            if self.ends.contains(byte) && byte < 255 {
-                class += 1;
-            }
-        }
+        set_classes(&mut classes, 0, low, 0);
+        set_classes(&mut classes, 128, self.ends.high_mask(), ones(low));
         classes
+    }
+}
+
+// Gives the 128 bytes from `first` on their classes: the number of boundaries below `first`, and of the bits of `ends` below the byte's own.
+fn set_classes(classes: &mut ByteClasses, first: u8, ends: u128, below: u8)
+    requires { (first ≤ 128) × (below ≤ 128) × (length classes.old ≡ 256) }
+    ensures inside { (i : ℕ) → i < 128 → slice_index classes.new (first + i) ≡ below + class_of (is_one ends) i }
+    ensures before { (b : ℕ) → b < first → slice_index classes.new b ≡ slice_index classes.old b }
+    ensures entries { length classes.new ≡ 256 }
+{
+    for bit in 0..128u8 {
+        classes.set(first + bit, below + ones_below(ends, bit));
     }
 }
 

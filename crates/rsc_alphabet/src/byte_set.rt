@@ -1,39 +1,51 @@
-//! Sets of bytes, and the walks over their members and their maximal runs.
-ghost use Rattle.std.specs.Prelude.{◌≡◌, ℕ, ◌≤◌, ◌↔◌, ◌==◌, ◌&&◌, ◌||◌, not, IsTrue, ◌<◌, slice_index_or, true, false, length, All};
+//! Sets of bytes, and the iterators over their members and their maximal runs.
+ghost use Rattle.std.specs.Prelude.{◌≡◌, ℕ, ◌+◌, ◌*◌, ◌≤◌, ◌↔◌, ◌==◌, ◌&&◌, ◌||◌, not, IsTrue, ◌<◌, true, false, All};
 ghost use Rattle.std.specs.FinSet as sets;
 ghost use Rattle.std.specs.Iterator.{YieldsFirst, item_count};
-ghost use Rattle.rsc_alphabet.specs.ByteSets.{members, runs, ends_run};
+ghost use Rattle.rsc_alphabet.specs.ByteSets.{members, runs, begins_run, ends_run};
+ghost use Rattle.rsc_alphabet.specs.ByteSetLayout.{is_one};
 
-use std::marker::Model;
+use crate::ascending::Ascending;
+use crate::masks::{
+    difference, has_bit, has_bits, lower_word, moved_down, moved_up, upper_word, with_bit,
+    without_bit,
+};
+use std::marker::{Model, PhantomData};
 
 /// A set of bytes.
 ///
 /// A contract sees it as the finite set of its members.
 #[derive(Clone, Copy, Debug)]
 pub struct ByteSet {
-    flags: [bool; 256],
+    // Bit b stands for the byte b.
+    low: u128,
+    // Bit b stands for the byte b + 128.
+    high: u128,
 }
 
 impl Model for ByteSet {
-    ghost use Rattle.std.specs.Prelude.{◌≡◌, length};
+    ghost use Rattle.std.specs.Prelude.{ℕ, ◌+◌, ◌^◌, ◌<◌};
     ghost use Rattle.std.specs.FinSet as sets;
     ghost use Rattle.std.specs.Coded.{coded_ℕ};
     ghost use Rattle.rsc_alphabet.specs.ByteSets.{Numbers};
-    ghost use Rattle.rsc_alphabet.specs.ByteSetLayout.{flagged, flags_of};
+    ghost use Rattle.rsc_alphabet.specs.ByteSetLayout.{masked, mask_of};
 
     ghost Value = { Numbers };
 
     ghost coded = { sets.code coded_ℕ };
 
-    ghost view = { λ s. flagged s.flags };
+    ghost view = { λ s. masked s.low s.high };
 
-    ghost invariant = { λ s. length s.flags ≡ 256 };
+    ghost invariant = { λ s. (s.low < 2 ^ 128) × (s.high < 2 ^ 128) };
 
-    ghost inverse = { λ s. record { flags = flags_of s } };
+    ghost inverse = { λ s. record {
+      low = mask_of (sets.contains s) 128;
+      high = mask_of (λ b. sets.contains s (b + 128)) 128;
+    } };
 
-    ghost use Rattle.rsc_alphabet.specs.ByteSetsLaws.{flags_of-flagged};
+    ghost use Rattle.rsc_alphabet.specs.ByteSetsLaws.{low_again, high_again};
 
-    ghost inverse_ok = { λ s h i. record { flags = flags_of-flagged s.flags h i } };
+    ghost inverse_ok = { λ s h i. record { low = low_again s.low s.high h.0 h.1 i; high = high_again s.low s.high h.1 i } };
 }
 
 impl PartialEq for ByteSet {
@@ -44,7 +56,7 @@ impl PartialEq for ByteSet {
     ghost laws = { same_members_partial };
 
     fn eq(&self, other: &Self) -> bool {
-        self.flags == other.flags
+        self.low == other.low && self.high == other.high
     }
 }
 
@@ -72,7 +84,7 @@ impl ByteSet {
         ensures set { result ≡ sets.empty }
         ensures members { (b : ℕ) → sets.contains result b ≡ false }
     {
-        ByteSet { flags: no_flags() }
+        ByteSet { low: 0, high: 0 }
     }
 
     /// Makes a byte a member.
@@ -81,7 +93,11 @@ impl ByteSet {
         ensures set { self.new ≡ sets.insert self.old byte }
         ensures members { (b : ℕ) → sets.contains self.new b ≡ (b == byte || sets.contains self.old b) }
     {
-        self.flags[usize::from(byte)] = true;
+        if byte < 128 {
+            self.low = with_bit(self.low, byte);
+        } else {
+            self.high = with_bit(self.high, byte - 128);
+        }
     }
 
     /// Makes a byte no member.
@@ -90,7 +106,11 @@ impl ByteSet {
         ensures set { self.new ≡ sets.remove self.old byte }
         ensures members { (b : ℕ) → sets.contains self.new b ≡ (not (b == byte) && sets.contains self.old b) }
     {
-        self.flags[usize::from(byte)] = false;
+        if byte < 128 {
+            self.low = without_bit(self.low, byte);
+        } else {
+            self.high = without_bit(self.high, byte - 128);
+        }
     }
 
     /// Whether a byte is a member.
@@ -99,31 +119,33 @@ impl ByteSet {
         ensures value { result ≡ sets.contains self.now byte }
         ensures bytes { (b : ℕ) → sets.contains self.now b ≡ true → b < 256 }
     {
-        self.flags[usize::from(byte)]
+        if byte < 128 {
+            has_bit(self.low, byte)
+        } else {
+            has_bit(self.high, byte - 128)
+        }
     }
 
     /// Whether all bytes from `start` to `end` are members, both included. Where `start` is above `end` that is true.
     pub fn contains_range(&self, start: u8, end: u8) -> bool
         ensures { IsTrue result ↔ ((b : ℕ) → start ≤ b → b ≤ end → sets.contains self.now b ≡ true) }
     {
-        for byte in start..=end {
-            if !self.contains(byte) {
-                return false;
-            }
+        if start > end {
+            true
+        } else if end < 128 {
+            has_bits(self.low, start, end)
+        } else if start >= 128 {
+            has_bits(self.high, start - 128, end - 128)
+        } else {
+            has_bits(self.low, start, 127) && has_bits(self.high, 0, end - 128)
         }
-        true
     }
 
     /// Whether no byte is a member.
     pub fn is_empty(&self) -> bool
         ensures { IsTrue result ↔ (self.now ≡ sets.empty) }
     {
-        for flag in &self.flags {
-            if *flag {
-                return false;
-            }
-        }
-        true
+        self.low == 0 && self.high == 0
     }
 
     /// The members, ascending.
@@ -133,8 +155,8 @@ impl ByteSet {
         ensures contained { All (λ b. sets.contains self.now b ≡ true) result }
     {
         ByteSetIter {
-            set: self,
-            next_byte: 0,
+            left: Ascending::new(*self),
+            set: PhantomData,
         }
     }
 
@@ -145,49 +167,79 @@ impl ByteSet {
         ensures ordered { All (λ r. r.0 ≤ r.1) result }
     {
         ByteSetRangeIter {
-            set: self,
-            next_byte: 0,
+            starts: Ascending::new(self.run_starts()),
+            ends: Ascending::new(self.run_ends()),
+            set: PhantomData,
         }
     }
 
-    // The last byte of the run that the member `start` stands in.
-    fn run_end(&self, start: u8) -> u8
-        requires { sets.contains self.now start ≡ true }
-        ensures from { start ≤ result }
-        ensures fits { result < 256 }
-        ensures within { (k : ℕ) → start ≤ k → k ≤ result → sets.contains self.now k ≡ true }
-        ensures last { ends_run self.now result ≡ true }
+    // The members that have no predecessor among the members.
+    #[inline]
+    fn run_starts(&self) -> ByteSet
+        ensures { (b : ℕ) → sets.contains result b ≡ begins_run self.now b }
     {
-        let mut end = start;
-        while end < 255 && self.contains(end + 1) {
-            end += 1;
+        ByteSet {
+            low: difference(self.low, moved_up(self.low, 0)),
+            high: difference(self.high, moved_up(self.high, self.low)),
         }
-        end
+    }
+
+    // The members that have no successor among the members.
+    #[inline]
+    fn run_ends(&self) -> ByteSet
+        ensures { (b : ℕ) → sets.contains result b ≡ ends_run self.now b }
+    {
+        ByteSet {
+            low: difference(self.low, moved_down(self.low, self.high)),
+            high: difference(self.high, moved_down(self.high, 0)),
+        }
+    }
+
+    // The bits of the bytes 0 to 127.
+    #[inline(always)]
+    pub(crate) fn low_mask(&self) -> u128
+        ensures { (b : ℕ) → b < 128 → is_one result b ≡ sets.contains self.now b }
+    {
+        self.low
+    }
+
+    // The bits of the bytes 128 to 255.
+    #[inline(always)]
+    pub(crate) fn high_mask(&self) -> u128
+        ensures bits { (b : ℕ) → b < 128 → is_one result b ≡ sets.contains self.now (128 + b) }
+        ensures bytes { (b : ℕ) → sets.contains self.now b ≡ true → b < 256 }
+    {
+        self.high
+    }
+
+    // The bits of the 64 bytes from 64 * `number` on.
+    #[inline]
+    pub(crate) fn word(&self, number: u8) -> u64
+        requires { number < 4 }
+        ensures { (i : ℕ) → i < 64 → is_one result i ≡ sets.contains self.now (64 * number + i) }
+    {
+        match number {
+            0 => lower_word(self.low),
+            1 => upper_word(self.low),
+            2 => lower_word(self.high),
+            _ => upper_word(self.high),
+        }
     }
 }
 
-// A helper of its own, so that no proof has to carry the array written out.
-fn no_flags() -> [bool; 256]
-    ensures clear { (b : ℕ) → b < 256 → slice_index_or result b false ≡ false }
-    ensures len { length result ≡ 256 }
-{
-    [false; 256]
-}
-
-/// The walk over a set's members, made by [`ByteSet::iter`]. A contract sees it as the list of those that are left.
+/// The iterator over a set's members, made by [`ByteSet::iter`]. A contract sees it as the list of those that are left.
 #[derive(Debug, Drop)]
 pub struct ByteSetIter<'a> {
-    set: &'a ByteSet,
-    next_byte: usize,
+    left: Ascending,
+    set: PhantomData<&'a ByteSet>,
 }
 
 impl<'a> Model for ByteSetIter<'a> {
     ghost use Rattle.std.specs.Prelude.{ℕ, List};
-    ghost use Rattle.rsc_alphabet.specs.ByteSetLayout.{members_from};
 
     ghost Value = { List ℕ };
 
-    ghost view = { λ it. members_from it.set.now it.next_byte };
+    ghost view = { λ it. it.left };
 }
 
 impl<'a> Iterator for ByteSetIter<'a> {
@@ -197,34 +249,27 @@ impl<'a> Iterator for ByteSetIter<'a> {
 
     ghost remaining = { item_count (λ rest. rest) };
 
+    #[inline]
     fn next(&mut self) -> Option<u8> {
-        while self.next_byte <= 255 {
-            let byte = self.next_byte as u8;
-            self.next_byte += 1;
-            if self.set.contains(byte) {
-                return Some(byte);
-            }
-        }
-        None
+        self.left.next()
     }
 }
 
-/// The walk over a set's maximal runs, made by [`ByteSet::iter_ranges`]. A contract sees it as the list of those that are left.
+/// The iterator over a set's maximal runs, made by [`ByteSet::iter_ranges`]. A contract sees it as the list of those that are left.
 #[derive(Debug, Drop)]
 pub struct ByteSetRangeIter<'a> {
-    set: &'a ByteSet,
-    next_byte: usize,
+    starts: Ascending,
+    ends: Ascending,
+    set: PhantomData<&'a ByteSet>,
 }
 
 impl<'a> Model for ByteSetRangeIter<'a> {
-    ghost use Rattle.std.specs.Prelude.{◌≡◌, ℕ, true, List};
-    ghost use Rattle.rsc_alphabet.specs.ByteSetLayout.{runs_from, parts_no_run};
+    ghost use Rattle.std.specs.Prelude.{ℕ, List};
+    ghost use Rattle.std.specs.List.{zip};
 
     ghost Value = { List (ℕ × ℕ) };
 
-    ghost view = { λ it. runs_from it.set.now it.next_byte };
-
-    ghost invariant = { λ it. parts_no_run it.set.now it.next_byte ≡ true };
+    ghost view = { λ it. zip it.starts it.ends };
 }
 
 impl<'a> Iterator for ByteSetRangeIter<'a> {
@@ -234,16 +279,10 @@ impl<'a> Iterator for ByteSetRangeIter<'a> {
 
     ghost remaining = { item_count (λ rest. rest) };
 
+    #[inline]
     fn next(&mut self) -> Option<(u8, u8)> {
-        while self.next_byte <= 255 {
-            let start = self.next_byte as u8;
-            if self.set.contains(start) {
-                let end = self.set.run_end(start);
-                self.next_byte = usize::from(end) + 1;
-                return Some((start, end));
-            }
-            self.next_byte += 1;
-        }
-        None
+        let start = self.starts.next()?;
+        let end = self.ends.next()?;
+        Some((start, end))
     }
 }

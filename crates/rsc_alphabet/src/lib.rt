@@ -1,10 +1,12 @@
 //! The alphabets of finite automata: sets of bytes, partitions of the bytes into intervals, and maps from a byte to its class.
 #![tactic(auto)]
 
+mod ascending;
 mod byte_class_set;
 mod byte_classes;
 mod byte_set;
 pub mod laws;
+mod masks;
 mod unit;
 
 pub use byte_class_set::{ByteClassSet, classes_of_ranges};

@@ -1,9 +1,17 @@
-use Rattle.std.proofs.Common.{sym}
-use Rattle.rsc_alphabet.specs.ByteSetsLaws.{contains-flagged, flagged_below}
+use Rattle.std.proofs.Common.{sym, ◌∙◌, arith}
+use Rattle.rsc_alphabet.proofs.MaskedLemmas.{contains-low, contains-high, masked_below}
 use Rattle.rsc_alphabet.proofs.byte_set.ByteSet.contains.Goals as goal
 
-pub returns-clause-value : goal.returns-clause-value
-returns-clause-value c = rw (← c.self.view_is, c.from.ensures) (sym (contains-flagged c.self.inside.flags c.self.invariant c.args.byte))
+pub returns-then-byte-lt128-clause-value : goal.returns-then-byte-lt128-clause-value
+returns-then-byte-lt128-clause-value c =
+    rw (← c.self.view_is) (c.has_bit.ensures ∙ sym (contains-low c.self.inside.low c.self.inside.high c.args.byte c.self.invariant.1 (omega arith)))
 
-pub returns-clause-bytes : goal.returns-clause-bytes
-returns-clause-bytes c = rw (← c.self.view_is) (flagged_below c.self.inside.flags c.self.invariant)
+pub returns-then-byte-lt128-clause-bytes : goal.returns-then-byte-lt128-clause-bytes
+returns-then-byte-lt128-clause-bytes c = rw (← c.self.view_is) (masked_below c.self.inside.low c.self.inside.high c.self.invariant.1)
+
+pub returns-else-byte-lt128-clause-value : goal.returns-else-byte-lt128-clause-value
+returns-else-byte-lt128-clause-value c =
+    rw (← c.self.view_is) (c.has_bit-else-byte-lt128.ensures ∙ sym (contains-high c.self.inside.low c.self.inside.high c.args.byte c.self.invariant.1 (omega arith)))
+
+pub returns-else-byte-lt128-clause-bytes : goal.returns-else-byte-lt128-clause-bytes
+returns-else-byte-lt128-clause-bytes c = rw (← c.self.view_is) (masked_below c.self.inside.low c.self.inside.high c.self.invariant.1)

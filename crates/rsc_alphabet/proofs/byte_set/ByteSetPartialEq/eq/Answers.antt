@@ -1,24 +1,22 @@
-use Rattle.std.proofs.Common.{◌≡◌, Bool, true, false, List, length, refl, ap, ◌∙◌}
-use lib.Pointwise.{pointwise, pointwise_decides}
-use mathlib.Core.Bool.{beq}
-use Rattle.rsc_alphabet.specs.ByteSetLayout.{flagged}
-use Rattle.rsc_alphabet.specs.ByteSetsLaws.{flags_same}
+use Rattle.std.proofs.Common.{ap₂, nat_eq, arith}
+use Rattle.std.proofs.lemmas.Bool.{eq-eqb, eqb-true}
+use Rattle.rsc_alphabet.specs.ByteSetLayout.{masked}
 use Rattle.rsc_alphabet.specs.SameMembers.{same_members, same_bools, same_from, same_to}
+use Rattle.rsc_alphabet.proofs.MaskedLemmas.{masks_same}
 use Rattle.rsc_alphabet.proofs.byte_set.ByteSetPartialEq.eq.Goals as goal
 
-beq_decides : (x y : Bool) → (beq x y ≡ true → x ≡ y) × (x ≡ y → beq x y ≡ true)
-beq_decides true true = (λ h. refl, λ h. refl)
-beq_decides true false = (λ h. cc, λ h. cc)
-beq_decides false true = (λ h. cc, λ h. cc)
-beq_decides false false = (λ h. refl, λ h. refl)
+pub returns-then-self-other : goal.returns-then-self-other
+returns-then-self-other c =
+    let s = c.self.inside in
+    let t = c.other.inside in
+    rw (← c.self.view_is, ← c.other.view_is) (same_bools (nat_eq s.high t.high) (same_members (masked s.low s.high) (masked t.low t.high))
+    (λ h. same_to _ _ (ap₂ masked c.if-self-other.true (eqb-true _ _ h)))
+    (λ h. eq-eqb _ _ (masks_same s.low s.high t.low t.high c.self.invariant.0 c.self.invariant.1 c.other.invariant.0 c.other.invariant.1 (same_from _ _ h)).1))
 
-same_flags : (xs ys : List Bool) → length xs ≡ 256 → length ys ≡ 256 → pointwise beq xs ys ≡ same_members (flagged xs) (flagged ys)
-same_flags xs ys lx ly =
-    let flags = pointwise_decides beq_decides xs ys in
-    same_bools (pointwise beq xs ys) (same_members (flagged xs) (flagged ys))
-    (λ h. same_to (flagged xs) (flagged ys) (ap flagged (flags.0 h)))
-    (λ h. flags.1 (flags_same xs ys lx ly (same_from (flagged xs) (flagged ys) h)))
-
-pub returns : goal.returns
-returns c =
-    rw (← c.self.view_is, ← c.other.view_is) (c.eq.ensures ∙ same_flags c.self.inside.flags c.other.inside.flags c.self.invariant c.other.invariant)
+pub returns-else-self-other : goal.returns-else-self-other
+returns-else-self-other c =
+    let s = c.self.inside in
+    let t = c.other.inside in
+    rw (← c.self.view_is, ← c.other.view_is) (same_bools (nat_eq s.low t.low) (same_members (masked s.low s.high) (masked t.low t.high))
+    (λ h. absurd (omega (arith, eqb-true _ _ h)))
+    (λ h. eq-eqb _ _ (masks_same s.low s.high t.low t.high c.self.invariant.0 c.self.invariant.1 c.other.invariant.0 c.other.invariant.1 (same_from _ _ h)).0))

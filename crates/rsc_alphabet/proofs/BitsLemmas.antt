@@ -1,0 +1,137 @@
+-- The bits of a number that was shifted, masked, or had its lowest bit taken out, and how many bits are 1.
+use Rattle.std.proofs.Common.{◌≡◌, ℕ, zero, suc, ◌+◌, ◌-◌, ◌*◌, ◌/◌, ◌%◌, ◌^◌, ◌<◌, ◌≤◌, min, not, ◌&&◌, cond, nat_eq, refl, sym, ap, ap₂, ◌∙◌, arith, ⊎_elim}
+use Rattle.std.specs.Int.{w128, bit_at, bit_not}
+use Rattle.std.specs.Int.Bits.{bit_and}
+use Rattle.std.specs.Int.Count.{ones, ones_in, ones_cat}
+use Rattle.std.proofs.lemmas.Bool.{cases_lt}
+use Rattle.std.proofs.lemmas.Nat.{and_mask, pow-add, pow_pos, mod-pow-add, div-add-mod'}
+use Rattle.std.proofs.lemmas.Nat.Bits.{bit_at-lt, bit_at-zero, bit_at_and, bit_at_not, bit_at_ones, bit_at_ones_above, bit_at_cat_low, bit_at_cat_high, same_from_bits, same_from_bits_below}
+use Rattle.std.proofs.Math.Nat.{mod-lt, div-div-eq-div-mul, pow-suc}
+use Rattle.rsc_alphabet.specs.ByteSetLayout.{is_one}
+use Rattle.rsc_alphabet.specs.Partitions.{class_of}
+use Rattle.rsc_alphabet.proofs.PartitionsLemmas.{class_of_more, class_of_none}
+
+-- ---- shifts and masks
+
+pub bit_at-shr : (n k i : ℕ) → bit_at (n / 2 ^ k) i ≡ bit_at n (k + i)
+bit_at-shr n k i = ap (λ x. x % 2) (div-div-eq-div-mul n (2 ^ k) (2 ^ i) ∙ ap (λ x. n / x) (sym (pow-add 2 k i)))
+
+pub bit_at-mod : (n k i : ℕ) → i < k → bit_at (n % 2 ^ k) i ≡ bit_at n i
+bit_at-mod n k i l = rw (← and_mask n k) (bit_at_and n (2 ^ k - 1) i ∙ rw (bit_at_ones k i l) (omega (arith, bit_at-lt n i)))
+
+pub bit_at-shl : (n k w i : ℕ) → k ≤ i → i < w → bit_at (n * 2 ^ k % 2 ^ w) i ≡ bit_at n (i - k)
+bit_at-shl n k w i low high =
+    let e : n * 2 ^ k + 0 ≡ n * 2 ^ k = omega arith in
+    bit_at-mod (n * 2 ^ k) w i high ∙ ap (λ x. bit_at x i) (sym e) ∙ bit_at_cat_high n k 0 i (pow_pos k) low
+
+pub bit_at-shl_below : (n k w i : ℕ) → i < k → i < w → bit_at (n * 2 ^ k % 2 ^ w) i ≡ 0
+bit_at-shl_below n k w i low high =
+    let e : n * 2 ^ k + 0 ≡ n * 2 ^ k = omega arith in
+    bit_at-mod (n * 2 ^ k) w i high ∙ ap (λ x. bit_at x i) (sym e) ∙ bit_at_cat_low n k 0 i low ∙ bit_at-zero i
+
+-- the bits of a number that aren't bits of another one
+pub is_one-difference : (mask other i : ℕ) → other < 2 ^ 128 → i < 128 → is_one (bit_and mask (bit_not w128 other)) i ≡ (is_one mask i && not (is_one other i))
+is_one-difference mask other i fits l =
+    ap (λ x. nat_eq x 1) (bit_at_and mask (bit_not w128 other) i ∙ ap (min (bit_at mask i)) (bit_at_not w128 other i fits l))
+    ∙ digits (bit_at mask i) (bit_at other i) (bit_at-lt mask i) (bit_at-lt other i)
+  where
+    digits : (x y : ℕ) → x < 2 → y < 2 → nat_eq (min x (1 - y)) 1 ≡ (nat_eq x 1 && not (nat_eq y 1))
+    digits zero zero lx ly = refl
+    digits zero (suc zero) lx ly = refl
+    digits (suc zero) zero lx ly = refl
+    digits (suc zero) (suc zero) lx ly = refl
+    digits (suc (suc x)) y lx ly = absurd (omega arith)
+    digits x (suc (suc y)) lx ly = absurd (omega arith)
+
+min_none : (x : ℕ) → min 0 x ≡ 0
+min_none x = omega arith
+
+-- ---- all bits of a run
+
+-- no bit of a run is left where all of them are taken out, and only there
+pub run_within : (run mask start end : ℕ) → mask < 2 ^ 128 → end < 128 →
+    ((i : ℕ) → start ≤ i → i ≤ end → bit_at run i ≡ 1) → ((i : ℕ) → i < start → bit_at run i ≡ 0) → ((i : ℕ) → end < i → bit_at run i ≡ 0) →
+    (bit_and run (bit_not w128 mask) ≡ 0 → (i : ℕ) → start ≤ i → i ≤ end → bit_at mask i ≡ 1) × (((i : ℕ) → start ≤ i → i ≤ end → bit_at mask i ≡ 1) → bit_and run (bit_not w128 mask) ≡ 0)
+run_within run mask start end fits l inside below above = (
+  (λ none i low high.
+      let left : min 1 (1 - bit_at mask i) ≡ 0 = sym (left_at i low high) ∙ ap (λ x. bit_at x i) none ∙ bit_at-zero i in
+      omega (arith, bit_at-lt mask i)),
+  (λ all. same_from_bits _ 0 (λ i. ⊎_elim
+      (λ (h : i < start). no_bit i (below i h))
+      (λ (h : start ≤ i). ⊎_elim
+      (λ (k : end < i). no_bit i (above i k))
+      (λ (k : i ≤ end). left_at i h k ∙ rw (all i h k) (sym (bit_at-zero i)))
+      (cases_lt end i))
+      (cases_lt i start))),
+)
+  where
+    left_at : (i : ℕ) → start ≤ i → i ≤ end → bit_at (bit_and run (bit_not w128 mask)) i ≡ min 1 (1 - bit_at mask i)
+    left_at i low high = bit_at_and run (bit_not w128 mask) i ∙ ap₂ min (inside i low high) (bit_at_not w128 mask i fits (omega arith))
+
+    no_bit : (i : ℕ) → bit_at run i ≡ 0 → bit_at (bit_and run (bit_not w128 mask)) i ≡ bit_at 0 i
+    no_bit i none = bit_at_and run (bit_not w128 mask) i ∙ rw none (min_none (bit_at (bit_not w128 mask) i) ∙ sym (bit_at-zero i))
+
+-- ---- the lowest bit taken out
+
+-- a number by its lowest bit
+lowest_split : (n k : ℕ) → bit_at n k ≡ 1 → ((i : ℕ) → i < k → bit_at n i ≡ 0) → n ≡ n / 2 ^ (suc k) * 2 ^ (suc k) + 2 ^ k
+lowest_split n k here below =
+    sym (div-add-mod' n (2 ^ (suc k))) ∙ ap (λ x. n / 2 ^ (suc k) * 2 ^ (suc k) + x) rest
+  where
+    none : n % 2 ^ k ≡ 0
+    none = same_from_bits_below k (n % 2 ^ k) 0 (mod-lt n (pow_pos k)) (pow_pos k) (λ i l. bit_at-mod n k i l ∙ below i l ∙ sym (bit_at-zero i))
+
+    rest : n % 2 ^ (suc k) ≡ 2 ^ k
+    rest = let e : suc k ≡ 1 + k = omega arith in rw e (mod-pow-add n 1 k ∙ ap₂ (λ x y. x * 2 ^ k + y) here none ∙ omega arith)
+
+pub lowest_out : (n k : ℕ) → bit_at n k ≡ 1 → ((i : ℕ) → i < k → bit_at n i ≡ 0) →
+    ((i : ℕ) → i ≤ k → bit_at (bit_and n (n - 1)) i ≡ 0) × ((i : ℕ) → k < i → bit_at (bit_and n (n - 1)) i ≡ bit_at n i)
+lowest_out n k here below = (
+  (λ i l. bit_at_and n (n - 1) i ∙ ⊎_elim
+      (λ (h : i < k). rw (below i h) (min_none (bit_at (n - 1) i)))
+      (λ (h : k ≤ i). let e : i ≡ k = omega arith in rw e (rw at_k (omega arith)))
+      (cases_lt i k)),
+  (λ i l. bit_at_and n (n - 1) i ∙ rw (before i l) (omega arith)),
+)
+  where
+    split : n ≡ n / 2 ^ (suc k) * 2 ^ (suc k) + 2 ^ k
+    split = lowest_split n k here below
+
+    less : n - 1 ≡ n / 2 ^ (suc k) * 2 ^ (suc k) + (2 ^ k - 1)
+    less = one_less n (n / 2 ^ (suc k) * 2 ^ (suc k)) (2 ^ k) split (pow_pos k)
+      where
+        one_less : (n a p : ℕ) → n ≡ a + p → 0 < p → n - 1 ≡ a + (p - 1)
+        one_less n a p e l = omega (arith, e)
+
+    small : 2 ^ k < 2 ^ (suc k)
+    small = rw (pow-suc 2 k) (omega (arith, pow_pos k))
+
+    at_k : bit_at (n - 1) k ≡ 0
+    at_k = ap (λ x. bit_at x k) less ∙ bit_at_cat_low (n / 2 ^ (suc k)) (suc k) (2 ^ k - 1) k (omega arith) ∙ bit_at_ones_above k k (omega arith)
+
+    before : (i : ℕ) → k < i → bit_at (n - 1) i ≡ bit_at n i
+    before i l =
+        ap (λ x. bit_at x i) less ∙ bit_at_cat_high (n / 2 ^ (suc k)) (suc k) (2 ^ k - 1) i (omega (arith, small)) (omega arith)
+        ∙ sym (ap (λ x. bit_at x i) split ∙ bit_at_cat_high (n / 2 ^ (suc k)) (suc k) (2 ^ k) i small (omega arith))
+
+-- ---- how many bits are 1
+
+ones_digit : (b : ℕ) → b < 2 → ones b ≡ cond (nat_eq b 1) 1 0
+unfolding ones ones_in
+ones_digit zero l = refl
+ones_digit (suc zero) l = refl
+ones_digit (suc (suc b)) l = absurd (omega arith)
+
+pub ones-class_of : (n k : ℕ) → ones (n % 2 ^ k) ≡ class_of (is_one n) k
+ones-class_of n zero = let e : n % 1 ≡ 0 = omega arith in rw e (ones_digit 0 (omega arith)) ∙ sym (class_of_none (is_one n))
+ones-class_of n (suc k) =
+    let e : suc k ≡ 1 + k = omega arith in
+    let f : suc k ≡ k + 1 = omega arith in
+    let split : n % 2 ^ (suc k) ≡ bit_at n k * 2 ^ k + n % 2 ^ k = rw e (mod-pow-add n 1 k) in
+    ap ones split ∙ ones_cat k (bit_at n k) (n % 2 ^ k) (mod-lt n (pow_pos k))
+    ∙ ap₂ (λ x y. x + y) (ones_digit (bit_at n k) (bit_at-lt n k)) (ones-class_of n k)
+    ∙ swap (cond (is_one n k) 1 0) (class_of (is_one n) k)
+    ∙ sym (ap (class_of (is_one n)) f ∙ class_of_more (is_one n) k)
+  where
+    swap : (x y : ℕ) → x + y ≡ y + x
+    swap x y = omega arith

@@ -1,0 +1,5 @@
+use Rattle.rsc_alphabet.proofs.BitsLemmas.{bit_at-shr}
+use Rattle.rsc_alphabet.proofs.masks.upper_word.Goals as goal
+
+pub returns : goal.returns
+returns c = λ i l. bit_at-shr c.args.mask 64 i

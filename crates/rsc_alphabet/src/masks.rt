@@ -1,0 +1,136 @@
+//! The bits of the numbers that hold a set of bytes.
+ghost use Rattle.std.specs.Prelude.{◌≡◌, ◌≢◌, ◌==◌, ◌&&◌, ◌↔◌, ℕ, ◌+◌, ◌-◌, ◌<◌, ◌≤◌, not, IsTrue};
+ghost use Rattle.std.specs.Int.{bit_at};
+ghost use Rattle.rsc_alphabet.specs.ByteSetLayout.{is_one};
+ghost use Rattle.rsc_alphabet.specs.Partitions.{class_of};
+
+// Whether a bit is 1.
+#[inline(always)]
+pub(crate) fn has_bit(mask: u128, bit: u8) -> bool
+    requires { bit < 128 }
+    ensures { result ≡ is_one mask bit }
+{
+    (mask >> bit) & 1 == 1
+}
+
+// The same number but for a bit that is 1.
+#[inline(always)]
+pub(crate) fn with_bit(mask: u128, bit: u8) -> u128
+    requires { bit < 128 }
+    ensures here { bit_at result bit ≡ 1 }
+    ensures others { (i : ℕ) → i ≢ bit → bit_at result i ≡ bit_at mask i }
+{
+    mask | (1 << bit)
+}
+
+// The same number but for a bit that is 0.
+#[inline(always)]
+pub(crate) fn without_bit(mask: u128, bit: u8) -> u128
+    requires { bit < 128 }
+    ensures here { bit_at result bit ≡ 0 }
+    ensures others { (i : ℕ) → i < 128 → i ≢ bit → bit_at result i ≡ bit_at mask i }
+{
+    mask & !(1 << bit)
+}
+
+// Whether all bits from `start` to `end` are 1, both included.
+#[inline(always)]
+pub(crate) fn has_bits(mask: u128, start: u8, end: u8) -> bool
+    requires { (start ≤ end) × (end < 128) }
+    ensures { IsTrue result ↔ ((i : ℕ) → start ≤ i → i ≤ end → bit_at mask i ≡ 1) }
+{
+    run_of_bits(start, end) & !mask == 0
+}
+
+// The number whose bits from `start` to `end` are 1, both included, and no others.
+#[inline(always)]
+fn run_of_bits(start: u8, end: u8) -> u128
+    requires { (start ≤ end) × (end < 128) }
+    ensures inside { (i : ℕ) → start ≤ i → i ≤ end → bit_at result i ≡ 1 }
+    ensures below { (i : ℕ) → i < start → bit_at result i ≡ 0 }
+    ensures above { (i : ℕ) → end < i → bit_at result i ≡ 0 }
+{
+    (u128::MAX >> (127 - end)) & (u128::MAX << start)
+}
+
+// The bits of a number that aren't bits of another one.
+#[inline(always)]
+pub(crate) fn difference(mask: u128, other: u128) -> u128
+    ensures { (i : ℕ) → i < 128 → is_one result i ≡ (is_one mask i && not (is_one other i)) }
+{
+    mask & !other
+}
+
+// Each bit one place up. The lowest is the highest of `below`.
+#[inline(always)]
+pub(crate) fn moved_up(mask: u128, below: u128) -> u128
+    ensures first { is_one result 0 ≡ is_one below 127 }
+    ensures others { (i : ℕ) → 0 < i → i < 128 → is_one result i ≡ is_one mask (i - 1) }
+{
+    (mask << 1) | (below >> 127)
+}
+
+// Each bit one place down. The highest is the lowest of `above`.
+#[inline(always)]
+pub(crate) fn moved_down(mask: u128, above: u128) -> u128
+    ensures last { is_one result 127 ≡ is_one above 0 }
+    ensures others { (i : ℕ) → i < 127 → is_one result i ≡ is_one mask (i + 1) }
+{
+    (mask >> 1) | (above << 127)
+}
+
+// The lower half of the bits.
+#[inline(always)]
+pub(crate) fn lower_word(mask: u128) -> u64
+    ensures { (i : ℕ) → i < 64 → bit_at result i ≡ bit_at mask i }
+{
+    (mask & 0xFFFF_FFFF_FFFF_FFFF) as u64
+}
+
+// The upper half of the bits.
+#[inline(always)]
+pub(crate) fn upper_word(mask: u128) -> u64
+    ensures { (i : ℕ) → i < 64 → bit_at result i ≡ bit_at mask (64 + i) }
+{
+    (mask >> 64) as u64
+}
+
+// The place of the lowest bit that is 1.
+#[inline(always)]
+pub(crate) fn lowest_bit(word: u64) -> u8
+    requires { 0 < word }
+    ensures fits { result < 64 }
+    ensures here { bit_at word result ≡ 1 }
+    ensures below { (i : ℕ) → i < result → bit_at word i ≡ 0 }
+{
+    word.trailing_zeros() as u8
+}
+
+// The same number without the lowest bit that is 1.
+#[inline(always)]
+pub(crate) fn without_lowest_bit(word: u64) -> u64
+    requires { 0 < word }
+    ensures { (k : ℕ) → bit_at word k ≡ 1 → ((i : ℕ) → i < k → bit_at word i ≡ 0) →
+        ((i : ℕ) → i ≤ k → bit_at result i ≡ 0) × ((i : ℕ) → k < i → bit_at result i ≡ bit_at word i) }
+{
+    word & (word - 1)
+}
+
+// How many bits below a place are 1.
+#[inline(always)]
+pub(crate) fn ones_below(mask: u128, bit: u8) -> u8
+    requires { bit < 128 }
+    ensures count { result ≡ class_of (is_one mask) bit }
+    ensures most { result ≤ bit }
+{
+    (mask & ((1 << bit) - 1)).count_ones() as u8
+}
+
+// How many bits are 1.
+#[inline(always)]
+pub(crate) fn ones(mask: u128) -> u8
+    ensures count { result ≡ class_of (is_one mask) 128 }
+    ensures most { result ≤ 128 }
+{
+    mask.count_ones() as u8
+}
