@@ -1,14 +1,14 @@
 -- The boundaries of the word bytes are where two neighbouring bytes differ: computed for all 255 of them.
-use Rattle.std.proofs.Common.{◌≡◌, ◌<◌, ℕ, zero, suc, ◌+◌, Bool, true, false, not, ◌&&◌, ◌||◌, ◌-◌, ltb, eqb, nat_eq, nat_lt, refl, sym, ap, ◌∙◌, arith, true≢false, ⊎_elim, ◌⊎◌}
-use Rattle.std.specs.Bool.{beq}
+use Rattle.std.proofs.Common.{◌≡◌, ◌<◌, ℕ, zero, suc, ◌+◌, Bool, true, false, not, ◌&&◌, ◌||◌, ltb, nat_lt, nat_le, ◌≤◌, refl, sym, ap, ◌∙◌, arith, true≢false, ⊎_elim, ◌⊎◌}
+use Rattle.std.specs.Int.{is_in_range}
 use Rattle.std.proofs.lemmas.Bool.Decides.{nat_tests}
 use Rattle.rsc_primitives.specs.Utf8.{is_word_byte}
 use Rattle.std.specs.Cmp.{nat_cmp_total}
 use Rattle.std.specs.FinSet as sets
 use Rattle.std.specs.FinSet.{same_set, nat_cmp-IsAntisymmetric}
 use Rattle.rsc_alphabet.specs.ByteSets.{Numbers}
-use Rattle.rsc_alphabet.specs.Partitions.{edges_of}
-use Rattle.rsc_alphabet.proofs.PartitionsLemmas.{c-union, contains-edges_of}
+use Rattle.rsc_alphabet.specs.Partitions.{changes_at}
+use Rattle.rsc_alphabet.proofs.PartitionsLemmas.{c-union}
 use Rattle.rsc_look.specs.Holds.{exactly_one}
 use Rattle.rsc_look.specs.Boundaries.{word_boundaries}
 use Rattle.rsc_look.proofs.Marks.{is_word_mark, contains-word_boundaries}
@@ -60,81 +60,26 @@ changes-is_word_mark b = go (ltb b 255) (is_word_mark b) refl refl
     go false false e f = refl
     go false true e f = absurd (let s = below_127 b f in grind (arith, nat_tests))
 
--- ---- one turn of a walk over the bytes, for a boundary set seen as h before the walk
+-- ---- the boundaries of the runs of the word bytes
 
-or_true : (x : Bool) → (x || true) ≡ true
-or_true true = refl
-or_true false = refl
-
-or_false : (x : Bool) → (x || false) ≡ x
-or_false true = refl
-or_false false = refl
-
-spot : (b x : ℕ) → b < 255 → sets.contains (edges_of (0, b)) x ≡ eqb x b
-spot b x l = contains-edges_of 0 b x ∙ at_end b x l
+-- a set's membership changes where exactly one of two neighbours is a member
+changes_at-is : (words : Numbers) → ((b : ℕ) → sets.contains words b ≡ is_word_byte b) → (b : ℕ) → changes_at words b ≡ (ltb b 255 && changes b)
+changes_at-is words same b = rw (same b, same (b + 1)) (ap (λ x. ltb b 255 && x) (by_cases (is_word_byte b) (is_word_byte (b + 1))))
   where
-    at_end : (b x : ℕ) → b < 255 → ((nat_lt 0 0 && nat_eq (0 - 1) x) || (nat_lt b 255 && nat_eq b x)) ≡ eqb x b
-    at_end b x l = grind (arith, nat_tests)
+    by_cases : (x y : Bool) → ((x && not y) || (not x && y)) ≡ exactly_one x y
+    by_cases true true = refl
+    by_cases true false = refl
+    by_cases false true = refl
+    by_cases false false = refl
 
-upto : (b x : ℕ) → ltb x (b + 1) ≡ (ltb x b || eqb x b)
-upto b x = grind (arith, nat_tests)
+-- what `add_set` of the word bytes leaves of a set of boundaries
+pub word_boundaries-added : (old new words : Numbers) → ((b : ℕ) → sets.contains words b ≡ is_word_byte b) → ((b : ℕ) → sets.contains new b ≡ (sets.contains old b || changes_at words b)) → new ≡ sets.union old word_boundaries
+word_boundaries-added old new words same added = same_set nat_cmp_total nat_cmp-IsAntisymmetric new (sets.union old word_boundaries) (λ b.
+    added b ∙ ap (λ x. sets.contains old b || x) (changes_at-is words same b ∙ changes-is_word_mark b ∙ sym (contains-word_boundaries b))
+    ∙ sym (c-union old word_boundaries b))
 
-turn : (h l e c : Bool) → (e ≡ true → c ≡ true) → ((h || (l && c)) || e) ≡ (h || ((l || e) && c))
-turn true l e c f = refl
-turn false true true true f = refl
-turn false true true false f = absurd (true≢false (sym (f refl)))
-turn false true false c f = or_false c
-turn false false true true f = refl
-turn false false true false f = absurd (true≢false (sym (f refl)))
-turn false false false c f = refl
+-- ---- a run of bytes, one after the other
 
-turn_kept : (h l e c : Bool) → (e ≡ true → c ≡ false) → (h || (l && c)) ≡ (h || ((l || e) && c))
-turn_kept true l e c f = refl
-turn_kept false true e c f = refl
-turn_kept false false true true f = absurd (true≢false (f refl))
-turn_kept false false true false f = refl
-turn_kept false false false c f = refl
-
-same_from_test : (x b : ℕ) → eqb x b ≡ true → b ≡ x
-same_from_test x b e = grind (arith, nat_tests)
-
--- a set with the changes up to b, seen beside the set h that the walk began with
-abbrev pub HasChanges : Numbers → Numbers → ℕ → Type 0
-HasChanges h s b = (x : ℕ) → sets.contains s x ≡ (sets.contains h x || (ltb x b && changes x))
-
-pub HasChanges-none : (h : Numbers) → HasChanges h h 0
-HasChanges-none h x = none (sets.contains h x) (ltb x 0) (grind (arith, nat_tests))
-  where
-    none : (y l : Bool) → l ≡ false → y ≡ (y || (l && changes x))
-    none true l e = refl
-    none false l e = rw e
-
-pub HasChanges-more : (h s t : Numbers) (b : ℕ) → b < 255 → changes b ≡ true → HasChanges h s b → t ≡ sets.union s (edges_of (0, b)) → HasChanges h t (b + 1)
-HasChanges-more h s t b l ch p q x =
-    let e1 = p x in
-    let e3 = spot b x l in
-    let e4 = upto b x in
-    ap (λ u. sets.contains u x) q ∙ c-union s (edges_of (0, b)) x
-    ∙ rw (e1, e3, e4) (turn (sets.contains h x) (ltb x b) (eqb x b) (changes x) (λ e. ap changes (sym (same_from_test x b e)) ∙ ch))
-
-pub HasChanges-kept : (h s : Numbers) (b : ℕ) → changes b ≡ false → HasChanges h s b → HasChanges h s (b + 1)
-HasChanges-kept h s b ch p x =
-    let e1 = p x in
-    let e4 = upto b x in
-    e1 ∙ rw e4 (turn_kept (sets.contains h x) (ltb x b) (eqb x b) (changes x) (λ e. ap changes (sym (same_from_test x b e)) ∙ ch))
-
--- after the whole walk
-pub HasChanges-all : (h s : Numbers) (b : ℕ) → b ≡ 255 → HasChanges h s b → s ≡ sets.union h word_boundaries
-HasChanges-all h s b e p = same_set nat_cmp_total nat_cmp-IsAntisymmetric s (sets.union h word_boundaries) (λ x.
-    p x ∙ ap (λ n. sets.contains h x || (ltb x n && changes x)) e ∙ ap (λ y. sets.contains h x || y) (changes-is_word_mark x ∙ sym (contains-word_boundaries x))
-    ∙ sym (c-union h word_boundaries x))
-
--- `x != y` of the program, as `exactly_one`
-pub exactly_one-from_ne : (x y u v r : Bool) → x ≡ u → y ≡ v → not (beq x y) ≡ r → exactly_one u v ≡ r
-exactly_one-from_ne x y u v r e f h = rw (← e, ← f) (same x y ∙ h)
-  where
-    same : (x y : Bool) → exactly_one x y ≡ not (beq x y)
-    same true true = refl
-    same true false = refl
-    same false true = refl
-    same false false = refl
+-- the numbers from the first of a run up to the one past its last
+pub run_is_done : (start end next b : ℕ) → end < next → next ≤ end + 1 → (nat_le start b && nat_lt b next) ≡ is_in_range start end b
+run_is_done start end next b past one = grind (arith, nat_tests)

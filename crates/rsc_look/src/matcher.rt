@@ -1,7 +1,8 @@
 //! The matcher: where the assertions hold, and which bytes they can tell apart.
 ghost use Rattle.std.specs.Prelude.{◌≡◌, ◌≤◌, ◌-◌, ◌↔◌, ◌||◌, true, false, ℕ, Bool, IsTrue, IsOkAnd, IfOk, IsOk, length};
 ghost use Rattle.std.specs.FinSet as sets;
-ghost use Rattle.rsc_primitives.specs.Utf8.{IsInside};
+ghost use Rattle.std.specs.Int.{is_in_range};
+ghost use Rattle.rsc_primitives.specs.Utf8.{IsInside, is_word_byte};
 ghost use Rattle.rsc_alphabet.specs.Partitions.{class_map};
 ghost use Rattle.rsc_look.specs.declared.assertion.Look.{Look};
 ghost use Rattle.rsc_look.specs.Looks.{is_unicode, reversed};
@@ -13,7 +14,7 @@ ghost use Rattle.rsc_look.specs.Mirrors.{mirror, IsTextMirrored};
 
 use crate::side::{Side, byte_after, byte_before, is_byte, is_word_at};
 use crate::{Look, LookSet, UnicodeWord, UnicodeWordBoundaryError, WordClass};
-use rsc_alphabet::{ByteClassSet, ByteClasses};
+use rsc_alphabet::{ByteClassSet, ByteClasses, ByteSet};
 use rsc_primitives::utf8;
 use std::alloc::AllocError;
 use std::marker::Model;
@@ -468,13 +469,32 @@ fn add_boundaries(line_terminator: u8, look: Look, set: &mut ByteClassSet)
     }
 }
 
-// Adds a boundary between each two neighbouring bytes of which one is a word byte.
+// Adds the boundaries of the four runs of word bytes.
 fn add_word_boundaries(set: &mut ByteClassSet)
     ensures { set.new ≡ sets.union set.old word_boundaries }
 {
-    for byte in 0..255u8 {
-        if utf8::is_word_byte(byte) != utf8::is_word_byte(byte + 1) {
-            set.set_range(0, byte);
-        }
+    set.add_set(&word_bytes());
+}
+
+// The word bytes.
+fn word_bytes() -> ByteSet
+    ensures { (b : ℕ) → sets.contains result b ≡ is_word_byte b }
+{
+    let mut bytes = ByteSet::empty();
+    add_run(&mut bytes, b'0', b'9');
+    add_run(&mut bytes, b'A', b'Z');
+    add_run(&mut bytes, b'_', b'_');
+    add_run(&mut bytes, b'a', b'z');
+    bytes
+}
+
+// Makes the bytes from `start` to `end` members, both included.
+#[inline(always)]
+fn add_run(bytes: &mut ByteSet, start: u8, end: u8)
+    requires { start ≤ end }
+    ensures { (b : ℕ) → sets.contains bytes.new b ≡ (is_in_range start end b || sets.contains bytes.old b) }
+{
+    for byte in start..=end {
+        bytes.add(byte);
     }
 }
