@@ -94,6 +94,8 @@ impl ByteClassSet {
 }
 
 // Gives the 128 bytes from `first` on their classes: the number of boundaries below `first`, and of the bits of `ends` below the byte's own.
+// Never inlined, so that the compiler unrolls its loop, where each byte's mask is a constant.
+#[inline(never)]
 fn set_classes(classes: &mut ByteClasses, first: u8, ends: u128, below: u8)
     requires { (first ≤ 128) × (below ≤ 128) × (length classes.old ≡ 256) }
     ensures inside { (i : ℕ) → i < 128 → slice_index classes.new (first + i) ≡ below + class_of (is_one ends) i }
