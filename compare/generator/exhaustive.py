@@ -102,6 +102,11 @@ def group_lists(most_patterns, most_groups):
         yield from map(list, itertools.product(patterns, repeat=count))
 
 
+def limited_lines():
+    for lists in map(show_lists, group_lists(3, 3)):
+        yield from (f"limited_port {limit} {lists}" for limit in range(21))
+
+
 def pattern_set_lines():
     for capacity in range(5):
         for size in range(capacity + 1):
@@ -165,4 +170,5 @@ MODES = {
     "inputs": input_lines,
     "pattern_sets": pattern_set_lines,
     "groups": lambda: (f"groups {show_lists(lists)}" for lists in group_lists(3, 3)),
+    "limited": limited_lines,
 }

@@ -159,6 +159,43 @@ pub fn slot(lists: &Lists, p: usize, g: usize) -> Option<usize> {
     Some(2 * lists.len() + 2 * explicit + 2 * (g - 1))
 }
 
+/// Why `GroupInfo::new_limited` refuses the lists, if it does: they are read by pattern and then by
+/// group, and the slots are counted last.
+pub fn limited_refusal(limit: usize, lists: &Lists) -> Option<String> {
+    let too_many = |p: usize, minimum: usize| {
+        format!("too many capture groups (at least {minimum}) were found for pattern {p}")
+    };
+    let explicit_up_to =
+        |p: usize| -> usize { lists[..=p].iter().map(|groups| groups.len() - 1).sum() };
+    let mut read = 0;
+    for (p, groups) in lists.iter().enumerate() {
+        if groups.is_empty() {
+            return Some(format!(
+                "no capturing groups found for pattern {p} (either all patterns have zero groups or all patterns have at least one group)"
+            ));
+        }
+        if groups[0].is_some() {
+            return Some(format!(
+                "first capture group (at index 0) for pattern {p} has a name (it must be unnamed)"
+            ));
+        }
+        for (g, name) in groups.iter().enumerate().skip(1) {
+            read += 1;
+            if 2 * read > limit {
+                return Some(too_many(p, g));
+            }
+            if let Some(name) = name.as_ref().filter(|_| groups[..g].contains(name)) {
+                return Some(format!(
+                    "duplicate capture group name '{name}' found for pattern {p}"
+                ));
+            }
+        }
+    }
+    (0..lists.len())
+        .find(|&p| 2 * explicit_up_to(p) + 2 * lists.len() > limit)
+        .map(|p| too_many(p, lists[p].len()))
+}
+
 /// The spans of the groups that take part, as pairs of start and end.
 pub fn participating(
     lists: &Lists,

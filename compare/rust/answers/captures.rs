@@ -40,6 +40,20 @@ fn groups(lists: &Lists) -> String {
     }
 }
 
+/// The answer of `limited_port`, as stated.
+fn limited(limit: usize, lists: &Lists) -> Read<String> {
+    if limit > 2147483646 {
+        return Err(Bad);
+    }
+    if let Some(text) = stated::limited_refusal(limit, lists) {
+        return Ok(format!("err {text}"));
+    }
+    let (patterns, groups) = (lists.len(), lists.iter().map(Vec::len).sum::<usize>());
+    let counts =
+        format!("{patterns}:{groups}:{}:{}:{}", 2 * groups, 2 * patterns, 2 * (groups - patterns));
+    Ok(format!("ok {counts} {}", first_slots(lists, |p, g| stated::slot(lists, p, g))))
+}
+
 fn pattern_and_group(s: &str) -> Read<(PatternID, usize)> {
     let (p, g) = two(s)?;
     Ok((pattern(p)?, number(g)?))
@@ -212,6 +226,7 @@ fn captures_script(
 pub fn answer(name: &str, port: bool, args: &[&str]) -> Read<String> {
     match (name, port, args) {
         ("groups", false, [l]) => Ok(groups(&lists(l)?)),
+        ("limited", true, [limit, l]) => limited(number(limit)?, &lists(l)?),
         ("gi", false, [l, ops @ ..]) => match group_info(&lists(l)?) {
             Ok(info) => group_info_script(info, ops),
             Err(err) => Ok(format!("err {err}")),

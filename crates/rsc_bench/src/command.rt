@@ -11,6 +11,8 @@ pub enum Command {
     Look,
     /// The slots of a list of groups.
     Groups,
+    /// The same, with a limit on how many slots there are.
+    Limited,
 }
 
 impl Command {
@@ -21,6 +23,7 @@ impl Command {
             b"looks" => Some(Command::Looks),
             b"look" => Some(Command::Look),
             b"groups" => Some(Command::Groups),
+            b"limited" => Some(Command::Limited),
             _ => None,
         }
     }

@@ -1,10 +1,15 @@
-//! The command `groups`: the slots of a list of groups, or why it is refused.
+//! The commands `groups` and `limited`: the slots of a list of groups, or why it is refused.
+ghost use Rattle.std.specs.Prelude.{◌≤◌, IfSome};
 
+use crate::tokens::parse_number;
 use rsc_captures::{GroupInfo, GroupInfoError, GroupInfoErrorKind};
 use rsc_primitives::PatternID;
 use rsc_primitives::utf8::is_word_byte;
 use std::alloc::{AllocError, Allocator};
 use std::fmt::Write;
+
+// The limit of `groups`, and the greatest that `limited` takes.
+const GREATEST_LIMIT: usize = 2147483646;
 
 /// The answer to the arguments of `groups`, or `None` where they aren't lists of groups.
 ///
@@ -14,10 +19,47 @@ pub fn answer<A: Allocator + Copy + Drop>(
     alloc: A,
     arguments: &[&[u8]],
 ) -> Result<Option<String<A>>, AllocError> {
+    answer_within(alloc, GREATEST_LIMIT, arguments)
+}
+
+/// The answer to the arguments of `limited`, or `None` where they aren't a limit of at most 2147483646 and lists of groups.
+pub fn answer_limited<A: Allocator + Copy + Drop>(
+    alloc: A,
+    arguments: &[&[u8]],
+) -> Result<Option<String<A>>, AllocError> {
+    let [limit, lists @ ..] = arguments else {
+        return Ok(None);
+    };
+    match parse_limit(limit) {
+        Some(limit) => answer_within(alloc, limit, lists),
+        None => Ok(None),
+    }
+}
+
+// The limit that one to ten decimal digits write, or `None` where it is above the greatest.
+fn parse_limit(token: &[u8]) -> Option<usize>
+    ensures { IfSome result (λ limit. limit ≤ 2147483646) }
+{
+    let limit = parse_number(token)?;
+    if limit <= GREATEST_LIMIT {
+        Some(limit)
+    } else {
+        None
+    }
+}
+
+// The answer where no more slots than the limit are allowed.
+fn answer_within<A: Allocator + Copy + Drop>(
+    alloc: A,
+    limit: usize,
+    arguments: &[&[u8]],
+) -> Result<Option<String<A>>, AllocError>
+    requires { limit ≤ 2147483646 }
+{
     match arguments {
-        [] => Ok(Some(answer_lists(alloc, &[])?)),
+        [] => Ok(Some(answer_lists(alloc, limit, &[])?)),
         [lists] => match parse_patterns(alloc, lists)? {
-            Some(patterns) => Ok(Some(answer_patterns(alloc, patterns.as_slice())?)),
+            Some(patterns) => Ok(Some(answer_patterns(alloc, limit, patterns.as_slice())?)),
             None => Ok(None),
         },
         _ => Ok(None),
@@ -26,18 +68,24 @@ pub fn answer<A: Allocator + Copy + Drop>(
 
 fn answer_patterns<A: Allocator + Copy + Drop>(
     alloc: A,
+    limit: usize,
     patterns: &[Vec<Option<&str>, A>],
-) -> Result<String<A>, AllocError> {
+) -> Result<String<A>, AllocError>
+    requires { limit ≤ 2147483646 }
+{
     let lists = lists_of(alloc, patterns)?;
-    answer_lists(alloc, lists.as_slice())
+    answer_lists(alloc, limit, lists.as_slice())
 }
 
 // The slots of the groups, or the displayed refusal.
 fn answer_lists<A: Allocator + Copy + Drop>(
     alloc: A,
+    limit: usize,
     lists: &[&[Option<&str>]],
-) -> Result<String<A>, AllocError> {
-    match GroupInfo::new(alloc, lists) {
+) -> Result<String<A>, AllocError>
+    requires { limit ≤ 2147483646 }
+{
+    match GroupInfo::new_limited(alloc, limit, lists) {
         Ok(info) => describe(alloc, &info),
         Err(error) => describe_refusal(alloc, &error),
     }

@@ -62,6 +62,7 @@ fn answer_tokens<A: Allocator + Copy + Drop>(
         Some(Command::Looks) => looks::answer_classes(alloc, arguments),
         Some(Command::Look) => looks::answer_at(alloc, arguments),
         Some(Command::Groups) => groups::answer(alloc, arguments),
+        Some(Command::Limited) => groups::answer_limited(alloc, arguments),
         None => Ok(None),
     }
 }

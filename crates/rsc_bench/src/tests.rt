@@ -143,6 +143,41 @@ fn answers_groups(rt: HostRuntime) -> Result<(), Fail> {
 }
 
 #[test]
+fn answers_limited_groups(rt: HostRuntime) -> Result<(), Fail> {
+    let rows = [
+        ("limited 0", "slots 0:\n"),
+        ("limited 4 -;-", "slots 4: 0;2\n"),
+        ("limited 6 -;-,-", "slots 6: 0;2,4\n"),
+        ("limited 6 -,-;-", "slots 6: 0,4;2\n"),
+        ("limited 2147483646 -", "slots 2: 0\n"),
+        ("limited 0000000002 -", "slots 2: 0\n"),
+        (
+            "limited 2 -,x,x",
+            "too many capture groups (at least 2) were found for pattern 0\n",
+        ),
+        (
+            "limited 4 -,x,x",
+            "duplicate capture group name 'x' found for pattern 0\n",
+        ),
+        ("limited 0 ", MISSING),
+        ("limited 0 x", NAMED),
+        ("limited 2147483647 -", "bad line\n"),
+        ("limited 9999999999 -", "bad line\n"),
+        ("limited 00000000001 -", "bad line\n"),
+        ("limited x -", "bad line\n"),
+        ("limited -", "bad line\n"),
+        ("limited", "bad line\n"),
+        ("limited 4 -,", "bad line\n"),
+        ("limited 4 - -", "bad line\n"),
+    ];
+    for (input, want) in rows {
+        let answer = answer_to(rt.alloc(), input)?;
+        assert_eq!(rt; answer.as_str(), want, "at {input:?}");
+    }
+    Ok(())
+}
+
+#[test]
 fn displays_errors(rt: HostRuntime) -> Result<(), Fail> {
     let rows = [
         (BenchError::Read, "rsc_bench: read failed"),

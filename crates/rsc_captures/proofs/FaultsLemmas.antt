@@ -1,9 +1,9 @@
 -- The first fault of a list: what the code found is it, there is at most one, and a list without a fault has none.
-use Rattle.std.proofs.Common.{◌≡◌, ℕ, ◌<◌, ◌≤◌, [], Option, Some, None, sym, ap, ◌∙◌, subst, inl, inr, arith, ⊎_elim}
+use Rattle.std.proofs.Common.{◌≡◌, ℕ, ◌<◌, ◌≤◌, [], Option, Some, None, MatchOption, sym, ap, ◌∙◌, subst, inl, inr, arith, ⊎_elim}
 use Rattle.std.proofs.lemmas.Bool.{cases_lt}
 use Rattle.rsc_captures.specs.Groups.{GroupLists, group_count}
 use Rattle.rsc_captures.specs.Faults.{Fault, TooManyGroups, Duplicate, IsPlace, ComesBefore, place_fault, slots_end, IsClear, IsFirstAtPlace, IsFirstPastLimit, IsFirstFault, IsFaultless, RefusesFor}
-use Rattle.rsc_captures.specs.Checks.{AreChecked, IsCheckedPattern, FoundAtPlace, FoundPastLimit, IsFound, IsChecked, FoundDuplicate, RefusesAsFound}
+use Rattle.rsc_captures.specs.Checks.{AreChecked, IsCheckedPattern, FoundAtPlace, FoundPastLimit, IsFound, IsChecked, IsDuplicate, FoundDuplicate, RefusesAsFound}
 
 module _ {limit : ℕ} {lists : GroupLists} where
   checked_place : (p g : ℕ) → IsPlace lists p g → IsCheckedPattern limit lists p → place_fault limit lists p g ≡ None
@@ -87,6 +87,11 @@ refuses_is limit lists None found =
     (λ (checked : IsChecked limit lists). inl (faultless_is checked))
     (λ (duplicate : FoundDuplicate limit lists). inr (duplicate.0, duplicate.1, first_is (Duplicate duplicate.0 duplicate.1) duplicate.2))
     found
+
+-- a refusal that shows the fault that was found, or want of memory where that is a name that stands twice
+pub refuses_found : (limit : ℕ) (lists : GroupLists) (f : Fault) → IsFound limit lists f → (refusal : Option Fault) → MatchOption refusal (IsDuplicate f) (λ shown. shown ≡ f) → RefusesFor limit lists refusal
+refuses_found limit lists f found (Some shown) same = rw same (first_is f found)
+refuses_found limit lists f found None duplicate = inr (duplicate.0, duplicate.1, rw duplicate.2 at (first_is f found))
 
 -- a list of no patterns has no first fault
 pub none_has_no_fault : (limit : ℕ) (f : Fault) → IsFirstFault limit [] f → ⊥

@@ -1,11 +1,11 @@
 -- What the code knows of a list as it reads it: the plain words of `Faults`, each with the bounds that the next step needs.
 use Rattle.std.specs.Prelude.{◌≡◌, ℕ, ◌+◌, ◌*◌, ◌<◌, ◌≤◌, ◌⊎◌, List, length, Option, Some, None, MatchOption}
 use Rattle.rsc_captures.specs.Groups.{GroupLists, group_count, explicit_before}
-use Rattle.rsc_captures.specs.Faults.{Fault, TooManyGroups, Duplicate, LIMIT_OF_IDS, IsPlace, pattern_fault, place_fault, slots_end}
+use Rattle.rsc_captures.specs.Faults.{Fault, TooManyGroups, Duplicate, GREATEST_PATTERN, IsPlace, pattern_fault, place_fault, slots_end}
 
 -- no place of pattern p is at fault; so its number is within the limit, it has a first group, and its explicit groups are within the limit
 pub record IsCheckedPattern (limit : ℕ) (lists : GroupLists) (p : ℕ) : Type 0 where
-  pub number : p ≤ LIMIT_OF_IDS
+  pub number : p ≤ GREATEST_PATTERN
   pub groups : 0 < group_count lists p
   pub clear : (h : ℕ) → h < group_count lists p → place_fault limit lists p h ≡ None
   pub within : 2 * explicit_before lists (p + 1) ≤ limit
@@ -48,7 +48,7 @@ pub record IsChecked (limit : ℕ) (lists : GroupLists) : Type 0 where
 
 -- the list has no fault besides names that stand twice in a pattern
 pub record HasNoOtherFault (limit : ℕ) (lists : GroupLists) : Type 0 where
-  pub patterns : (p : ℕ) → p < length lists → (p ≤ LIMIT_OF_IDS) × (pattern_fault lists p ≡ None) × (0 < group_count lists p)
+  pub patterns : (p : ℕ) → p < length lists → (p ≤ GREATEST_PATTERN) × (pattern_fault lists p ≡ None) × (0 < group_count lists p)
   pub within : (p : ℕ) → p < length lists → slots_end lists p ≤ limit
 
 -- the fault is a name that stands twice in a pattern

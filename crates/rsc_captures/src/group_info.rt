@@ -3,7 +3,7 @@ ghost use Rattle.std.specs.Prelude.{◌≡◌, ℕ, ◌+◌, ◌-◌, ◌*◌, �
 ghost use Rattle.std.specs.Option.{option_copied};
 ghost use Rattle.rsc_captures.specs.Groups.{lists_in, groups_of, group_count, name_of, index_of, slot_of, slots_of, all_groups, AreDistinctBelow};
 ghost use Rattle.rsc_captures.specs.Faults.{Duplicate, LIMIT_OF_IDS, IsFaultless, RefusesFor};
-ghost use Rattle.rsc_captures.specs.Checks.{IsChecked, HasNoOtherFault, RefusesAsFound, IsDuplicate};
+ghost use Rattle.rsc_captures.specs.Checks.{HasNoOtherFault, IsDuplicate};
 ghost use Rattle.rsc_captures.specs.NameWalks.{all_names_of};
 ghost use Rattle.rsc_captures.specs.SlotOwners.{IsSlotOf, IsOwned};
 ghost use Rattle.rsc_captures.specs.Found.{fault_found};
@@ -143,26 +143,6 @@ fn build<A: Allocator + Clone + Drop>(
 }
 
 impl<A: Allocator + Clone + Drop> GroupInfo<A> {
-    // `new` with another limit. Every fault but a name that stands twice is found without memory; only where there is
-    // such a fault does the plain, slow reading name the first.
-    fn new_limited(
-        alloc: A,
-        limit: usize,
-        lists: &[&[Option<&str>]],
-    ) -> Result<GroupInfo<A>, GroupInfoError<A>>
-        requires { limit ≤ 2147483646 }
-        ensures groups { IfOk result (λ info. info ≡ lists_in lists.now) }
-        ensures faultless { OnOk result (IsChecked limit (lists_in lists.now)) }
-        ensures refused { IfErr result (RefusesAsFound limit (lists_in lists.now)) }
-    {
-        if has_other_fault(limit, lists) {
-            if let Err(fault) = check(limit, lists) {
-                return Err(refusal(alloc, fault));
-            }
-        }
-        build(alloc, lists)
-    }
-
     /// The groups of these lists: one list for each pattern, with an optional name for each of its groups.
     ///
     /// # Errors
@@ -177,6 +157,34 @@ impl<A: Allocator + Clone + Drop> GroupInfo<A> {
         ensures refused { IfErr result (RefusesFor LIMIT_OF_IDS (lists_in lists.now)) }
     {
         GroupInfo::new_limited(alloc, 2147483646, lists)
+    }
+
+    /// The same, where at most `limit` slots are allowed in place of 2147483646; the limit itself may be no greater than that.
+    ///
+    /// A pattern has too many groups where twice the explicit groups read so far is above the limit, or where its slots
+    /// are, once those of the first groups are counted too. The greatest number of a pattern stays as it is.
+    ///
+    /// # Errors
+    ///
+    /// As for [`GroupInfo::new`].
+    pub fn new_limited(
+        alloc: A,
+        limit: usize,
+        lists: &[&[Option<&str>]],
+    ) -> Result<GroupInfo<A>, GroupInfoError<A>>
+        requires { limit ≤ LIMIT_OF_IDS }
+        ensures groups { IfOk result (λ info. info ≡ lists_in lists.now) }
+        ensures faultless { OnOk result (IsFaultless limit (lists_in lists.now)) }
+        ensures refused { IfErr result (RefusesFor limit (lists_in lists.now)) }
+    {
+        // Every fault but a name that is used twice is found without memory; only where there is such a fault does the
+        // plain, slow reading name the first.
+        if has_other_fault(limit, lists) {
+            if let Err(fault) = check(limit, lists) {
+                return Err(refusal(alloc, fault));
+            }
+        }
+        build(alloc, lists)
     }
 
     /// The group info of no patterns.

@@ -1,7 +1,7 @@
 //! The commands of captures.
 
 use crate::extractions::extraction;
-use crate::group_lists::group_info;
+use crate::group_lists::{GREATEST_LIMIT, group_info};
 use rsc_captures::Captures;
 use rsc_compare_protocol::answers::{
     Maybe, Parts, Separated, shown, shown_debug, truth_answer, word,
@@ -37,7 +37,7 @@ pub fn debug_text(alloc: Global, arguments: &[&[u8]]) -> Result<String, CommandE
 }
 
 fn new_captures(alloc: Global, kind: &[u8], lists: &[u8]) -> Result<Captures, CommandError> {
-    let Ok(info) = group_info(alloc, lists)? else {
+    let Ok(info) = group_info(alloc, GREATEST_LIMIT, lists)? else {
         return Err(BadCommand);
     };
     match kind {

@@ -1,9 +1,11 @@
 //! Group lists: patterns with `;` between, a pattern's groups with `,` between.
 
+ghost use Rattle.std.specs.Prelude.{◌≤◌, IfOk};
+
 use rsc_captures::{GroupInfo, GroupInfoError, GroupInfoErrorKind};
 use rsc_compare_protocol::error::CommandError;
 use rsc_compare_protocol::error::CommandError::BadCommand;
-use rsc_compare_protocol::tokens::{hexadecimal, list_of, parts_of, text_of};
+use rsc_compare_protocol::tokens::{hexadecimal, list_of, number, parts_of, text_of};
 use std::alloc::Global;
 
 // The names of a pattern's groups.
@@ -12,12 +14,29 @@ type Names = Vec<Option<String>>;
 /// What group lists give: their group info, or its refusal.
 pub type Built = Result<GroupInfo, GroupInfoError>;
 
-/// The group info of a token's lists, or its refusal.
-pub fn group_info(alloc: Global, token: &[u8]) -> Result<Built, CommandError> {
+/// The limit on slots that no caller chose, and the greatest that one may choose.
+pub const GREATEST_LIMIT: usize = 2147483646;
+
+/// The limit on slots that a token writes.
+pub fn limit(token: &[u8]) -> Result<usize, CommandError>
+    ensures { IfOk result (λ limit. limit ≤ 2147483646) }
+{
+    let limit = number(token)?;
+    if limit <= GREATEST_LIMIT {
+        Ok(limit)
+    } else {
+        Err(BadCommand)
+    }
+}
+
+/// The group info of a token's lists where no more slots than the limit are allowed, or its refusal.
+pub fn group_info(alloc: Global, limit: usize, token: &[u8]) -> Result<Built, CommandError>
+    requires { limit ≤ 2147483646 }
+{
     let patterns = read_patterns(alloc, token)?;
     let names = lend_patterns(alloc, patterns.as_slice())?;
     let lists = lists_of(alloc, names.as_slice())?;
-    match GroupInfo::new(alloc, lists.as_slice()) {
+    match GroupInfo::new_limited(alloc, limit, lists.as_slice()) {
         Ok(info) => Ok(Ok(info)),
         Err(error) => match error.kind() {
             GroupInfoErrorKind::OutOfMemory => Err(CommandError::OutOfMemory),

@@ -1,18 +1,30 @@
 //! The commands of group infos.
 
-use crate::group_lists::group_info;
+use crate::group_lists::{Built, GREATEST_LIMIT, group_info, limit};
 use rsc_captures::{GroupInfo, GroupInfoError};
 use rsc_compare_protocol::answers::{Maybe, Name, Parts, Prefixed, Separated, shown, word};
 use rsc_compare_protocol::error::CommandError;
 use rsc_compare_protocol::error::CommandError::BadCommand;
-use rsc_compare_protocol::tokens::{letter, number, one, pattern, text, two_of};
+use rsc_compare_protocol::tokens::{letter, number, one, pattern, text, two, two_of};
 use rsc_compare_protocol::{hinted_items, items};
 use rsc_primitives::PatternID;
 use std::alloc::Global;
 
 /// The lengths of a group info and the first slot of each group, or the refusal of its lists.
 pub fn describe(alloc: Global, arguments: &[&[u8]]) -> Result<String, CommandError> {
-    match group_info(alloc, one(arguments)?)? {
+    let built = group_info(alloc, GREATEST_LIMIT, one(arguments)?)?;
+    describe_built(alloc, built)
+}
+
+/// The same, where no more slots than a limit are allowed.
+pub fn describe_limited(alloc: Global, arguments: &[&[u8]]) -> Result<String, CommandError> {
+    let (most, lists) = two(arguments)?;
+    let built = group_info(alloc, limit(most)?, lists)?;
+    describe_built(alloc, built)
+}
+
+fn describe_built(alloc: Global, built: Built) -> Result<String, CommandError> {
+    match built {
         Ok(info) => {
             let counts = counts(alloc, &info)?;
             let slots = first_slots(alloc, &info)?;
@@ -31,7 +43,7 @@ pub fn script(alloc: Global, arguments: &[&[u8]]) -> Result<String, CommandError
     let [lists, ops @ ..] = arguments else {
         return Err(BadCommand);
     };
-    match group_info(alloc, lists)? {
+    match group_info(alloc, GREATEST_LIMIT, lists)? {
         Ok(info) => answers(alloc, info, ops),
         Err(refusal) => refused(alloc, refusal),
     }

@@ -14,6 +14,7 @@ use std::alloc::Global;
 pub fn answer(alloc: Global, name: &[u8], arguments: &[&[u8]]) -> Result<String, CommandError> {
     match name {
         b"groups" => groups::describe(alloc, arguments),
+        b"limited" => groups::describe_limited(alloc, arguments),
         b"gi" => groups::script(alloc, arguments),
         b"gi_empty" => groups::empty_script(alloc, arguments),
         b"caps" => captures::script(alloc, arguments),

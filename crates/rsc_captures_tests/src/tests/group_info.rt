@@ -181,6 +181,38 @@ fn refuses_the_first_fault(rt: HostRuntime) -> Result<(), Fail> {
     Ok(())
 }
 
+// What a limit makes of the list: how many slots it has, or the displayed refusal.
+fn limited(alloc: Global, limit: usize, lists: &[&[Option<&str>]]) -> Result<String, Fail>
+    requires { limit ≤ 2147483646 }
+{
+    match GroupInfo::new_limited(alloc, limit, lists) {
+        Ok(info) => {
+            let count = info.slot_len();
+            Ok(format!(in alloc; "{count}")?)
+        }
+        Err(error) => Ok(error.to_string(alloc)?),
+    }
+}
+
+#[test]
+fn keeps_to_the_limit_of_the_caller(rt: HostRuntime) -> Result<(), Fail> {
+    let alloc = rt.alloc();
+    let two: [&[Option<&str>]; 2] = [&[None], &[None, None]];
+    assert_eq!(rt; limited(alloc, 6, &two)?.as_str(), "6");
+    let too_many = "too many capture groups (at least 2) were found for pattern 1";
+    assert_eq!(rt; limited(alloc, 5, &two)?.as_str(), too_many);
+    let too_many = "too many capture groups (at least 2) were found for pattern 0";
+    let twice: [&[Option<&str>]; 1] = [&[None, Some("x"), Some("x")]];
+    assert_eq!(rt; limited(alloc, 2, &twice)?.as_str(), too_many);
+    let duplicate = "duplicate capture group name 'x' found for pattern 0";
+    assert_eq!(rt; limited(alloc, 4, &twice)?.as_str(), duplicate);
+    let missing =
+        "no capturing groups found for pattern 2 (either all patterns have zero groups or all patterns have at least one group)";
+    let lacking: [&[Option<&str>]; 3] = [&[None, None], &[None], &[]];
+    assert_eq!(rt; limited(alloc, 4, &lacking)?.as_str(), missing);
+    Ok(())
+}
+
 #[test]
 fn shows_faults_that_no_list_here_has(rt: HostRuntime) -> Result<(), Fail> {
     let pattern = pattern(3);
