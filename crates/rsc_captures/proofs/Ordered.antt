@@ -21,7 +21,8 @@ use Rattle.std.proofs.lemmas.List.Sorted.{searchable_from_sorted, all_adjacent_m
 use Rattle.std.proofs.lemmas.Map.Keys.{sorted_from_all_adjacent, Less-from_sorted}
 use Rattle.std.proofs.lemmas.Map.Lookups.{exact_bytes}
 use Rattle.rsc_captures.specs.Groups.{Groups, groups_in, has_name, index_of, is_repeat, AreDistinctBelow}
-use Rattle.rsc_captures.specs.Names.{name_at, name_cmp, few_groups, HasNamed, IsSortedByName, AreNeighboursDistinct, IsIndexed}
+use Rattle.rsc_captures.specs.declared.names.TheConstants.{FEW}
+use Rattle.rsc_captures.specs.Names.{name_at, name_cmp, HasNamed, IsSortedByName, AreNeighboursDistinct, IsIndexed}
 use Rattle.rsc_captures.proofs.Places.{Handed, take_groups_more}
 use Rattle.rsc_captures.proofs.Indexed.{index_of-is, has_name-is}
 
@@ -186,7 +187,7 @@ module _ (order : List ℕ) (groups : Groups) where
       by_name (Some name) e = rw e (by_answer name (list_any (has_name name) (take g groups)) e refl)
 
   -- what halving answers is the group of the name
-  pub index_from_search : IsIndexed order groups → few_groups ≤ length groups → (name : List ℕ) (r : Result ℕ ℕ) → IsBinarySearchResult (λ g. name_cmp (name_at groups g) (Some name)) order r → MatchResult r (λ k. index_of groups name ≡ Some (get_or order k 0)) (λ _. index_of groups name ≡ None)
+  pub index_from_search : IsIndexed order groups → FEW ≤ length groups → (name : List ℕ) (r : Result ℕ ℕ) → IsBinarySearchResult (λ g. name_cmp (name_at groups g) (Some name)) order r → MatchResult r (λ k. index_of groups name ≡ Some (get_or order k 0)) (λ _. index_of groups name ≡ None)
   index_from_search indexed many name (Ok k) found = (index_of-is groups name indexed.distinct (get_or order k 0)).1 (name_exact _ _ (found 0))
   index_from_search indexed many name (Err k) split = by_index (index_of groups name) refl
     where

@@ -1,12 +1,11 @@
 //! Looks for the first fault of a group list, and takes no memory.
 ghost use Rattle.std.specs.Prelude.{◌≡◌, ℕ, ◌+◌, ◌*◌, ◌<◌, ◌≤◌, length, IfOk, IfErr, OnOk, MatchOption};
-ghost use Rattle.rsc_captures.specs.Groups.{has_name, groups_in, lists_in, AreDistinctBelow, explicit_before, group_count};
+ghost use Rattle.rsc_captures.specs.Groups.{has_name, contains_name, groups_in, lists_in, AreDistinctBelow, explicit_before, group_count};
 ghost use Rattle.rsc_captures.specs.Faults.{pattern_fault, group_fault};
 ghost use Rattle.rsc_captures.specs.Checks.{IsCheckedPattern, FoundInPattern, AreChecked, IsChecked, IsFound, HasNoOtherFault};
 ghost use Rattle.rsc_captures.specs.Names.{IsFirstRepeat};
 ghost use Rattle.rsc_captures.specs.Found.{fault_found};
 ghost use Rattle.std.specs.Option.{option_copied};
-ghost use Rattle.std.specs.List.{list_any};
 ghost use Rattle.std.specs.Bool.{OnFalse};
 
 use rsc_primitives::{PatternID, PatternIDError};
@@ -23,7 +22,7 @@ pub(crate) enum Fault<'a> {
 
 /// Whether the group has the name.
 #[inline]
-pub(crate) fn is_named(group: Option<&str>, name: &str) -> bool
+pub(crate) fn has_name(group: Option<&str>, name: &str) -> bool
     ensures { result ≡ has_name name.now (option_copied group.entry) }
 {
     match group {
@@ -32,12 +31,12 @@ pub(crate) fn is_named(group: Option<&str>, name: &str) -> bool
     }
 }
 
-/// Whether the name stands at one of the groups.
-fn has_name(groups: &[Option<&str>], name: &str) -> bool
-    ensures { result ≡ list_any (λ group. has_name name.now (option_copied group)) groups.now }
+// Whether one of the groups has the name.
+fn contains_name(groups: &[Option<&str>], name: &str) -> bool
+    ensures { result ≡ contains_name (groups_in groups.now) (Some name.now) }
 {
     for group in groups {
-        if is_named(*group, name) {
+        if has_name(*group, name) {
             return true;
         }
     }
@@ -50,7 +49,7 @@ pub(crate) fn first_repeat(groups: &[Option<&str>]) -> Option<usize>
 {
     for g in 0..groups.len() {
         if let Some(name) = groups[g] {
-            if has_name(&groups[..g], name) {
+            if contains_name(&groups[..g], name) {
                 return Some(g);
             }
         }
@@ -99,7 +98,7 @@ fn check_group<'a>(
     let Some(name) = group else {
         return Ok(());
     };
-    if has_name(&groups[..g], name) {
+    if contains_name(&groups[..g], name) {
         return Err(Fault::Duplicate(pattern, name));
     }
     Ok(())

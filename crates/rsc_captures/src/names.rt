@@ -10,10 +10,10 @@ ghost use Rattle.std.specs.String.{string_bytes};
 ghost use Rattle.std.specs.Bool.{OnFalse};
 ghost use Rattle.rsc_captures.specs.Groups.{groups_in, index_of, AreDistinctBelow};
 ghost use Rattle.std.specs.List.Sorted.{IsPermutation};
-ghost use Rattle.rsc_captures.specs.Names.{place_held, AreHeld, name_cmp, few_groups, HasNamed, IsSortedByName, AreNeighboursDistinct};
+ghost use Rattle.rsc_captures.specs.Names.{place_held, AreHeld, name_cmp, HasNamed, IsSortedByName, AreNeighboursDistinct};
 ghost use Rattle.rsc_captures.specs.declared.names.NamesError.TheVariants.{OutOfMemory};
 
-use crate::faults::{first_repeat, is_named};
+use crate::faults::{first_repeat, has_name};
 use std::alloc::{AllocError, AllocFailed, Allocator, Global};
 use std::cmp::Ordering;
 use std::hash::{FoldHasher, Hasher};
@@ -176,7 +176,7 @@ fn order_of<A: Allocator + Clone + Drop>(
     alloc: A,
     groups: &[Option<&str>],
 ) -> Result<Vec<usize, A>, AllocError>
-    ensures named { IfOk result (λ order. few_groups ≤ length groups.now → HasNamed order.items (groups_in groups.now)) }
+    ensures named { IfOk result (λ order. FEW ≤ length groups.now → HasNamed order.items (groups_in groups.now)) }
     ensures sorted { IfOk result (λ order. IsSortedByName order.items (groups_in groups.now)) }
 {
     if groups.len() < FEW {
@@ -289,7 +289,7 @@ impl<A: Allocator + Clone + Drop> PatternGroups<A> {
 
     // The group that the name's cells propose, if it has the name.
     #[inline]
-    fn proposed(&self, name: &str) -> Option<usize>
+    fn find_by_hash(&self, name: &str) -> Option<usize>
         ensures { IfSome result (λ g. index_of self.now name.now ≡ Some g) }
     {
         let mask = (self.proposals.len() as u64).wrapping_sub(1);
@@ -297,7 +297,7 @@ impl<A: Allocator + Clone + Drop> PatternGroups<A> {
         for i in 0..CELLS {
             let cell = first.wrapping_add(i) & mask;
             let group = *self.proposals.get(cell as usize)? as usize;
-            if is_named(self.name(group), name) {
+            if has_name(self.name(group), name) {
                 return Some(group);
             }
         }
@@ -317,11 +317,11 @@ impl<A: Allocator + Clone + Drop> PatternGroups<A> {
 
     // The group that has the name, by looking at one after another.
     #[inline]
-    fn scanned(&self, name: &str) -> Option<usize>
+    fn find_by_scan(&self, name: &str) -> Option<usize>
         ensures { result ≡ index_of self.now name.now }
     {
         for group in 0..self.len() {
-            if is_named(self.name(group), name) {
+            if has_name(self.name(group), name) {
                 return Some(group);
             }
         }
@@ -329,8 +329,8 @@ impl<A: Allocator + Clone + Drop> PatternGroups<A> {
     }
 
     // The group that has the name, by halving the order.
-    fn halved(&self, name: &str) -> Option<usize>
-        requires { few_groups ≤ length self.now }
+    fn find_by_order(&self, name: &str) -> Option<usize>
+        requires { FEW ≤ length self.now }
         ensures { result ≡ index_of self.now name.now }
     {
         match self.order.binary_search_by(|g| self.name_cmp(*g, name)) {
@@ -345,11 +345,11 @@ impl<A: Allocator + Clone + Drop> PatternGroups<A> {
         ensures { result ≡ index_of self.now name.now }
     {
         if self.len() < FEW {
-            return self.scanned(name);
+            return self.find_by_scan(name);
         }
-        if let Some(group) = self.proposed(name) {
+        if let Some(group) = self.find_by_hash(name) {
             return Some(group);
         }
-        self.halved(name)
+        self.find_by_order(name)
     }
 }

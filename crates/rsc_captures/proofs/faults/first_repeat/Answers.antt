@@ -2,15 +2,15 @@ use Rattle.std.proofs.Common.{◌<◌, length, sym, ◌∙◌, arith}
 use borrow.Author.Count.{below_more}
 use Rattle.std.proofs.lemmas.List.{length-map}
 use Rattle.rsc_captures.proofs.Places.{named_repeat_in, unnamed_repeat_in}
-use Rattle.rsc_captures.proofs.faults.first_repeat.Goals.{in-Some+else-has_name, in_default}
+use Rattle.rsc_captures.proofs.faults.first_repeat.Goals.{in-Some+else-contains_name, in_default}
 use Rattle.rsc_captures.proofs.faults.first_repeat.Goals as goal
 
-pub returns-then-has_name : goal.returns-then-has_name
-returns-then-has_name c =
+pub returns-then-contains_name : goal.returns-then-contains_name
+returns-then-contains_name c =
     let lt : c.loop-g.g < length c.args.groups.now = omega arith in
     record {
       group = rw length-map lt;
-      repeats = named_repeat_in c.args.groups.now c.loop-g.g c.in-Some.name lt c.in-Some.is ∙ sym c.has_name.ensures ∙ c.if-has_name.true;
+      repeats = named_repeat_in c.args.groups.now c.loop-g.g c.in-Some.name lt c.in-Some.is ∙ sym c.contains_name.ensures ∙ c.if-contains_name.true;
       distinct = c.loop-g.invariant;
     }
 
@@ -18,6 +18,6 @@ pub loop-g-preserved : goal.loop-g-preserved
 loop-g-preserved c =
     let lt : c.loop-g.g < length c.args.groups.now = omega arith in
     below_more _ _ c.loop-g.invariant (elim c.match-groups-g.branch [
-      | in-Some+else-has_name w ↦ named_repeat_in c.args.groups.now c.loop-g.g w.in-Some.name lt w.in-Some.is ∙ sym w.has_name.ensures ∙ w.if-has_name.false
+      | in-Some+else-contains_name w ↦ named_repeat_in c.args.groups.now c.loop-g.g w.in-Some.name lt w.in-Some.is ∙ sym w.contains_name.ensures ∙ w.if-contains_name.false
       | in_default w ↦ unnamed_repeat_in c.args.groups.now c.loop-g.g lt w.in_default.is
     ])

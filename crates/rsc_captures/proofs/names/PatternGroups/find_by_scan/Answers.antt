@@ -3,12 +3,12 @@ use Rattle.std.proofs.Math.Seq.{take-length}
 use Rattle.std.specs.List.{list_any}
 use Rattle.rsc_captures.specs.Groups.{has_name}
 use Rattle.rsc_captures.proofs.Indexed.{index_of_first, index_of_none}
-use Rattle.rsc_captures.proofs.names.PatternGroups.scanned.Goals as goal
+use Rattle.rsc_captures.proofs.names.PatternGroups.find_by_scan.Goals as goal
 
-pub returns-then-is_named : goal.returns-then-is_named
-returns-then-is_named g c =
+pub returns-then-has_name : goal.returns-then-has_name
+returns-then-has_name g c =
     let lt : c.loop-group.group < length c.args.self.now = omega arith in
-    let named : has_name c.args.name.now (get_or c.args.self.now c.loop-group.group None) ≡ true = ap (has_name c.args.name.now) (sym c.name.ensures) ∙ sym c.is_named.ensures ∙ c.if-is_named.true in
+    let named : has_name c.args.name.now (get_or c.args.self.now c.loop-group.group None) ≡ true = ap (has_name c.args.name.now) (sym c.name.ensures) ∙ sym c.has_name.ensures ∙ c.if-has_name.true in
     sym (index_of_first c.args.self.now c.args.name.now c.loop-group.group lt c.loop-group.invariant named)
 
 pub returns : goal.returns

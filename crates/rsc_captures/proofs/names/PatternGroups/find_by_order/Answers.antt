@@ -4,7 +4,7 @@ use Rattle.std.proofs.lemmas.List.{get_or_default}
 use Rattle.rsc_captures.specs.Groups.{index_of}
 use Rattle.rsc_captures.specs.Names.{IsIndexed, name_at, name_cmp}
 use Rattle.rsc_captures.proofs.Ordered.{index_from_search}
-use Rattle.rsc_captures.proofs.names.PatternGroups.halved.Goals as goal
+use Rattle.rsc_captures.proofs.names.PatternGroups.find_by_order.Goals as goal
 
 -- the closure answers how a group's name stands to the name
 pub returns-in-Ok : goal.returns-in-Ok
