@@ -6,7 +6,7 @@ ghost use Rattle.rsc_captures.specs.Checks.{IsCheckedPattern, FoundInPattern, Ar
 ghost use Rattle.rsc_captures.specs.Names.{IsFirstRepeat};
 ghost use Rattle.rsc_captures.specs.Found.{fault_found};
 ghost use Rattle.std.specs.Option.{option_copied};
-ghost use Rattle.std.specs.Bool.{OnFalse};
+ghost use Rattle.std.specs.Bool.{MatchBool, OnFalse};
 
 use rsc_primitives::{PatternID, PatternIDError};
 
@@ -57,6 +57,14 @@ pub(crate) fn first_repeat(groups: &[Option<&str>]) -> Option<usize>
     None
 }
 
+// Whether the limit is passed by so many groups, the explicit ones before them counted too.
+fn passes_limit(limit: usize, before: usize, groups: usize) -> bool
+    requires { 2 * before ≤ limit }
+    ensures { MatchBool result (limit < 2 * (before + groups)) (2 * (before + groups) ≤ limit) }
+{
+    groups > limit / 2 - before
+}
+
 /// Looks at a pattern as a whole.
 fn check_pattern<'a>(lists: &[&[Option<&'a str>]], p: usize) -> Result<PatternID, Fault<'a>>
     requires { p < length lists.now }
@@ -90,7 +98,7 @@ fn check_group<'a>(
     ensures ok { OnOk result ((group_fault limit (lists_in lists.now) pattern g ≡ None) × (2 * (before + g) ≤ limit)) }
     ensures err { IfErr result (λ fault. group_fault limit (lists_in lists.now) pattern g ≡ Some (fault_found fault)) }
 {
-    if g > limit / 2 - before {
+    if passes_limit(limit, before, g) {
         return Err(Fault::TooManyGroups(pattern, g));
     }
     let groups = lists[pattern.as_usize()];
@@ -140,7 +148,7 @@ fn check_slots<'a>(limit: usize, lists: &[&[Option<&'a str>]]) -> Result<(), Fau
     let mut before = 0;
     for p in 0..lists.len() {
         before += lists[p].len() - 1;
-        if lists.len() > limit / 2 - before {
+        if passes_limit(limit, before, lists.len()) {
             return Err(Fault::TooManyGroups(PatternID::must(p), lists[p].len()));
         }
     }
@@ -174,10 +182,10 @@ pub(crate) fn has_other_fault(limit: usize, lists: &[&[Option<&str>]]) -> bool
             return true;
         }
         let explicit = lists[p].len() - 1;
-        if explicit > limit / 2 - before {
+        if passes_limit(limit, before, explicit) {
             return true;
         }
         before += explicit;
     }
-    lists.len() > limit / 2 - before
+    passes_limit(limit, before, lists.len())
 }
