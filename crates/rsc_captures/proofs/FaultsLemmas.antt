@@ -1,42 +1,11 @@
--- The first fault of a list: what the code found is it, there is at most one, and a list without a fault has none.
+-- The first fault of a list: there is at most one, and a list without a fault has none.
 use Rattle.std.proofs.Common.{◌≡◌, ℕ, ◌<◌, ◌≤◌, [], Option, Some, None, MatchOption, sym, ap, ◌∙◌, subst, inl, inr, arith, ⊎_elim}
 use Rattle.std.proofs.lemmas.Bool.{cases_lt}
 use Rattle.rsc_captures.specs.Groups.{GroupLists, group_count}
 use Rattle.rsc_captures.specs.Faults.{Fault, TooManyGroups, Duplicate, IsPlace, ComesBefore, place_fault, slots_end, IsClear, IsFirstAtPlace, IsFirstPastLimit, IsFirstFault, IsFaultless, RefusesFor}
-use Rattle.rsc_captures.specs.Checks.{AreChecked, IsCheckedPattern, FoundAtPlace, FoundPastLimit, IsFound, IsChecked, IsDuplicate, FoundDuplicate, RefusesAsFound}
+use Rattle.rsc_captures.specs.Checks.{IsDuplicate}
 
 module _ {limit : ℕ} {lists : GroupLists} where
-  checked_place : (p g : ℕ) → IsPlace lists p g → IsCheckedPattern limit lists p → place_fault limit lists p g ≡ None
-  checked_place p g place checked = checked.clear g (omega (arith, checked.groups, place.1))
-
-  pub clear_from : AreChecked limit lists → IsClear limit lists
-  clear_from checked p g place = checked_place p g place (checked p place.0)
-
-  pub faultless_is : IsChecked limit lists → IsFaultless limit lists
-  faultless_is checked = record { clear = clear_from checked.clear; within = checked.within }
-
-  first_at_place : (f : Fault) → FoundAtPlace limit lists f → IsFirstAtPlace limit lists f
-  first_at_place f found = record {
-    p = found.p;
-    g = found.fault.g;
-    place = found.fault.place;
-    fault = found.fault.fault;
-    least = λ q h place before.
-        ⊎_elim
-        (λ (lt : q < found.p). checked_place q h place (found.clear q lt))
-        (λ (same : (q ≡ found.p) × (h < found.fault.g)). subst (λ (r : ℕ). place_fault limit lists r h ≡ None) (sym same.0) (found.fault.clear h same.1))
-        before;
-  }
-
-  pub first_is : (f : Fault) → IsFound limit lists f → IsFirstFault limit lists f
-  first_is f found =
-      ⊎_elim
-      (λ (place : FoundAtPlace limit lists f). inl (first_at_place f place))
-      (λ (past : FoundPastLimit limit lists f). inr (record { clear = clear_from past.clear; p = past.p; pattern = past.pattern; past = past.past; least = past.least; fault = past.fault }))
-      found
-
-  -- ---- there is at most one first fault
-
   not_clear : (f : Fault) → IsFirstAtPlace limit lists f → IsClear limit lists → ⊥
   not_clear f first clear = let e : Some f ≡ None = sym first.fault ∙ clear first.p first.g first.place in cc
 
@@ -80,18 +49,10 @@ module _ {limit : ℕ} {lists : GroupLists} where
       (λ (a : IsFirstPastLimit limit lists f). let le : slots_end lists a.p ≤ limit = faultless.within a.p a.pattern in let lt : limit < slots_end lists a.p = a.past in omega arith)
       first
 
-pub refuses_is : (limit : ℕ) (lists : GroupLists) (refusal : Option Fault) → RefusesAsFound limit lists refusal → RefusesFor limit lists refusal
-refuses_is limit lists (Some f) found = first_is f found
-refuses_is limit lists None found =
-    ⊎_elim
-    (λ (checked : IsChecked limit lists). inl (faultless_is checked))
-    (λ (duplicate : FoundDuplicate limit lists). inr (duplicate.0, duplicate.1, first_is (Duplicate duplicate.0 duplicate.1) duplicate.2))
-    found
-
 -- a refusal that shows the fault that was found, or want of memory where that is a name that stands twice
-pub refuses_found : (limit : ℕ) (lists : GroupLists) (f : Fault) → IsFound limit lists f → (refusal : Option Fault) → MatchOption refusal (IsDuplicate f) (λ shown. shown ≡ f) → RefusesFor limit lists refusal
-refuses_found limit lists f found (Some shown) same = rw same (first_is f found)
-refuses_found limit lists f found None duplicate = inr (duplicate.0, duplicate.1, rw duplicate.2 at (first_is f found))
+pub refuses_found : (limit : ℕ) (lists : GroupLists) (f : Fault) → IsFirstFault limit lists f → (refusal : Option Fault) → MatchOption refusal (IsDuplicate f) (λ shown. shown ≡ f) → RefusesFor limit lists refusal
+refuses_found limit lists f found (Some shown) same = rw same found
+refuses_found limit lists f found None duplicate = inr (duplicate.0, duplicate.1, rw duplicate.2 at found)
 
 -- a list of no patterns has no first fault
 pub none_has_no_fault : (limit : ℕ) (f : Fault) → IsFirstFault limit [] f → ⊥

@@ -3,6 +3,7 @@ pub mod Places
 pub mod Indexed
 pub mod Ordered
 pub mod Held
+pub mod Clear
 pub mod Checked
 pub mod FaultsLemmas
 pub mod Starts

@@ -5,7 +5,8 @@ use Rattle.std.proofs.lemmas.Bool.Decides.{nat_tests}
 use Rattle.std.proofs.lemmas.List.{get_or_past}
 use Rattle.std.proofs.lemmas.List.Sums.{sum_by_more}
 use Rattle.rsc_captures.specs.Groups.{GroupLists, groups_of, group_count, explicit_groups, explicit_before, all_groups, slot_number, slot_of}
-use Rattle.rsc_captures.specs.Checks.{IsChecked}
+use Rattle.rsc_captures.specs.Faults.{LIMIT_OF_IDS, IsFaultless}
+use Rattle.rsc_captures.proofs.Clear.{some_group}
 use Rattle.rsc_captures.specs.SlotOwners.{IsSlotOf, IsOwned}
 use Rattle.rsc_captures.proofs.Starts.{all_groups_are}
 
@@ -58,11 +59,11 @@ find_explicit lists (suc n) r le lt =
     (λ (here : explicit_before lists n ≤ r). let e : suc n ≡ n + 1 = omega arith in (n, record { pattern = omega arith; from = here; to = rw e at lt }))
     (cases_lt r (explicit_before lists n))
 
-module _ (lists : GroupLists) (checked : IsChecked 2147483646 lists) where
+module _ (lists : GroupLists) (checked : IsFaultless LIMIT_OF_IDS lists) where
   owned_half : (h : ℕ) → h < length lists + explicit_before lists (length lists) → (p : ℕ) × (g : ℕ) × ((g < group_count lists p) × (slot_number lists p g ≡ 2 * h))
   owned_half h lt =
       ⊎_elim
-      (λ (first : h < length lists). (h, 0, ((checked.clear h first).groups, refl)))
+      (λ (first : h < length lists). (h, 0, (some_group LIMIT_OF_IDS lists checked h first, refl)))
       (λ (later : length lists ≤ h).
       let r : ℕ = h - length lists in
       let found : (p : ℕ) × HasExplicit lists (length lists) r p = find_explicit lists (length lists) r (omega arith) (omega arith) in

@@ -2,11 +2,11 @@
 use Rattle.std.proofs.Common.{◌≡◌, ℕ, zero, suc, ◌+◌, ◌-◌, ◌*◌, ◌<◌, ◌≤◌, length, Some, ap, ◌∙◌, refl, ⊎_elim, arith}
 use Rattle.std.proofs.lemmas.Bool.{cases_lt}
 use Rattle.rsc_captures.specs.Groups.{GroupLists, group_count, explicit_before, all_groups, slot_number, slot_of}
-use Rattle.rsc_captures.specs.Checks.{IsChecked}
+use Rattle.rsc_captures.specs.Faults.{LIMIT_OF_IDS, IsFaultless}
 use Rattle.rsc_captures.proofs.Owners.{slot_explicit, slot_facts, pattern_in, before_more, before_rises}
 use Rattle.rsc_captures.proofs.Starts.{all_groups_are}
 
-pub number_within : (lists : GroupLists) → IsChecked 2147483646 lists → (p g : ℕ) → g < group_count lists p → slot_number lists p g + 1 < 2 * all_groups lists
+pub number_within : (lists : GroupLists) → IsFaultless LIMIT_OF_IDS lists → (p g : ℕ) → g < group_count lists p → slot_number lists p g + 1 < 2 * all_groups lists
 number_within lists checked p zero lt = let pattern : p < length lists = pattern_in lists p 0 lt in omega (arith, all_groups_are lists checked)
 number_within lists checked p (suc g) lt =
     let pattern : p < length lists = pattern_in lists p (suc g) lt in
@@ -14,11 +14,11 @@ number_within lists checked p (suc g) lt =
     let rises : explicit_before lists (p + 1) ≤ explicit_before lists (length lists) = rw e at (before_rises lists (p + 1) (length lists - (p + 1)) (omega arith)) in
     omega (arith, slot_explicit lists p g, before_more lists p pattern, all_groups_are lists checked)
 
-pub slot_within : (lists : GroupLists) → IsChecked 2147483646 lists → (p g slot : ℕ) → slot_of lists p g ≡ Some slot → slot + 1 < 2 * all_groups lists
+pub slot_within : (lists : GroupLists) → IsFaultless LIMIT_OF_IDS lists → (p g slot : ℕ) → slot_of lists p g ≡ Some slot → slot + 1 < 2 * all_groups lists
 slot_within lists checked p g slot is = let facts = slot_facts lists p g slot is in omega (arith, facts.1, number_within lists checked p g facts.0)
 
 -- all slots are within the limit
-pub slots_within_limit : (lists : GroupLists) → IsChecked 2147483646 lists → 2 * all_groups lists ≤ 2147483646
+pub slots_within_limit : (lists : GroupLists) → IsFaultless LIMIT_OF_IDS lists → 2 * all_groups lists ≤ 2147483646
 slots_within_limit lists checked =
     ⊎_elim
     (λ (some : 0 < length lists).

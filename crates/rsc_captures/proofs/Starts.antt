@@ -6,8 +6,8 @@ use Rattle.std.proofs.lemmas.List.{length_push, get_or_append_left, get_or_defau
 use Rattle.std.proofs.Math.Seq.{get_or-append_seam, take-length}
 use Rattle.std.proofs.lemmas.List.Sums.{sum_by_more}
 use Rattle.rsc_captures.specs.Groups.{GroupLists, group_count, explicit_groups, explicit_before, all_groups, slots_start, slot_of}
-use Rattle.rsc_captures.specs.Faults.{slots_end}
-use Rattle.rsc_captures.specs.Checks.{IsChecked}
+use Rattle.rsc_captures.specs.Faults.{LIMIT_OF_IDS, IsFaultless, slots_end}
+use Rattle.rsc_captures.proofs.Clear.{some_group}
 use Rattle.rsc_captures.specs.Layout.{AreStarts, IsLaidOut}
 
 pub starts_push : (starts : List ℕ) (lists : GroupLists) (n start : ℕ) → AreStarts starts lists n → start ≡ slots_start lists (n + 1) → AreStarts (starts ++ start ∷ []) lists (n + 1)
@@ -33,9 +33,9 @@ groups_so_far lists (suc n) le nonempty =
     let explicit : explicit_before lists (n + 1) ≡ explicit_before lists n + (group_count lists n - 1) = sum_by_more explicit_groups lists n [] lt in
     rw (← add-one) (omega arith)
 
-pub all_groups_are : (lists : GroupLists) → IsChecked 2147483646 lists → all_groups lists ≡ length lists + explicit_before lists (length lists)
+pub all_groups_are : (lists : GroupLists) → IsFaultless LIMIT_OF_IDS lists → all_groups lists ≡ length lists + explicit_before lists (length lists)
 all_groups_are lists faultless =
-    let so_far : sum_by length (take (length lists) lists) ≡ length lists + explicit_before lists (length lists) = groups_so_far lists (length lists) (omega arith) (λ p lt. (faultless.clear p lt).groups) in
+    let so_far : sum_by length (take (length lists) lists) ≡ length lists + explicit_before lists (length lists) = groups_so_far lists (length lists) (omega arith) (λ p lt. some_group LIMIT_OF_IDS lists faultless p lt) in
     ap (sum_by length) (sym (take-length lists)) ∙ so_far
 
 -- the last start is the number of all slots

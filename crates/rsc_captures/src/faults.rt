@@ -1,8 +1,8 @@
 //! Looks for the first fault of a group list, and takes no memory.
 ghost use Rattle.std.specs.Prelude.{◌≡◌, ℕ, ◌+◌, ◌*◌, ◌<◌, ◌≤◌, length, IfOk, IfErr, OnOk, MatchOption};
 ghost use Rattle.rsc_captures.specs.Groups.{has_name, contains_name, groups_in, lists_in, AreDistinctBelow, explicit_before, group_count};
-ghost use Rattle.rsc_captures.specs.Faults.{pattern_fault, group_fault};
-ghost use Rattle.rsc_captures.specs.Checks.{IsCheckedPattern, FoundInPattern, AreChecked, IsChecked, IsFound, HasNoOtherFault};
+ghost use Rattle.rsc_captures.specs.Faults.{pattern_fault, group_fault, IsClear, IsFirstAtPlace, IsFirstFault, IsFaultless};
+ghost use Rattle.rsc_captures.specs.Checks.{IsClearBelow, HasNoOtherFault};
 ghost use Rattle.rsc_captures.specs.Names.{IsFirstRepeat};
 ghost use Rattle.rsc_captures.specs.Found.{fault_found};
 ghost use Rattle.std.specs.Option.{option_copied};
@@ -68,7 +68,7 @@ fn passes_limit(limit: usize, before: usize, groups: usize) -> bool
 /// Looks at a pattern as a whole.
 fn check_pattern<'a>(lists: &[&[Option<&'a str>]], p: usize) -> Result<PatternID, Fault<'a>>
     requires { p < length lists.now }
-    ensures ok { IfOk result (λ pattern. (pattern ≡ p) × (p ≤ 2147483646) × (pattern_fault (lists_in lists.now) p ≡ None) × (0 < group_count (lists_in lists.now) p)) }
+    ensures ok { IfOk result (λ pattern. (pattern ≡ p) × (pattern_fault (lists_in lists.now) p ≡ None) × (0 < group_count (lists_in lists.now) p)) }
     ensures err { IfErr result (λ fault. pattern_fault (lists_in lists.now) p ≡ Some (fault_found fault)) }
 {
     let pattern = match PatternID::new(p) {
@@ -123,8 +123,9 @@ fn check_groups<'a>(
     requires limit { limit ≤ 2147483646 }
     requires before { before ≡ explicit_before (lists_in lists.now) p }
     requires within { 2 * before ≤ limit }
-    ensures ok { OnOk result (IsCheckedPattern limit (lists_in lists.now) p) }
-    ensures err { IfErr result (λ fault. FoundInPattern limit (lists_in lists.now) p (fault_found fault)) }
+    requires clear { IsClearBelow limit (lists_in lists.now) p }
+    ensures ok { OnOk result (IsClearBelow limit (lists_in lists.now) (p + 1)) }
+    ensures err { IfErr result (λ fault. IsFirstAtPlace limit (lists_in lists.now) (fault_found fault)) }
 {
     let pattern = match check_pattern(lists, p) {
         Ok(pattern) => pattern,
@@ -141,9 +142,9 @@ fn check_groups<'a>(
 /// Looks at the number of slots, where each place is clear.
 fn check_slots<'a>(limit: usize, lists: &[&[Option<&'a str>]]) -> Result<(), Fault<'a>>
     requires limit { limit ≤ 2147483646 }
-    requires clear { AreChecked limit (lists_in lists.now) }
-    ensures ok { OnOk result (IsChecked limit (lists_in lists.now)) }
-    ensures err { IfErr result (λ fault. IsFound limit (lists_in lists.now) (fault_found fault)) }
+    requires clear { IsClear limit (lists_in lists.now) }
+    ensures ok { OnOk result (IsFaultless limit (lists_in lists.now)) }
+    ensures err { IfErr result (λ fault. IsFirstFault limit (lists_in lists.now) (fault_found fault)) }
 {
     let mut before = 0;
     for p in 0..lists.len() {
@@ -158,8 +159,8 @@ fn check_slots<'a>(limit: usize, lists: &[&[Option<&'a str>]]) -> Result<(), Fau
 /// Looks at the places of the list in order, and then at the number of slots. Names are compared one with another.
 pub(crate) fn check<'a>(limit: usize, lists: &[&[Option<&'a str>]]) -> Result<(), Fault<'a>>
     requires limit { limit ≤ 2147483646 }
-    ensures ok { OnOk result (IsChecked limit (lists_in lists.now)) }
-    ensures err { IfErr result (λ fault. IsFound limit (lists_in lists.now) (fault_found fault)) }
+    ensures ok { OnOk result (IsFaultless limit (lists_in lists.now)) }
+    ensures err { IfErr result (λ fault. IsFirstFault limit (lists_in lists.now) (fault_found fault)) }
 {
     let mut before = 0;
     for p in 0..lists.len() {

@@ -8,6 +8,7 @@ use Rattle.rsc_captures.specs.Groups.{GroupLists, lists_in, group_count, slots_s
 use Rattle.std.proofs.Common.{◌≤◌}
 use Rattle.rsc_captures.specs.Faults.{slots_end}
 use Rattle.rsc_captures.specs.Repeats.{IsDuplicateOf, IsFirstDuplicate}
+use Rattle.rsc_captures.proofs.Clear.{pattern_clear}
 use Rattle.rsc_captures.proofs.Checked.{faultless_from, MatchOption-some_weaker}
 use Rattle.rsc_captures.proofs.Places.{length-lists_in}
 use Rattle.rsc_captures.proofs.Starts.{starts_push}
@@ -22,7 +23,7 @@ returns-in_err-groups-clause-err g c =
 pub overflow_sub-start : goal.overflow_sub-start
 overflow_sub-start g c =
     let lt : c.loop-p.p < length (lists_in c.args.lists.now) = rw length-lists_in (omega arith) in
-    let groups : 0 < group_count (lists_in c.args.lists.now) c.loop-p.p = (c.requires.patterns c.loop-p.p lt).2 in
+    let groups : 0 < group_count (lists_in c.args.lists.now) c.loop-p.p = (pattern_clear (lists_in c.args.lists.now) c.loop-p.p (c.requires.patterns c.loop-p.p lt)).1 in
     let len : c.len.result ≡ group_count (lists_in c.args.lists.now) c.loop-p.p = c.len.ensures ∙ ap length c.in_ok-groups.ensures.ok in
     omega arith
 
@@ -48,7 +49,7 @@ invariant_of-new g c =
 pub build_pattern-requires-clause-number : goal.build_pattern-requires-clause-number
 build_pattern-requires-clause-number g c =
     let lt : c.loop-p.p < length (lists_in c.args.lists.now) = rw length-lists_in (omega arith) in
-    (c.requires.patterns c.loop-p.p lt).0
+    (pattern_clear (lists_in c.args.lists.now) c.loop-p.p (c.requires.patterns c.loop-p.p lt)).0
 
 pub overflow_add-start : goal.overflow_add-start
 overflow_add-start g c =

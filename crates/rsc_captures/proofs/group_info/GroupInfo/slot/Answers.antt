@@ -1,6 +1,7 @@
 use Rattle.std.proofs.Common.{◌≡◌, ◌+◌, ◌-◌, ◌*◌, ◌<◌, ◌≤◌, [], length, Some, get_or, ap, sym, ◌∙◌, arith}
 use Rattle.rsc_captures.specs.Groups.{GroupLists, groups_of, group_count, slot_of}
-use Rattle.rsc_captures.specs.Checks.{IsChecked}
+use Rattle.rsc_captures.specs.Faults.{LIMIT_OF_IDS, IsFaultless}
+use Rattle.rsc_captures.proofs.Clear.{some_group}
 use Rattle.rsc_captures.proofs.SlotsWithin.{slot_within, number_within}
 use Rattle.rsc_captures.proofs.Starts.{slot_fits, slot_at}
 use Rattle.rsc_captures.proofs.group_info.GroupInfo.slot.Goals as goal
@@ -34,7 +35,7 @@ returns-else-group_index-eq0 g c =
     let slot : Some (c.index.result.now + 2 * (c.args.group_index - 1)) ≡ slot_of c.inner.inside.patterns.items c.as_usize-p.result c.args.group_index =
     rw c.index.ensures (slot_at c.inner.inside.starts.items c.inner.inside.patterns.items c.as_usize-p.result c.args.group_index c.index.result.now c.inner.invariant lt (omega arith) (omega arith)) in
     let lists : c.inner.inside.patterns.items ≡ c.args.self.now = c.inner.view_is ∙ c.deref-inner.ensures ∙ c.self.view_is in
-    let checked : IsChecked 2147483646 c.args.self.now = rw lists at c.inner.invariant.faultless in
+    let checked : IsFaultless LIMIT_OF_IDS c.args.self.now = rw lists at c.inner.invariant.faultless in
     let value : Some (c.index.result.now + 2 * (c.args.group_index - 1)) ≡ slot_of c.args.self.now c.args.pid c.args.group_index =
     slot ∙ ap (λ (held : GroupLists). slot_of held c.as_usize-p.result c.args.group_index) lists ∙ ap (λ p. slot_of c.args.self.now p c.args.group_index) c.as_usize-p.ensures.value in
     record { value = value; within = slot_within c.args.self.now checked c.args.pid c.args.group_index (c.index.result.now + 2 * (c.args.group_index - 1)) (sym value) }
@@ -43,6 +44,6 @@ pub returns-then-group_index-eq0-clause-within : goal.returns-then-group_index-e
 returns-then-group_index-eq0-clause-within g c =
     let found = c.in_ok-groups.ensures.lookup in
     let lists : c.inner.inside.patterns.items ≡ c.args.self.now = c.inner.view_is ∙ c.deref-inner.ensures ∙ c.self.view_is in
-    let checked : IsChecked 2147483646 c.args.self.now = rw lists at c.inner.invariant.faultless in
+    let checked : IsFaultless LIMIT_OF_IDS c.args.self.now = rw lists at c.inner.invariant.faultless in
     let lt : c.as_usize-p.result < length c.args.self.now = rw (c.deref.ensures.value, lists) at found.3.0 in
-    number_within c.args.self.now checked c.as_usize-p.result 0 (checked.clear c.as_usize-p.result lt).groups
+    number_within c.args.self.now checked c.as_usize-p.result 0 (some_group LIMIT_OF_IDS c.args.self.now checked c.as_usize-p.result lt)

@@ -1,6 +1,6 @@
 use Rattle.std.proofs.Common.{◌≡◌, ◌*◌, length, ap, ◌∙◌, arith}
 use Rattle.rsc_captures.specs.Groups.{all_groups}
-use Rattle.rsc_captures.specs.Checks.{IsChecked}
+use Rattle.rsc_captures.specs.Faults.{LIMIT_OF_IDS, IsFaultless}
 use Rattle.rsc_captures.proofs.Owners.{each_owned, one_owner}
 use Rattle.rsc_captures.proofs.SlotsWithin.{slots_within_limit}
 use Rattle.rsc_captures.proofs.Starts.{last_start_or}
@@ -17,7 +17,7 @@ returns-clause-owned g c =
     let lists : c.inner.inside.patterns.items ≡ c.args.self.now = c.inner.view_is ∙ c.deref-inner.ensures ∙ c.self.view_is in
     let len : c.len.result ≡ length c.args.self.now = c.len.ensures ∙ c.inner.inside.patterns.ok.0 ∙ ap length lists in
     let all : c.index.result.now ≡ 2 * all_groups c.args.self.now = rw len at c.index.ensures ∙ last_start_or c.inner.inside.starts.items c.args.self.now _ (rw lists at c.inner.invariant) in
-    let checked : IsChecked 2147483646 c.args.self.now = rw lists at c.inner.invariant.faultless in
+    let checked : IsFaultless LIMIT_OF_IDS c.args.self.now = rw lists at c.inner.invariant.faultless in
     λ s lt. each_owned c.args.self.now checked s (rw all at lt)
 
 pub returns-clause-once : goal.returns-clause-once
@@ -28,5 +28,5 @@ returns-clause-limit g c =
     let lists : c.inner.inside.patterns.items ≡ c.args.self.now = c.inner.view_is ∙ c.deref-inner.ensures ∙ c.self.view_is in
     let len : c.len.result ≡ length c.args.self.now = c.len.ensures ∙ c.inner.inside.patterns.ok.0 ∙ ap length lists in
     let all : c.index.result.now ≡ 2 * all_groups c.args.self.now = rw len at c.index.ensures ∙ last_start_or c.inner.inside.starts.items c.args.self.now _ (rw lists at c.inner.invariant) in
-    let checked : IsChecked 2147483646 c.args.self.now = rw lists at c.inner.invariant.faultless in
+    let checked : IsFaultless LIMIT_OF_IDS c.args.self.now = rw lists at c.inner.invariant.faultless in
     omega (arith, all, slots_within_limit c.args.self.now checked)

@@ -11,7 +11,7 @@ returns-clause-named g c =
     let found = c.in_ok-groups.ensures.lookup in
     let groups : c.in_ok-groups.groups.now ≡ groups_of c.args.self.now c.args.pid = rw (c.as_usize.ensures.value, held) at (found.3.1 []) in
     let lt : c.args.pid < length c.args.self.now = rw (c.as_usize.ensures.value, held) at found.3.0 in
-    let distinct : AreDistinctBelow (groups_of c.args.self.now c.args.pid) (group_count c.args.self.now c.args.pid) = clear_distinct c.args.pid ((rw lists at c.inner.invariant.faultless).clear c.args.pid lt) in
+    let distinct : AreDistinctBelow (groups_of c.args.self.now c.args.pid) (group_count c.args.self.now c.args.pid) = clear_distinct (rw lists at c.inner.invariant.faultless) c.args.pid lt in
     rw (c.index.ensures, groups) (index_of-is (groups_of c.args.self.now c.args.pid) c.args.name.now distinct)
 
 pub returns-clause-within : goal.returns-clause-within
