@@ -2,7 +2,7 @@
 ghost use Rattle.std.specs.Prelude.{◌≡◌, ℕ, ◌+◌, ◌-◌, ◌*◌, ◌<◌, ◌≤◌, ◌↔◌, length, ⊤, [], Some, None, IfOk, IfErr, IfSome, OnOk, MatchOption, MatchResult};
 ghost use Rattle.std.specs.Option.{option_copied};
 ghost use Rattle.rsc_captures.specs.Groups.{lists_in, groups_of, group_count, name_of, index_of, slot_of, slots_of, all_groups, AreDistinctBelow};
-ghost use Rattle.rsc_captures.specs.Faults.{Duplicate, LIMIT_OF_IDS, IsFaultless, RefusesFor};
+ghost use Rattle.rsc_captures.specs.Faults.{LIMIT_OF_IDS, IsFaultless, RefusesFor};
 ghost use Rattle.rsc_captures.specs.Checks.{HasNoOtherFault, IsDuplicate};
 ghost use Rattle.rsc_captures.specs.NameWalks.{all_names_of};
 ghost use Rattle.rsc_captures.specs.SlotOwners.{IsSlotOf, IsOwned};
@@ -12,7 +12,7 @@ ghost use Rattle.rsc_captures.specs.Repeats.{IsDuplicateOf, IsFirstDuplicate};
 use crate::error::{GroupInfoError, GroupInfoErrorKind};
 use crate::faults::{Fault, check, has_other_fault};
 use crate::name_walks::{GroupInfoAllNames, GroupInfoPatternNames};
-use crate::names::{NamesError, PatternGroups};
+use crate::names::{PatternGroups, name_at, order_of, repeat_in};
 use rsc_primitives::PatternID;
 use std::alloc::{AllocError, Allocator, Global};
 use std::marker::Model;
@@ -56,21 +56,7 @@ impl<A: Allocator> Model for GroupInfo<A> {
     ghost view = { λ a. a.inner.value };
 }
 
-// The error for a name that stands twice, or for want of memory.
-fn duplicate<A: Allocator + Clone + Drop>(
-    alloc: A,
-    pattern: PatternID,
-    name: &str,
-) -> GroupInfoError<A>
-    ensures { MatchOption result ⊤ (λ fault. fault ≡ Duplicate pattern name.now) }
-{
-    match String::from_str(alloc, name) {
-        Ok(name) => GroupInfoError::new(GroupInfoErrorKind::Duplicate { pattern, name }),
-        Err(_) => GroupInfoError::new(GroupInfoErrorKind::OutOfMemory),
-    }
-}
-
-// The error for a fault. Only a name that stands twice takes memory.
+// The error for a fault. Only a name that is used twice takes memory.
 fn refusal<A: Allocator + Clone + Drop>(alloc: A, fault: Fault<'_>) -> GroupInfoError<A>
     ensures { MatchOption result (IsDuplicate (fault_found fault.entry)) (λ found. found ≡ fault_found fault.entry) }
 {
@@ -87,7 +73,10 @@ fn refusal<A: Allocator + Clone + Drop>(alloc: A, fault: Fault<'_>) -> GroupInfo
         Fault::FirstMustBeUnnamed(pattern) => {
             GroupInfoError::new(GroupInfoErrorKind::FirstMustBeUnnamed { pattern })
         }
-        Fault::Duplicate(pattern, name) => duplicate(alloc, pattern, name),
+        Fault::Duplicate(pattern, name) => match String::from_str(alloc, name) {
+            Ok(name) => GroupInfoError::new(GroupInfoErrorKind::Duplicate { pattern, name }),
+            Err(_) => GroupInfoError::new(GroupInfoErrorKind::OutOfMemory),
+        },
     }
 }
 
@@ -104,17 +93,12 @@ fn build_pattern<A: Allocator + Clone + Drop>(
     ensures err { IfErr result (λ e. MatchOption e ⊤ (IsDuplicateOf (lists_in lists.now) p)) }
 {
     let groups = lists[p];
-    match PatternGroups::new(alloc.clone()?, groups) {
-        Ok(held) => Ok(held),
-        Err(NamesError::OutOfMemory) => Err(GroupInfoError::new(GroupInfoErrorKind::OutOfMemory)),
-        Err(NamesError::Repeats(g)) => {
-            let group = groups.get(g).copied().unwrap_or(None);
-            match group {
-                Some(name) => Err(duplicate(alloc, PatternID::must(p), name)),
-                None => unreachable!(),
-            }
-        }
+    let order = order_of(alloc.clone()?, groups)?;
+    if let Some(g) = repeat_in(groups, order.as_slice()) {
+        let name = name_at(groups, g).unwrap_or("");
+        return Err(refusal(alloc, Fault::Duplicate(PatternID::must(p), name)));
     }
+    Ok(PatternGroups::new(alloc, groups, order)?)
 }
 
 // Holds the groups of a list that has no fault besides names that stand twice.

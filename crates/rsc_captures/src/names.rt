@@ -3,18 +3,17 @@
 //! Where there are few groups, a name is compared with that of each. Else its hash names a few cells of a table, and each of
 //! these proposes a group: where that group has the name, it is the one. Nothing depends on what the table proposes, so no
 //! contract speaks of it. Where none has the name, the groups in the order of their names decide, by halving.
-ghost use Rattle.std.specs.Prelude.{◌≡◌, ℕ, ◌<◌, ◌≤◌, [], ◌++◌, length, Some, IfSome, IfOk, IfErr, OnOk, slice_index_or, None};
+ghost use Rattle.std.specs.Prelude.{◌≡◌, ℕ, ◌<◌, ◌≤◌, [], ◌++◌, length, Some, IfSome, IfOk, OnOk, MatchOption, slice_index_or, None};
 ghost use Rattle.std.specs.Option.{option_copied, unwrap_or};
 ghost use Rattle.std.specs.Str.{IsUtf8};
 ghost use Rattle.std.specs.String.{string_bytes};
 ghost use Rattle.std.specs.Bool.{OnFalse};
 ghost use Rattle.rsc_captures.specs.Groups.{groups_in, index_of, AreDistinctBelow};
 ghost use Rattle.std.specs.List.Sorted.{IsPermutation};
-ghost use Rattle.rsc_captures.specs.Names.{place_held, AreHeld, name_cmp, HasNamed, IsSortedByName, AreNeighboursDistinct};
-ghost use Rattle.rsc_captures.specs.declared.names.NamesError.TheVariants.{OutOfMemory};
+ghost use Rattle.rsc_captures.specs.Names.{IsFirstRepeat, IsIndexed, place_held, AreHeld, name_cmp, HasNamed, IsSortedByName, AreNeighboursDistinct};
 
 use crate::faults::{first_repeat, has_name};
-use std::alloc::{AllocError, AllocFailed, Allocator, Global};
+use std::alloc::{AllocError, Allocator, Global};
 use std::cmp::Ordering;
 use std::hash::{FoldHasher, Hasher};
 use std::marker::Model;
@@ -54,29 +53,6 @@ const FEW: usize = 10;
 
 // How many cells of the table a name has.
 const CELLS: u64 = 4;
-
-/// Why the groups of a pattern are refused: the name of a group stands at a lesser one, or memory ran out.
-#[derive(Clone, Copy, Debug, PartialEq, Eq)]
-pub(crate) enum NamesError {
-    Repeats(usize),
-    OutOfMemory,
-}
-
-impl From<AllocError> for NamesError {
-    ghost from_gives = { λ _ e. e ≡ OutOfMemory };
-
-    fn from(_e: AllocError) -> NamesError {
-        NamesError::OutOfMemory
-    }
-}
-
-impl<T: Drop> From<AllocFailed<T>> for NamesError {
-    ghost from_gives = { λ _ e. e ≡ OutOfMemory };
-
-    fn from(_e: AllocFailed<T>) -> NamesError {
-        NamesError::OutOfMemory
-    }
-}
 
 // How many bytes the names have together; less only where that is past the greatest number.
 fn text_len(groups: &[Option<&str>]) -> usize {
@@ -125,9 +101,9 @@ fn hold<A: Allocator + Clone + Drop>(
     Ok((text, places))
 }
 
-// The name of a group, if it has one.
+/// The name of a group, if it has one.
 #[inline]
-fn name_at<'a>(groups: &[Option<&'a str>], g: usize) -> Option<&'a str>
+pub(crate) fn name_at<'a>(groups: &[Option<&'a str>], g: usize) -> Option<&'a str>
     ensures { result ≡ slice_index_or groups.now g None }
 {
     match groups.get(g) {
@@ -171,8 +147,8 @@ fn sort_by_name(groups: &[Option<&str>], order: &mut [usize])
     order.sort_unstable_by_key(|g| name_at(groups, *g));
 }
 
-// The groups with a name, in the order of their names; none where there are few groups.
-fn order_of<A: Allocator + Clone + Drop>(
+/// The groups with a name, in the order of their names; none where there are few groups.
+pub(crate) fn order_of<A: Allocator + Clone + Drop>(
     alloc: A,
     groups: &[Option<&str>],
 ) -> Result<Vec<usize, A>, AllocError>
@@ -244,21 +220,30 @@ fn proposals_of<A: Allocator>(
     Ok(proposals)
 }
 
-impl<A: Allocator + Clone + Drop> PatternGroups<A> {
-    ghost use Rattle.rsc_captures.specs.Names.{NamesRefused};
+/// The first group whose name is used at a lesser one. Only where neighbours in the order have one name, and among few groups,
+/// are names compared one with another.
+pub(crate) fn repeat_in(groups: &[Option<&str>], order: &[usize]) -> Option<usize>
+    requires named { FEW ≤ length groups.now → HasNamed order.now (groups_in groups.now) }
+    requires sorted { IsSortedByName order.now (groups_in groups.now) }
+    ensures { MatchOption result (AreDistinctBelow (groups_in groups.now) (length groups.now)) (IsFirstRepeat (groups_in groups.now)) }
+{
+    if groups.len() >= FEW && !has_equal_neighbours(groups, order) {
+        return None;
+    }
+    first_repeat(groups)
+}
 
-    /// The groups with these names, held in memory of their own.
-    pub(crate) fn new(alloc: A, groups: &[Option<&str>]) -> Result<PatternGroups<A>, NamesError>
-        ensures ok { IfOk result (λ p. p ≡ groups_in groups.now) }
-        ensures distinct { OnOk result (AreDistinctBelow (groups_in groups.now) (length groups.now)) }
-        ensures err { IfErr result (NamesRefused (groups_in groups.now)) }
+impl<A: Allocator + Clone + Drop> PatternGroups<A> {
+    /// The groups with these names, held in memory of their own. The order has those with a name by their names, where there
+    /// are not few.
+    pub(crate) fn new(
+        alloc: A,
+        groups: &[Option<&str>],
+        order: Vec<usize, A>,
+    ) -> Result<PatternGroups<A>, AllocError>
+        requires { IsIndexed order.items (groups_in groups.now) }
+        ensures { IfOk result (λ p. p ≡ groups_in groups.now) }
     {
-        let order = order_of(alloc.clone()?, groups)?;
-        if groups.len() < FEW || has_equal_neighbours(groups, order.as_slice()) {
-            if let Some(g) = first_repeat(groups) {
-                return Err(NamesError::Repeats(g));
-            }
-        }
         let (text, places) = hold(alloc.clone()?, groups)?;
         let proposals = proposals_of(alloc, groups)?;
         Ok(PatternGroups {

@@ -18,7 +18,7 @@ pub returns-in_err-groups-clause-err : goal.returns-in_err-groups-clause-err
 returns-in_err-groups-clause-err g c =
     let lt : c.loop-p.p < length (lists_in c.args.lists.now) = rw length-lists_in (omega arith) in
     let p = err_from_is_err_and c.from_residual-in_err-groups.result c.from_residual-in_err-groups.ensures.1 in
-    rw (p.1, p.2) (MatchOption-some_weaker _ (IsDuplicateOf (lists_in c.args.lists.now) c.loop-p.p) (IsFirstDuplicate (lists_in c.args.lists.now)) (λ f d. record { p = c.loop-p.p; pattern = lt; duplicate = d; earlier = c.loop-p.invariant.distinct }) c.in_err-groups.ensures.err)
+    rw (p.1, p.2) (MatchOption-some_weaker _ _ (IsDuplicateOf (lists_in c.args.lists.now) c.loop-p.p) (IsFirstDuplicate (lists_in c.args.lists.now)) (λ f d. record { p = c.loop-p.p; pattern = lt; duplicate = d; earlier = c.loop-p.invariant.distinct }) c.in_err-groups.ensures.err)
 
 pub overflow_sub-start : goal.overflow_sub-start
 overflow_sub-start g c =

@@ -1,10 +1,9 @@
 use Rattle.std.proofs.Common.{refl}
 use Rattle.rsc_captures.specs.Faults.{Duplicate}
 use Rattle.rsc_captures.specs.Checks.{IsDuplicate}
-use Rattle.rsc_captures.proofs.Checked.{MatchOption-none}
 use Rattle.rsc_captures.proofs.group_info.refusal.Goals as goal
 
-pub returns-in-Duplicate : goal.returns-in-Duplicate
-returns-in-Duplicate g c =
+pub returns-in-Err : goal.returns-in-Err
+returns-in-Err g c =
     let is : IsDuplicate (Duplicate c.in-Duplicate.pattern c.in-Duplicate.name.now) = (c.in-Duplicate.pattern, c.in-Duplicate.name.now, refl) in
-    rw c.in-Duplicate.is (MatchOption-none c.duplicate.result _ _ is c.duplicate.ensures)
+    rw (c.in-Duplicate.is, c.new-in-Err.ensures) is
