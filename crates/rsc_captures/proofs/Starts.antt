@@ -1,5 +1,5 @@
 -- The starts of a layout, as one more is pushed.
-use Rattle.std.proofs.Common.{◌≡◌, ℕ, zero, suc, ◌+◌, ◌-◌, ◌*◌, ◌<◌, ◌≤◌, List, [], ◌∷◌, ◌++◌, length, take, get_or, Some, rules, refl, ap, sym, ◌∙◌, arith, add-one}
+use Rattle.std.proofs.Common.{◌≡◌, ℕ, zero, suc, ◌+◌, ◌-◌, ◌*◌, ◌/◌, ◌<◌, ◌≤◌, List, [], ◌∷◌, ◌++◌, length, take, get_or, Some, rules, refl, ap, sym, ◌∙◌, arith, add-one}
 use Rattle.std.specs.Prelude.{sum_by}
 use borrow.Author.Count.{below_more}
 use Rattle.std.proofs.lemmas.List.{length_push, get_or_append_left, get_or_default}
@@ -49,6 +49,16 @@ pub last_start_or : (starts : List ℕ) (lists : GroupLists) (d : ℕ) → IsLai
 last_start_or starts lists d laid_out =
     let in_starts : length lists < length starts = omega (arith, laid_out.slots.count) in
     get_or_default starts (length lists) d 0 in_starts ∙ last_start starts lists laid_out
+
+-- a pattern has its first group, and those whose slots come before the next pattern's
+pub count_at : (starts : List ℕ) (lists : GroupLists) (p here next : ℕ) → IsLaidOut starts lists → p < length lists → here ≡ get_or starts p here → next ≡ get_or starts (p + 1) next →
+    (here ≤ next) × ((next - here) / 2 + 1 ≡ group_count lists p)
+count_at starts lists p here next laid_out lt is_here is_next =
+    let from : here ≡ slots_start lists p = is_here ∙ get_or_default starts p here 0 (omega (arith, laid_out.slots.count)) ∙ laid_out.slots.each p (omega arith) in
+    let to : next ≡ slots_start lists (p + 1) = is_next ∙ get_or_default starts (p + 1) next 0 (omega (arith, laid_out.slots.count)) ∙ laid_out.slots.each (p + 1) (omega arith) in
+    let more : explicit_before lists (p + 1) ≡ explicit_before lists p + (group_count lists p - 1) = sum_by_more explicit_groups lists p [] lt in
+    let some : 0 < group_count lists p = some_group LIMIT_OF_IDS lists laid_out.faultless p lt in
+    (omega (arith, from, to, more), omega (arith, from, to, more, some))
 
 -- the slot of an explicit group is counted from its pattern's start
 pub slot_at : (starts : List ℕ) (lists : GroupLists) (p g d : ℕ) → IsLaidOut starts lists → p < length lists → g < group_count lists p → 0 < g →

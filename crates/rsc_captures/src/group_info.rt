@@ -229,11 +229,12 @@ impl<A: Allocator + Clone + Drop> GroupInfo<A> {
         ensures value { result ≡ group_count self.now pid }
         ensures whole { pid < length self.now → 0 < result }
     {
-        let inner: &Inner<A> = &self.inner;
-        match inner.patterns.get(pid.as_usize()) {
-            Some(groups) => groups.len(),
-            None => 0,
+        let p = pid.as_usize();
+        if p >= self.pattern_len() {
+            return 0;
         }
+        let inner: &Inner<A> = &self.inner;
+        (inner.starts[p + 1] - inner.starts[p]) / 2 + 1
     }
 
     /// The name of a group, or `None` where it has none, or where there is no such group.
@@ -266,8 +267,7 @@ impl<A: Allocator + Clone + Drop> GroupInfo<A> {
     {
         let inner: &Inner<A> = &self.inner;
         let p = pid.as_usize();
-        let groups = inner.patterns.get(p)?;
-        if group_index >= groups.len() {
+        if group_index >= self.group_len(pid) {
             None
         } else if group_index == 0 {
             Some(2 * p)
