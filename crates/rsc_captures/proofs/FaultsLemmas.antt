@@ -1,8 +1,8 @@
 -- The first fault of a list: there is at most one, and a list without a fault has none.
-use Rattle.std.proofs.Common.{◌≡◌, ℕ, ◌<◌, ◌≤◌, [], Option, Some, None, MatchOption, sym, ap, ◌∙◌, subst, inl, inr, arith, ⊎_elim}
+use Rattle.std.proofs.Common.{◌≡◌, ℕ, ◌<◌, ◌≤◌, Option, Some, None, MatchOption, sym, ap, ◌∙◌, subst, inl, inr, arith, ⊎_elim}
 use Rattle.std.proofs.lemmas.Bool.{cases_lt}
 use Rattle.rsc_captures.specs.Groups.{GroupLists, group_count}
-use Rattle.rsc_captures.specs.Faults.{Fault, TooManyGroups, Duplicate, IsPlace, ComesBefore, place_fault, slots_end, IsClear, IsFirstAtPlace, IsFirstPastLimit, IsFirstFault, IsFaultless, RefusesFor}
+use Rattle.rsc_captures.specs.Faults.{Fault, TooManyGroups, ComesBefore, place_fault, slots_end, IsClear, IsFirstAtPlace, IsFirstPastLimit, IsFirstFault, IsFaultless, RefusesFor}
 use Rattle.rsc_captures.specs.Checks.{IsDuplicate}
 
 module _ {limit : ℕ} {lists : GroupLists} where
@@ -53,8 +53,3 @@ module _ {limit : ℕ} {lists : GroupLists} where
 pub refuses_found : (limit : ℕ) (lists : GroupLists) (f : Fault) → IsFirstFault limit lists f → (refusal : Option Fault) → MatchOption refusal (IsDuplicate f) (λ shown. shown ≡ f) → RefusesFor limit lists refusal
 refuses_found limit lists f found (Some shown) same = rw same found
 refuses_found limit lists f found None duplicate = inr (duplicate.0, duplicate.1, rw duplicate.2 at found)
-
--- a list of no patterns has no first fault
-pub none_has_no_fault : (limit : ℕ) (f : Fault) → IsFirstFault limit [] f → ⊥
-none_has_no_fault limit f first =
-    faultless_has_none f (record { clear = λ p g place. absurd (omega (arith, place.0)); within = λ p lt. absurd (omega arith) }) first

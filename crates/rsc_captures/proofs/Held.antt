@@ -62,10 +62,6 @@ cut_added text (Some bytes) utf8 p is = subst (IsCut (text ++ bytes)) same added
     same : record { start = length text; len = length bytes } ≡ p
     same = cc
 
--- no names in an empty text
-pub held_none : AreHeld [] [] []
-held_none = record { names = refl; cuts = λ k d lt. absurd (omega arith) }
-
 -- one more group
 pub held_more : (text : List ℕ) (places : List (Option Place)) (groups : Groups) (name : Option (List ℕ)) → IsUtf8 (unwrap_or name []) → AreHeld text places groups
     → AreHeld (text ++ unwrap_or name []) (places ++ place_held text name ∷ []) (groups ++ name ∷ [])

@@ -74,10 +74,6 @@ sorted_in groups order sorted k d le lt = rw (name_at_in groups (get_or order (k
 pub take_sorted : (new old : List ℕ) (n : ℕ) → length new ≡ n → take n (new ++ drop (length new) old) ≡ new
 take_sorted new old n is = rw (← is) (take-append_seam new (drop (length new) old))
 
--- no group stands in an empty list
-pub has_named_none : HasNamed [] []
-has_named_none g name named = cc
-
 -- one more group, which has no name or stands at the end of the order
 has_named_more : (order more : List ℕ) (groups : Groups) (group : Option (List ℕ)) → ((name : List ℕ) → group ≡ Some name → Contains more (length groups)) → HasNamed order groups → HasNamed (order ++ more) (groups ++ group ∷ [])
 has_named_more order more groups group last has g name named =

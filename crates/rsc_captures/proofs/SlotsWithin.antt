@@ -1,5 +1,5 @@
 -- The slots of a group are below the number of all slots.
-use Rattle.std.proofs.Common.{◌≡◌, ℕ, zero, suc, ◌+◌, ◌-◌, ◌*◌, ◌<◌, ◌≤◌, length, Some, ap, ◌∙◌, refl, ⊎_elim, arith}
+use Rattle.std.proofs.Common.{◌≡◌, ℕ, zero, suc, ◌+◌, ◌-◌, ◌*◌, ◌<◌, ◌≤◌, length, Some, refl, ⊎_elim, arith}
 use Rattle.std.proofs.lemmas.Bool.{cases_lt}
 use Rattle.rsc_captures.specs.Groups.{GroupLists, group_count, explicit_before, all_groups, slot_number, slot_of}
 use Rattle.rsc_captures.specs.Faults.{LIMIT_OF_IDS, IsFaultless}

@@ -1,5 +1,5 @@
 -- The steps of the walk over the groups of the pattern that matched.
-use Rattle.std.proofs.Common.{◌≡◌, ℕ, suc, ◌+◌, ◌-◌, ◌<◌, ◌≤◌, [], ◌∷◌, length, map, get_or, None, ap, ◌∙◌, arith}
+use Rattle.std.proofs.Common.{◌≡◌, ℕ, suc, ◌+◌, ◌-◌, ◌<◌, ◌∷◌, length, map, get_or, None, ap, ◌∙◌, arith}
 use Rattle.std.specs.List.{range_with_len}
 use Rattle.std.proofs.lemmas.List.FromFn.{length-map-range_with_len, get_or-map-range_with_len}
 use Rattle.rsc_captures.specs.Captured.{Captured, group_span, matched_groups, matched_spans, spans_from}
@@ -9,9 +9,6 @@ length-spans_from c i = length-map-range_with_len (group_span c) i (matched_grou
 
 pub spans_from_first : (c : Captured) (i : ℕ) → i < matched_groups c → spans_from c i ≡ group_span c i ∷ spans_from c (i + 1)
 spans_from_first c i lt = let e : matched_groups c - i ≡ suc (matched_groups c - (i + 1)) = omega arith in ap (λ n. map (group_span c) (range_with_len i n)) e
-
-pub spans_from_none : (c : Captured) (i : ℕ) → matched_groups c ≤ i → spans_from c i ≡ []
-spans_from_none c i le = let e : matched_groups c - i ≡ 0 = omega arith in ap (λ n. map (group_span c) (range_with_len i n)) e
 
 pub length-matched_spans : (c : Captured) → length (matched_spans c) ≡ matched_groups c
 length-matched_spans c = let e : matched_groups c - 0 ≡ matched_groups c = omega arith in length-spans_from c 0 ∙ e

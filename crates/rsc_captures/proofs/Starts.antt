@@ -6,7 +6,7 @@ use Rattle.std.proofs.lemmas.List.{length_push, get_or_append_left, get_or_defau
 use Rattle.std.proofs.Math.Seq.{get_or-append_seam, take-length}
 use Rattle.std.proofs.lemmas.List.Sums.{sum_by_more}
 use Rattle.rsc_captures.specs.Groups.{GroupLists, group_count, explicit_groups, explicit_before, all_groups, slots_start, slot_of}
-use Rattle.rsc_captures.specs.Faults.{LIMIT_OF_IDS, IsFaultless, slots_end}
+use Rattle.rsc_captures.specs.Faults.{LIMIT_OF_IDS, IsFaultless}
 use Rattle.rsc_captures.proofs.Clear.{some_group}
 use Rattle.rsc_captures.specs.Layout.{AreStarts, IsLaidOut}
 
@@ -67,13 +67,3 @@ slot_at starts lists p g d laid_out lt group explicit =
     let in_starts : p < length starts = omega (arith, laid_out.slots.count) in
     let start : get_or starts p d ≡ slots_start lists p = get_or_default starts p d 0 in_starts ∙ laid_out.slots.each p (omega arith) in
     search rules
-
--- the slots of a group lie within the limit
-pub slot_fits : (starts : List ℕ) (lists : GroupLists) (p g d : ℕ) → IsLaidOut starts lists → p < length lists → g < group_count lists p → 0 < g →
-    get_or starts p d + 2 * (g - 1) ≤ 2147483646
-slot_fits starts lists p g d laid_out lt group explicit =
-    let in_starts : p < length starts = omega (arith, laid_out.slots.count) in
-    let start : get_or starts p d ≡ slots_start lists p = get_or_default starts p d 0 in_starts ∙ laid_out.slots.each p (omega arith) in
-    let more : explicit_before lists (p + 1) ≡ explicit_before lists p + (group_count lists p - 1) = sum_by_more explicit_groups lists p [] lt in
-    let within : slots_end lists p ≤ 2147483646 = laid_out.faultless.within p lt in
-    omega arith

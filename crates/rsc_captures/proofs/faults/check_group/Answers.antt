@@ -1,4 +1,4 @@
-use Rattle.std.proofs.Common.{◌≡◌, ◌≤◌, ◌+◌, ◌*◌, [], true, false, None, arith, sym, ◌∙◌}
+use Rattle.std.proofs.Common.{◌≡◌, ◌≤◌, ◌+◌, ◌*◌, [], true, false, None, sym, ◌∙◌}
 use Rattle.rsc_captures.specs.Groups.{lists_in, explicit_before}
 use Rattle.rsc_captures.specs.Faults.{group_fault}
 use Rattle.rsc_captures.proofs.Places.{group_count_in, named_fault_in}

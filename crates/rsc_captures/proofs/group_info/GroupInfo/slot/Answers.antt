@@ -1,4 +1,4 @@
-use Rattle.std.proofs.Common.{◌≡◌, ◌+◌, ◌-◌, ◌*◌, ◌<◌, ◌≤◌, length, Some, ap, sym, ◌∙◌, arith}
+use Rattle.std.proofs.Common.{◌≡◌, ◌+◌, ◌-◌, ◌*◌, ◌<◌, length, Some, ap, sym, ◌∙◌, arith}
 use Rattle.rsc_captures.specs.Groups.{group_count, slot_of}
 use Rattle.rsc_captures.specs.Layout.{IsLaidOut}
 use Rattle.rsc_captures.proofs.Owners.{pattern_in}
