@@ -1,7 +1,7 @@
 //! Looks for the first fault of a group list, and takes no memory.
 ghost use Rattle.std.specs.Prelude.{◌≡◌, ℕ, ◌+◌, ◌*◌, ◌<◌, ◌≤◌, length, IfOk, IfErr, OnOk, MatchOption};
 ghost use Rattle.rsc_captures.specs.Groups.{has_name, contains_name, groups_in, lists_in, AreDistinctBelow, explicit_before, group_count};
-ghost use Rattle.rsc_captures.specs.Faults.{pattern_fault, group_fault, IsClear, IsFirstAtPlace, IsFirstFault, IsFaultless};
+ghost use Rattle.rsc_captures.specs.Faults.{LIMIT_OF_IDS, pattern_fault, group_fault, IsClear, IsFirstAtPlace, IsFirstFault, IsFaultless};
 ghost use Rattle.rsc_captures.specs.Checks.{IsClearBelow, HasNoOtherFault};
 ghost use Rattle.rsc_captures.specs.Names.{IsFirstRepeat};
 ghost use Rattle.rsc_captures.specs.Found.{fault_found};
@@ -43,7 +43,7 @@ fn contains_name(groups: &[Option<&str>], name: &str) -> bool
     false
 }
 
-/// The first group whose name stands at a lesser one. Names are compared one with another.
+/// The first group whose name is used at a lesser one. Names are compared one with another.
 pub(crate) fn first_repeat(groups: &[Option<&str>]) -> Option<usize>
     ensures { MatchOption result (AreDistinctBelow (groups_in groups.now) (length groups.now)) (IsFirstRepeat (groups_in groups.now)) }
 {
@@ -92,7 +92,7 @@ fn check_group<'a>(
 ) -> Result<(), Fault<'a>>
     requires pattern { pattern < length lists.now }
     requires group { g < group_count (lists_in lists.now) pattern }
-    requires limit { limit ≤ 2147483646 }
+    requires limit { limit ≤ LIMIT_OF_IDS }
     requires before { before ≡ explicit_before (lists_in lists.now) pattern }
     requires within { 2 * before ≤ limit }
     ensures ok { OnOk result ((group_fault limit (lists_in lists.now) pattern g ≡ None) × (2 * (before + g) ≤ limit)) }
@@ -120,7 +120,7 @@ fn check_groups<'a>(
     before: usize,
 ) -> Result<(), Fault<'a>>
     requires pattern { p < length lists.now }
-    requires limit { limit ≤ 2147483646 }
+    requires limit { limit ≤ LIMIT_OF_IDS }
     requires before { before ≡ explicit_before (lists_in lists.now) p }
     requires within { 2 * before ≤ limit }
     requires clear { IsClearBelow limit (lists_in lists.now) p }
@@ -141,7 +141,7 @@ fn check_groups<'a>(
 
 /// Looks at the number of slots, where each place is clear.
 fn check_slots<'a>(limit: usize, lists: &[&[Option<&'a str>]]) -> Result<(), Fault<'a>>
-    requires limit { limit ≤ 2147483646 }
+    requires limit { limit ≤ LIMIT_OF_IDS }
     requires clear { IsClear limit (lists_in lists.now) }
     ensures ok { OnOk result (IsFaultless limit (lists_in lists.now)) }
     ensures err { IfErr result (λ fault. IsFirstFault limit (lists_in lists.now) (fault_found fault)) }
@@ -158,7 +158,7 @@ fn check_slots<'a>(limit: usize, lists: &[&[Option<&'a str>]]) -> Result<(), Fau
 
 /// Looks at the places of the list in order, and then at the number of slots. Names are compared one with another.
 pub(crate) fn check<'a>(limit: usize, lists: &[&[Option<&'a str>]]) -> Result<(), Fault<'a>>
-    requires limit { limit ≤ 2147483646 }
+    requires limit { limit ≤ LIMIT_OF_IDS }
     ensures ok { OnOk result (IsFaultless limit (lists_in lists.now)) }
     ensures err { IfErr result (λ fault. IsFirstFault limit (lists_in lists.now) (fault_found fault)) }
 {
@@ -172,9 +172,9 @@ pub(crate) fn check<'a>(limit: usize, lists: &[&[Option<&'a str>]]) -> Result<()
     check_slots(limit, lists)
 }
 
-/// Whether there is a fault besides names that stand twice. One walk, which compares no names.
+/// Whether there is a fault besides names that are used twice. One pass, which compares no names.
 pub(crate) fn has_other_fault(limit: usize, lists: &[&[Option<&str>]]) -> bool
-    requires { limit ≤ 2147483646 }
+    requires { limit ≤ LIMIT_OF_IDS }
     ensures { OnFalse result (HasNoOtherFault limit (lists_in lists.now)) }
 {
     let mut before = 0;

@@ -2,7 +2,7 @@
 ghost use Rattle.std.specs.Prelude.{◌≡◌, ℕ, ◌+◌, ◌-◌, ◌*◌, ◌<◌, ◌≤◌, ◌↔◌, length, ⊤, [], Some, None, IfOk, IfErr, IfSome, OnOk, MatchOption, MatchResult};
 ghost use Rattle.std.specs.Option.{option_copied};
 ghost use Rattle.rsc_captures.specs.Groups.{lists_in, groups_of, group_count, name_of, index_of, slot_of, slots_of, all_groups, AreDistinctBelow};
-ghost use Rattle.rsc_captures.specs.Faults.{LIMIT_OF_IDS, IsFaultless, RefusesFor};
+ghost use Rattle.rsc_captures.specs.Faults.{GREATEST_PATTERN, LIMIT_OF_IDS, IsFaultless, RefusesFor};
 ghost use Rattle.rsc_captures.specs.Checks.{HasNoOtherFault, IsDuplicate};
 ghost use Rattle.rsc_captures.specs.NameWalks.{all_names_of};
 ghost use Rattle.rsc_captures.specs.SlotOwners.{IsSlotOf, IsOwned};
@@ -87,7 +87,7 @@ fn build_pattern<A: Allocator + Clone + Drop>(
     p: usize,
 ) -> Result<PatternGroups<A>, GroupInfoError<A>>
     requires pattern { p < length lists.now }
-    requires number { p ≤ 2147483646 }
+    requires number { p ≤ GREATEST_PATTERN }
     ensures ok { IfOk result (λ groups. groups ≡ groups_of (lists_in lists.now) p) }
     ensures distinct { OnOk result (AreDistinctBelow (groups_of (lists_in lists.now) p) (group_count (lists_in lists.now) p)) }
     ensures err { IfErr result (λ e. MatchOption e ⊤ (IsDuplicateOf (lists_in lists.now) p)) }
@@ -101,12 +101,12 @@ fn build_pattern<A: Allocator + Clone + Drop>(
     Ok(PatternGroups::new(alloc, groups, order)?)
 }
 
-// Holds the groups of a list that has no fault besides names that stand twice.
+// Holds the groups of a list that has no fault besides names that are used twice.
 fn build<A: Allocator + Clone + Drop>(
     alloc: A,
     lists: &[&[Option<&str>]],
 ) -> Result<GroupInfo<A>, GroupInfoError<A>>
-    requires { HasNoOtherFault 2147483646 (lists_in lists.now) }
+    requires { HasNoOtherFault LIMIT_OF_IDS (lists_in lists.now) }
     ensures ok { IfOk result (λ info. info ≡ lists_in lists.now) }
     ensures distinct { OnOk result ((p : ℕ) → p < length lists.now → AreDistinctBelow (groups_of (lists_in lists.now) p) (group_count (lists_in lists.now) p)) }
     ensures err { IfErr result (λ e. MatchOption e ⊤ (IsFirstDuplicate (lists_in lists.now))) }
