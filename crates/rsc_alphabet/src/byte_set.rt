@@ -1,5 +1,5 @@
 //! Sets of bytes, and the iterators over their members and their maximal runs.
-ghost use Rattle.std.specs.Prelude.{◌≡◌, ℕ, ◌+◌, ◌*◌, ◌≤◌, ◌↔◌, ◌==◌, ◌&&◌, ◌||◌, not, IsTrue, ◌<◌, true, false, All};
+ghost use Rattle.std.specs.Prelude.{◌≡◌, ℕ, ◌+◌, ◌*◌, ◌%◌, ◌≤◌, ◌↔◌, ◌==◌, ◌&&◌, ◌||◌, not, IsTrue, ◌<◌, true, false, All};
 ghost use Rattle.std.specs.FinSet as sets;
 ghost use Rattle.std.specs.Iterator.{YieldsFirst, item_count};
 ghost use Rattle.rsc_alphabet.specs.ByteSets.{members, runs, begins_run, ends_run};
@@ -119,11 +119,7 @@ impl ByteSet {
         ensures value { result ≡ sets.contains self.now byte }
         ensures bytes { (b : ℕ) → sets.contains self.now b ≡ true → b < 256 }
     {
-        if byte < 128 {
-            has_bit(self.low, byte)
-        } else {
-            has_bit(self.high, byte - 128)
-        }
+        has_bit(self.mask_with(byte), byte % 128)
     }
 
     /// Whether all bytes from `start` to `end` are members, both included. Where `start` is above `end` that is true.
@@ -193,6 +189,15 @@ impl ByteSet {
             low: difference(self.low, moved_down(self.low, self.high)),
             high: difference(self.high, moved_down(self.high, 0)),
         }
+    }
+
+    // The number that has a byte's bit.
+    #[inline(always)]
+    fn mask_with(&self, byte: u8) -> u128
+        ensures value { is_one result (byte % 128) ≡ sets.contains self.now byte }
+        ensures bytes { (b : ℕ) → sets.contains self.now b ≡ true → b < 256 }
+    {
+        if byte < 128 { self.low } else { self.high }
     }
 
     // The bits of the bytes 0 to 127.
