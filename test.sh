@@ -20,9 +20,9 @@ case ${1:-all} in
     ./wrong-bodies.py
     step 3/4 "what must not compile"
     ./must-not-compile.sh
-    step 4/4 "documents: every name that a public contract cites is in docs/DEFINITIONS.md, and each CALLING.md is as the sources are"
+    step 4/4 "documents: every name that a public contract cites is in docs/DEFINITIONS.md, and what pages quote is as the sources are"
     ./check-documents.py
-    ./calling-pages.py
+    ./quoted-pages.py
     ;;
   *)
     echo "usage: ./test.sh [quick]" >&2

@@ -7,6 +7,8 @@ pub mod captures;
 pub mod look;
 pub mod nfa;
 pub mod primitives;
+#[cfg(test)]
+mod readmes;
 pub mod search;
 #[cfg(test)]
 mod tests;

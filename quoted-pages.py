@@ -1,11 +1,12 @@
 #!/usr/bin/env python3
-"""Makes the lower part of each library's CALLING.md from the sources, or says which pages are out of date.
+"""Makes what the pages quote of the sources: the lower part of each library's CALLING.md, and the program in each README.md.
 
-    ./calling-pages.py [--write]
+    ./quoted-pages.py [--write]          # without --write it says which pages are out of date
 
 A page's upper part is written by hand. It ends with a line `<!-- callers: FILE FUNCTION .. -->`, which names the functions of
 crates/rsc_uses/src/FILE that the page quotes. Below that line all is quoted: the callers, the contract of each public call, and the
-words of specs/ with the comment above each.
+words of specs/ with the comment above each. The first Rust block of a library's README.md is its file in crates/rsc_uses/src/readmes, a
+test; that of the repository's is the program of crates/rsc_example.
 """
 import pathlib
 import re
@@ -115,19 +116,33 @@ def page(crate, text):
     return text[: mark.end()] + "\n" + "\n".join([callers, LAWS.format(crate=crate, law=law), contracts(crate), words(crate)])
 
 
-def main():
-    stale = []
+def readme(source, text):
+    """Returns a README.md with a source file as its first Rust block."""
+    return re.sub(r"```rust\n.*?```", lambda _: f"```rust\n{(ROOT / source).read_text(encoding='utf-8')}```", text, count=1, flags=re.S)
+
+
+def pages():
+    """Yields each page with what it should be."""
     for crate in LIBRARIES:
         file = ROOT / "crates" / crate / "CALLING.md"
-        text = file.read_text(encoding="utf-8")
-        made = page(crate, text)
-        if made != text:
-            stale.append(crate)
+        yield file, page(crate, file.read_text(encoding="utf-8"))
+        file = ROOT / "crates" / crate / "README.md"
+        yield file, readme(f"crates/rsc_uses/src/readmes/{crate}.rt", file.read_text(encoding="utf-8"))
+    file = ROOT / "README.md"
+    yield file, readme("crates/rsc_example/src/main.rt", file.read_text(encoding="utf-8"))
+
+
+def main():
+    stale, count = [], 0
+    for file, made in pages():
+        count += 1
+        if made != file.read_text(encoding="utf-8"):
+            stale.append(str(file.relative_to(ROOT)))
             if "--write" in sys.argv:
                 file.write_text(made, encoding="utf-8")
     if stale and "--write" not in sys.argv:
-        print(f"calling-pages: out of date: {', '.join(stale)}; ./calling-pages.py --write makes them anew")
-    print(f"calling-pages: {len(LIBRARIES) - len(stale)} passed, {0 if '--write' in sys.argv else len(stale)} failed")
+        print(f"quoted-pages: out of date: {', '.join(stale)}; ./quoted-pages.py --write makes them anew")
+    print(f"quoted-pages: {count - len(stale)} passed, {0 if '--write' in sys.argv else len(stale)} failed")
     return 1 if stale and "--write" not in sys.argv else 0
 
 
