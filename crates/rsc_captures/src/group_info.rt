@@ -132,9 +132,14 @@ impl<A: Allocator + Clone + Drop> GroupInfo<A> {
     /// # Errors
     ///
     /// The first fault of the lists, which are read by pattern and then by group: too many patterns, a pattern without
-    /// groups, a first group with a name, too many groups, a name that stands twice in its pattern. Last comes a pattern
+    /// groups, a first group with a name, too many groups, a name that is used twice in its pattern. Last comes a pattern
     /// whose groups, after the first groups of all patterns, have no slots left. Where memory is refused the kind is
-    /// [`GroupInfoErrorKind::OutOfMemory`]; a list with any fault but a name that stands twice takes none.
+    /// [`GroupInfoErrorKind::OutOfMemory`]; a list with any fault but a name that is used twice takes none.
+    ///
+    /// # Cost
+    ///
+    /// Names are sorted, pattern by pattern. A list that is refused costs more: its names are compared one with another within each
+    /// pattern up to the fault, so that n names of one pattern make up to n²/2 comparisons.
     pub fn new(alloc: A, lists: &[&[Option<&str>]]) -> Result<GroupInfo<A>, GroupInfoError<A>>
         ensures groups { IfOk result (λ info. info ≡ lists_in lists.now) }
         ensures faultless { OnOk result (IsFaultless LIMIT_OF_IDS (lists_in lists.now)) }
