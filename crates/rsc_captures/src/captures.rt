@@ -114,7 +114,7 @@ impl<A: Allocator + Clone + Drop> Captures<A> {
         })
     }
 
-    /// The same captures in memory of their own.
+    /// A clone: the offsets in memory of their own, the group info shared.
     ///
     /// # Errors
     ///

@@ -148,7 +148,8 @@ impl<A: Allocator + Clone + Drop> GroupInfo<A> {
         GroupInfo::new_limited(alloc, 2147483646, lists)
     }
 
-    /// The same, where at most `limit` slots are allowed in place of 2147483646; the limit itself may be no greater than that.
+    /// The groups of these lists, as by [`GroupInfo::new`], where at most `limit` slots are allowed in place of 2147483646; the limit itself
+    /// may be no greater than that.
     ///
     /// A pattern has too many groups where twice the explicit groups read so far is above the limit, or where its slots
     /// are, once those of the first groups are counted too. The greatest number of a pattern stays as it is.
@@ -205,7 +206,7 @@ impl<A: Allocator + Clone + Drop> GroupInfo<A> {
         GroupInfoAllNames::new(self)
     }
 
-    /// The same groups, sharing the memory.
+    /// A clone, which shares the memory with its source.
     ///
     /// # Errors
     ///

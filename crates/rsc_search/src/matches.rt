@@ -33,7 +33,7 @@ impl HalfMatch {
         HalfMatch { pattern, offset }
     }
 
-    /// The same, of the pattern with that number, which is at most 2147483646.
+    /// A half match of the pattern with that number, which is at most 2147483646.
     #[inline]
     pub fn must(pattern: usize, offset: usize) -> HalfMatch
         requires { IsIndex pattern }
@@ -89,7 +89,7 @@ impl Match {
         Match { pattern, span }
     }
 
-    /// The same, of the pattern with that number, which is at most 2147483646.
+    /// A match of the pattern with that number, which is at most 2147483646.
     #[inline]
     pub fn must(pattern: usize, span: Span) -> Match
         requires pattern { IsIndex pattern }
