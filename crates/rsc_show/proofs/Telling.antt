@@ -1,0 +1,52 @@
+-- When an assertion tells a byte from the next one, and when a listed one does.
+use Rattle.std.proofs.Common.{◌≡◌, ◌≢◌, ◌↔◌, ◌<◌, ◌≤◌, ◌+◌, ◌∷◌, [], ℕ, Bool, true, false, List, refl, sym, subst, ap, ◌∙◌, arith, ◌⊎◌, inl, inr, ⊎_elim, length, get_or, true≢false, slice_index}
+use Rattle.std.specs.Prelude.{IsTrue, not}
+use Rattle.std.proofs.Math.Bool.{beq}
+use Rattle.std.proofs.lemmas.Bool.{cases_lt, cases_Bool}
+use Rattle.std.proofs.lemmas.List.{get_or_default}
+use Rattle.rsc_alphabet.specs.Partitions.{Together, class_map}
+use Rattle.rsc_look.specs.declared.assertion.Look.{Look}
+use Rattle.rsc_look.specs.Keeping.{IsNeeded, IsCoarsestMap, Tells}
+
+-- two tests differ exactly if one of what they decide holds and the other does not
+pub differ_if : (x y : Bool) (P Q : Type 0) → (IsTrue x ↔ P) → (IsTrue y ↔ Q) → IsTrue (not (beq x y)) ↔ ((P × ¬ Q) ⊎ (¬ P × Q))
+differ_if true true P Q p q = (λ h. cc, λ t. ⊎_elim (λ (l : P × ¬ Q). absurd (l.1 (q.0 refl))) (λ r. absurd (r.0 (p.0 refl))) t)
+differ_if true false P Q p q = (λ h. inl (p.0 refl, λ n. true≢false (sym (q.1 n))), λ t. refl)
+differ_if false true P Q p q = (λ h. inr (λ n. true≢false (sym (p.1 n)), q.0 refl), λ t. refl)
+differ_if false false P Q p q = (λ h. cc, λ t. ⊎_elim (λ (l : P × ¬ Q). absurd (true≢false (sym (p.1 l.0)))) (λ r. absurd (true≢false (sym (q.1 r.1)))) t)
+
+-- the first assertions of a list do not tell the byte
+abbrev pub NoneTells : ℕ → ℕ → List Look → ℕ → (ℕ → Bool) → Type 0
+NoneTells b n looks t W = (k : ℕ) (d : Look) → k < n → k < length looks → (i : ℕ) → i ≤ 1 → ¬ (Tells (get_or looks k d) t W (b ∷ []) ((b + 1) ∷ []) i)
+
+-- and with one more
+pub none_tells_more : (b n : ℕ) (looks : List Look) (e : Look) (t : ℕ) (W : ℕ → Bool) → NoneTells b n looks t W
+    → ((i : ℕ) → i ≤ 1 → ¬ (Tells (get_or looks n e) t W (b ∷ []) ((b + 1) ∷ []) i)) → NoneTells b (n + 1) looks t W
+none_tells_more b n looks e t W before last = λ k d h inside i le told.
+    ⊎_elim (λ (less : k < n). before k d less inside i le told)
+    (λ more. let same : k ≡ n = omega (arith, more, h) in
+    last i le (subst (λ l. Tells l t W (b ∷ []) ((b + 1) ∷ []) i) (get_or_default looks k d e inside ∙ ap (λ j. get_or looks j e) same) told))
+    (cases_lt k n)
+
+-- if none of the list tells it, the byte needs no boundary
+pub not_needed : (b n : ℕ) (looks : List Look) (t : ℕ) (W : ℕ → Bool) → length looks ≤ n → NoneTells b n looks t W → ¬ (IsNeeded b looks t W)
+not_needed b n looks t W all none = λ needed.
+    let at = needed.listed in
+    let inside = at.1 in
+    none at.0 needed.look (omega (arith, all, inside)) inside needed.position needed.at_an_end
+    (subst (λ l. Tells l t W (b ∷ []) ((b + 1) ∷ []) needed.position) (sym at.2) needed.tells)
+
+-- between two classes of the coarsest map there is a boundary, which is needed
+pub classes_differ : (m : List ℕ) (b : ℕ) (looks : List Look) (t : ℕ) (W : ℕ → Bool)
+    → ((p : ℕ → Bool) (b c : ℕ) → b < 256 → c < 256 → (slice_index (class_map p) b ≡ slice_index (class_map p) c) ↔ Together p b c)
+    → b < 255 → IsCoarsestMap m looks t W → slice_index m b ≢ slice_index m (b + 1) → IsNeeded b looks t W
+classes_differ m b looks t W law small coarsest differs =
+    ⊎_elim (λ (e : coarsest.boundaries b ≡ true). coarsest.needed b small e)
+    (λ e. absurd (differs (subst (λ n. slice_index n b ≡ slice_index n (b + 1)) (sym coarsest.classes)
+    ((law coarsest.boundaries b (b + 1) (omega (arith, small)) (omega (arith, small))).1 (alone coarsest.boundaries e)))))
+    (cases_Bool (coarsest.boundaries b))
+  where
+    alone : (p : ℕ → Bool) → p b ≡ false → Together p b (b + 1)
+    alone p e k low high there =
+        let same : k ≡ b = omega (arith, low, high) in
+        true≢false (sym there ∙ ap p same ∙ e)
