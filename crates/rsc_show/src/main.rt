@@ -1,12 +1,51 @@
-//! Explains a haystack, classes of bytes and lists of groups on standard output.
+//! Explains positions of a haystack, classes of bytes and lists of groups on standard output.
 #![tactic(auto)]
 
+mod arguments;
+mod classes;
+mod error;
+mod groups;
+mod help;
+mod input;
+mod looks;
+mod names;
+mod picture;
+mod run;
+mod sides;
+#[cfg(test)]
+mod tests;
+mod text;
 mod witness;
 mod words;
 
+use error::ShowError;
+use run::run;
+use std::alloc::Global;
 use std::process::ExitCode;
+use std::{env, io};
 
 fn main(rt: HostRuntime) -> ExitCode {
-    let _ = rt;
-    ExitCode::SUCCESS
+    let Ok(arguments) = env::args(&rt) else {
+        return ExitCode::FAILURE;
+    };
+    let words: Vec<String> = match arguments.skip(1).collect(rt.alloc()) {
+        Ok(words) => words,
+        Err(_) => return ExitCode::FAILURE,
+    };
+    match run(
+        rt.alloc(),
+        words.as_slice(),
+        &mut rt.reader(),
+        &mut io::writer(&rt),
+    ) {
+        Ok(()) | Err(ShowError::Closed) => ExitCode::SUCCESS,
+        Err(ShowError::Usage(message)) => {
+            let _ = rt.eprintln(message);
+            ExitCode::from(2)
+        }
+        Err(error) => {
+            let _ = rt.eprintln(error);
+            ExitCode::FAILURE
+        }
+    }
 }

@@ -1,0 +1,205 @@
+//! The arguments of `looks` and `classes`.
+ghost use Rattle.std.specs.Prelude.{◌≤◌, ◌<◌, IfSome};
+
+use crate::error::{ShowError, refused};
+use crate::names::{look_of, nearest};
+use crate::words::Words;
+use rsc_look::{Look, LookMatcher};
+use std::alloc::Global;
+
+const EXPECTED_BYTE: &str = "two hexadecimal digits";
+
+const EXPECTED_RANGE: &str = "a range of bytes as 61-7a, its first byte at most its last";
+
+const EXPECTED_WORDS: &str = "ascii or unicode";
+
+/// Where a haystack comes from.
+#[derive(Drop)]
+pub enum Haystack {
+    /// No argument gives one.
+    Missing,
+    /// The bytes of an argument.
+    Given(Vec<u8>),
+    /// Standard input.
+    Standard,
+}
+
+/// What the arguments ask for.
+#[derive(Drop)]
+pub struct Request {
+    /// The line terminator.
+    pub terminator: u8,
+    /// The word characters.
+    pub words: Words,
+    /// The ranges of bytes.
+    pub ranges: Vec<(u8, u8)>,
+    /// The assertions, in the order of the arguments.
+    pub looks: Vec<Look>,
+    /// The haystack.
+    pub haystack: Haystack,
+}
+
+// What the next argument is.
+#[derive(Clone, Copy, Drop)]
+enum Next {
+    Plain,
+    Terminator,
+    Words,
+    Range,
+    Hex,
+    Text,
+    Nothing,
+}
+
+impl Request {
+    /// The matcher that it asks for.
+    pub fn matcher(&self) -> LookMatcher<Words> {
+        let mut matcher = LookMatcher::new(self.words);
+        let _ = matcher.set_line_terminator(self.terminator);
+        matcher
+    }
+}
+
+/// What the arguments after the command ask for.
+///
+/// # Errors
+///
+/// [`ShowError::Usage`] at the first argument that is not what was expected.
+pub fn parse(alloc: Global, arguments: &[String]) -> Result<Request, ShowError> {
+    let mut request = Request {
+        terminator: b'\n',
+        words: Words::Unicode,
+        ranges: Vec::new(alloc),
+        looks: Vec::new(alloc),
+        haystack: Haystack::Missing,
+    };
+    let mut next = Next::Plain;
+    for argument in arguments {
+        next = take(alloc, &mut request, next, argument.as_str())?;
+    }
+    match next {
+        Next::Plain | Next::Nothing => Ok(request),
+        Next::Terminator => Err(refused(alloc, "--terminator", EXPECTED_BYTE)),
+        Next::Words => Err(refused(alloc, "--words", EXPECTED_WORDS)),
+        Next::Range => Err(refused(alloc, "--range", EXPECTED_RANGE)),
+        Next::Hex => Err(refused(alloc, "--hex", EXPECTED_BYTE)),
+        Next::Text => Err(refused(alloc, "--", "one text")),
+    }
+}
+
+// Takes an argument, and says what the next one is.
+fn take(
+    alloc: Global,
+    request: &mut Request,
+    next: Next,
+    argument: &str,
+) -> Result<Next, ShowError> {
+    match next {
+        Next::Plain => take_plain(alloc, request, argument),
+        Next::Terminator => {
+            let byte = parse_byte(argument.as_bytes());
+            request.terminator = byte.ok_or(refused(alloc, argument, EXPECTED_BYTE))?;
+            Ok(Next::Plain)
+        }
+        Next::Words => {
+            request.words = words_of(argument).ok_or(refused(alloc, argument, EXPECTED_WORDS))?;
+            Ok(Next::Plain)
+        }
+        Next::Range => {
+            let range = parse_range(argument.as_bytes());
+            request
+                .ranges
+                .push(range.ok_or(refused(alloc, argument, EXPECTED_RANGE))?)?;
+            Ok(Next::Plain)
+        }
+        Next::Hex => {
+            request.haystack = Haystack::Given(parse_bytes(alloc, argument)?);
+            Ok(Next::Nothing)
+        }
+        Next::Text => {
+            request.haystack = Haystack::Given(Vec::from_slice(alloc, argument.as_bytes())?);
+            Ok(Next::Nothing)
+        }
+        Next::Nothing => Err(refused(alloc, argument, "nothing after the haystack")),
+    }
+}
+
+// Takes an option's name, or an assertion.
+fn take_plain(alloc: Global, request: &mut Request, argument: &str) -> Result<Next, ShowError> {
+    match argument.as_bytes() {
+        b"--terminator" => Ok(Next::Terminator),
+        b"--words" => Ok(Next::Words),
+        b"--range" => Ok(Next::Range),
+        b"--hex" => Ok(Next::Hex),
+        b"--" => Ok(Next::Text),
+        b"-" => {
+            request.haystack = Haystack::Standard;
+            Ok(Next::Nothing)
+        }
+        _ => {
+            let Some(look) = look_of(argument) else {
+                let expected = nearest(alloc, argument)?;
+                return Err(refused(alloc, argument, expected.as_str()));
+            };
+            request.looks.push(look)?;
+            Ok(Next::Plain)
+        }
+    }
+}
+
+fn words_of(argument: &str) -> Option<Words> {
+    match argument.as_bytes() {
+        b"ascii" => Some(Words::Ascii),
+        b"unicode" => Some(Words::Unicode),
+        _ => None,
+    }
+}
+
+// The range that is written `XX-XX`.
+fn parse_range(token: &[u8]) -> Option<(u8, u8)>
+    ensures { IfSome result (λ r. r.0 ≤ r.1) }
+{
+    let [first, second, b'-', third, fourth] = token else {
+        return None;
+    };
+    let start = parse_byte(&[*first, *second])?;
+    let end = parse_byte(&[*third, *fourth])?;
+    if start <= end {
+        Some((start, end))
+    } else {
+        None
+    }
+}
+
+// The bytes that pairs of hexadecimal digits write.
+fn parse_bytes(alloc: Global, argument: &str) -> Result<Vec<u8>, ShowError> {
+    let mut bytes = Vec::new(alloc);
+    for digits in argument.as_bytes().chunks(2) {
+        match parse_byte(digits) {
+            Some(byte) => bytes.push(byte)?,
+            None => return Err(refused(alloc, argument, "pairs of hexadecimal digits")),
+        }
+    }
+    Ok(bytes)
+}
+
+// The byte that two hexadecimal digits of either case write.
+fn parse_byte(digits: &[u8]) -> Option<u8> {
+    let [high, low] = digits else {
+        return None;
+    };
+    let high = hexadecimal_digit(*high)?;
+    let low = hexadecimal_digit(*low)?;
+    Some(16 * high + low)
+}
+
+fn hexadecimal_digit(digit: u8) -> Option<u8>
+    ensures { IfSome result (λ value. value < 16) }
+{
+    match digit {
+        b'0'..=b'9' => Some(digit - b'0'),
+        b'a'..=b'f' => Some(digit - b'a' + 10),
+        b'A'..=b'F' => Some(digit - b'A' + 10),
+        _ => None,
+    }
+}

@@ -1,0 +1,220 @@
+//! The command `groups`: the slots of each group, or why the list is refused.
+
+use crate::error::{ShowError, refused};
+use crate::text::{push_cell, push_right, push_spaces};
+use rsc_captures::{GroupInfo, GroupInfoError, GroupInfoErrorKind};
+use rsc_primitives::PatternID;
+use rsc_primitives::utf8::is_word_byte;
+use std::alloc::{AllocError, Global};
+use std::fmt::Write;
+
+const EXPECTED_LISTS: &str = "one list of groups, as -,x;-,-,x";
+
+const EXPECTED_GROUP: &str = "groups between `,` and `;`, each - or a name of word bytes";
+
+/// The answer to the arguments of `groups`.
+pub fn answer(alloc: Global, arguments: &[String]) -> Result<String, ShowError> {
+    let [lists] = arguments else {
+        return Err(refused(alloc, "groups", EXPECTED_LISTS));
+    };
+    let Some(patterns) = parse_patterns(alloc, lists.as_bytes())? else {
+        return Err(refused(alloc, lists.as_str(), EXPECTED_GROUP));
+    };
+    let slices = slices_of(alloc, patterns.as_slice())?;
+    match GroupInfo::new(alloc, slices.as_slice()) {
+        Ok(info) => table(alloc, &info),
+        Err(error) => refusal(alloc, lists.as_str(), slices.as_slice(), &error),
+    }
+}
+
+// A line for each group: its pattern, its number, its name and its slots.
+fn table(alloc: Global, info: &GroupInfo) -> Result<String, ShowError> {
+    let mut text = String::from_str(alloc, "pattern group slots name\n")?;
+    for (pattern, group, name) in info.all_names() {
+        push_group(alloc, &mut text, info, pattern, group, name)?;
+    }
+    let slots = info.slot_len();
+    let patterns = info.pattern_len();
+    write!(text, "\n{slots} slots, {patterns} patterns\n")?;
+    Ok(text)
+}
+
+fn push_group(
+    alloc: Global,
+    text: &mut String,
+    info: &GroupInfo,
+    pattern: PatternID,
+    group: usize,
+    name: Option<&str>,
+) -> Result<(), ShowError> {
+    push_number(alloc, text, pattern.as_usize(), 7)?;
+    push_number(alloc, text, group, 5)?;
+    if let Some((start, end)) = info.slots(pattern, group) {
+        let mut slots = String::new(alloc);
+        write!(slots, "{start} {end}")?;
+        push_right(text, slots.as_str(), 5)?;
+    }
+    text.push_str(name.unwrap_or("-"))?;
+    text.push('\n')?;
+    Ok(())
+}
+
+fn push_number(
+    alloc: Global,
+    text: &mut String,
+    number: usize,
+    width: usize,
+) -> Result<(), ShowError> {
+    let mut digits = String::new(alloc);
+    write!(digits, "{number}")?;
+    Ok(push_right(text, digits.as_str(), width)?)
+}
+
+// The lists, a pointer at the group at fault, and the displayed refusal; want of memory stops the program.
+fn refusal(
+    alloc: Global,
+    lists: &str,
+    patterns: &[&[Option<&str>]],
+    error: &GroupInfoError,
+) -> Result<String, ShowError> {
+    let (pattern, group) = match error.kind() {
+        GroupInfoErrorKind::OutOfMemory => return Err(ShowError::OutOfMemory),
+        GroupInfoErrorKind::TooManyPatterns { .. } => (0, 0),
+        GroupInfoErrorKind::TooManyGroups { pattern, .. } => (pattern.as_usize(), 0),
+        GroupInfoErrorKind::MissingGroups { pattern } => (pattern.as_usize(), 0),
+        GroupInfoErrorKind::FirstMustBeUnnamed { pattern } => (pattern.as_usize(), 0),
+        GroupInfoErrorKind::Duplicate { pattern, name } => {
+            (
+                pattern.as_usize(),
+                second_of(patterns, pattern.as_usize(), name.as_str()),
+            )
+        }
+    };
+    let mut text = String::from_str(alloc, lists)?;
+    text.push('\n')?;
+    push_spaces(&mut text, place_of(lists.as_bytes(), pattern, group))?;
+    write!(text, "^\nrefused: {error}\n")?;
+    Ok(text)
+}
+
+// The group of a pattern that has the name a second time.
+fn second_of(patterns: &[&[Option<&str>]], pattern: usize, name: &str) -> usize {
+    match patterns.get(pattern) {
+        Some(groups) => second_in(*groups, name),
+        None => 0,
+    }
+}
+
+// The second group that has the name.
+fn second_in(groups: &[Option<&str>], name: &str) -> usize {
+    let mut seen = false;
+    let mut place = 0usize;
+    for group in groups {
+        if has_name(*group, name) {
+            if seen {
+                return place;
+            }
+            seen = true;
+        }
+        place = place.wrapping_add(1);
+    }
+    0
+}
+
+fn has_name(group: Option<&str>, name: &str) -> bool {
+    match group {
+        Some(own) => own.as_bytes() == name.as_bytes(),
+        None => false,
+    }
+}
+
+// Where a group of a pattern begins in the text of the lists.
+fn place_of(lists: &[u8], pattern: usize, group: usize) -> usize {
+    let mut patterns = 0usize;
+    let mut groups = 0usize;
+    let mut place = 0usize;
+    for byte in lists {
+        if patterns == pattern && groups == group {
+            return place;
+        }
+        if *byte == b';' {
+            patterns = patterns.wrapping_add(1);
+            groups = 0;
+        } else if *byte == b',' {
+            groups = groups.wrapping_add(1);
+        }
+        place = place.wrapping_add(1);
+    }
+    place
+}
+
+// The groups of each pattern, lent as slices.
+fn slices_of<'a, 'b>(
+    alloc: Global,
+    patterns: &'a [Vec<Option<&'b str>>],
+) -> Result<Vec<&'a [Option<&'b str>]>, AllocError> {
+    let mut slices = Vec::new(alloc);
+    for groups in patterns {
+        slices.push(groups.as_slice())?;
+    }
+    Ok(slices)
+}
+
+// The patterns that a text writes, or `None` where one of its groups isn't written rightly.
+fn parse_patterns<'a>(
+    alloc: Global,
+    lists: &'a [u8],
+) -> Result<Option<Vec<Vec<Option<&'a str>>>>, AllocError> {
+    let mut patterns = Vec::new(alloc);
+    for pattern in lists.split(|byte| *byte == b';') {
+        match parse_groups(alloc, pattern)? {
+            Some(groups) => patterns.push(groups)?,
+            None => return Ok(None),
+        }
+    }
+    Ok(Some(patterns))
+}
+
+// The groups of a pattern; an empty one has none.
+fn parse_groups<'a>(
+    alloc: Global,
+    pattern: &'a [u8],
+) -> Result<Option<Vec<Option<&'a str>>>, AllocError> {
+    let mut groups = Vec::new(alloc);
+    if pattern.is_empty() {
+        return Ok(Some(groups));
+    }
+    for group in pattern.split(|byte| *byte == b',') {
+        match parse_group(group) {
+            Some(name) => groups.push(name)?,
+            None => return Ok(None),
+        }
+    }
+    Ok(Some(groups))
+}
+
+// The optional name of a group, or `None` where it isn't written rightly.
+fn parse_group(group: &[u8]) -> Option<Option<&str>> {
+    match group {
+        [] => None,
+        b"-" => Some(None),
+        _ => {
+            if !all_word_bytes(group) {
+                return None;
+            }
+            match std::str::from_utf8(group) {
+                Ok(name) => Some(Some(name)),
+                Err(_) => None,
+            }
+        }
+    }
+}
+
+fn all_word_bytes(name: &[u8]) -> bool {
+    for byte in name {
+        if !is_word_byte(*byte) {
+            return false;
+        }
+    }
+    true
+}

@@ -1,0 +1,24 @@
+//! Standard input as a whole.
+
+use crate::error::ShowError;
+use std::alloc::Global;
+use std::io::Read;
+
+/// An input that hasn't ended after so many reads counts as one that can't be read.
+const MAX_READS: u32 = 1_048_576;
+
+/// All bytes of the input, up to its end.
+pub fn read_all<R: Read>(alloc: Global, input: &mut R) -> Result<Vec<u8>, ShowError> {
+    let mut bytes = Vec::new(alloc);
+    let mut buffer = [0u8; 4096];
+    for _ in 0..MAX_READS {
+        let count = input.read(&mut buffer).map_err(|_| ShowError::Read)?;
+        if count == 0 {
+            return Ok(bytes);
+        }
+        bytes
+            .extend_from_slice(&buffer[..count])
+            .map_err(|_| ShowError::OutOfMemory)?;
+    }
+    Err(ShowError::Read)
+}

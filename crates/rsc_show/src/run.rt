@@ -1,0 +1,47 @@
+//! The program over arguments, a reader and a writer.
+
+use crate::error::{ShowError, refused};
+use crate::help::HELP;
+use crate::{classes, groups, looks};
+use std::alloc::Global;
+use std::io::{ErrorKind, Read, Write};
+
+const EXPECTED_COMMAND: &str = "looks, classes, groups or --help";
+
+/// Answers the arguments after the program's name.
+///
+/// # Errors
+///
+/// [`ShowError`] says which; nothing was written then, but by a failed write itself.
+pub fn run<R: Read, W: Write>(
+    alloc: Global,
+    arguments: &[String],
+    input: &mut R,
+    output: &mut W,
+) -> Result<(), ShowError> {
+    let text = answer(alloc, arguments, input)?;
+    match output.write_all(text.as_bytes()) {
+        Ok(()) => Ok(()),
+        Err(error) => match error.kind() {
+            ErrorKind::BrokenPipe => Err(ShowError::Closed),
+            _ => Err(ShowError::Write),
+        },
+    }
+}
+
+fn answer<R: Read>(
+    alloc: Global,
+    arguments: &[String],
+    input: &mut R,
+) -> Result<String, ShowError> {
+    let [command, rest @ ..] = arguments else {
+        return Err(refused(alloc, "", EXPECTED_COMMAND));
+    };
+    match command.as_bytes() {
+        b"looks" => looks::answer(alloc, rest, input),
+        b"classes" => classes::answer(alloc, rest),
+        b"groups" => groups::answer(alloc, rest),
+        b"--help" => Ok(String::from_str(alloc, HELP)?),
+        _ => Err(refused(alloc, command.as_str(), EXPECTED_COMMAND)),
+    }
+}
