@@ -13,7 +13,7 @@ import sys
 
 ROOT = pathlib.Path(__file__).resolve().parent
 # programs, and what only measures
-LEFT_OUT = ("rsc_bench", "rsc_compare", "rsc_kernels", "rsc_uses")
+LEFT_OUT = ("rsc_bench", "rsc_compare", "rsc_kernels", "rsc_show", "rsc_uses")
 
 
 def clauses_of(text):
