@@ -1,3 +1,5 @@
-//! The Rust's own tests, and worked rows.
+//! The Rust's own tests, worked rows, and a slow reader over bytes of every kind.
+mod any_bytes;
 mod carried;
 mod rows;
+mod slow_reader;

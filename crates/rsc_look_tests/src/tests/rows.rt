@@ -4,10 +4,10 @@ ghost use Rattle.rsc_look.specs.Keeping.{IsCoarsestMap};
 ghost use Rattle.rsc_look.specs.Words.{is_unicode_word};
 
 use super::carried::tells;
+use rsc_alphabet::{ByteClassSet, ByteClasses};
 use rsc_look::{
     AsciiWord, Look, LookMatcher, LookSet, UnicodeWord, UnicodeWordBoundaryError, WordClass,
 };
-use rsc_alphabet::{ByteClassSet, ByteClasses};
 use std::test::Fail;
 
 // Each assertion, its number, its character and its reversed one.
