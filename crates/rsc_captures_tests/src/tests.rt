@@ -1,4 +1,4 @@
-//! What no contract says: worked values from outside, shown texts, and each request for memory refused in turn.
-
+//! Group lists and captures: worked rows, and refused memory.
 mod captures;
 mod group_info;
+mod memory;

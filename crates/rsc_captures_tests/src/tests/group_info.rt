@@ -1,8 +1,7 @@
-//! What no contract says: worked values from outside, shown texts, and each request for memory refused in turn.
+//! What no contract says: worked values from outside, and shown texts.
 ghost use Rattle.std.specs.Prelude.{◌≤◌};
 
 use rsc_captures::{GroupInfo, GroupInfoErrorKind, laws};
-use linked_list_allocator::LocalHeap;
 use rsc_primitives::PatternID;
 use std::alloc::Global;
 use std::test::Fail;
@@ -40,6 +39,14 @@ fn numbers_groups_and_slots(rt: HostRuntime) -> Result<(), Fail> {
     assert_eq!(rt; info.explicit_slot_len(), 6);
     assert_eq!(rt; info.all_group_len(), 5);
     laws::one_first_fault();
+    Ok(())
+}
+
+#[test]
+fn no_group_has_the_greatest_index(rt: HostRuntime) -> Result<(), Fail> {
+    let info = GroupInfo::new(rt.alloc(), &[&[None]])?;
+    assert!(rt; info.slot(pattern(0), 18446744073709551615) == None);
+    assert!(rt; info.to_name(pattern(0), 18446744073709551615) == None);
     Ok(())
 }
 
@@ -247,110 +254,5 @@ fn has_no_groups_without_patterns(rt: HostRuntime) -> Result<(), Fail> {
         0
     );
     assert!(rt; info.all_names().next() == None);
-    Ok(())
-}
-
-#[test]
-fn empty_is_refused_until_there_is_enough(rt: HostRuntime) -> Result<(), Fail> {
-    let mut answered = 0u32;
-    for size in 0..64usize {
-        let heap = LocalHeap::new(rt.alloc(), 8 * size)?;
-        match GroupInfo::empty(&heap) {
-            Ok(info) => {
-                answered = answered.saturating_add(1);
-                assert!(rt; info.pattern_len() == 0);
-            }
-            Err(error) => assert!(rt;
-                answered == 0 && matches!(error.kind(), GroupInfoErrorKind::OutOfMemory),
-                "at {size}"
-            ),
-        }
-    }
-    assert!(rt; 0 < answered && answered < 64, "{answered}");
-    Ok(())
-}
-
-// What a budget of memory allows: whether a group info could be made, and whether a clone of it could too.
-fn made_and_cloned(heap: &LocalHeap) -> (bool, bool) {
-    let mut many: [Option<&str>; 12] = [Some("m"); 12];
-    let names = ["a", "b", "c", "d", "e", "f", "g", "h", "i", "j", "k", "l"];
-    many[0] = None;
-    for g in 1..12usize {
-        many[g] = Some(names[g]);
-    }
-    let info = match GroupInfo::new(
-        heap,
-        &[&[None, Some("first")], &[None, None, Some("last")], &many],
-    ) {
-        Ok(info) => info,
-        Err(_) => return (false, false),
-    };
-    let cloned = match info.clone() {
-        Ok(copy) => copy.to_index(PatternID::must(1), "last") == Some(2),
-        Err(_) => false,
-    };
-    (
-        info.to_index(PatternID::must(0), "first") == Some(1)
-            && info.to_index(PatternID::must(2), "h") == Some(7),
-        cloned,
-    )
-}
-
-#[test]
-fn memory_is_refused_until_there_is_enough(rt: HostRuntime) -> Result<(), Fail> {
-    let mut answered = 0u32;
-    for size in 0..512usize {
-        let heap = LocalHeap::new(rt.alloc(), 8 * size)?;
-        let (made, cloned) = made_and_cloned(&heap);
-        assert!(rt; made == cloned && (made || answered == 0), "at {size}");
-        if made {
-            answered = answered.saturating_add(1);
-        }
-    }
-    assert!(rt; 0 < answered && answered < 512, "{answered}");
-    Ok(())
-}
-
-// Whether the list is refused for want of memory, where there is so much.
-fn wants_memory(alloc: Global, size: usize, lists: &[&[Option<&str>]]) -> Result<bool, Fail> {
-    let heap = LocalHeap::new(alloc, size)?;
-    match GroupInfo::new(&heap, lists) {
-        Ok(_) => Ok(false),
-        Err(error) => Ok(matches!(error.kind(), GroupInfoErrorKind::OutOfMemory)),
-    }
-}
-
-#[test]
-fn faults_come_before_any_request(rt: HostRuntime) -> Result<(), Fail> {
-    let alloc = rt.alloc();
-    assert!(rt; wants_memory(alloc, 0, &[&[None, Some("x")]])?);
-    assert!(rt; wants_memory(alloc, 0, &[&[None, Some("x"), Some("x")]])?);
-    assert!(rt; !wants_memory(alloc, 0, &[&[None, Some("x")], &[Some("x")]])?);
-    assert!(rt; !wants_memory(alloc, 0, &[&[None, Some("x")], &[]])?);
-    assert!(rt; !wants_memory(alloc, 0, &[&[], &[None, Some("x"), Some("x")]])?);
-    Ok(())
-}
-
-// Whether a name that stands twice is refused as such, or for want of memory, where there is so much.
-fn names_the_duplicate(alloc: Global, size: usize) -> Result<(bool, bool), Fail> {
-    let heap = LocalHeap::new(alloc, size)?;
-    match GroupInfo::new(&heap, &[&[None, Some("x"), Some("x")]]) {
-        Ok(_) => Ok((false, false)),
-        Err(error) => Ok((
-            matches!(error.kind(), GroupInfoErrorKind::Duplicate { .. }),
-            matches!(error.kind(), GroupInfoErrorKind::OutOfMemory),
-        )),
-    }
-}
-
-#[test]
-fn a_name_twice_is_refused_at_every_size(rt: HostRuntime) -> Result<(), Fail> {
-    let mut named = 0u32;
-    for size in 0..256usize {
-        let (duplicate, out_of_memory) = names_the_duplicate(rt.alloc(), 8 * size)?;
-        assert!(rt; duplicate || (out_of_memory && named == 0), "at {size}");
-        named = named.saturating_add(u32::from(duplicate));
-    }
-    assert!(rt; 0 < named && named < 256, "{named}");
     Ok(())
 }

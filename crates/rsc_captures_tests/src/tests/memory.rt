@@ -1,0 +1,282 @@
+//! Refused memory: budgets that grow by 8 bytes refuse the first, the second and each further request, until one suffices.
+use linked_list_allocator::LocalHeap;
+use rsc_captures::{Captures, GroupInfo, GroupInfoErrorKind};
+use rsc_primitives::{NonMaxUsize, PatternID};
+use std::alloc::Global;
+use std::test::Fail;
+
+/// What a budget gives.
+#[derive(Clone, Copy, PartialEq, Eq)]
+enum Outcome {
+    /// The call was not reached.
+    NotReached,
+    /// Want of memory, and all else as before.
+    Refused,
+    /// The full answer.
+    Answered,
+    /// Anything else.
+    Wrong,
+}
+
+// The outcome of an answer that is or isn't what it has to be.
+fn answered(as_wanted: bool) -> Outcome {
+    if as_wanted {
+        Outcome::Answered
+    } else {
+        Outcome::Wrong
+    }
+}
+
+fn refused(as_wanted: bool) -> Outcome {
+    if as_wanted {
+        Outcome::Refused
+    } else {
+        Outcome::Wrong
+    }
+}
+
+// How far a call's outcomes have come with budgets that grow: they may only rise, and the last step is an answer.
+fn grown(so_far: Outcome, next: Outcome) -> Outcome {
+    match (so_far, next) {
+        (Outcome::NotReached, _) => next,
+        (Outcome::Refused, Outcome::Refused) => Outcome::Refused,
+        (Outcome::Refused, Outcome::Answered) => Outcome::Answered,
+        (Outcome::Answered, Outcome::Answered) => Outcome::Answered,
+        (_, _) => Outcome::Wrong,
+    }
+}
+
+// A group info of seventeen groups in three patterns, by `new` or with the least limit that it keeps to.
+fn group_info_within(heap: &LocalHeap, with_limit: bool) -> Outcome {
+    let mut many: [Option<&str>; 12] = [Some("m"); 12];
+    let names = ["a", "b", "c", "d", "e", "f", "g", "h", "i", "j", "k", "l"];
+    many[0] = None;
+    for g in 1..12usize {
+        many[g] = Some(names[g]);
+    }
+    let lists: [&[Option<&str>]; 3] = [&[None, Some("first")], &[None, None, Some("last")], &many];
+    let made = if with_limit {
+        GroupInfo::new_limited(heap, 34, &lists)
+    } else {
+        GroupInfo::new(heap, &lists)
+    };
+    match made {
+        Ok(info) => match info.clone() {
+            Ok(copy) => answered(
+                info.to_index(PatternID::must(0), "first") == Some(1)
+                    && copy.to_index(PatternID::must(1), "last") == Some(2)
+                    && copy.to_index(PatternID::must(2), "h") == Some(7),
+            ),
+            Err(_) => Outcome::Wrong,
+        },
+        Err(error) => refused(matches!(error.kind(), GroupInfoErrorKind::OutOfMemory)),
+    }
+}
+
+#[test]
+fn a_group_info_is_refused_until_there_is_enough(rt: HostRuntime) -> Result<(), Fail> {
+    for with_limit in [false, true] {
+        let mut so_far = Outcome::NotReached;
+        for size in 0..512usize {
+            let heap = LocalHeap::new(rt.alloc(), 8 * size)?;
+            let outcome = group_info_within(&heap, with_limit);
+            assert!(rt; size > 0 || outcome == Outcome::Refused);
+            so_far = grown(so_far, outcome);
+            assert!(rt; heap.used() == 0);
+        }
+        assert!(rt; so_far == Outcome::Answered);
+    }
+    Ok(())
+}
+
+// The group info of no patterns.
+fn empty_within(heap: &LocalHeap) -> Outcome {
+    match GroupInfo::empty(heap) {
+        Ok(info) => answered(info.pattern_len() == 0 && info.clone().is_ok()),
+        Err(error) => refused(matches!(error.kind(), GroupInfoErrorKind::OutOfMemory)),
+    }
+}
+
+#[test]
+fn an_empty_group_info_is_refused_until_there_is_enough(rt: HostRuntime) -> Result<(), Fail> {
+    let mut so_far = Outcome::NotReached;
+    for size in 0..64usize {
+        let heap = LocalHeap::new(rt.alloc(), 8 * size)?;
+        let outcome = empty_within(&heap);
+        assert!(rt; size > 0 || outcome == Outcome::Refused);
+        so_far = grown(so_far, outcome);
+        assert!(rt; heap.used() == 0);
+    }
+    assert!(rt; so_far == Outcome::Answered);
+    Ok(())
+}
+
+// Whether a name that is used twice is found (`Answered`), or memory is refused.
+fn duplicate_within(heap: &LocalHeap) -> Outcome {
+    match GroupInfo::new(heap, &[&[None, Some("x"), Some("x")]]) {
+        Ok(_) => Outcome::Wrong,
+        Err(error) => match error.kind() {
+            GroupInfoErrorKind::Duplicate { pattern, name } => {
+                answered(*pattern == PatternID::ZERO && name.as_str() == "x")
+            }
+            GroupInfoErrorKind::OutOfMemory => Outcome::Refused,
+            _ => Outcome::Wrong,
+        },
+    }
+}
+
+#[test]
+fn a_name_used_twice_is_found_once_there_is_enough(rt: HostRuntime) -> Result<(), Fail> {
+    let mut so_far = Outcome::NotReached;
+    for size in 0..256usize {
+        let heap = LocalHeap::new(rt.alloc(), 8 * size)?;
+        let outcome = duplicate_within(&heap);
+        assert!(rt; size > 0 || outcome == Outcome::Refused);
+        so_far = grown(so_far, outcome);
+        assert!(rt; heap.used() == 0);
+    }
+    assert!(rt; so_far == Outcome::Answered);
+    Ok(())
+}
+
+// Where there is no memory at all: the pattern without groups, and the pattern whose first group has a name.
+fn fault_without_memory(
+    alloc: Global,
+    lists: &[&[Option<&str>]],
+) -> Result<(Option<usize>, Option<usize>), Fail> {
+    let heap = LocalHeap::new(alloc, 0)?;
+    match GroupInfo::new(&heap, lists) {
+        Ok(_) => Ok((None, None)),
+        Err(error) => match error.kind() {
+            GroupInfoErrorKind::MissingGroups { pattern } => Ok((Some(pattern.as_usize()), None)),
+            GroupInfoErrorKind::FirstMustBeUnnamed { pattern } => {
+                Ok((None, Some(pattern.as_usize())))
+            }
+            _ => Ok((None, None)),
+        },
+    }
+}
+
+#[test]
+fn faults_come_before_any_request(rt: HostRuntime) -> Result<(), Fail> {
+    let alloc = rt.alloc();
+    let named = fault_without_memory(alloc, &[&[None, Some("x")], &[Some("x")]])?;
+    assert!(rt; named == (None, Some(1)));
+    let missing = fault_without_memory(alloc, &[&[None, Some("x")], &[]])?;
+    assert!(rt; missing == (Some(1), None));
+    let missing = fault_without_memory(alloc, &[&[], &[None, Some("x"), Some("x")]])?;
+    assert!(rt; missing == (Some(0), None));
+    Ok(())
+}
+
+// Captures with all slots, or with those of the first groups. Where they are refused, the clone that was kept still answers,
+// and the heap is as full as before.
+fn captures_within(heap: &LocalHeap, with_all: bool) -> Outcome {
+    let Ok(info) = GroupInfo::new(heap, &[&[None, Some("x")], &[None]]) else {
+        return Outcome::NotReached;
+    };
+    let Ok(kept) = info.clone() else {
+        return Outcome::Wrong;
+    };
+    let used = heap.used();
+    let made = if with_all {
+        Captures::all(heap, info)
+    } else {
+        Captures::matches(heap, info)
+    };
+    let still_answers = kept.slot_len() == 6 && kept.to_index(PatternID::ZERO, "x") == Some(1);
+    let slot_len: usize = if with_all { 6 } else { 4 };
+    match made {
+        Ok(captures) => answered(still_answers && captures.slots().len() == slot_len),
+        Err(_) => refused(still_answers && heap.used() == used),
+    }
+}
+
+#[test]
+fn captures_are_refused_until_there_is_enough(rt: HostRuntime) -> Result<(), Fail> {
+    for with_all in [false, true] {
+        let mut so_far = Outcome::NotReached;
+        let mut was_refused = false;
+        for size in 0..256usize {
+            let heap = LocalHeap::new(rt.alloc(), 8 * size)?;
+            let outcome = captures_within(&heap, with_all);
+            was_refused = was_refused || outcome == Outcome::Refused;
+            so_far = grown(so_far, outcome);
+            // The group info that was handed in is dropped, too: its clone was the last.
+            assert!(rt; heap.used() == 0);
+        }
+        assert!(rt; was_refused && so_far == Outcome::Answered);
+    }
+    Ok(())
+}
+
+// A clone of captures. Whether it is refused or not, its source answers as before.
+fn clone_within(heap: &LocalHeap) -> Outcome {
+    let Ok(info) = GroupInfo::new(heap, &[&[None, Some("x")], &[None]]) else {
+        return Outcome::NotReached;
+    };
+    let Ok(mut captures) = Captures::all(heap, info) else {
+        return Outcome::NotReached;
+    };
+    captures.set_pattern(Some(PatternID::ZERO));
+    let slots = captures.slots_mut();
+    if slots.len() == 6 {
+        slots[0] = NonMaxUsize::new(0);
+        slots[1] = NonMaxUsize::new(3);
+    }
+    let used = heap.used();
+    let group = captures.get_group(0);
+    let cloned = captures.clone();
+    let as_before = group.is_some() && captures.get_group(0) == group && captures.group_len() == 2;
+    match cloned {
+        Ok(copy) => answered(as_before && copy.get_group(0) == group),
+        Err(_) => refused(as_before && heap.used() == used),
+    }
+}
+
+#[test]
+fn a_clone_is_refused_until_there_is_enough(rt: HostRuntime) -> Result<(), Fail> {
+    let mut so_far = Outcome::NotReached;
+    let mut was_refused = false;
+    for size in 0..256usize {
+        let heap = LocalHeap::new(rt.alloc(), 8 * size)?;
+        let outcome = clone_within(&heap);
+        was_refused = was_refused || outcome == Outcome::Refused;
+        so_far = grown(so_far, outcome);
+        assert!(rt; heap.used() == 0);
+    }
+    assert!(rt; was_refused && so_far == Outcome::Answered);
+    Ok(())
+}
+
+// Whether there is an answer for so many groups in one pattern, and for so many patterns of one group, with their captures.
+fn is_answered(alloc: Global, count: usize) -> bool {
+    let groups: [Option<&str>; 300] = [None; 300];
+    let patterns: [&[Option<&str>]; 300] = [&groups[..1]; 300];
+    if count > 300 {
+        return false;
+    }
+    let Ok(info) = GroupInfo::new(alloc, &patterns[..count]) else {
+        return false;
+    };
+    if Captures::matches(alloc, info).is_err() {
+        return false;
+    }
+    let Ok(info) = GroupInfo::new(alloc, &[&groups[..count]]) else {
+        return false;
+    };
+    match Captures::all(alloc, info) {
+        Ok(captures) => captures.clone().is_ok() && captures.slots().len() / 2 == count,
+        Err(_) => false,
+    }
+}
+
+#[test]
+fn ample_memory_suffices(rt: HostRuntime) -> Result<(), Fail> {
+    let none = GroupInfo::empty(rt.alloc())?;
+    assert!(rt; Captures::all(rt.alloc(), none).is_ok_and(|captures| captures.slots().is_empty()));
+    for count in 1..=300usize {
+        assert!(rt; is_answered(rt.alloc(), count));
+    }
+    Ok(())
+}
