@@ -1,5 +1,5 @@
 //! UTF-8 read from either end of any bytes: RFC 3629, section 4.
-ghost use Rattle.std.specs.Prelude.{◌≡◌, ◌==◌, ◌↔◌, ℕ, ◌+◌, ◌-◌, ◌*◌, ◌<◌, ◌≤◌, IsTrue, MatchOption, IfSome, IfOk, length};
+ghost use Rattle.std.specs.Prelude.{◌≡◌, ◌==◌, ◌↔◌, ℕ, ◌+◌, ◌-◌, ◌*◌, ◌<◌, ◌≤◌, IsTrue, MatchOption, IfSome, IfOk, length, slice_index};
 ghost use Rattle.std.specs.Char.{IsScalar, len_utf8};
 ghost use Rattle.std.specs.Int.{bit_at};
 ghost use Rattle.rsc_primitives.specs.Utf8.{is_word_byte, IsTail, OpensThree, OpensFour, DecodesTo, DecodesLastTo, IsBoundary};
@@ -101,19 +101,15 @@ fn is_tail(byte: u8) -> bool
     (0x80..=0xBF).contains(&byte)
 }
 
-// The number of the character that begins the bytes. Most bytes that begin none are told by the first alone.
+// The number of the character past ASCII that begins the bytes. Most bytes that begin none are told by the first alone.
 #[inline(always)]
 fn first_number(bytes: &[u8]) -> Option<u32>
+    requires some { 1 ≤ length bytes.now }
+    requires past_ascii { 0x80 ≤ slice_index bytes.now 0 }
     ensures { MatchOption result ((n : ℕ) → IsFirstNumber bytes.now n → ⊥) (IsFirstNumber bytes.now) }
 {
     let n = bytes.len();
-    if n < 1 {
-        return None;
-    }
     let a = bytes[0];
-    if a <= 0x7F {
-        return Some(u32::from(a));
-    }
     if a < 0xC2 || 0xF4 < a || n < 2 {
         return None;
     }
@@ -145,19 +141,15 @@ fn first_number(bytes: &[u8]) -> Option<u32>
     }
 }
 
-// The number of the character that ends the bytes. It stops at the first byte from the back that can't stand there.
+// The number of the character past ASCII that ends the bytes. It stops at the first byte from the back that can't stand there.
 #[inline(always)]
 fn last_number(bytes: &[u8]) -> Option<u32>
+    requires some { 1 ≤ length bytes.now }
+    requires past_ascii { 0x80 ≤ slice_index bytes.now (length bytes.now - 1) }
     ensures { MatchOption result ((n : ℕ) → IsLastNumber bytes.now n → ⊥) (IsLastNumber bytes.now) }
 {
     let n = bytes.len();
-    if n < 1 {
-        return None;
-    }
     let d = bytes[n - 1];
-    if d <= 0x7F {
-        return Some(u32::from(d));
-    }
     if n < 2 || !is_tail(d) {
         return None;
     }
