@@ -9,7 +9,7 @@ use Rattle.std.proofs.lemmas.Bool.{cases_lt, cases_Bool, cases_eq, eq-eqb, ne_eq
 use Rattle.std.proofs.lemmas.Bool.Decides.{nat_tests}
 use Rattle.rsc_alphabet.specs.ByteSets.{Numbers, ends_run, runs}
 use Rattle.rsc_alphabet.specs.Partitions.{edges_of, edges_of_each, changes_at}
-use Rattle.rsc_alphabet.proofs.PartitionsLemmas.{contains-edges_of, c-union}
+use Rattle.rsc_alphabet.proofs.PartitionsLemmas.{contains-edges_of, contains-joined}
 use Rattle.rsc_alphabet.proofs.RunsLemmas.{runs_from, parts_no_run, runs_from_first, runs_from_skip, runs_from_none, parts_no_run-after, parts_no_run-skip}
 
 abbrev pub changes : Numbers → ℕ → Bool
@@ -133,7 +133,7 @@ edges_from s (suc n) low k far clean =
 -- a boundary is an edge of one of the ranges
 pub contains-edges_of_each : (ranges : List (ℕ × ℕ)) (k : ℕ) → sets.contains (edges_of_each ranges) k ≡ list_any (is_edge k) ranges
 contains-edges_of_each [] k = contains-empty nat_cmp k
-contains-edges_of_each (r ∷ rest) k = c-union (edges_of r) (edges_of_each rest) k ∙ ap (λ b. is_edge k r || b) (contains-edges_of_each rest k)
+contains-edges_of_each (r ∷ rest) k = contains-joined (edges_of r) (edges_of_each rest) k ∙ ap (λ b. is_edge k r || b) (contains-edges_of_each rest k)
 
 -- the boundaries of a set's maximal runs are where membership changes
 pub contains-edges_of_runs : (s : Numbers) (k : ℕ) → sets.contains (edges_of_each (runs s)) k ≡ changes_at s k
@@ -172,7 +172,7 @@ ordered_runs s = ordered_from s 256 0 (omega arith) (rw (eq-eqb 0 0 refl) refl)
 
 pub edges_step : (s : Numbers) (r : ℕ × ℕ) (rest all : List (ℕ × ℕ)) (k : ℕ) → all ≡ r ∷ rest →
     (sets.contains (sets.union s (edges_of r)) k || list_any (is_edge k) rest) ≡ (sets.contains s k || list_any (is_edge k) all)
-edges_step s r rest all k is = rw (c-union s (edges_of r) k, is) (or_assoc (sets.contains s k) (is_edge k r) (list_any (is_edge k) rest))
+edges_step s r rest all k is = rw (contains-joined s (edges_of r) k, is) (or_assoc (sets.contains s k) (is_edge k r) (list_any (is_edge k) rest))
   where
     or_assoc : (x y z : Bool) → ((x || y) || z) ≡ (x || (y || z))
     or_assoc true y z = refl
@@ -190,7 +190,7 @@ edges_done s old new rest none each =
     same_set nat_cmp_total nat_cmp-IsAntisymmetric _ _ (λ k.
     sym (or_false (sets.contains new k)) ∙ (rw none at (each k))
     ∙ ap (λ b. sets.contains old k || b) (sym (contains-edges_of_each (runs s) k))
-    ∙ sym (c-union old (edges_of_each (runs s)) k))
+    ∙ sym (contains-joined old (edges_of_each (runs s)) k))
   where
     or_false : (x : Bool) → (x || false) ≡ x
     or_false true = refl
@@ -198,4 +198,4 @@ edges_done s old new rest none each =
 
 -- what is a boundary after those of a set's runs were added
 pub c-runs : (old s : Numbers) (k : ℕ) → sets.contains (sets.union old (edges_of_each (runs s))) k ≡ (sets.contains old k || changes_at s k)
-c-runs old s k = c-union old (edges_of_each (runs s)) k ∙ ap (λ b. sets.contains old k || b) (contains-edges_of_runs s k)
+c-runs old s k = contains-joined old (edges_of_each (runs s)) k ∙ ap (λ b. sets.contains old k || b) (contains-edges_of_runs s k)

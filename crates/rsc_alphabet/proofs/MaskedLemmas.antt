@@ -9,7 +9,7 @@ use Rattle.std.proofs.lemmas.Nat.Bits.{bit_at-zero}
 use Rattle.rsc_alphabet.specs.ByteSets.{begins_run, ends_run}
 use Rattle.rsc_alphabet.specs.ByteSetLayout.{is_one, is_masked, masked, mask_of}
 use Rattle.rsc_alphabet.specs.ByteSetsLaws.{is_masked-low, is_masked-high, is_masked-past, contains-masked, masked_is, low_again, high_again}
-use Rattle.rsc_alphabet.proofs.PartitionsLemmas.{c-insert, c-remove}
+use Rattle.rsc_alphabet.proofs.PartitionsLemmas.{contains-inserted, contains-removed}
 
 -- ---- what a byte's bit says
 
@@ -67,15 +67,15 @@ high_others low high new b fh fn l others q ne =
 inserted : (low high new_low new_high b : ℕ) → high < 2 ^ 128 → new_high < 2 ^ 128 → is_masked new_low new_high b ≡ true → ((q : ℕ) → q ≢ b → is_masked new_low new_high q ≡ is_masked low high q) → masked new_low new_high ≡ sets.insert (masked low high) b
 inserted low high new_low new_high b fh fn here others =
     masked_is new_low new_high fn _ (λ q. ⊎_elim
-    (λ (e : q ≡ b). rw e (here ∙ sym (c-insert (masked low high) b b ∙ rw (eq-eqb b b refl) refl)))
-    (λ (ne : q ≢ b). others q ne ∙ sym (c-insert (masked low high) b q ∙ rw (ne_eqb q b ne) (contains-masked low high fh q)))
+    (λ (e : q ≡ b). rw e (here ∙ sym (contains-inserted (masked low high) b b ∙ rw (eq-eqb b b refl) refl)))
+    (λ (ne : q ≢ b). others q ne ∙ sym (contains-inserted (masked low high) b q ∙ rw (ne_eqb q b ne) (contains-masked low high fh q)))
     (cases_eq q b))
 
 removed : (low high new_low new_high b : ℕ) → high < 2 ^ 128 → new_high < 2 ^ 128 → is_masked new_low new_high b ≡ false → ((q : ℕ) → q ≢ b → is_masked new_low new_high q ≡ is_masked low high q) → masked new_low new_high ≡ sets.remove (masked low high) b
 removed low high new_low new_high b fh fn here others =
     masked_is new_low new_high fn _ (λ q. ⊎_elim
-    (λ (e : q ≡ b). rw e (here ∙ sym (c-remove (masked low high) b b ∙ rw (eq-eqb b b refl) refl)))
-    (λ (ne : q ≢ b). others q ne ∙ sym (c-remove (masked low high) b q ∙ rw (ne_eqb q b ne) (contains-masked low high fh q)))
+    (λ (e : q ≡ b). rw e (here ∙ sym (contains-removed (masked low high) b b ∙ rw (eq-eqb b b refl) refl)))
+    (λ (ne : q ≢ b). others q ne ∙ sym (contains-removed (masked low high) b q ∙ rw (ne_eqb q b ne) (contains-masked low high fh q)))
     (cases_eq q b))
 
 pub insert_low : (low new high b : ℕ) → high < 2 ^ 128 → b < 128 → bit_at new b ≡ 1 → ((i : ℕ) → i ≢ b → bit_at new i ≡ bit_at low i) → masked new high ≡ sets.insert (masked low high) b

@@ -17,14 +17,14 @@ use Rattle.rsc_alphabet.specs.Partitions.{Together, class_of, class_map, edges_o
 
 -- ---- sets of numbers
 
-pub c-insert : (s : Numbers) (k q : ℕ) → sets.contains (sets.insert s k) q ≡ (nat_eq q k || sets.contains s q)
-c-insert s k q = contains-insert nat_cmp_total s k q ∙ ap (λ b. b || sets.contains s q) (unsigned_tied q k)
+pub contains-inserted : (s : Numbers) (k q : ℕ) → sets.contains (sets.insert s k) q ≡ (nat_eq q k || sets.contains s q)
+contains-inserted s k q = contains-insert nat_cmp_total s k q ∙ ap (λ b. b || sets.contains s q) (unsigned_tied q k)
 
-pub c-remove : (s : Numbers) (k q : ℕ) → sets.contains (sets.remove s k) q ≡ (not (nat_eq q k) && sets.contains s q)
-c-remove s k q = contains-remove nat_cmp_total s k q ∙ ap (λ b. not b && sets.contains s q) (unsigned_tied q k)
+pub contains-removed : (s : Numbers) (k q : ℕ) → sets.contains (sets.remove s k) q ≡ (not (nat_eq q k) && sets.contains s q)
+contains-removed s k q = contains-remove nat_cmp_total s k q ∙ ap (λ b. not b && sets.contains s q) (unsigned_tied q k)
 
-pub c-union : (s t : Numbers) (q : ℕ) → sets.contains (sets.union s t) q ≡ (sets.contains s q || sets.contains t q)
-c-union s t q = contains-union nat_cmp_total s t q
+pub contains-joined : (s t : Numbers) (q : ℕ) → sets.contains (sets.union s t) q ≡ (sets.contains s q || sets.contains t q)
+contains-joined s t q = contains-union nat_cmp_total s t q
 
 -- ---- the boundaries of a range
 
@@ -55,12 +55,12 @@ contains-edges s e k = contains-edges_of s e k ∙ tests
 
 -- what is a boundary after those of a range were added
 pub c-range : (old : Numbers) (s e k : ℕ) → sets.contains (sets.union old (edges_of (s, e))) k ≡ (sets.contains old k || (nat_eq (k + 1) s || (nat_eq k e && nat_lt e 255)))
-c-range old s e k = c-union old (edges_of (s, e)) k ∙ ap (λ b. sets.contains old k || b) (contains-edges s e k)
+c-range old s e k = contains-joined old (edges_of (s, e)) k ∙ ap (λ b. sets.contains old k || b) (contains-edges s e k)
 
 -- what `set_range` leaves of the flags, above 0 and at 0
 pub edges_above : (ends : Numbers) (s e : ℕ) → 0 < s → s ≤ e → e < 256 → sets.remove (sets.insert (sets.insert ends (s - 1)) e) 255 ≡ sets.union (sets.remove ends 255) (edges_of (s, e))
 edges_above ends s e low order high = same_set nat_cmp_total nat_cmp-IsAntisymmetric _ _ (λ q.
-    rw (c-remove, c-insert, c-insert, c-union, c-remove, contains-edges_of) (tests (sets.contains ends q) q))
+    rw (contains-removed, contains-inserted, contains-inserted, contains-joined, contains-removed, contains-edges_of) (tests (sets.contains ends q) q))
   where
     tests : (b : Bool) (q : ℕ) → (not (nat_eq q 255) && (nat_eq q e || (nat_eq q (s - 1) || b))) ≡ ((not (nat_eq q 255) && b) || ((nat_lt 0 s && nat_eq (s - 1) q) || (nat_lt e 255 && nat_eq e q)))
     tests true q = grind (arith, nat_tests)
@@ -68,7 +68,7 @@ edges_above ends s e low order high = same_set nat_cmp_total nat_cmp-IsAntisymme
 
 pub edges_at_zero : (ends : Numbers) (s e : ℕ) → s ≤ 0 → e < 256 → sets.remove (sets.insert ends e) 255 ≡ sets.union (sets.remove ends 255) (edges_of (s, e))
 edges_at_zero ends s e low high = same_set nat_cmp_total nat_cmp-IsAntisymmetric _ _ (λ q.
-    rw (c-remove, c-insert, c-union, c-remove, contains-edges_of) (tests (sets.contains ends q) q))
+    rw (contains-removed, contains-inserted, contains-joined, contains-removed, contains-edges_of) (tests (sets.contains ends q) q))
   where
     tests : (b : Bool) (q : ℕ) → (not (nat_eq q 255) && (nat_eq q e || b)) ≡ ((not (nat_eq q 255) && b) || ((nat_lt 0 s && nat_eq (s - 1) q) || (nat_lt e 255 && nat_eq e q)))
     tests true q = grind (arith, nat_tests)
@@ -114,7 +114,7 @@ class_map_same p q same =
     class_map_is q (class_map p) (length-class_map p) (λ k h. slice_index-class_map p k h ∙ class_of_same p q k (λ j l. same j (omega arith)))
 
 pub no_edges : sets.remove (sets.empty {K = ℕ} {R = nat_cmp}) 255 ≡ sets.empty
-no_edges = same_set nat_cmp_total nat_cmp-IsAntisymmetric _ _ (λ q. c-remove sets.empty 255 q ∙ rw (contains-empty nat_cmp q) (grind (arith, nat_tests)))
+no_edges = same_set nat_cmp_total nat_cmp-IsAntisymmetric _ _ (λ q. contains-removed sets.empty 255 q ∙ rw (contains-empty nat_cmp q) (grind (arith, nat_tests)))
 
 -- classes rise from byte to byte
 pub class_of-rises : (p : ℕ → Bool) (b n : ℕ) → class_of p b ≤ class_of p (b + n)
@@ -205,10 +205,10 @@ class_reached p c l =
 -- ---- the boundary 255, which separates nothing
 
 inner_boundary : (ends : Numbers) (b : ℕ) → b < 255 → sets.contains ends b ≡ sets.contains (sets.remove ends 255) b
-inner_boundary ends b l = sym (c-remove ends 255 b ∙ rw (ne_eqb b 255 (λ e. omega arith)) refl)
+inner_boundary ends b l = sym (contains-removed ends 255 b ∙ rw (ne_eqb b 255 (λ e. omega arith)) refl)
 
 pub boundary_below : (ends : Numbers) → ((b : ℕ) → sets.contains ends b ≡ true → b < 256) → (k : ℕ) → sets.contains (sets.remove ends 255) k ≡ true → k < 255
-boundary_below ends bytes k is = parts (sets.contains ends k) (bytes k) (sym (c-remove ends 255 k) ∙ is)
+boundary_below ends bytes k is = parts (sets.contains ends k) (bytes k) (sym (contains-removed ends 255 k) ∙ is)
   where
     parts : (x : Bool) → (x ≡ true → k < 256) → (not (nat_eq k 255) && x) ≡ true → k < 255
     parts true low test = let l = low refl in grind (arith, nat_tests)

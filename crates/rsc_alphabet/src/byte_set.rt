@@ -49,11 +49,13 @@ impl Model for ByteSet {
 }
 
 impl PartialEq for ByteSet {
+    ghost use Rattle.std.specs.Cmp.{nat_cmp_total};
+    ghost use Rattle.std.specs.FinSet.{nat_cmp-IsAntisymmetric};
     ghost use Rattle.rsc_alphabet.specs.SameMembers.{same_members, same_members_partial};
 
     ghost eq = { same_members };
 
-    ghost laws = { same_members_partial };
+    ghost laws = { same_members_partial nat_cmp_total nat_cmp-IsAntisymmetric };
 
     fn eq(&self, other: &Self) -> bool {
         self.low == other.low && self.high == other.high
@@ -61,9 +63,11 @@ impl PartialEq for ByteSet {
 }
 
 impl Eq for ByteSet {
+    ghost use Rattle.std.specs.Cmp.{nat_cmp_total};
+    ghost use Rattle.std.specs.FinSet.{nat_cmp-IsAntisymmetric};
     ghost use Rattle.rsc_alphabet.specs.SameMembers.{same_members_equiv};
 
-    ghost laws = { same_members_equiv };
+    ghost laws = { same_members_equiv nat_cmp_total nat_cmp-IsAntisymmetric };
 }
 
 impl Default for ByteSet {

@@ -6,6 +6,7 @@ use Rattle.std.specs.FinSet as sets
 use Rattle.std.proofs.lemmas.List.Folds.{list_any_at, Any-from_list_any}
 use Rattle.std.proofs.lemmas.List.Elements.{All-cons, All-nil}
 use Rattle.rsc_alphabet.specs.Partitions.{Together, class_map}
+use Rattle.rsc_alphabet.specs.SameMembers.{same_bools}
 use Rattle.rsc_look.specs.declared.assertion.Look.{Look}
 use Rattle.rsc_look.specs.declared.assertion.Look.TheVariants.{Start, End, StartLF, EndLF, StartCRLF, EndCRLF}
 use Rattle.rsc_look.specs.Looks.{is_unicode}
@@ -123,11 +124,6 @@ IsCoarsestMap-from m looks t W is a = record {
   coarsest = boundaries-IsCoarsest looks t W a;
   needed = λ b lt e. boundaries-IsNeeded looks t W b a e;
 }
-
-same_bools : (x y : Bool) → (x ≡ true → y ≡ true) → (y ≡ true → x ≡ true) → x ≡ y
-same_bools true y f g = sym (f refl)
-same_bools false true f g = g refl
-same_bools false false f g = refl
 
 -- two coarsest partitions have the same boundaries
 pub IsCoarsest-same : (p q : ℕ → Bool) (looks : List Look) (t : ℕ) (W : ℕ → Bool) → IsCoarsest p looks t W → IsCoarsest q looks t W → (b : ℕ) → b < 255 → p b ≡ q b

@@ -1,7 +1,7 @@
 -- The members of sets of assertions that are made of others.
-use Rattle.std.proofs.Common.{◌≡◌, ◌↔◌, ◌||◌, ◌&&◌, ◌⊎◌, Bool, true, false, not, refl, sym, ap, ◌∙◌, arith, nat_eq, inl, inr, ⊎_elim, ◌≢◌}
+use Rattle.std.proofs.Common.{◌≡◌, ◌↔◌, ◌||◌, ◌&&◌, ◌⊎◌, true, false, not, refl, sym, ap, ◌∙◌, nat_eq, inl, inr, ⊎_elim, ◌≢◌}
 use Rattle.std.specs.FinSet as sets
-use Rattle.std.specs.FinSet.{contains-empty, contains-insert, contains-remove}
+use Rattle.std.specs.FinSet.{contains-insert, contains-remove}
 use Rattle.std.specs.Ordering.{eq_by_cmp}
 use Rattle.std.specs.Cmp.{unsigned_tied}
 use Rattle.std.proofs.lemmas.Bool.{cases_eq, eq-eqb, ne_eqb}
@@ -24,9 +24,6 @@ grown_by s l = contains-insert look_cmp_total s l l ∙ ap (λ b. b || sets.cont
 
 pub grown_apart : (s : Looks) (l m : Look) → m ≢ l → sets.contains (sets.insert s l) m ≡ sets.contains s m
 grown_apart s l m ne = contains-insert look_cmp_total s l m ∙ ap (λ b. b || sets.contains s m) (apart m l ne)
-
-pub single_apart : (l m : Look) → m ≢ l → sets.contains (sets.insert (sets.empty {R = look_cmp}) l) m ≡ false
-single_apart l m ne = grown_apart sets.empty l m ne ∙ contains-empty look_cmp m
 
 pub shrunk_by : (s : Looks) (l : Look) → sets.contains (sets.remove s l) l ≡ false
 shrunk_by s l = contains-remove look_cmp_total s l l ∙ ap (λ b. not b && sets.contains s l) (itself l)

@@ -23,8 +23,8 @@ use Rattle.rsc_look.specs.declared.assertion.Look.TheVariants.{Start, End, Start
 use Rattle.rsc_look.specs.Looks.{repr_of, every_look}
 use Rattle.rsc_look.specs.LookSets.{look_cmp, Looks, members, bits_of}
 use Rattle.rsc_look.specs.LookSetLayout.{place_of, has_bit, looks_of, look_at, look_at-place_of}
-use Rattle.rsc_look.specs.LookSetLaws.{look_cmp_total, same_looks, repr_of-injective, repr_of-look_at, repr_of-pow, place_of-look_at, place_of-lt, every_look-is, contains-looks_of, bits_of-looks_of, looks_of-bits_of, bits_of-lt}
-use Rattle.rsc_look.specs.SameLooks.{same_members, same_bools, same_from, same_to}
+use Rattle.rsc_look.specs.LookSetLaws.{look_cmp_total, look_cmp-IsAntisymmetric, same_looks, repr_of-injective, repr_of-look_at, repr_of-pow, place_of-look_at, place_of-lt, every_look-is, contains-looks_of, bits_of-looks_of, looks_of-bits_of, bits_of-lt, every_look_has}
+use Rattle.rsc_alphabet.specs.SameMembers.{same_members, same_bools, same_from, same_to}
 
 -- ---- single assertions
 
@@ -132,34 +132,13 @@ all_bits WordEndHalfAscii = refl
 all_bits WordStartHalfUnicode = refl
 all_bits WordEndHalfUnicode = refl
 
-listed : (l : Look) → list_any (λ m. nat_eq (repr_of l) (repr_of m)) every_look ≡ true
-unfolding every_look
-listed Start = refl
-listed End = refl
-listed StartLF = refl
-listed EndLF = refl
-listed StartCRLF = refl
-listed EndCRLF = refl
-listed WordAscii = refl
-listed WordAsciiNegate = refl
-listed WordUnicode = refl
-listed WordUnicodeNegate = refl
-listed WordStartAscii = refl
-listed WordEndAscii = refl
-listed WordStartUnicode = refl
-listed WordEndUnicode = refl
-listed WordStartHalfAscii = refl
-listed WordEndHalfAscii = refl
-listed WordStartHalfUnicode = refl
-listed WordEndHalfUnicode = refl
-
 pub contains-looks_of-all : (l : Look) → sets.contains (looks_of 262143) l ≡ true
 contains-looks_of-all l = contains-looks_of 262143 l ∙ all_bits l
 
 pub looks_of-all : looks_of 262143 ≡ sets.from_list every_look
 looks_of-all = same_looks (looks_of 262143) (sets.from_list every_look) (λ l.
     contains-looks_of 262143 l ∙ all_bits l
-    ∙ sym (contains-from_list look_cmp_total every_look l ∙ ap (λ (t : Look → Bool). list_any t every_look) (λ i m. tied l m i) ∙ listed l))
+    ∙ sym (contains-from_list look_cmp_total every_look l ∙ ap (λ (t : Look → Bool). list_any t every_look) (λ i m. tied l m i) ∙ every_look_has l))
 
 pub looks_of-insert : (n : ℕ) (l : Look) → looks_of (bit_or n (repr_of l)) ≡ sets.insert (looks_of n) l
 looks_of-insert n l = same_looks (looks_of (bit_or n (repr_of l))) (sets.insert (looks_of n) l) (λ m.
@@ -227,8 +206,8 @@ none_by_bits n h = (
 
 pub same_by_bits : (a b : ℕ) → a < 2 ^ 18 → b < 2 ^ 18 → nat_eq a b ≡ same_members (looks_of a) (looks_of b)
 same_by_bits a b la lb = same_bools (nat_eq a b) (same_members (looks_of a) (looks_of b))
-    (λ t. same_to (looks_of a) (looks_of b) (ap looks_of (test a b t)))
-    (λ t. eq-eqb a b (sym (bits_of-looks_of a la) ∙ ap bits_of (same_from (looks_of a) (looks_of b) t) ∙ bits_of-looks_of b lb))
+    (λ t. same_to look_cmp_total look_cmp-IsAntisymmetric (looks_of a) (looks_of b) (ap looks_of (test a b t)))
+    (λ t. eq-eqb a b (sym (bits_of-looks_of a la) ∙ ap bits_of (same_from look_cmp_total look_cmp-IsAntisymmetric (looks_of a) (looks_of b) t) ∙ bits_of-looks_of b lb))
   where
     test : (a b : ℕ) → nat_eq a b ≡ true → a ≡ b
     test a b t = grind (arith, nat_tests)

@@ -9,7 +9,7 @@ use Rattle.std.proofs.lemmas.List.{take_all, take_more}
 use Rattle.std.proofs.lemmas.List.Folds.{list_any-append}
 use Rattle.rsc_alphabet.specs.ByteSets.{Numbers}
 use Rattle.rsc_alphabet.specs.Partitions.{edges_of, class_map}
-use Rattle.rsc_alphabet.proofs.PartitionsLemmas.{c-union, contains-edges_of, class_map_same}
+use Rattle.rsc_alphabet.proofs.PartitionsLemmas.{contains-joined, contains-edges_of, class_map_same}
 use Rattle.rsc_look.specs.declared.assertion.Look.{Look}
 use Rattle.rsc_look.specs.declared.assertion.Look.TheVariants.{Start, End, StartLF, EndLF, StartCRLF, EndCRLF}
 use Rattle.rsc_look.specs.Boundaries.{word_boundaries, boundaries_of, boundaries_of_each}
@@ -41,7 +41,7 @@ unfolding word_boundaries
 contains-word_boundaries b = contains-from_list_nat word_marks b
 
 crlf : (b : ℕ) → sets.contains (sets.union (edges_of (13, 13)) (edges_of (10, 10))) b ≡ (is_edge 13 b || is_edge 10 b)
-crlf b = c-union (edges_of (13, 13)) (edges_of (10, 10)) b ∙ ap₂ (λ x y. x || y) (contains-edges_of 13 13 b) (contains-edges_of 10 10 b)
+crlf b = contains-joined (edges_of (13, 13)) (edges_of (10, 10)) b ∙ ap₂ (λ x y. x || y) (contains-edges_of 13 13 b) (contains-edges_of 10 10 b)
 
 pub contains-boundaries_of : (l : Look) (t b : ℕ) → sets.contains (boundaries_of l t) b ≡ is_mark l t b
 contains-boundaries_of Start t b = contains-empty nat_cmp b
@@ -55,7 +55,7 @@ contains-boundaries_of _ t b = contains-word_boundaries b
 pub contains-boundaries_of_each : (looks : List Look) (t b : ℕ) → sets.contains (boundaries_of_each looks t) b ≡ marks_of looks t b
 contains-boundaries_of_each [] t b = contains-empty nat_cmp b
 contains-boundaries_of_each (l ∷ rest) t b =
-    c-union (boundaries_of l t) (boundaries_of_each rest t) b ∙ ap₂ (λ x y. x || y) (contains-boundaries_of l t b) (contains-boundaries_of_each rest t b)
+    contains-joined (boundaries_of l t) (boundaries_of_each rest t) b ∙ ap₂ (λ x y. x || y) (contains-boundaries_of l t b) (contains-boundaries_of_each rest t b)
 
 -- ---- a walk over a list, for a set that has the boundaries of its members so far
 
@@ -69,7 +69,7 @@ pub HasBoundaries-more : (s new : Numbers) (looks : List Look) (i : ℕ) (d : Lo
     → new ≡ sets.union s (boundaries_of (get_or looks i d) t) → HasBoundaries new (take (i + 1) looks) t
 HasBoundaries-more s new looks i d t h has e b =
     let l = get_or looks i d in
-    ap (λ u. sets.contains u b) e ∙ c-union s (boundaries_of l t) b ∙ ap₂ (λ x y. x || y) (has b) (contains-boundaries_of l t b ∙ or_false (is_mark l t b))
+    ap (λ u. sets.contains u b) e ∙ contains-joined s (boundaries_of l t) b ∙ ap₂ (λ x y. x || y) (has b) (contains-boundaries_of l t b ∙ or_false (is_mark l t b))
     ∙ sym (ap (λ (x : List Look). marks_of x t b) (take_more looks i d h) ∙ list_any-append (λ x. is_mark x t b) (take i looks) (l ∷ []))
   where
     or_false : (x : Bool) → x ≡ (x || false)
@@ -86,7 +86,7 @@ classes_whole looks t n s m l has is =
 
 pub adds_none : (s : Numbers) → s ≡ sets.union s sets.empty
 adds_none s = same_set nat_cmp_total nat_cmp-IsAntisymmetric s (sets.union s sets.empty) (λ b.
-    or_false (sets.contains s b) ∙ ap (λ x. sets.contains s b || x) (sym (contains-empty nat_cmp b)) ∙ sym (c-union s sets.empty b))
+    or_false (sets.contains s b) ∙ ap (λ x. sets.contains s b || x) (sym (contains-empty nat_cmp b)) ∙ sym (contains-joined s sets.empty b))
   where
     or_false : (x : Bool) → x ≡ (x || false)
     or_false true = refl
@@ -94,9 +94,9 @@ adds_none s = same_set nat_cmp_total nat_cmp-IsAntisymmetric s (sets.union s set
 
 pub adds_both : (s u v : Numbers) → sets.union (sets.union s u) v ≡ sets.union s (sets.union u v)
 adds_both s u v = same_set nat_cmp_total nat_cmp-IsAntisymmetric _ _ (λ b.
-    c-union (sets.union s u) v b ∙ ap (λ x. x || sets.contains v b) (c-union s u b)
+    contains-joined (sets.union s u) v b ∙ ap (λ x. x || sets.contains v b) (contains-joined s u b)
     ∙ or_assoc (sets.contains s b) (sets.contains u b) (sets.contains v b)
-    ∙ sym (c-union s (sets.union u v) b ∙ ap (λ x. sets.contains s b || x) (c-union u v b)))
+    ∙ sym (contains-joined s (sets.union u v) b ∙ ap (λ x. sets.contains s b || x) (contains-joined u v b)))
   where
     or_assoc : (x y z : Bool) → ((x || y) || z) ≡ (x || (y || z))
     or_assoc true y z = refl

@@ -11,7 +11,7 @@ use Rattle.std.specs.FinSet.{contains-empty, same_set, nat_cmp-IsAntisymmetric}
 use Rattle.std.specs.Ordering.{nat_cmp}
 use Rattle.std.specs.Cmp.{nat_cmp_total}
 use Rattle.rsc_alphabet.specs.ByteSets.{Numbers}
-use Rattle.rsc_alphabet.proofs.PartitionsLemmas.{c-union}
+use Rattle.rsc_alphabet.proofs.PartitionsLemmas.{contains-joined}
 use Rattle.rsc_look.specs.Boundaries.{boundaries_of}
 use Rattle.rsc_look.proofs.BytesKept.{HasMarks}
 use Rattle.rsc_look.proofs.Needed.{place_of, place_of_le, Tells-mark}
@@ -31,7 +31,7 @@ or_is_true false y e = e
 -- a set that got the boundaries of an assertion has them
 has_marks : (old new : Numbers) (l : Look) (t : ℕ) → new ≡ sets.union old (boundaries_of l t) → HasMarks (sets.contains new) (is_mark l t)
 has_marks old new l t e b lt m =
-    ap (λ s. sets.contains s b) e ∙ c-union old (boundaries_of l t) b ∙ or_is_true (sets.contains old b) (sets.contains (boundaries_of l t) b) (contains-boundaries_of l t b ∙ m)
+    ap (λ s. sets.contains s b) e ∙ contains-joined old (boundaries_of l t) b ∙ or_is_true (sets.contains old b) (sets.contains (boundaries_of l t) b) (contains-boundaries_of l t b ∙ m)
 
 pub IsExactFor-from : (old new : Numbers) (l : Look) (t : ℕ) (W : ℕ → Bool) → new ≡ sets.union old (boundaries_of l t) → (is_unicode l ≡ true → AgreesWithAscii W) → IsExactFor (sets.contains new) l t W
 IsExactFor-from old new l t W e a = record {
@@ -49,4 +49,4 @@ IsExactFor-from old new l t W e a = record {
 pub IsExactFor-own : (l : Look) (t : ℕ) (W : ℕ → Bool) → (is_unicode l ≡ true → AgreesWithAscii W) → IsExactFor (sets.contains (boundaries_of l t)) l t W
 IsExactFor-own l t W =
     IsExactFor-from sets.empty (boundaries_of l t) l t W (same_set nat_cmp_total nat_cmp-IsAntisymmetric _ _ (λ b.
-    sym (c-union sets.empty (boundaries_of l t) b ∙ ap (λ x. x || sets.contains (boundaries_of l t) b) (contains-empty nat_cmp b))))
+    sym (contains-joined sets.empty (boundaries_of l t) b ∙ ap (λ x. x || sets.contains (boundaries_of l t) b) (contains-empty nat_cmp b))))

@@ -8,7 +8,7 @@ use Rattle.std.specs.FinSet as sets
 use Rattle.std.specs.FinSet.{same_set, nat_cmp-IsAntisymmetric}
 use Rattle.rsc_alphabet.specs.ByteSets.{Numbers}
 use Rattle.rsc_alphabet.specs.Partitions.{changes_at}
-use Rattle.rsc_alphabet.proofs.PartitionsLemmas.{c-union}
+use Rattle.rsc_alphabet.proofs.PartitionsLemmas.{contains-joined}
 use Rattle.rsc_look.specs.Holds.{exactly_one}
 use Rattle.rsc_look.specs.Boundaries.{word_boundaries}
 use Rattle.rsc_look.proofs.Marks.{is_word_mark, contains-word_boundaries}
@@ -41,15 +41,15 @@ agrees_below (suc n) h b l = let p = both (agrees n) (all_agree n) h in ⊎_elim
     cases : (b n : ℕ) → b < suc n → (b ≡ n) ⊎ (b < n)
     cases b n l = grind arith
 
-same_bools : (x y : Bool) → not (exactly_one x y) ≡ true → x ≡ y
-same_bools true true e = refl
-same_bools false false e = refl
-same_bools true false e = absurd (true≢false (sym e))
-same_bools false true e = absurd (true≢false (sym e))
+same_unless_one : (x y : Bool) → not (exactly_one x y) ≡ true → x ≡ y
+same_unless_one true true e = refl
+same_unless_one false false e = refl
+same_unless_one true false e = absurd (true≢false (sym e))
+same_unless_one false true e = absurd (true≢false (sym e))
 
 within : (b : ℕ) → b < 255 → changes b ≡ is_word_mark b
 unfolding agrees
-within b l = same_bools (changes b) (is_word_mark b) (agrees_below 255 all_agree_255 b l)
+within b l = same_unless_one (changes b) (is_word_mark b) (agrees_below 255 all_agree_255 b l)
 
 -- below 255 a change is a boundary, and there is no boundary above
 pub changes-is_word_mark : (b : ℕ) → (ltb b 255 && changes b) ≡ is_word_mark b
@@ -76,7 +76,7 @@ changes_at-is words same b = rw (same b, same (b + 1)) (ap (λ x. ltb b 255 && x
 pub word_boundaries-added : (old new words : Numbers) → ((b : ℕ) → sets.contains words b ≡ is_word_byte b) → ((b : ℕ) → sets.contains new b ≡ (sets.contains old b || changes_at words b)) → new ≡ sets.union old word_boundaries
 word_boundaries-added old new words same added = same_set nat_cmp_total nat_cmp-IsAntisymmetric new (sets.union old word_boundaries) (λ b.
     added b ∙ ap (λ x. sets.contains old b || x) (changes_at-is words same b ∙ changes-is_word_mark b ∙ sym (contains-word_boundaries b))
-    ∙ sym (c-union old word_boundaries b))
+    ∙ sym (contains-joined old word_boundaries b))
 
 -- ---- a run of bytes, one after the other
 

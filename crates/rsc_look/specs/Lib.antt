@@ -7,6 +7,5 @@ pub mod LookSetLayout
 pub mod LookSets
 pub mod Looks
 pub mod Mirrors
-pub mod SameLooks
 pub mod SideLayout
 pub mod Words

@@ -152,26 +152,27 @@ any-and true t xs = refl
 any-and false t [] = refl
 any-and false t (x ∷ xs) = any-and false t xs
 
-listed : (l : Look) → list_any (λ m. nat_eq (repr_of l) (repr_of m)) every_look ≡ true
+-- each assertion is in the list of all
+pub every_look_has : (l : Look) → list_any (λ m. nat_eq (repr_of l) (repr_of m)) every_look ≡ true
 unfolding every_look
-listed Start = refl
-listed End = refl
-listed StartLF = refl
-listed EndLF = refl
-listed StartCRLF = refl
-listed EndCRLF = refl
-listed WordAscii = refl
-listed WordAsciiNegate = refl
-listed WordUnicode = refl
-listed WordUnicodeNegate = refl
-listed WordStartAscii = refl
-listed WordEndAscii = refl
-listed WordStartUnicode = refl
-listed WordEndUnicode = refl
-listed WordStartHalfAscii = refl
-listed WordEndHalfAscii = refl
-listed WordStartHalfUnicode = refl
-listed WordEndHalfUnicode = refl
+every_look_has Start = refl
+every_look_has End = refl
+every_look_has StartLF = refl
+every_look_has EndLF = refl
+every_look_has StartCRLF = refl
+every_look_has EndCRLF = refl
+every_look_has WordAscii = refl
+every_look_has WordAsciiNegate = refl
+every_look_has WordUnicode = refl
+every_look_has WordUnicodeNegate = refl
+every_look_has WordStartAscii = refl
+every_look_has WordEndAscii = refl
+every_look_has WordStartUnicode = refl
+every_look_has WordEndUnicode = refl
+every_look_has WordStartHalfAscii = refl
+every_look_has WordEndHalfAscii = refl
+every_look_has WordStartHalfUnicode = refl
+every_look_has WordEndHalfUnicode = refl
 
 pub contains-filtered : (p : Look → Bool) (l : Look) → sets.contains (sets.from_list {R = look_cmp} (filter p every_look)) l ≡ p l
 contains-filtered p l =
@@ -179,7 +180,7 @@ contains-filtered p l =
     ∙ any-filter (eq_by_cmp look_cmp l) p every_look
     ∙ ap (λ (t : Look → Bool). list_any t every_look) (λ i m. alike m i)
     ∙ any-and (p l) (λ m. nat_eq (repr_of l) (repr_of m)) every_look
-    ∙ ap (λ b. p l && b) (listed l) ∙ and_true (p l)
+    ∙ ap (λ b. p l && b) (every_look_has l) ∙ and_true (p l)
   where
     and_true : (b : Bool) → (b && true) ≡ b
     and_true true = refl
@@ -284,7 +285,3 @@ pub looks_of-bits_of : (s : Looks) → looks_of (bits_of s) ≡ s
 looks_of-bits_of s = same_looks (looks_of (bits_of s)) s (λ l.
     contains-looks_of (bits_of s) l ∙ ap (λ n. nat_eq n 1) (bit_at-bits_of s (place_of l) (place_of-lt l)) ∙ bit_is (sets.contains s (look_at (place_of l)))
     ∙ ap (λ m. sets.contains s m) (look_at-place_of l))
-
--- a set is its bits
-pub bits_of-injective : (s t : Looks) → bits_of s ≡ bits_of t → s ≡ t
-bits_of-injective s t e = sym (looks_of-bits_of s) ∙ ap looks_of e ∙ looks_of-bits_of t

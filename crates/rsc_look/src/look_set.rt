@@ -43,11 +43,12 @@ impl Model for LookSet {
 }
 
 impl PartialEq for LookSet {
-    ghost use Rattle.rsc_look.specs.SameLooks.{same_members, same_members_partial};
+    ghost use Rattle.rsc_alphabet.specs.SameMembers.{same_members, same_members_partial};
+    ghost use Rattle.rsc_look.specs.LookSetLaws.{look_cmp_total, look_cmp-IsAntisymmetric};
 
     ghost eq = { same_members };
 
-    ghost laws = { same_members_partial };
+    ghost laws = { same_members_partial look_cmp_total look_cmp-IsAntisymmetric };
 
     fn eq(&self, other: &Self) -> bool {
         self.bits == other.bits
@@ -55,9 +56,10 @@ impl PartialEq for LookSet {
 }
 
 impl Eq for LookSet {
-    ghost use Rattle.rsc_look.specs.SameLooks.{same_members_equiv};
+    ghost use Rattle.rsc_alphabet.specs.SameMembers.{same_members_equiv};
+    ghost use Rattle.rsc_look.specs.LookSetLaws.{look_cmp_total, look_cmp-IsAntisymmetric};
 
-    ghost laws = { same_members_equiv };
+    ghost laws = { same_members_equiv look_cmp_total look_cmp-IsAntisymmetric };
 }
 
 impl Default for LookSet {

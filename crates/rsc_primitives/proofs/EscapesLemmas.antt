@@ -1,8 +1,7 @@
 -- The texts of bytes, and the steps of a row of bytes.
-use Rattle.std.proofs.Common.{◌≡◌, ℕ, ◌+◌, ◌-◌, ◌≤◌, List, [], ◌∷◌, length, arith, false}
+use Rattle.std.proofs.Common.{◌≡◌, ℕ, ◌+◌, ◌-◌, ◌≤◌, List, [], ◌∷◌, arith, false}
 use Rattle.std.proofs.lemmas.Bool.Decides.{nat_tests}
 use Rattle.std.specs.Char.{is_ascii}
-use Rattle.rsc_primitives.specs.Utf8.{BeginsAt}
 use Rattle.rsc_primitives.specs.Escapes.{EncodesOnlyAscii}
 use Rattle.rsc_primitives.proofs.Texts.{behind}
 

@@ -1,5 +1,5 @@
 -- What the nine forms say of bytes and places, in numbers alone.
-use Rattle.std.proofs.Common.{◌≡◌, ℕ, zero, suc, ◌+◌, ◌-◌, ◌*◌, ◌<◌, ◌≤◌, min, ◌⊎◌, cond, ltb, List, [], ◌∷◌, length, get_or, take, drop, refl, sym, ap, ◌∙◌, subst, arith, length-take, length-drop, get_or-take, get_or-drop, inl, inr, ⊎_elim, Option, Some, None, Result, Ok, Err, ext_get_or, drop-cons}
+use Rattle.std.proofs.Common.{◌≡◌, ℕ, zero, suc, ◌+◌, ◌-◌, ◌*◌, ◌<◌, ◌≤◌, ◌⊎◌, cond, ltb, List, [], ◌∷◌, length, get_or, take, drop, refl, sym, ap, ◌∙◌, subst, arith, length-take, length-drop, get_or-take, get_or-drop, inl, inr, ⊎_elim, Option, Some, Result, Ok, Err, ext_get_or, drop-cons}
 use Rattle.std.specs.Int.{IsInRange}
 use Rattle.std.specs.Char.{InScalarRange, len_utf8}
 use Rattle.std.specs.Prelude.{slice_range, slice_get}
@@ -392,12 +392,6 @@ EndsAt-from_take h s c l e =
     (f.0, record { ordered = p.ordered; within = l; encoded = subst (λ (x : List ℕ). Encodes x c) (front_slice h s f.0 p.ordered l) p.encoded })
 
 -- what the readers of a part say of the whole
-pub DecodesLastTo-none : (h : List ℕ) (s : ℕ) → s ≤ length h → DecodesLastTo (take s h) None → s ≡ 0
-DecodesLastTo-none h s l e = let n : length (take s h) ≡ 0 = ap length e in let m : min s (length h) ≡ 0 = sym (length-take s h) ∙ n in omega arith
-
-pub DecodesTo-none : (h : List ℕ) (s : ℕ) → s ≤ length h → DecodesTo (drop s h) None → s ≡ length h
-DecodesTo-none h s l e = let n : length (drop s h) ≡ 0 = ap length e in let m : length h - s ≡ 0 = sym (length-drop s h) ∙ n in omega arith
-
 pub DecodesLastTo-err : (h : List ℕ) (s b : ℕ) → s ≤ length h → DecodesLastTo (take s h) (Some (Err b)) → (0 < s) × ((c : ℕ) → EndsAt h s c → ⊥)
 DecodesLastTo-err h s b l e = (let p = e.0 in let n : length (take s h) ≡ s = simp length-take (omega arith) in omega arith, λ c q. e.2 c (EndsAt-take h s c l q))
 

@@ -1,18 +1,15 @@
 -- Words in a list: what is left of one, and the next that isn't zero, from either end.
-use Rattle.std.proofs.Common.{◌≡◌, ◌≢◌, ℕ, ◌+◌, ◌-◌, ◌*◌, ◌/◌, ◌%◌, ◌^◌, ◌<◌, ◌≤◌, ◌↔◌, Bool, true, false, List, length, get_or, refl, ap, sym, ◌∙◌, arith, w64, eqb, ltb}
+use Rattle.std.proofs.Common.{◌≡◌, ◌≢◌, ℕ, ◌+◌, ◌-◌, ◌*◌, ◌/◌, ◌%◌, ◌^◌, ◌<◌, ◌≤◌, ◌↔◌, Bool, true, false, List, get_or, refl, ap, sym, ◌∙◌, arith, w64, eqb, ltb}
 use Rattle.std.specs.Int.{bit_at, leading_zeros, trailing_zeros, div_ceil}
 use Rattle.std.specs.Str.{bytes_eq}
 use Rattle.std.proofs.lemmas.Slice.Eq.{bytes_eq-Decides}
 use Rattle.std.specs.Int.Count.{trailing_of_zero, leading_of_zero}
-use Rattle.std.proofs.lemmas.Nat.Bits.{bit_at-zero, bit_at-lt, same_from_bits_below}
-use Rattle.std.proofs.lemmas.List.{get_or_past, ext_get_or}
+use Rattle.std.proofs.lemmas.Nat.Bits.{bit_at-lt, same_from_bits_below}
+use Rattle.std.proofs.lemmas.List.{ext_get_or}
 use Rattle.std.proofs.lemmas.Nat.{trailing_le}
 use Rattle.std.proofs.lemmas.Grind.{common_steps}
 use Rattle.rsc_search.specs.WordLayout.{bit_length, has_bit, word_of, is_set, SameBits, rest_start, rest_end, IsRestFrom, IsRestTo}
 use Rattle.rsc_search.proofs.BitsLemmas.{none_under, none_above}
-
-zero_has_none : (i : ℕ) → has_bit 0 i ≡ false
-zero_has_none i = rw (bit_at-zero i) refl
 
 -- a number's bit, by its word
 pub at_word : (words : List ℕ) (w i : ℕ) → i < 64 → is_set words (64 * w + i) ≡ has_bit (word_of words w) i
@@ -25,12 +22,6 @@ pub at_number : (words : List ℕ) (w q : ℕ) → 64 * w ≤ q → q < 64 * w +
 at_number words w q from below =
     let whole : 64 * w + (q - 64 * w) ≡ q = omega arith in
     ap (is_set words) (sym whole) ∙ at_word words w (q - 64 * w) (omega arith)
-
--- no number past the last word is set
-pub past_words : (words : List ℕ) (q : ℕ) → 64 * length words ≤ q → is_set words q ≡ false
-past_words words q past =
-    let le : length words ≤ q / 64 = omega (arith, past) in
-    rw (get_or_past words (q / 64) 0 le) (zero_has_none (q % 64))
 
 -- ---- a whole word, from either end
 pub whole_from : (words : List ℕ) (w word : ℕ) → word ≡ word_of words w → IsRestFrom words w word
@@ -69,15 +60,6 @@ module _ (words : List ℕ) (index rest found : ℕ) where
       elim (ltb q (rest_start found 0)) as (λ b. ltb q (rest_start found 0) ≡ b → is_set words q ≡ false) [
         | true ↦ λ e. clear q from (grind (arith, common_steps))
         | false ↦ λ e. let past : rest_start found 0 ≤ q = grind (arith, common_steps) in clear_before words (found + 1) next fits is (at_most_64 next) q (omega (arith, all, past)) below
-      ] refl
-
-  -- where no word is left no further number is set
-  pub none_from : length words - 1 ≤ found → ((q : ℕ) → rest_start index rest ≤ q → q < rest_start found 0 → is_set words q ≡ false) → (q : ℕ) → rest_start index rest ≤ q → is_set words q ≡ false
-  none_from ended clear q from =
-      let all : trailing_zeros w64 0 ≡ 64 = of_zero in
-      elim (ltb q (rest_start found 0)) as (λ b. ltb q (rest_start found 0) ≡ b → is_set words q ≡ false) [
-        | true ↦ λ e. clear q from (grind (arith, common_steps))
-        | false ↦ λ e. let past : rest_start found 0 ≤ q = grind (arith, common_steps) in past_words words q (omega (arith, all, past))
       ] refl
 
   pub order_to : (next : ℕ) → 0 < found → rest_end found 0 ≤ rest_end index rest → rest_end (found - 1) next ≤ rest_end index rest

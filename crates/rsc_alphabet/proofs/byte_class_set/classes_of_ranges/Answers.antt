@@ -4,7 +4,7 @@ use Rattle.std.specs.FinSet.{contains-empty}
 use Rattle.std.specs.Ordering.{nat_cmp}
 use Rattle.rsc_alphabet.specs.Ranges.{separates}
 use Rattle.rsc_alphabet.specs.Partitions.{class_map}
-use Rattle.rsc_alphabet.proofs.PartitionsLemmas.{c-union, class_map_same}
+use Rattle.rsc_alphabet.proofs.PartitionsLemmas.{contains-joined, class_map_same}
 use Rattle.rsc_alphabet.proofs.RangesLemmas.{contains-edges_of_range, separates_more, same_class_is}
 use Rattle.rsc_alphabet.proofs.byte_class_set.classes_of_ranges.Goals as goal
 
@@ -13,7 +13,7 @@ loop-start-init c = λ k h. rw c.empty-partition.ensures.set (contains-empty nat
 
 pub loop-start-preserved : goal.loop-start-preserved
 loop-start-preserved c = λ k h.
-    rw c.set_range.ensures.set (c-union c.loop-start.partition _ k
+    rw c.set_range.ensures.set (contains-joined c.loop-start.partition _ k
     ∙ ap₂ (λ x y. x || y) (c.loop-start.invariant k h) (contains-edges_of_range _ k (c.requires c.loop-start.start-index (0, 0) c.loop-start-test.true) h)
     ∙ sym (separates_more c.args.ranges.now c.loop-start.start-index _ k c.loop-start-test.true))
 

@@ -1,7 +1,7 @@
 use Rattle.std.proofs.Common.{ap, ◌∙◌, arith}
 use Rattle.std.specs.FinSet as sets
 use Rattle.rsc_alphabet.proofs.MaskedLemmas.{insert_low, insert_high}
-use Rattle.rsc_alphabet.proofs.PartitionsLemmas.{c-insert}
+use Rattle.rsc_alphabet.proofs.PartitionsLemmas.{contains-inserted}
 use Rattle.rsc_alphabet.proofs.byte_set.ByteSet.add.Goals as goal
 
 pub returns-then-byte-lt128-clause-set : goal.returns-then-byte-lt128-clause-set
@@ -10,7 +10,7 @@ returns-then-byte-lt128-clause-set c =
     rw (← c.self.view_is) (insert_low c.self.inside.low bit.result c.self.inside.high c.args.byte c.self.invariant.1 (omega arith) bit.ensures.here bit.ensures.others)
 
 pub returns-then-byte-lt128-clause-members : goal.returns-then-byte-lt128-clause-members
-returns-then-byte-lt128-clause-members c = λ b. ap (λ s. sets.contains s b) (returns-then-byte-lt128-clause-set c) ∙ c-insert _ c.args.byte b
+returns-then-byte-lt128-clause-members c = λ b. ap (λ s. sets.contains s b) (returns-then-byte-lt128-clause-set c) ∙ contains-inserted _ c.args.byte b
 
 pub returns-else-byte-lt128-clause-set : goal.returns-else-byte-lt128-clause-set
 returns-else-byte-lt128-clause-set c =
@@ -18,4 +18,4 @@ returns-else-byte-lt128-clause-set c =
     rw (← c.self.view_is) (insert_high c.self.inside.low c.self.inside.high bit.result c.args.byte c.self.invariant.1 (omega (arith, bit.type_inv)) (omega arith) bit.ensures.here bit.ensures.others)
 
 pub returns-else-byte-lt128-clause-members : goal.returns-else-byte-lt128-clause-members
-returns-else-byte-lt128-clause-members c = λ b. ap (λ s. sets.contains s b) (returns-else-byte-lt128-clause-set c) ∙ c-insert _ c.args.byte b
+returns-else-byte-lt128-clause-members c = λ b. ap (λ s. sets.contains s b) (returns-else-byte-lt128-clause-set c) ∙ contains-inserted _ c.args.byte b

@@ -1,3 +1,5 @@
+use Rattle.std.specs.Cmp.{nat_cmp_total}
+use Rattle.std.specs.FinSet.{nat_cmp-IsAntisymmetric}
 use Rattle.std.proofs.Common.{ap₂, nat_eq, arith}
 use Rattle.std.proofs.lemmas.Bool.{eq-eqb, eqb-true}
 use Rattle.rsc_alphabet.specs.ByteSetLayout.{masked}
@@ -10,8 +12,8 @@ returns-then-self-other c =
     let s = c.self.inside in
     let t = c.other.inside in
     rw (← c.self.view_is, ← c.other.view_is) (same_bools (nat_eq s.high t.high) (same_members (masked s.low s.high) (masked t.low t.high))
-    (λ h. same_to _ _ (ap₂ masked c.if-self-other.true (eqb-true _ _ h)))
-    (λ h. eq-eqb _ _ (masks_same s.low s.high t.low t.high c.self.invariant.0 c.self.invariant.1 c.other.invariant.0 c.other.invariant.1 (same_from _ _ h)).1))
+    (λ h. same_to nat_cmp_total nat_cmp-IsAntisymmetric _ _ (ap₂ masked c.if-self-other.true (eqb-true _ _ h)))
+    (λ h. eq-eqb _ _ (masks_same s.low s.high t.low t.high c.self.invariant.0 c.self.invariant.1 c.other.invariant.0 c.other.invariant.1 (same_from nat_cmp_total nat_cmp-IsAntisymmetric _ _ h)).1))
 
 pub returns-else-self-other : goal.returns-else-self-other
 returns-else-self-other c =
@@ -19,4 +21,4 @@ returns-else-self-other c =
     let t = c.other.inside in
     rw (← c.self.view_is, ← c.other.view_is) (same_bools (nat_eq s.low t.low) (same_members (masked s.low s.high) (masked t.low t.high))
     (λ h. absurd (omega (arith, eqb-true _ _ h)))
-    (λ h. eq-eqb _ _ (masks_same s.low s.high t.low t.high c.self.invariant.0 c.self.invariant.1 c.other.invariant.0 c.other.invariant.1 (same_from _ _ h)).0))
+    (λ h. eq-eqb _ _ (masks_same s.low s.high t.low t.high c.self.invariant.0 c.self.invariant.1 c.other.invariant.0 c.other.invariant.1 (same_from nat_cmp_total nat_cmp-IsAntisymmetric _ _ h)).0))

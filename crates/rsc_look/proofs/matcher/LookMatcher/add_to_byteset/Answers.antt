@@ -1,12 +1,12 @@
 use Rattle.std.proofs.Common.{ap, ◌∙◌}
 use Rattle.std.specs.FinSet as sets
-use Rattle.rsc_alphabet.proofs.PartitionsLemmas.{c-union}
+use Rattle.rsc_alphabet.proofs.PartitionsLemmas.{contains-joined}
 use Rattle.rsc_look.specs.Boundaries.{boundaries_of}
 use Rattle.rsc_look.proofs.Single.{IsExactFor-from}
 use Rattle.rsc_look.proofs.matcher.LookMatcher.add_to_byteset.Goals as goal
 
 pub returns-clause-at : goal.returns-clause-at
-returns-clause-at g c = rw (← c.self.view_is) (λ b. ap (λ s. sets.contains s b) c.add_boundaries.ensures ∙ c-union c.args.set.now (boundaries_of c.args.look c.self.inside.line_terminator) b)
+returns-clause-at g c = rw (← c.self.view_is) (λ b. ap (λ s. sets.contains s b) c.add_boundaries.ensures ∙ contains-joined c.args.set.now (boundaries_of c.args.look c.self.inside.line_terminator) b)
 
 pub returns-clause-exact : goal.returns-clause-exact
 returns-clause-exact g c = rw (← c.self.view_is) (IsExactFor-from c.args.set.now c.add_boundaries.new.set c.args.look c.self.inside.line_terminator (g.W.WordClass.word_chars c.self.inside.words) c.add_boundaries.ensures)
