@@ -1,13 +1,15 @@
 //! What no contract says: worked values from outside, shown texts, and each request for memory refused in turn.
 ghost use Rattle.std.specs.Prelude.{◌≡◌};
 
+use linked_list_allocator::LocalHeap;
+use rsc_primitives::PatternID;
 use rsc_search::laws::clones::{clone_input, clone_iterator, clone_match_error};
-use rsc_search::laws::equality::{are_equal_match_errors, are_equal_pattern_sets, default_match_kind};
+use rsc_search::laws::equality::{
+    are_equal_match_errors, are_equal_pattern_sets, default_match_kind,
+};
 use rsc_search::{
     Anchored, HalfMatch, Input, Match, MatchError, MatchErrorKind, MatchKind, PatternSet, Span,
 };
-use linked_list_allocator::LocalHeap;
-use rsc_primitives::PatternID;
 use std::ops::{Bound, Range};
 use std::test::Fail;
 

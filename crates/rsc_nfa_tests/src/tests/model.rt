@@ -1,7 +1,7 @@
 //! A slow model of runs, read off the table of steps, beside `check_run` and `classes`.
-use rsc_nfa::{Nfa, State};
 use rsc_captures::GroupInfo;
 use rsc_look::{AsciiWord, Look, LookMatcher};
+use rsc_nfa::{Nfa, State};
 use rsc_primitives::{PatternID, SmallIndex, StateID};
 use rsc_search::Input;
 use std::process::Abort;

@@ -1,7 +1,7 @@
 //! The example of the README, and worked rows.
-use rsc_nfa::{Nfa, State};
 use rsc_captures::GroupInfo;
 use rsc_look::{AsciiWord, Look, LookMatcher, UnicodeWord};
+use rsc_nfa::{Nfa, State};
 use rsc_primitives::{PatternID, SmallIndex, StateID};
 use rsc_search::{Input, Span};
 use std::alloc::Global;

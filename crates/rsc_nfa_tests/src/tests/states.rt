@@ -1,8 +1,8 @@
 //! Refusals, refused memory, and what is lent.
-use rsc_nfa::{BuildError, Nfa, State};
 use linked_list_allocator::LocalHeap;
 use rsc_captures::GroupInfo;
 use rsc_look::{AsciiWord, LookMatcher};
+use rsc_nfa::{BuildError, Nfa, State};
 use rsc_primitives::{PatternID, SmallIndex, StateID};
 use std::alloc::Global;
 use std::test::Fail;

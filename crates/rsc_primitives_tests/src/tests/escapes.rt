@@ -1,5 +1,5 @@
-use rsc_primitives::escape::{DebugByte, DebugHaystack, byte_text, haystack_text};
 use linked_list_allocator::LocalHeap;
+use rsc_primitives::escape::{DebugByte, DebugHaystack, byte_text, haystack_text};
 use std::test::Fail;
 
 #[test]
