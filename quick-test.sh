@@ -14,6 +14,7 @@ run() {
     mkdir "$results/$name.cases"
     cp "$crate/stdin" "$results/$name.cases/stored"
     cp "$crate/stdout" "$results/$name.cases/stored.stdout"
+    if [ -f "$crate/args" ]; then cp "$crate/args" "$results/$name.cases/stored.args"; fi
     (cd "$crate" && rt try --steps 0 --cases "$results/$name.cases") > "$results/$name" 2>&1
   fi
   echo $? > "$results/$name.status"
