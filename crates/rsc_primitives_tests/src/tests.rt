@@ -1,3 +1,5 @@
+mod any_bytes;
 mod escapes;
 mod indices;
+mod slow_reader;
 mod utf8;

@@ -48,6 +48,10 @@ fn shows_a_haystack(rt: HostRuntime) -> Result<(), Fail> {
             "\"\\u{1a}\\u{1b}\\u{1c}\\u{1d}\\u{1e}\\u{1f} \"",
         ),
         (b"'\\~\x80".as_slice(), "\"\\'\\\\~\\x80\""),
+        (
+            b"\x00\x01\x09\x0A\x0D\x19\x1A\x1F\x20\x22\x27\x5C\x7E\x7F\x80".as_slice(),
+            "\"\\0\\x01\\t\\n\\r\\x19\\u{1a}\\u{1f} \\\"\\'\\\\~\\x7f\\x80\"",
+        ),
         (b"\xF0\x9D\x9B\x83".as_slice(), "\"𝛃\""),
         (
             b"a\xC3\xA9\xC3z\xE2\x82".as_slice(),
@@ -69,25 +73,35 @@ fn shows_a_haystack(rt: HostRuntime) -> Result<(), Fail> {
     Ok(())
 }
 
+// What a budget gives: `None` is want of memory, and otherwise whether the text is the wanted one.
+fn text_within(heap: &LocalHeap, haystack: &[u8], want: &str) -> Option<bool> {
+    match haystack_text(heap, haystack) {
+        Ok(text) => Some(text.as_str() == want),
+        Err(_) => None,
+    }
+}
+
 #[test]
 fn refuses_a_text_that_does_not_fit(rt: HostRuntime) -> Result<(), Fail> {
     let haystack = b"a line that needs more than one growth of the text\n\xFF".as_slice();
     let want = "\"a line that needs more than one growth of the text\\n\\xff\"";
     let mut refused = 0u32;
-    let mut answered = false;
+    let mut is_answered = false;
     for step in 0..64usize {
         let heap = LocalHeap::new(rt.alloc(), step * 8)?;
-        match haystack_text(&heap, haystack) {
-            Ok(text) => {
-                assert_eq!(rt; text.as_str(), want);
-                answered = true;
-                break;
+        match text_within(&heap, haystack, want) {
+            Some(as_wanted) => {
+                assert!(rt; as_wanted);
+                is_answered = true;
             }
-            Err(_) => refused = refused.saturating_add(1),
+            None => {
+                assert!(rt; !is_answered);
+                refused = refused.saturating_add(1);
+            }
         }
+        assert!(rt; heap.used() == 0);
     }
-    assert!(rt; answered);
-    assert!(rt; 1 < refused);
+    assert!(rt; is_answered && 1 < refused);
     Ok(())
 }
 

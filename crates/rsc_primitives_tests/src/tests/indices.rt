@@ -192,6 +192,14 @@ fn walks_from_zero_and_rests_at_the_end(rt: HostRuntime) -> Result<(), Fail> {
 }
 
 #[test]
+fn numbers_as_many_patterns_as_there_can_be(rt: HostRuntime) {
+    let mut all = PatternID::iter(2147483647);
+    for want in [Some(0), Some(1), Some(2)] {
+        assert_eq!(rt; all.next().map(|id| id.as_usize()), want);
+    }
+}
+
+#[test]
 fn shows_the_refused_number(rt: HostRuntime) -> Result<(), Fail> {
     let error = SmallIndex::new(4294967295).err().ok_or("accepted")?;
     assert_eq!(rt;
