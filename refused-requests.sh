@@ -1,0 +1,82 @@
+#!/usr/bin/env bash
+# Refuses each request for memory of rsc_bench in turn. For each command the program answers two lines, and its Nth request
+# fails, for N from 1 up: it must end with status 1, the text of want of memory on standard error, and nothing but answers of
+# earlier lines on standard output, until a run meets no refusal and gives both answers. It stands outside the gate, since each
+# N takes a build, of some 20 seconds: `rt try` has no other way to choose the request.
+set -u
+cd "$(dirname "$0")/crates/rsc_bench"
+folder=$(mktemp -d)
+trap 'rm -rf "$folder"' EXIT
+mkdir "$folder/cases"
+
+first='alphabet 2: 00'
+want='rsc_bench: out of memory'
+declare -A answers written_before
+add() {
+  printf 'ranges\n%s\n' "$2" > "$folder/cases/$1"
+  answers[$1]=$3
+  written_before[$1]=
+}
+add ranges 'ranges 61-7a' 'alphabet 4: 00 61 7b'
+add looks 'looks 0a StartLF' 'alphabet 4: 00 0a 0b'
+add look 'look WordUnicode 0a 6180 1' 'true'
+add groups 'groups -,x;-,-,x' 'slots 10: 0,4;2,6,8'
+add limited 'limited 6 -;-,-' 'slots 6: 0;2,4'
+
+# What the last run of a case wrote on standard output, on standard error, and its status.
+output_of() {
+  awk -v head="== $1" '/^== / { on = $0 == head; next } on' "$folder/out"
+}
+error_of() {
+  awk -v name="case=$1" '/^case=/ { if ($1 == name) printf "%s", text; text = ""; next } !/^allocations:/ { text = text $0 "\n" }' "$folder/err"
+}
+status_of() {
+  sed -n "s/^case=$1 run=ended status=\([0-9]*\) .*/\1/p" "$folder/err"
+}
+
+# Judges the last run of a case: 0 for a refusal, 1 for the full answer, 2 for anything else.
+judge() {
+  local output error status
+  output=$(output_of "$1")
+  error=$(error_of "$1")
+  status=$(status_of "$1")
+  if [ "$status" = 0 ] && [ "$output" = "$first"$'\n'"${answers[$1]}" ] && [ -z "$error" ]; then
+    # The requests for the second line come after the first answer, so some refusal must have left it.
+    [ "${written_before[$1]}" = "$first" ] && return 1
+  elif [ "$status" = 1 ] && [ "$error" = "$want" ]; then
+    # What was written before a request that comes earlier is written before this one, too.
+    if [ "$output" = "$first" ] || [ "$output" = "${written_before[$1]}" ]; then
+      written_before[$1]=$output
+      return 0
+    fi
+  fi
+  return 2
+}
+
+refused=0
+failed=0
+for ((request = 1; request <= 200 && ${#answers[@]} > 0; request++)); do
+  rt try --steps 0 --fail-alloc "$request" --cases "$folder/cases" > "$folder/out" 2> "$folder/err"
+  for name in "${!answers[@]}"; do
+    judge "$name"
+    case $? in
+      0) refused=$((refused + 1)) ;;
+      1)
+        echo "$name: $((request - 1)) requests, each refused once"
+        unset "answers[$name]"
+        rm "$folder/cases/$name"
+        ;;
+      *)
+        echo "$name, request $request: neither want of memory nor the full answer"
+        output_of "$name"
+        error_of "$name"
+        failed=$((failed + 1))
+        unset "answers[$name]"
+        rm "$folder/cases/$name"
+        ;;
+    esac
+  done
+done
+failed=$((failed + ${#answers[@]}))
+echo "refused-requests: $refused refused, $failed failed"
+[ "$failed" -eq 0 ] && [ "$refused" -gt 0 ]
