@@ -1,7 +1,8 @@
-//! What no contract says: worked values from outside, shown texts, and each request for memory refused in turn.
+//! What no contract says: worked values from outside, and shown texts.
+mod memory;
+
 ghost use Rattle.std.specs.Prelude.{◌≡◌};
 
-use linked_list_allocator::LocalHeap;
 use rsc_primitives::PatternID;
 use rsc_search::laws::clones::{clone_input, clone_iterator, clone_match_error};
 use rsc_search::laws::equality::{
@@ -303,45 +304,5 @@ fn pattern_sets_by_capacity(rt: HostRuntime) -> Result<(), Fail> {
     assert!(rt; one.insert(zero) && two.insert(zero));
     assert!(rt; one != two);
     assert!(rt; two.insert(PatternID::must(1)) && !two.insert(PatternID::must(1)));
-    Ok(())
-}
-
-// Over memory of that size: whether a set could be made, and whether it and its clone could. The set answers as before
-// where its clone was refused.
-fn made_and_cloned(heap: &LocalHeap) -> (bool, bool) {
-    let Ok(mut set) = PatternSet::new(heap, 320) else {
-        return (false, false);
-    };
-    let seven = PatternID::must(7);
-    let inserted = set.try_insert(seven).is_ok_and(|new| new);
-    let cloned = match set.clone() {
-        Ok(copy) => copy == set,
-        Err(_) => false,
-    };
-    let as_before = set.len() == 1 && set.capacity() == 320 && set.contains(seven);
-    (inserted && as_before, cloned)
-}
-
-#[test]
-fn memory_is_refused_until_there_is_enough(rt: HostRuntime) -> Result<(), Fail> {
-    let mut sets = 0u32;
-    let mut clones = 0u32;
-    for size in 0..64usize {
-        let heap = LocalHeap::new(rt.alloc(), 8 * size)?;
-        let (made, cloned) = made_and_cloned(&heap);
-        assert!(rt; made || !cloned, "at {size}");
-        assert!(rt; made || sets == 0, "refused again at {size}");
-        assert!(rt; cloned || clones == 0, "a clone refused again at {size}");
-        if made {
-            sets = sets.saturating_add(1);
-        }
-        if cloned {
-            clones = clones.saturating_add(1);
-        }
-    }
-    assert!(rt;
-        0 < clones && clones < sets && sets < 64,
-        "{clones} of {sets}"
-    );
     Ok(())
 }
