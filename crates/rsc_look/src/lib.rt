@@ -2,6 +2,7 @@
 #![tactic(auto)]
 
 mod assertion;
+mod boundaries;
 mod error;
 pub mod laws;
 mod look_set;

@@ -1,27 +1,22 @@
-//! The matcher: where the assertions hold, and which bytes they can tell apart.
-ghost use Rattle.std.specs.Prelude.{◌≡◌, ◌≤◌, ◌-◌, ◌↔◌, ◌||◌, true, false, ℕ, Bool, IsTrue, IsOkAnd, IfOk, IsOk, length};
+//! The matcher: where the assertions hold.
+ghost use Rattle.std.specs.Prelude.{◌≡◌, ◌≤◌, ◌-◌, ◌↔◌, true, false, IsTrue, IsOkAnd, IfOk, IsOk, length};
 ghost use Rattle.std.specs.FinSet as sets;
-ghost use Rattle.std.specs.Int.{is_in_range};
-ghost use Rattle.rsc_primitives.specs.Utf8.{IsInside, is_word_byte};
-ghost use Rattle.rsc_alphabet.specs.Partitions.{class_map};
+ghost use Rattle.rsc_primitives.specs.Utf8.{IsInside};
 ghost use Rattle.rsc_look.specs.declared.assertion.Look.{Look};
 ghost use Rattle.rsc_look.specs.Looks.{is_unicode, reversed};
 ghost use Rattle.rsc_look.specs.Holds.{Holds, IsBefore, IsAfter, holds_at_bytes, byte_before, byte_after};
 ghost use Rattle.rsc_look.specs.SideLayout.{IsSideOf};
-ghost use Rattle.rsc_look.specs.Boundaries.{word_boundaries, boundaries_of, boundaries_of_each};
-ghost use Rattle.rsc_look.specs.Keeping.{AgreesWithAscii, AgreesWhereAsked, IsCoarsestMap, IsExactFor};
 ghost use Rattle.rsc_look.specs.Mirrors.{mirror, IsTextMirrored};
 
 use crate::side::{Side, byte_after, byte_before, is_byte, is_word_at};
 use crate::{Look, LookSet, UnicodeWord, UnicodeWordBoundaryError, WordClass};
-use rsc_alphabet::{ByteClassSet, ByteClasses, ByteSet};
 use rsc_primitives::utf8;
 use std::alloc::AllocError;
 use std::marker::Model;
 
-const LINE_FEED: u8 = b'\n';
+pub(crate) const LINE_FEED: u8 = b'\n';
 
-const CARRIAGE_RETURN: u8 = b'\r';
+pub(crate) const CARRIAGE_RETURN: u8 = b'\r';
 
 /// Tests assertions at the positions of a haystack, for a line terminator and a choice of word characters.
 ///
@@ -116,6 +111,35 @@ impl<W: WordClass> LookMatcher<W> {
         self.holds_at(look, haystack, at)
     }
 
+    // Whether an assertion holds, by its own call. The calls of the Unicode assertions are never inlined, so that this, which a
+    // search asks at each byte, is small enough to be.
+    #[inline(always)]
+    fn holds_at(&self, look: Look, haystack: &[u8], at: usize) -> bool
+        requires { at ≤ length haystack.now }
+        ensures { IsTrue result ↔ Holds look self.now.0 (W.word_chars self.now.1) haystack.now at }
+    {
+        match look {
+            Look::Start => self.is_start(haystack, at),
+            Look::End => self.is_end(haystack, at),
+            Look::StartLF => self.is_start_lf(haystack, at),
+            Look::EndLF => self.is_end_lf(haystack, at),
+            Look::StartCRLF => self.is_start_crlf(haystack, at),
+            Look::EndCRLF => self.is_end_crlf(haystack, at),
+            Look::WordAscii => self.is_word_ascii(haystack, at),
+            Look::WordAsciiNegate => self.is_word_ascii_negate(haystack, at),
+            Look::WordUnicode => self.is_word_unicode(haystack, at).unwrap(),
+            Look::WordUnicodeNegate => self.is_word_unicode_negate(haystack, at).unwrap(),
+            Look::WordStartAscii => self.is_word_start_ascii(haystack, at),
+            Look::WordEndAscii => self.is_word_end_ascii(haystack, at),
+            Look::WordStartUnicode => self.is_word_start_unicode(haystack, at).unwrap(),
+            Look::WordEndUnicode => self.is_word_end_unicode(haystack, at).unwrap(),
+            Look::WordStartHalfAscii => self.is_word_start_half_ascii(haystack, at),
+            Look::WordEndHalfAscii => self.is_word_end_half_ascii(haystack, at),
+            Look::WordStartHalfUnicode => self.is_word_start_half_unicode(haystack, at).unwrap(),
+            Look::WordEndHalfUnicode => self.is_word_end_half_unicode(haystack, at).unwrap(),
+        }
+    }
+
     /// Whether every assertion of a set holds at a position of a haystack; so it is where the set has no member.
     #[inline(always)]
     pub fn matches_set(&self, set: LookSet, haystack: &[u8], at: usize) -> bool
@@ -129,6 +153,44 @@ impl<W: WordClass> LookMatcher<W> {
             }
         }
         true
+    }
+
+    // What stands before a position.
+    #[inline(always)]
+    fn side_before(&self, haystack: &[u8], at: usize) -> Side
+        requires { at ≤ length haystack.now }
+        ensures { IsBefore (W.word_chars self.now.1) haystack.now at result }
+    {
+        match utf8::decode_last(&haystack[..at]) {
+            None => Side::Absent,
+            Some(Ok(c)) => self.side_of(c),
+            Some(Err(_)) => Side::Bad,
+        }
+    }
+
+    // What stands after a position.
+    #[inline(always)]
+    fn side_after(&self, haystack: &[u8], at: usize) -> Side
+        requires { at ≤ length haystack.now }
+        ensures { IsAfter (W.word_chars self.now.1) haystack.now at result }
+    {
+        match utf8::decode(&haystack[at..]) {
+            None => Side::Absent,
+            Some(Ok(c)) => self.side_of(c),
+            Some(Err(_)) => Side::Bad,
+        }
+    }
+
+    // What a character on a side makes of it.
+    #[inline(always)]
+    fn side_of(&self, c: char) -> Side
+        ensures { IsSideOf (W.word_chars self.now.1) c result }
+    {
+        if self.words.is_word(c) {
+            Side::Word
+        } else {
+            Side::Other
+        }
     }
 
     /// Whether the position is the start of the haystack.
@@ -236,7 +298,13 @@ impl<W: WordClass> LookMatcher<W> {
         requires { at ≤ length haystack.now }
         ensures { IsOkAnd result (λ r. IsTrue r ↔ Holds Look.WordUnicodeNegate self.now.0 (W.word_chars self.now.1) haystack.now at) }
     {
-        Ok(self.is_inside_or_outside_words(haystack, at))
+        let before = self.side_before(haystack, at);
+        // A side whose bytes are no character is reason enough not to read the other one.
+        if before.is_bad() {
+            return Ok(false);
+        }
+        let after = self.side_after(haystack, at);
+        Ok(!after.is_bad() & (before.is_word() == after.is_word()))
     }
 
     /// Whether the byte after the position is a word byte, and none is before it.
@@ -327,174 +395,5 @@ impl<W: WordClass> LookMatcher<W> {
         ensures { IsOkAnd result (λ r. IsTrue r ↔ Holds Look.WordEndHalfUnicode self.now.0 (W.word_chars self.now.1) haystack.now at) }
     {
         Ok(self.side_after(haystack, at).is_absent_or_other())
-    }
-
-    /// Adds to a set the boundaries between bytes that an assertion can tell apart, and no others.
-    ///
-    /// A partition with these boundaries keeps the assertion: to replace bytes by bytes of their interval changes it at no
-    /// position of any haystack. Of a Unicode assertion this is said of replacements within ASCII, and where the matcher's
-    /// word characters below 128 are the word bytes.
-    pub fn add_to_byteset(&self, look: Look, set: &mut ByteClassSet)
-        ensures adds { set.new ≡ sets.union set.old (boundaries_of look self.now.0) }
-        ensures at { (b : ℕ) → sets.contains set.new b ≡ (sets.contains set.old b || sets.contains (boundaries_of look self.now.0) b) }
-        ensures exact { (is_unicode look ≡ true → AgreesWithAscii (W.word_chars self.now.1)) →
-            IsExactFor (sets.contains set.new) look self.now.0 (W.word_chars self.now.1) }
-    {
-        add_boundaries(self.line_terminator, look, set);
-    }
-
-    /// The classes of bytes that the assertions of a list can't tell apart: those of the coarsest partition of the bytes
-    /// into intervals that keeps them all. Takes no memory.
-    ///
-    /// Two bytes of one class may replace each other anywhere in any haystack, and no assertion of the list changes at any
-    /// position. Of a Unicode assertion this is said of replacements within ASCII, and where the matcher's word characters
-    /// below 128 are the word bytes; without that the classes are still those of the list's boundaries.
-    pub fn classes_of(&self, looks: &[Look]) -> ByteClasses
-        ensures classes { result ≡ class_map (sets.contains (boundaries_of_each looks.now self.now.0)) }
-        ensures coarsest { AgreesWhereAsked (W.word_chars self.now.1) looks.now →
-            IsCoarsestMap result looks.now self.now.0 (W.word_chars self.now.1) }
-    {
-        let mut set = ByteClassSet::empty();
-        for look in looks {
-            self.add_to_byteset(*look, &mut set);
-        }
-        set.byte_classes()
-    }
-
-    // Whether an assertion holds, by its own call. The calls of the Unicode assertions are never inlined, so that this, which a
-    // search asks at each byte, is small enough to be.
-    #[inline(always)]
-    fn holds_at(&self, look: Look, haystack: &[u8], at: usize) -> bool
-        requires { at ≤ length haystack.now }
-        ensures { IsTrue result ↔ Holds look self.now.0 (W.word_chars self.now.1) haystack.now at }
-    {
-        match look {
-            Look::Start => self.is_start(haystack, at),
-            Look::End => self.is_end(haystack, at),
-            Look::StartLF => self.is_start_lf(haystack, at),
-            Look::EndLF => self.is_end_lf(haystack, at),
-            Look::StartCRLF => self.is_start_crlf(haystack, at),
-            Look::EndCRLF => self.is_end_crlf(haystack, at),
-            Look::WordAscii => self.is_word_ascii(haystack, at),
-            Look::WordAsciiNegate => self.is_word_ascii_negate(haystack, at),
-            Look::WordUnicode => self.is_word_unicode(haystack, at).unwrap(),
-            Look::WordUnicodeNegate => self.is_word_unicode_negate(haystack, at).unwrap(),
-            Look::WordStartAscii => self.is_word_start_ascii(haystack, at),
-            Look::WordEndAscii => self.is_word_end_ascii(haystack, at),
-            Look::WordStartUnicode => self.is_word_start_unicode(haystack, at).unwrap(),
-            Look::WordEndUnicode => self.is_word_end_unicode(haystack, at).unwrap(),
-            Look::WordStartHalfAscii => self.is_word_start_half_ascii(haystack, at),
-            Look::WordEndHalfAscii => self.is_word_end_half_ascii(haystack, at),
-            Look::WordStartHalfUnicode => self.is_word_start_half_unicode(haystack, at).unwrap(),
-            Look::WordEndHalfUnicode => self.is_word_end_half_unicode(haystack, at).unwrap(),
-        }
-    }
-
-    // `WordUnicodeNegate`: a side whose bytes are no character is reason enough not to read the other one.
-    #[inline(always)]
-    fn is_inside_or_outside_words(&self, haystack: &[u8], at: usize) -> bool
-        requires { at ≤ length haystack.now }
-        ensures { IsTrue result ↔ Holds Look.WordUnicodeNegate self.now.0 (W.word_chars self.now.1) haystack.now at }
-    {
-        let before = self.side_before(haystack, at);
-        if before.is_bad() {
-            return false;
-        }
-        let after = self.side_after(haystack, at);
-        !after.is_bad() & (before.is_word() == after.is_word())
-    }
-
-    // What stands before a position.
-    #[inline(always)]
-    fn side_before(&self, haystack: &[u8], at: usize) -> Side
-        requires { at ≤ length haystack.now }
-        ensures { IsBefore (W.word_chars self.now.1) haystack.now at result }
-    {
-        match utf8::decode_last(&haystack[..at]) {
-            None => Side::Absent,
-            Some(Ok(c)) => self.side_of(c),
-            Some(Err(_)) => Side::Bad,
-        }
-    }
-
-    // What stands after a position.
-    #[inline(always)]
-    fn side_after(&self, haystack: &[u8], at: usize) -> Side
-        requires { at ≤ length haystack.now }
-        ensures { IsAfter (W.word_chars self.now.1) haystack.now at result }
-    {
-        match utf8::decode(&haystack[at..]) {
-            None => Side::Absent,
-            Some(Ok(c)) => self.side_of(c),
-            Some(Err(_)) => Side::Bad,
-        }
-    }
-
-    // What a character on a side makes of it.
-    #[inline(always)]
-    fn side_of(&self, c: char) -> Side
-        ensures { IsSideOf (W.word_chars self.now.1) c result }
-    {
-        if self.words.is_word(c) {
-            Side::Word
-        } else {
-            Side::Other
-        }
-    }
-}
-
-// Adds the boundaries of an assertion to a set.
-fn add_boundaries(line_terminator: u8, look: Look, set: &mut ByteClassSet)
-    ensures { set.new ≡ sets.union set.old (boundaries_of look line_terminator) }
-{
-    match look {
-        Look::Start | Look::End => {}
-        Look::StartLF | Look::EndLF => set.set_range(line_terminator, line_terminator),
-        Look::StartCRLF | Look::EndCRLF => {
-            set.set_range(CARRIAGE_RETURN, CARRIAGE_RETURN);
-            set.set_range(LINE_FEED, LINE_FEED);
-        }
-        Look::WordAscii
-        | Look::WordAsciiNegate
-        | Look::WordUnicode
-        | Look::WordUnicodeNegate
-        | Look::WordStartAscii
-        | Look::WordEndAscii
-        | Look::WordStartUnicode
-        | Look::WordEndUnicode
-        | Look::WordStartHalfAscii
-        | Look::WordEndHalfAscii
-        | Look::WordStartHalfUnicode
-        | Look::WordEndHalfUnicode => add_word_boundaries(set),
-    }
-}
-
-// Adds the boundaries of the four runs of word bytes.
-fn add_word_boundaries(set: &mut ByteClassSet)
-    ensures { set.new ≡ sets.union set.old word_boundaries }
-{
-    set.add_set(&word_bytes());
-}
-
-// The word bytes.
-fn word_bytes() -> ByteSet
-    ensures { (b : ℕ) → sets.contains result b ≡ is_word_byte b }
-{
-    let mut bytes = ByteSet::empty();
-    add_run(&mut bytes, b'0', b'9');
-    add_run(&mut bytes, b'A', b'Z');
-    add_run(&mut bytes, b'_', b'_');
-    add_run(&mut bytes, b'a', b'z');
-    bytes
-}
-
-// Makes the bytes from `start` to `end` members, both included.
-#[inline(always)]
-fn add_run(bytes: &mut ByteSet, start: u8, end: u8)
-    requires { start ≤ end }
-    ensures { (b : ℕ) → sets.contains bytes.new b ≡ (is_in_range start end b || sets.contains bytes.old b) }
-{
-    for byte in start..=end {
-        bytes.add(byte);
     }
 }

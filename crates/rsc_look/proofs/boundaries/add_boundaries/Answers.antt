@@ -3,7 +3,7 @@ use Rattle.rsc_look.specs.Boundaries.{boundaries_of}
 use Rattle.std.specs.FinSet as sets
 use Rattle.rsc_alphabet.specs.Partitions.{edges_of}
 use Rattle.rsc_look.proofs.Marks.{adds_none, adds_both}
-use Rattle.rsc_look.proofs.matcher.add_boundaries.Goals as goal
+use Rattle.rsc_look.proofs.boundaries.add_boundaries.Goals as goal
 
 pub returns-in-Start : goal.returns-in-Start
 returns-in-Start c = adds_none c.args.set.now ∙ ap (sets.union c.args.set.now) (⊎_elim (λ e. ap (λ l. boundaries_of l c.args.line_terminator) (sym e)) (λ e. ap (λ l. boundaries_of l c.args.line_terminator) (sym e)) c.in-Start.is)

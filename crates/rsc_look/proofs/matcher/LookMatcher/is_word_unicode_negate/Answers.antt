@@ -1,5 +1,5 @@
 use Rattle.rsc_look.proofs.Sides.{bad_is_none, agrees}
-use Rattle.rsc_look.proofs.matcher.LookMatcher.is_inside_or_outside_words.Goals as goal
+use Rattle.rsc_look.proofs.matcher.LookMatcher.is_word_unicode_negate.Goals as goal
 
 pub returns-then-is_bad : goal.returns-then-is_bad
 returns-then-is_bad g c = bad_is_none c.args.self.now.0 (g.W.WordClass.word_chars c.args.self.now.1) c.args.haystack.now c.args.at c.side_before-before.result _ c.requires c.side_before-before.ensures c.is_bad.ensures c.if-is_bad.true

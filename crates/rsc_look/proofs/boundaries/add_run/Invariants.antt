@@ -1,6 +1,6 @@
 use Rattle.std.proofs.Common.{◌≡◌, ◌&&◌, ◌||◌, ℕ, nat_le, nat_lt}
 use Rattle.std.specs.FinSet as sets
-use Rattle.rsc_look.proofs.matcher.add_run.Given as goal
+use Rattle.rsc_look.proofs.boundaries.add_run.Given as goal
 
 -- the bytes from `start` up to `byte` were made members
 abbrev pub invariant-loop-byte : goal.invariant-loop-byte

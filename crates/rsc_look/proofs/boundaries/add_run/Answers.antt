@@ -1,7 +1,7 @@
 use Rattle.std.proofs.Common.{◌||◌, ap, ◌∙◌, arith}
 use Rattle.std.specs.FinSet as sets
 use Rattle.rsc_look.proofs.WordMarks.{run_is_done}
-use Rattle.rsc_look.proofs.matcher.add_run.Goals as goal
+use Rattle.rsc_look.proofs.boundaries.add_run.Goals as goal
 
 pub returns : goal.returns
 returns c = λ b.

@@ -1,0 +1,106 @@
+//! Which bytes the assertions can tell apart.
+//!
+//! An automaton over bytes needs one column for each class of bytes. The fewer boundaries an assertion adds, the fewer columns there
+//! are: so no more are added than the assertion needs, and those of the word assertions are the ends of the four runs of word bytes.
+ghost use Rattle.std.specs.Prelude.{◌≡◌, ◌≤◌, ◌||◌, true, ℕ};
+ghost use Rattle.std.specs.FinSet as sets;
+ghost use Rattle.std.specs.Int.{is_in_range};
+ghost use Rattle.rsc_primitives.specs.Utf8.{is_word_byte};
+ghost use Rattle.rsc_alphabet.specs.Partitions.{class_map};
+ghost use Rattle.rsc_look.specs.Looks.{is_unicode};
+ghost use Rattle.rsc_look.specs.Boundaries.{word_boundaries, boundaries_of, boundaries_of_each};
+ghost use Rattle.rsc_look.specs.Keeping.{AgreesWithAscii, AgreesWhereAsked, IsCoarsestMap, IsExactFor};
+
+use crate::matcher::{CARRIAGE_RETURN, LINE_FEED};
+use crate::{Look, LookMatcher, WordClass};
+use rsc_alphabet::{ByteClassSet, ByteClasses, ByteSet};
+
+impl<W: WordClass> LookMatcher<W> {
+    /// Adds to a set the boundaries between bytes that an assertion can tell apart, and no others.
+    ///
+    /// A partition with these boundaries keeps the assertion: to replace bytes by bytes of their interval changes it at no
+    /// position of any haystack. Of a Unicode assertion this is said of replacements within ASCII, and where the matcher's
+    /// word characters below 128 are the word bytes.
+    pub fn add_to_byteset(&self, look: Look, set: &mut ByteClassSet)
+        ensures adds { set.new ≡ sets.union set.old (boundaries_of look self.now.0) }
+        ensures at { (b : ℕ) → sets.contains set.new b ≡ (sets.contains set.old b || sets.contains (boundaries_of look self.now.0) b) }
+        ensures exact { (is_unicode look ≡ true → AgreesWithAscii (W.word_chars self.now.1)) →
+            IsExactFor (sets.contains set.new) look self.now.0 (W.word_chars self.now.1) }
+    {
+        add_boundaries(self.get_line_terminator(), look, set);
+    }
+
+    /// The classes of bytes that the assertions of a list can't tell apart: those of the coarsest partition of the bytes
+    /// into intervals that keeps them all. Takes no memory.
+    ///
+    /// Two bytes of one class may replace each other anywhere in any haystack, and no assertion of the list changes at any
+    /// position. Of a Unicode assertion this is said of replacements within ASCII, and where the matcher's word characters
+    /// below 128 are the word bytes; without that the classes are still those of the list's boundaries.
+    pub fn classes_of(&self, looks: &[Look]) -> ByteClasses
+        ensures classes { result ≡ class_map (sets.contains (boundaries_of_each looks.now self.now.0)) }
+        ensures coarsest { AgreesWhereAsked (W.word_chars self.now.1) looks.now →
+            IsCoarsestMap result looks.now self.now.0 (W.word_chars self.now.1) }
+    {
+        let mut set = ByteClassSet::empty();
+        for look in looks {
+            self.add_to_byteset(*look, &mut set);
+        }
+        set.byte_classes()
+    }
+}
+
+// Adds the boundaries of an assertion to a set.
+fn add_boundaries(line_terminator: u8, look: Look, set: &mut ByteClassSet)
+    ensures { set.new ≡ sets.union set.old (boundaries_of look line_terminator) }
+{
+    match look {
+        Look::Start | Look::End => {}
+        Look::StartLF | Look::EndLF => set.set_range(line_terminator, line_terminator),
+        Look::StartCRLF | Look::EndCRLF => {
+            set.set_range(CARRIAGE_RETURN, CARRIAGE_RETURN);
+            set.set_range(LINE_FEED, LINE_FEED);
+        }
+        Look::WordAscii
+        | Look::WordAsciiNegate
+        | Look::WordUnicode
+        | Look::WordUnicodeNegate
+        | Look::WordStartAscii
+        | Look::WordEndAscii
+        | Look::WordStartUnicode
+        | Look::WordEndUnicode
+        | Look::WordStartHalfAscii
+        | Look::WordEndHalfAscii
+        | Look::WordStartHalfUnicode
+        | Look::WordEndHalfUnicode => add_word_boundaries(set),
+    }
+}
+
+// Adds the boundaries of the four runs of word bytes.
+fn add_word_boundaries(set: &mut ByteClassSet)
+    ensures { set.new ≡ sets.union set.old word_boundaries }
+{
+    set.add_set(&word_bytes());
+}
+
+// The word bytes.
+fn word_bytes() -> ByteSet
+    ensures { (b : ℕ) → sets.contains result b ≡ is_word_byte b }
+{
+    let mut bytes = ByteSet::empty();
+    add_run(&mut bytes, b'0', b'9');
+    add_run(&mut bytes, b'A', b'Z');
+    add_run(&mut bytes, b'_', b'_');
+    add_run(&mut bytes, b'a', b'z');
+    bytes
+}
+
+// Makes the bytes from `start` to `end` members, both included.
+#[inline(always)]
+fn add_run(bytes: &mut ByteSet, start: u8, end: u8)
+    requires { start ≤ end }
+    ensures { (b : ℕ) → sets.contains bytes.new b ≡ (is_in_range start end b || sets.contains bytes.old b) }
+{
+    for byte in start..=end {
+        bytes.add(byte);
+    }
+}
