@@ -35,7 +35,7 @@ pub enum GroupInfoErrorKind<A: Allocator = Global> {
         /// The pattern.
         pattern: PatternID,
     },
-    /// A name stands twice in a pattern.
+    /// A name is used twice in a pattern.
     Duplicate {
         /// The pattern.
         pattern: PatternID,
