@@ -1,6 +1,7 @@
 //! The command `classes`: which bytes share a class, and why the others don't.
 ghost use Rattle.std.specs.Prelude.{◌≡◌, ◌≤◌, ◌<◌, []};
-ghost use Rattle.rsc_look.specs.Keeping.{IsCoarsestMap};
+ghost use Rattle.std.specs.FinSet as sets;
+ghost use Rattle.rsc_look.specs.Keeping.{IsCoarsestMap, Keeps};
 ghost use Rattle.rsc_show.specs.Chosen.{chosen_words};
 
 use crate::arguments::{Haystack, Request, parse};
@@ -11,6 +12,7 @@ use crate::text::{push_cell, push_right};
 use crate::witness::witness;
 use crate::words::{Words, words_agree};
 use rsc_alphabet::{ByteClassSet, ByteClasses};
+use rsc_look::laws::kept_lists_are_joined;
 use rsc_look::{Look, LookMatcher};
 use rsc_primitives::escape::byte_text;
 use std::alloc::Global;
@@ -44,16 +46,25 @@ fn classes_of(matcher: &LookMatcher<Words>, looks: &[Look], ranges: &[(u8, u8)])
     if ranges.is_empty() {
         return coarsest_classes(matcher, looks);
     }
+    alphabet_of(matcher, looks, ranges).byte_classes()
+}
+
+// A partition for ranges and for assertions, which keeps the assertions.
+fn alphabet_of(matcher: &LookMatcher<Words>, looks: &[Look], ranges: &[(u8, u8)]) -> ByteClassSet
+    ensures { Keeps (sets.contains result) looks.now matcher.now.0 (chosen_words matcher.now.1) }
+{
+    words_agree();
+    kept_lists_are_joined();
     let mut set = ByteClassSet::empty();
-    for look in looks {
-        matcher.add_to_byteset(*look, &mut set);
-    }
     for (start, end) in ranges {
         if *start <= *end {
             set.set_range(*start, *end);
         }
     }
-    set.byte_classes()
+    for look in looks {
+        matcher.add_to_byteset(*look, &mut set);
+    }
+    set
 }
 
 // The classes of the coarsest partition that keeps the list.
