@@ -1,10 +1,10 @@
-//! The answers as texts, and what stands where reading, writing or memory fails.
+//! The answers as texts.
+mod memory;
+mod streams;
+
 use crate::error::BenchError;
 use crate::run::run;
-use linked_list_allocator::LocalHeap;
 use std::alloc::Global;
-use std::io;
-use std::io::{Read, Write};
 use std::test::Fail;
 
 const MISSING: &str =
@@ -189,97 +189,4 @@ fn displays_errors(rt: HostRuntime) -> Result<(), Fail> {
         assert_eq!(rt; text.as_str(), want);
     }
     Ok(())
-}
-
-#[test]
-fn memory_is_refused_until_there_is_enough(rt: HostRuntime) -> Result<(), Fail> {
-    let mut answered = 0u32;
-    for size in 0..192usize {
-        let heap = LocalHeap::new(rt.alloc(), 64 * size)?;
-        let mut reader = "groups -,x;-,-,x".as_bytes();
-        let mut writer = Vec::new(rt.alloc());
-        match run(&heap, &mut reader, &mut writer) {
-            Ok(()) => {
-                assert_eq!(rt; writer.as_slice(), b"slots 10: 0,4;2,6,8\n".as_slice());
-                answered = answered.saturating_add(1);
-            }
-            Err(error) => {
-                assert_eq!(rt; error, BenchError::OutOfMemory);
-                assert!(rt; writer.is_empty() && answered == 0, "at {size}");
-            }
-        }
-    }
-    assert!(rt; 0 < answered && answered < 192, "{answered}");
-    Ok(())
-}
-
-// Gives so many bytes of `\n`, one a call, and then an error.
-#[derive(Drop)]
-struct FailingReader {
-    left: u32,
-}
-
-impl Read for FailingReader {
-    fn read(&mut self, buf: &mut [u8]) -> io::Result<usize> {
-        if self.left == 0 {
-            return Err(io::Error::from(io::ErrorKind::BrokenPipe));
-        }
-        self.left -= 1;
-        match buf.first_mut() {
-            Some(place) => {
-                *place = b'\n';
-                Ok(1)
-            }
-            None => Ok(0),
-        }
-    }
-}
-
-// Takes so many bytes whole, and refuses the next write.
-#[derive(Drop)]
-struct FailingWriter {
-    taken: Vec<u8>,
-    room: usize,
-}
-
-impl Write for FailingWriter {
-    fn write(&mut self, buf: &[u8]) -> io::Result<usize> {
-        if self.taken.len() >= self.room {
-            return Err(io::Error::from(io::ErrorKind::BrokenPipe));
-        }
-        self.taken.extend_from_slice(buf)?;
-        Ok(buf.len())
-    }
-
-    fn flush(&mut self) -> io::Result<()> {
-        Ok(())
-    }
-}
-
-#[test]
-fn a_failed_read_writes_nothing(rt: HostRuntime) {
-    for left in [0, 3, 4_294_967_295] {
-        let mut reader = FailingReader { left };
-        let mut writer = Vec::new(rt.alloc());
-        assert_eq!(rt;
-            run(rt.alloc(), &mut reader, &mut writer),
-            Err(BenchError::Read),
-            "after {left}"
-        );
-        assert!(rt; writer.is_empty());
-    }
-}
-
-#[test]
-fn a_failed_write_leaves_the_earlier_answers(rt: HostRuntime) {
-    let mut reader = "ranges\nranges 61-7a\n".as_bytes();
-    let mut writer = FailingWriter {
-        taken: Vec::new(rt.alloc()),
-        room: 1,
-    };
-    assert_eq!(rt;
-        run(rt.alloc(), &mut reader, &mut writer),
-        Err(BenchError::Write)
-    );
-    assert_eq!(rt; writer.taken.as_slice(), b"alphabet 2: 00\n".as_slice());
 }
