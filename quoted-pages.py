@@ -127,7 +127,7 @@ def pages():
         file = ROOT / "crates" / crate / "CALLING.md"
         yield file, page(crate, file.read_text(encoding="utf-8"))
         file = ROOT / "crates" / crate / "README.md"
-        yield file, readme(f"crates/rsc_uses/src/readmes/{crate}.rt", file.read_text(encoding="utf-8"))
+        yield file, readme(f"crates/rsc_uses/src/readmes/{crate.removeprefix('rsc_')}.rt", file.read_text(encoding="utf-8"))
     file = ROOT / "README.md"
     yield file, readme("crates/rsc_example/src/main.rt", file.read_text(encoding="utf-8"))
 
