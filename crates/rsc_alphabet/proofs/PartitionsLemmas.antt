@@ -28,22 +28,18 @@ contains-joined s t q = contains-union nat_cmp_total s t q
 
 -- ---- the boundaries of a range
 
+or_false : (b : Bool) → (b || false) ≡ b
+or_false true = refl
+or_false false = refl
+
 pub contains-edges_of : (s e q : ℕ) → sets.contains (edges_of (s, e)) q ≡ ((nat_lt 0 s && nat_eq (s - 1) q) || (nat_lt e 255 && nat_eq e q))
 contains-edges_of s e q =
     contains-from_list_nat _ q ∙ by_cases (nat_lt 0 s) (nat_lt e 255)
   where
     by_cases : (u v : Bool) → list_any (λ y. nat_eq y q) (cond u ((s - 1) ∷ []) [] ++ cond v (e ∷ []) []) ≡ ((u && nat_eq (s - 1) q) || (v && nat_eq e q))
-    by_cases true true = ap (λ b. nat_eq (s - 1) q || b) (or_none (nat_eq e q))
-      where
-        or_none : (b : Bool) → (b || false) ≡ b
-        or_none true = refl
-        or_none false = refl
+    by_cases true true = ap (λ b. nat_eq (s - 1) q || b) (or_false (nat_eq e q))
     by_cases true false = refl
-    by_cases false true = or_none (nat_eq e q)
-      where
-        or_none : (b : Bool) → (b || false) ≡ b
-        or_none true = refl
-        or_none false = refl
+    by_cases false true = or_false (nat_eq e q)
     by_cases false false = refl
 
 -- the boundary before the first byte, and the one after the last

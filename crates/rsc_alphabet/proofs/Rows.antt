@@ -11,7 +11,7 @@ use Rattle.rsc_alphabet.specs.ByteSets.{Numbers, members, begins_run, ends_run, 
 use Rattle.rsc_alphabet.specs.Partitions.{class_of, edges_of}
 use Rattle.rsc_alphabet.specs.Ranges.{are_alike, separates}
 use Rattle.rsc_alphabet.specs.Symbols.{byte, end_of_input}
-use Rattle.rsc_alphabet.specs.Walks.{elements_of, symbols, representatives_of}
+use Rattle.rsc_alphabet.specs.Iterators.{elements_of, symbols, representatives_of}
 
 -- the range a-z, and the ranges 0-2 and 4-6
 letters : List (ℕ × ℕ)
@@ -81,7 +81,7 @@ runs_of_some =
     (filter_same (ends_run some) end_in_some 0 256 (λ k l h. rw (contains-some k, contains-some (k + 1)) refl))
     ∙ runs_computed
 
--- ---- the walks of the map that gives 0 the class 7, and every other byte the class 0
+-- ---- the iterators of the map that gives 0 the class 7, and every other byte the class 0
 
 one_seven : List ℕ
 one_seven = 7 ∷ map (λ b. 0) (from_to 1 256)

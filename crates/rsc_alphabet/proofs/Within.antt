@@ -1,4 +1,4 @@
--- What the walks of a class map give stays within its alphabet; the length of a row.
+-- What the iterators of a class map give stays within its alphabet; the length of a row.
 use Rattle.std.proofs.Common.{◌≡◌, ⊎_elim, ℕ, zero, suc, ◌+◌, ◌-◌, ◌<◌, ◌≤◌, ◌^◌, Bool, true, List, [], ◌∷◌, map, filter, get_or, sym, ap, ◌∙◌, arith, nat_eq, nat_lt, slice_index}
 use Rattle.std.specs.Prelude.{IsSome}
 use Rattle.std.specs.List.{All}
@@ -13,7 +13,7 @@ use Rattle.rsc_alphabet.specs.Bytes.{from_to, bytes}
 use Rattle.rsc_alphabet.specs.BytesLaws.{length-from_to, get_or-from_to}
 use Rattle.rsc_alphabet.specs.Partitions.{class_of}
 use Rattle.rsc_alphabet.specs.Symbols.{Symbol, byte, end_of_input, byte_of, number_of}
-use Rattle.rsc_alphabet.specs.Walks.{class_at, end_of, symbols, elements_of, representing, end_if_unbounded, representatives_of, stride2_of}
+use Rattle.rsc_alphabet.specs.Iterators.{class_at, end_of, symbols, elements_of, representing, end_if_unbounded, representatives_of, stride2_of}
 use Rattle.rsc_alphabet.proofs.PartitionsLemmas.{class_of_none, class_of_more, class_of-between}
 
 -- each number of a range is below its end

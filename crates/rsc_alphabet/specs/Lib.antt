@@ -1,13 +1,13 @@
-pub mod Bytes
-pub mod BytesLaws
 pub mod ByteSetLayout
 pub mod ByteSets
 pub mod ByteSetsLaws
+pub mod Bytes
+pub mod BytesLaws
+pub mod IteratorLayout
+pub mod Iterators
 pub mod Partitions
 pub mod Ranges
 pub mod SameMembers
 pub mod SymbolLayout
 pub mod Symbols
 pub mod SymbolsLaws
-pub mod WalkLayout
-pub mod Walks

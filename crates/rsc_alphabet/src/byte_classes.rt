@@ -1,10 +1,10 @@
-//! Maps from a byte to its class, and the walks over the classes, their elements and their representatives.
+//! Maps from a byte to its class, and the iterators over the classes, their elements and their representatives.
 ghost use Rattle.std.specs.Prelude.{◌≡◌, ◌↔◌, ℕ, ◌+◌, ◌^◌, ◌<◌, ◌≤◌, IsTrue, IsSome, All, slice_index, slice_set, length};
 ghost use Rattle.std.specs.Range.Bound.{end_index};
 ghost use Rattle.std.specs.Iterator.{YieldsFirst, item_count};
 ghost use Rattle.rsc_alphabet.specs.Bytes.{bytes};
 ghost use Rattle.rsc_alphabet.specs.Symbols.{byte_of, number_of};
-ghost use Rattle.rsc_alphabet.specs.Walks.{class_at, end_of, stride2_of, symbols, elements_of, representatives_of};
+ghost use Rattle.rsc_alphabet.specs.Iterators.{class_at, end_of, stride2_of, symbols, elements_of, representatives_of};
 
 use crate::{ByteSet, Unit};
 use rsc_primitives::escape::DebugByte;
@@ -248,7 +248,7 @@ impl fmt::Debug for ByteClasses {
     }
 }
 
-/// The walk over the classes as units, made by [`ByteClasses::iter`].
+/// The iterator over the classes as units, made by [`ByteClasses::iter`].
 /// A contract sees it as the list of those that are left.
 #[derive(Debug, Drop)]
 pub struct ByteClassIter<'a> {
@@ -259,7 +259,7 @@ pub struct ByteClassIter<'a> {
 impl<'a> Model for ByteClassIter<'a> {
     ghost use Rattle.std.specs.Prelude.{List};
     ghost use Rattle.rsc_alphabet.specs.Symbols.{Symbol};
-    ghost use Rattle.rsc_alphabet.specs.WalkLayout.{symbols_left};
+    ghost use Rattle.rsc_alphabet.specs.IteratorLayout.{symbols_left};
 
     ghost Value = { List Symbol };
 
@@ -288,7 +288,7 @@ impl<'a> Iterator for ByteClassIter<'a> {
     }
 }
 
-/// The walk over the elements of a class, made by [`ByteClasses::elements`].
+/// The iterator over the elements of a class, made by [`ByteClasses::elements`].
 /// A contract sees it as the list of those that are left.
 #[derive(Debug, Drop)]
 pub struct ByteClassElements<'a> {
@@ -301,7 +301,7 @@ pub struct ByteClassElements<'a> {
 impl<'a> Model for ByteClassElements<'a> {
     ghost use Rattle.std.specs.Prelude.{List};
     ghost use Rattle.rsc_alphabet.specs.Symbols.{Symbol};
-    ghost use Rattle.rsc_alphabet.specs.WalkLayout.{elements_left};
+    ghost use Rattle.rsc_alphabet.specs.IteratorLayout.{elements_left};
 
     ghost Value = { List Symbol };
 
@@ -331,7 +331,7 @@ impl<'a> Iterator for ByteClassElements<'a> {
     }
 }
 
-/// The walk over a range's representatives, made by [`ByteClasses::representatives`].
+/// The iterator over a range's representatives, made by [`ByteClasses::representatives`].
 /// A contract sees it as the list of those that are left.
 #[derive(Debug, Drop)]
 pub struct ByteClassRepresentatives<'a> {
@@ -345,7 +345,7 @@ pub struct ByteClassRepresentatives<'a> {
 impl<'a> Model for ByteClassRepresentatives<'a> {
     ghost use Rattle.std.specs.Prelude.{◌≤◌, List, None};
     ghost use Rattle.rsc_alphabet.specs.Symbols.{Symbol};
-    ghost use Rattle.rsc_alphabet.specs.WalkLayout.{representatives_left};
+    ghost use Rattle.rsc_alphabet.specs.IteratorLayout.{representatives_left};
 
     ghost Value = { List Symbol };
 

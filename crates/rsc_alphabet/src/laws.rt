@@ -10,7 +10,7 @@ ghost use Rattle.rsc_alphabet.specs.ByteSets.{Numbers, members, runs, IsMaximalR
 ghost use Rattle.rsc_alphabet.specs.Partitions.{Together, class_map, edges_of, edges_of_each, changes_at};
 ghost use Rattle.rsc_alphabet.specs.Ranges.{holds, are_alike};
 ghost use Rattle.rsc_alphabet.specs.Symbols.{Symbol, byte, symbol_cmp};
-ghost use Rattle.rsc_alphabet.specs.Walks.{symbols, representatives_of};
+ghost use Rattle.rsc_alphabet.specs.Iterators.{symbols, representatives_of};
 
 use crate::{ByteClassSet, ByteClasses, ByteSet, Unit};
 
@@ -28,7 +28,7 @@ pub fn classes_rise_by_one()
         ⊎ (slice_index (class_map p) (b + 1) ≡ slice_index (class_map p) b + 1) }
 {}
 
-/// The walk over the classes of a partition gives each class of a byte once, as the unit of its number, at that place.
+/// The iterator over the classes of a partition gives each class of a byte once, as the unit of its number, at that place.
 pub fn each_class_comes_once()
     ensures place { (classes : List ℕ) (c : ℕ) → c ≤ slice_index classes 255 → slice_get (symbols classes) c ≡ Some (byte c) }
     ensures count { (classes : List ℕ) → length (symbols classes) ≡ slice_index classes 255 + 2 }

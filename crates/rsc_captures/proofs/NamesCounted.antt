@@ -3,7 +3,7 @@ use Rattle.std.proofs.Common.{◌≡◌, ℕ, ◌+◌, [], ◌∷◌, length, re
 use Rattle.std.proofs.lemmas.List.{length-append}
 use Rattle.std.proofs.lemmas.List.Sums.{sum_by-cons}
 use Rattle.rsc_captures.specs.Groups.{Groups, GroupLists, all_groups}
-use Rattle.rsc_captures.specs.NameWalks.{groups_from, patterns_from, all_names_of}
+use Rattle.rsc_captures.specs.NameIterators.{groups_from, patterns_from, all_names_of}
 
 length-groups_from : (p g : ℕ) (groups : Groups) → length (groups_from p g groups) ≡ length groups
 length-groups_from p g [] = refl

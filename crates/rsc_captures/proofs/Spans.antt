@@ -1,4 +1,4 @@
--- The steps of the walk over the groups of the pattern that matched.
+-- The steps of the iterator over the groups of the pattern that matched.
 use Rattle.std.proofs.Common.{◌≡◌, ℕ, suc, ◌+◌, ◌-◌, ◌<◌, ◌∷◌, length, map, get_or, None, ap, ◌∙◌, arith}
 use Rattle.std.specs.List.{range_with_len}
 use Rattle.std.proofs.lemmas.List.FromFn.{length-map-range_with_len, get_or-map-range_with_len}

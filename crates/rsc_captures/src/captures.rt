@@ -283,7 +283,7 @@ impl<A: Allocator + Clone + Drop> fmt::Debug for Captures<A> {
     }
 }
 
-/// The walk over the groups of the pattern that matched, made by [`Captures::iter`]. A contract sees it as the list of the
+/// The iterator over the groups of the pattern that matched, made by [`Captures::iter`]. A contract sees it as the list of the
 /// spans that are left.
 #[derive(Drop)]
 #[derive_where(Clone)]

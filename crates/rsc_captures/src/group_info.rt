@@ -4,14 +4,14 @@ ghost use Rattle.std.specs.Option.{option_copied};
 ghost use Rattle.rsc_captures.specs.Groups.{lists_in, groups_of, group_count, name_of, index_of, slot_of, slots_of, all_groups, AreDistinctBelow};
 ghost use Rattle.rsc_captures.specs.Faults.{GREATEST_PATTERN, LIMIT_OF_IDS, IsFaultless, RefusesFor};
 ghost use Rattle.rsc_captures.specs.Checks.{HasNoOtherFault, IsDuplicate};
-ghost use Rattle.rsc_captures.specs.NameWalks.{all_names_of};
+ghost use Rattle.rsc_captures.specs.NameIterators.{all_names_of};
 ghost use Rattle.rsc_captures.specs.SlotOwners.{IsSlotOf, IsOwned};
 ghost use Rattle.rsc_captures.specs.Found.{fault_found};
 ghost use Rattle.rsc_captures.specs.Repeats.{IsDuplicateOf, IsFirstDuplicate};
 
 use crate::error::{GroupInfoError, GroupInfoErrorKind};
 use crate::faults::{Fault, check, has_other_fault};
-use crate::name_walks::{GroupInfoAllNames, GroupInfoPatternNames};
+use crate::name_iterators::{GroupInfoAllNames, GroupInfoPatternNames};
 use crate::names::{PatternGroups, name_at, order_of, repeat_in};
 use rsc_primitives::PatternID;
 use std::alloc::{AllocError, Allocator, Global};
@@ -21,12 +21,12 @@ use std::rc::Rc;
 // The groups of each pattern, and where the slots of its explicit groups begin; last comes how many slots there are.
 #[derive(Drop)]
 #[derive_where(Debug)]
-struct Inner<A: Allocator> {
+struct SharedLists<A: Allocator> {
     patterns: Vec<PatternGroups<A>, A>,
     starts: Vec<usize, A>,
 }
 
-impl<A: Allocator> Model for Inner<A> {
+impl<A: Allocator> Model for SharedLists<A> {
     ghost use Rattle.rsc_captures.specs.Groups.{GroupLists};
     ghost use Rattle.rsc_captures.specs.Layout.{IsLaidOut};
 
@@ -45,7 +45,7 @@ impl<A: Allocator> Model for Inner<A> {
 #[derive(Drop)]
 #[derive_where(Debug)]
 pub struct GroupInfo<A: Allocator = Global> {
-    inner: Rc<Inner<A>, A>,
+    inner: Rc<SharedLists<A>, A>,
 }
 
 impl<A: Allocator> Model for GroupInfo<A> {
@@ -122,7 +122,7 @@ fn build<A: Allocator + Clone + Drop>(
         starts.push(start)?;
     }
     Ok(GroupInfo {
-        inner: Rc::new(alloc, Inner { patterns, starts })?,
+        inner: Rc::new(alloc, SharedLists { patterns, starts })?,
     })
 }
 
@@ -225,7 +225,7 @@ impl<A: Allocator + Clone + Drop> GroupInfo<A> {
         ensures value { result ≡ length self.now }
         ensures indices { result ≤ LIMIT_OF_IDS + 1 }
     {
-        let inner: &Inner<A> = &self.inner;
+        let inner: &SharedLists<A> = &self.inner;
         inner.patterns.len()
     }
 
@@ -239,7 +239,7 @@ impl<A: Allocator + Clone + Drop> GroupInfo<A> {
         if p >= self.pattern_len() {
             return 0;
         }
-        let inner: &Inner<A> = &self.inner;
+        let inner: &SharedLists<A> = &self.inner;
         (inner.starts[p + 1] - inner.starts[p]) / 2 + 1
     }
 
@@ -248,7 +248,7 @@ impl<A: Allocator + Clone + Drop> GroupInfo<A> {
     pub fn to_name(&self, pid: PatternID, group_index: usize) -> Option<&str>
         ensures { option_copied result ≡ name_of self.now pid group_index }
     {
-        let inner: &Inner<A> = &self.inner;
+        let inner: &SharedLists<A> = &self.inner;
         let groups = inner.patterns.get(pid.as_usize())?;
         groups.name(group_index)
     }
@@ -260,7 +260,7 @@ impl<A: Allocator + Clone + Drop> GroupInfo<A> {
         ensures named { (g : ℕ) → (result ≡ Some g) ↔ (name_of self.now pid g ≡ Some name.now) }
         ensures within { IfSome result (λ g. g < group_count self.now pid) }
     {
-        let inner: &Inner<A> = &self.inner;
+        let inner: &SharedLists<A> = &self.inner;
         let groups = inner.patterns.get(pid.as_usize())?;
         groups.index(name)
     }
@@ -271,7 +271,7 @@ impl<A: Allocator + Clone + Drop> GroupInfo<A> {
         ensures value { result ≡ slot_of self.now pid group_index }
         ensures within { IfSome result (λ slot. slot + 1 < 2 * all_groups self.now) }
     {
-        let inner: &Inner<A> = &self.inner;
+        let inner: &SharedLists<A> = &self.inner;
         let p = pid.as_usize();
         if group_index >= self.group_len(pid) {
             None
@@ -300,7 +300,7 @@ impl<A: Allocator + Clone + Drop> GroupInfo<A> {
         ensures owned { (s : ℕ) → s < result → IsOwned self.now s }
         ensures once { (s p g q h : ℕ) → IsSlotOf self.now p g s → IsSlotOf self.now q h s → (p ≡ q) × (g ≡ h) }
     {
-        let inner: &Inner<A> = &self.inner;
+        let inner: &SharedLists<A> = &self.inner;
         inner.starts[inner.patterns.len()]
     }
 
@@ -318,7 +318,7 @@ impl<A: Allocator + Clone + Drop> GroupInfo<A> {
         ensures value { result ≡ 2 * length self.now }
         ensures within { result ≤ 2 * all_groups self.now }
     {
-        let inner: &Inner<A> = &self.inner;
+        let inner: &SharedLists<A> = &self.inner;
         2 * inner.patterns.len()
     }
 
@@ -327,7 +327,7 @@ impl<A: Allocator + Clone + Drop> GroupInfo<A> {
     pub fn explicit_slot_len(&self) -> usize
         ensures { result ≡ 2 * all_groups self.now - 2 * length self.now }
     {
-        let inner: &Inner<A> = &self.inner;
+        let inner: &SharedLists<A> = &self.inner;
         inner.starts[inner.patterns.len()] - 2 * inner.patterns.len()
     }
 }

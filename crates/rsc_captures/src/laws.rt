@@ -5,7 +5,7 @@ ghost use Rattle.rsc_captures.specs.Groups.{GroupLists, slot_of, all_groups};
 ghost use Rattle.rsc_captures.specs.Faults.{Fault, IsFirstFault, IsFaultless};
 ghost use Rattle.rsc_captures.specs.SlotOwners.{IsSlotOf};
 ghost use Rattle.rsc_captures.specs.Captured.{Captured, group_span, matched_groups, matched_spans};
-ghost use Rattle.rsc_captures.specs.NameWalks.{all_names_of};
+ghost use Rattle.rsc_captures.specs.NameIterators.{all_names_of};
 
 pub mod clones;
 

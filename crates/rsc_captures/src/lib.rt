@@ -7,7 +7,7 @@ mod extract;
 mod faults;
 mod group_info;
 pub mod laws;
-mod name_walks;
+mod name_iterators;
 mod names;
 
 pub use captures::{Captures, CapturesPatternIter};
@@ -17,4 +17,4 @@ pub use extract::{
     extract_pair, extract_single, extract_triple, extract_whole,
 };
 pub use group_info::GroupInfo;
-pub use name_walks::{GroupInfoAllNames, GroupInfoPatternNames};
+pub use name_iterators::{GroupInfoAllNames, GroupInfoPatternNames};

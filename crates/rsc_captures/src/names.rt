@@ -52,7 +52,7 @@ impl<A: Allocator> Model for PatternGroups<A> {
 const FEW: usize = 10;
 
 // How many cells of the table a name has.
-const CELLS: u64 = 4;
+const CELLS_OF_A_NAME: u64 = 4;
 
 // How many bytes the names have together; less only where that is past the greatest number.
 fn text_len(groups: &[Option<&str>]) -> usize {
@@ -86,7 +86,7 @@ fn hold_name<A: Allocator>(
 }
 
 // The names one after another, and where each of them stands.
-fn hold<A: Allocator + Clone + Drop>(
+fn hold_names<A: Allocator + Clone + Drop>(
     alloc: A,
     groups: &[Option<&str>],
 ) -> Result<(String<A>, Vec<Option<Place>, A>), AllocError>
@@ -187,7 +187,7 @@ fn first_cell(name: &str) -> u64 {
 fn propose(proposals: &mut [u32], name: &str, group: u32) {
     let mask = (proposals.len() as u64).wrapping_sub(1);
     let first = first_cell(name);
-    for i in 0..CELLS {
+    for i in 0..CELLS_OF_A_NAME {
         let cell = first.wrapping_add(i) & mask;
         if let Some(held) = proposals.get_mut(cell as usize) {
             if *held == 0 {
@@ -244,7 +244,7 @@ impl<A: Allocator + Clone + Drop> PatternGroups<A> {
         requires { IsIndexed order.items (groups_in groups.now) }
         ensures { IfOk result (λ p. p ≡ groups_in groups.now) }
     {
-        let (text, places) = hold(alloc.clone()?, groups)?;
+        let (text, places) = hold_names(alloc.clone()?, groups)?;
         let proposals = proposals_of(alloc, groups)?;
         Ok(PatternGroups {
             text,
@@ -279,7 +279,7 @@ impl<A: Allocator + Clone + Drop> PatternGroups<A> {
     {
         let mask = (self.proposals.len() as u64).wrapping_sub(1);
         let first = first_cell(name);
-        for i in 0..CELLS {
+        for i in 0..CELLS_OF_A_NAME {
             let cell = first.wrapping_add(i) & mask;
             let group = *self.proposals.get(cell as usize)? as usize;
             if has_name(self.name(group), name) {

@@ -1,4 +1,4 @@
--- A walk over the members of a set that asks each for something.
+-- A loop over the members of a set that asks each for something.
 use Rattle.std.proofs.Common.{◌≡◌, ◌↔◌, ◌≢◌, Bool, true, false, ◌||◌, List, [], ◌∷◌, refl, sym, ap, ◌∙◌, subst, nat_eq, ◌⊎◌, inl, inr, ⊎_elim, true≢false}
 use Rattle.std.specs.Prelude.{IsTrue}
 use Rattle.std.specs.Cmp.{unsigned_tied}
@@ -10,7 +10,7 @@ use Rattle.rsc_look.specs.Looks.{repr_of}
 use Rattle.rsc_look.specs.LookSets.{look_cmp, Looks, members}
 use Rattle.rsc_look.specs.LookSetLaws.{look_cmp_total, repr_of-injective, contains-filtered}
 
--- the walk has the assertions `rest` left: P holds of all other members, and they are members
+-- the loop has the assertions `rest` left: P holds of all other members, and they are members
 pub record HasAsked (s : Looks) (rest : List Look) (P : Look → Type 0) : Type 0 where
   pub asked : (l : Look) → sets.contains s l ≡ true → (sets.contains (sets.from_list {R = look_cmp} rest) l ≡ true) ⊎ P l
   pub left : (l : Look) → sets.contains (sets.from_list {R = look_cmp} rest) l ≡ true → sets.contains s l ≡ true

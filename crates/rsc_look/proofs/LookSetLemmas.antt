@@ -333,7 +333,7 @@ none_exact n s h = ((λ e. absurd (none_some s e)), (λ e. let l = bits_of-lt s 
     none_some : (s : Looks) → None ≡ Some s → ⊥
     none_some s e = true≢false (ap is_none e)
 
--- ---- what the walk takes
+-- ---- what the iterator takes
 
 abbrev pub IsFirstMember : Looks → Option Look → Type 0
 IsFirstMember s r = MatchOption r (members s ≡ []) (λ l. members s ≡ l ∷ members (sets.remove s l))

@@ -57,7 +57,7 @@ contains-boundaries_of_each [] t b = contains-empty nat_cmp b
 contains-boundaries_of_each (l ∷ rest) t b =
     contains-joined (boundaries_of l t) (boundaries_of_each rest t) b ∙ ap₂ (λ x y. x || y) (contains-boundaries_of l t b) (contains-boundaries_of_each rest t b)
 
--- ---- a walk over a list, for a set that has the boundaries of its members so far
+-- ---- a loop over a list, for a set that has the boundaries of its members so far
 
 abbrev pub HasBoundaries : Numbers → List Look → ℕ → Type 0
 HasBoundaries s looks t = (b : ℕ) → sets.contains s b ≡ marks_of looks t b
@@ -76,7 +76,7 @@ HasBoundaries-more s new looks i d t h has e b =
     or_false true = refl
     or_false false = refl
 
--- after the walk over the whole list
+-- after the loop over the whole list
 pub classes_whole : (looks : List Look) (t n : ℕ) (s : Numbers) (m : List ℕ) → length looks ≤ n → HasBoundaries s (take n looks) t → m ≡ class_map (sets.contains s) → m ≡ class_map (sets.contains (boundaries_of_each looks t))
 classes_whole looks t n s m l has is =
     is ∙ class_map_same (sets.contains s) (sets.contains (boundaries_of_each looks t)) (λ b lt.

@@ -1,6 +1,7 @@
 -- One assertion and its boundaries.
 use Rattle.std.proofs.Common.{◌≡◌, ◌↔◌, ℕ, zero, suc, Bool, true, false, ◌||◌, [], ◌∷◌, refl, sym, ap, ◌∙◌, subst, arith}
 use Rattle.std.specs.List.{Contains}
+use Rattle.rsc_alphabet.proofs.MaximalRuns.{Contains-first}
 use Rattle.rsc_look.specs.declared.assertion.Look.{Look}
 use Rattle.rsc_look.specs.Holds.{Holds}
 use Rattle.rsc_look.specs.Looks.{is_unicode}
@@ -21,9 +22,6 @@ only : (l m : Look) → Contains (l ∷ []) m → l ≡ m
 only l m (zero, p, e) = e
 only l m (suc k, p, e) = absurd (omega arith)
 
-here : (l : Look) → Contains (l ∷ []) l
-here l = (0, omega arith, refl)
-
 or_is_true : (x y : Bool) → y ≡ true → (x || y) ≡ true
 or_is_true true y e = refl
 or_is_true false y e = e
@@ -41,8 +39,8 @@ IsExactFor-from old new l t W e a = record {
         at_bytes = λ k c u h j s i r. let z = only l k c in let v : is_unicode l ≡ false = ap is_unicode z ∙ u in subst (λ x. Holds x t W h i ↔ Holds x t W j i) z (kept_at_bytes q l t W m v h j s i);
         at_characters = λ k c u h j s d i r. let z = only l k c in let v : is_unicode l ≡ true = ap is_unicode z ∙ u in subst (λ x. Holds x t W h i ↔ Holds x t W j i) z (kept_at_characters q l t W (a v) m v h j s d i);
       };
-  least = λ q keeps b lt m. mark_is_needed q (l ∷ []) l t W b a keeps (here l) lt (sym (contains-boundaries_of l t b) ∙ m);
-  needed = λ b lt m. record { look = l; listed = here l; position = place_of l; at_an_end = place_of_le l; tells = Tells-mark l t W b a (sym (contains-boundaries_of l t b) ∙ m) };
+  least = λ q keeps b lt m. mark_is_needed q (l ∷ []) l t W b a keeps (Contains-first l []) lt (sym (contains-boundaries_of l t b) ∙ m);
+  needed = λ b lt m. record { look = l; listed = Contains-first l []; position = place_of l; at_an_end = place_of_le l; tells = Tells-mark l t W b a (sym (contains-boundaries_of l t b) ∙ m) };
 }
 
 -- the same of the assertion's own boundaries alone

@@ -1,4 +1,4 @@
-//! Sets of assertions, and the walk over their members.
+//! Sets of assertions, and the iterator over their members.
 ghost use Rattle.std.specs.Prelude.{◌≡◌, ◌↔◌, ◌^◌, ◌<◌, ◌≤◌, ◌&&◌, ◌||◌, true, false, not, [], ◌∷◌, Some, IsTrue, IsOk, IsNone, MatchOption, length};
 ghost use Rattle.std.specs.List.{All};
 ghost use Rattle.std.specs.FinSet as sets;
@@ -362,7 +362,7 @@ impl LookSet {
     // The first member, of the lowest bit, and the set without it. The bit is taken out as it is, and not by the member's
     // number, which would be a jump for each member.
     #[inline]
-    fn split_first(self) -> Option<(Look, LookSet)>
+    fn first_member_and_rest(self) -> Option<(Look, LookSet)>
         ensures { MatchOption result (members self ≡ []) (λ found. members self ≡ found.0 ∷ members found.1) }
     {
         if self.bits == 0 {
@@ -377,7 +377,7 @@ impl LookSet {
     }
 }
 
-/// The walk over a set's members, made by [`LookSet::iter`]. A contract sees it as the list of those that are left.
+/// The iterator over a set's members, made by [`LookSet::iter`]. A contract sees it as the list of those that are left.
 #[derive(Clone, Debug, Drop)]
 pub struct LookSetIter {
     set: LookSet,
@@ -402,7 +402,7 @@ impl Iterator for LookSetIter {
 
     #[inline]
     fn next(&mut self) -> Option<Look> {
-        let (look, rest) = self.set.split_first()?;
+        let (look, rest) = self.set.first_member_and_rest()?;
         self.set = rest;
         Some(look)
     }

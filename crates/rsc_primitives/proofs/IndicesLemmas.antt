@@ -1,4 +1,4 @@
--- The walk over the first indices: what is left of it at a place.
+-- The iterator over the first indices: what is left of it at a place.
 use Rattle.std.proofs.Common.{◌≡◌, ℕ, suc, ◌+◌, ◌-◌, ◌≤◌, ◌<◌, [], ◌∷◌, length, refl, arith}
 use Rattle.std.specs.List.{All}
 use Rattle.std.proofs.lemmas.List.FromFn.{length-range_with_len, get_or-range_with_len}

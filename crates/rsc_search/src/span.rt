@@ -106,7 +106,7 @@ impl Span {
         ensures* writes_back { sem 𝓛 (LendsCut haystack.entry self.now result) }
         ensures value { option_copied_mut result ≡ cut haystack.old self.now }
     {
-        // One test at a time: the proof walks this body step by step.
+        // One test at a time: the proof follows this body step by step.
         let start = self.start;
         let end = self.end;
         if end < start {

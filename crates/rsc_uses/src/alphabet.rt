@@ -3,7 +3,7 @@ ghost use Rattle.std.specs.Prelude.{◌≡◌, ◌↔◌, ◌+◌, ◌*◌, ◌^
 ghost use Rattle.std.specs.FinSet as sets;
 ghost use Rattle.rsc_alphabet.specs.ByteSets.{runs};
 ghost use Rattle.rsc_alphabet.specs.Partitions.{Together, edges_of_each};
-ghost use Rattle.rsc_alphabet.specs.Walks.{stride2_of};
+ghost use Rattle.rsc_alphabet.specs.Iterators.{stride2_of};
 
 use rsc_alphabet::{ByteClassSet, ByteClasses, ByteSet, Unit, classes_of_ranges, laws};
 use std::ops::Bound;

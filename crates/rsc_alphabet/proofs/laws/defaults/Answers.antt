@@ -1,4 +1,4 @@
-use Rattle.rsc_alphabet.proofs.WalksLemmas.{bytes_own}
+use Rattle.rsc_alphabet.proofs.IteratorsLemmas.{bytes_own}
 use Rattle.rsc_alphabet.proofs.laws.defaults.Goals as goal
 
 pub returns-clause-own : goal.returns-clause-own

@@ -1,5 +1,5 @@
 use Rattle.std.proofs.Common.{◌≡◌, ◌-◌}
-use Rattle.rsc_alphabet.specs.WalkLayout.{elements_left}
+use Rattle.rsc_alphabet.specs.IteratorLayout.{elements_left}
 use Rattle.rsc_alphabet.proofs.byte_classes.ByteClassElementsIterator.next.Given as goal
 
 -- no element was passed over

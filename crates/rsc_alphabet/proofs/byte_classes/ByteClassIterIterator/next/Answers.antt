@@ -1,7 +1,7 @@
 use Rattle.std.proofs.Common.{List, ◌≡◌, ◌+◌, ◌-◌, [], ◌∷◌, sym, ◌∙◌, arith, rules, ℕ, slice_index}
 use Rattle.rsc_alphabet.specs.Symbols.{end_of_input}
-use Rattle.rsc_alphabet.specs.WalkLayout.{symbols_left}
-use Rattle.rsc_alphabet.proofs.WalksLemmas.{symbols_left_more, symbols_left_end, symbols_left_none}
+use Rattle.rsc_alphabet.specs.IteratorLayout.{symbols_left}
+use Rattle.rsc_alphabet.proofs.IteratorsLemmas.{symbols_left_more, symbols_left_end, symbols_left_none}
 use Rattle.rsc_alphabet.proofs.byte_classes.ByteClassIterIterator.next.Goals as goal
 
 pub returns-then-self-end-clause-steps : goal.returns-then-self-end-clause-steps

@@ -1,7 +1,7 @@
 use Rattle.std.proofs.Common.{◌≡◌, ◌≤◌, ◌+◌, ◌-◌, refl, [], ◌∷◌, sym, ap, ◌∙◌, arith, rules, Some, None, false}
 use Rattle.rsc_alphabet.specs.Symbols.{byte}
-use Rattle.rsc_alphabet.specs.WalkLayout.{representatives_left}
-use Rattle.rsc_alphabet.proofs.WalksLemmas.{representatives_left_new, representatives_left_old, representatives_left_none, representatives_left_again}
+use Rattle.rsc_alphabet.specs.IteratorLayout.{representatives_left}
+use Rattle.rsc_alphabet.proofs.IteratorsLemmas.{representatives_left_new, representatives_left_old, representatives_left_none, representatives_left_again}
 use Rattle.rsc_alphabet.proofs.byte_classes.ByteClassRepresentativesIterator.next.Goals.{then-loop-self-test+else-get-class, else-loop-self-test}
 use Rattle.rsc_alphabet.proofs.byte_classes.ByteClassRepresentativesIterator.next.Goals as goal
 

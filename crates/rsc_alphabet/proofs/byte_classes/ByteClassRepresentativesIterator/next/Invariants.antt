@@ -1,6 +1,6 @@
 use Rattle.std.proofs.Common.{◌-◌, ◌≡◌, ◌≤◌, ◌∷◌, Some, slice_index}
 use Rattle.rsc_alphabet.specs.Symbols.{byte}
-use Rattle.rsc_alphabet.specs.WalkLayout.{representatives_left}
+use Rattle.rsc_alphabet.specs.IteratorLayout.{representatives_left}
 use Rattle.rsc_alphabet.proofs.byte_classes.ByteClassRepresentativesIterator.next.Given as goal
 
 -- the first representative stands before the others, and since then the class is the same

@@ -1,8 +1,8 @@
 use Rattle.std.proofs.Common.{◌≡◌, ◌∙◌, sym, subst}
 use Rattle.std.specs.List.{All}
 use Rattle.rsc_alphabet.specs.Symbols.{number_of}
-use Rattle.rsc_alphabet.specs.Walks.{class_at}
-use Rattle.rsc_alphabet.proofs.WalksLemmas.{elements_of-byte, elements_of-end}
+use Rattle.rsc_alphabet.specs.Iterators.{class_at}
+use Rattle.rsc_alphabet.proofs.IteratorsLemmas.{elements_of-byte, elements_of-end}
 use Rattle.rsc_alphabet.proofs.Within.{elements_have_class}
 use Rattle.rsc_alphabet.proofs.byte_classes.ByteClasses.elements.Goals as goal
 

@@ -1,7 +1,7 @@
 use Rattle.std.proofs.Common.{◌<◌, ◌+◌, slice_index, sym, subst}
 use Rattle.std.specs.List.{All}
 use Rattle.rsc_alphabet.specs.Symbols.{number_of}
-use Rattle.rsc_alphabet.proofs.WalksLemmas.{symbols_left_all}
+use Rattle.rsc_alphabet.proofs.IteratorsLemmas.{symbols_left_all}
 use Rattle.rsc_alphabet.proofs.Within.{symbols_within}
 use Rattle.rsc_alphabet.proofs.byte_classes.ByteClasses.iter.Goals as goal
 

@@ -1,6 +1,6 @@
 use Rattle.std.proofs.Common.{◌<◌, ◌+◌, slice_index, sym, subst}
 use Rattle.std.specs.List.{All}
-use Rattle.rsc_alphabet.specs.Walks.{class_at}
+use Rattle.rsc_alphabet.specs.Iterators.{class_at}
 use Rattle.rsc_alphabet.proofs.Within.{representatives_within}
 use Rattle.rsc_alphabet.proofs.byte_classes.ByteClasses.representatives.Goals as goal
 

@@ -1,5 +1,5 @@
 use Rattle.std.proofs.Common.{◌∙◌, arith, length-set}
-use Rattle.rsc_alphabet.proofs.WalksLemmas.{is_bytes, own_class_more}
+use Rattle.rsc_alphabet.proofs.IteratorsLemmas.{is_bytes, own_class_more}
 use Rattle.rsc_alphabet.proofs.byte_classes.ByteClasses.singletons.Goals as goal
 
 pub returns-2-clause-list : goal.returns-2-clause-list

@@ -1,6 +1,6 @@
 use Rattle.std.proofs.Common.{ℕ, ◌+◌, ◌-◌, ◌≤◌, ◌^◌, slice_index, ◌≡◌, ◌∙◌, ◌*◌, suc, ap, arith}
 use Rattle.std.proofs.Math.Nat.{pow-succ'}
-use Rattle.rsc_alphabet.proofs.WalksLemmas.{least_exponent}
+use Rattle.rsc_alphabet.proofs.IteratorsLemmas.{least_exponent}
 use Rattle.rsc_alphabet.proofs.Within.{stride2_is}
 use Rattle.rsc_alphabet.proofs.byte_classes.ByteClasses.stride2.Goals as goal
 

@@ -1,10 +1,10 @@
--- The steps of the walks of a class map.
+-- The steps of the iterators of a class map.
 use Rattle.std.proofs.Common.{◌≡◌, ℕ, ◌+◌, ◌-◌, ◌<◌, ◌≤◌, Bool, true, false, not, cond, List, [], ◌∷◌, ◌++◌, map, filter, refl, sym, ap, ◌∙◌, arith, nat_eq, slice_index, Option, Some, None}
 use Rattle.std.proofs.lemmas.Bool.{eq-eqb, ne_eqb}
 use Rattle.rsc_alphabet.specs.Bytes.{from_to, bytes}
 use Rattle.rsc_alphabet.specs.BytesLaws.{from_to_none, from_to_first, length-from_to, get_or-from_to, filter_same, filter_first, filter_skip}
 use Rattle.rsc_alphabet.specs.Symbols.{Symbol, byte, end_of_input, byte_of}
-use Rattle.rsc_alphabet.specs.Walks.{end_of, symbols, elements_of, end_if_unbounded, representatives_of}
+use Rattle.rsc_alphabet.specs.Iterators.{end_of, symbols, elements_of, end_if_unbounded, representatives_of}
 use Rattle.std.proofs.Common.{◌≢◌, ◌^◌, length, append-nil, nat_le, ⊎_elim}
 use Rattle.std.proofs.Common.{set, below_more, get_or-set_same, get_or-set_other}
 use Rattle.std.proofs.Common.{zero, suc, ◌||◌, slice_get, length-append}
@@ -16,7 +16,7 @@ use Rattle.std.proofs.Math.Pow.{pow_mono}
 use Rattle.std.proofs.lemmas.Bool.{cases_lt, le-leb}
 use Rattle.std.proofs.lemmas.Bool.Decides.{nat_tests}
 use Rattle.std.proofs.lemmas.List.{ext_get_or, length-map}
-use Rattle.rsc_alphabet.specs.WalkLayout.{symbols_left, elements_left, is_new, representatives_left, IsLastClass}
+use Rattle.rsc_alphabet.specs.IteratorLayout.{symbols_left, elements_left, is_new, representatives_left, IsLastClass}
 
 -- after the first byte only the classes count
 later_same : (classes : List ℕ) (low high : ℕ) (last : Option ℕ) (c : ℕ) →
@@ -49,7 +49,7 @@ representatives_left_old classes low high last with_end c l is was same =
 pub representatives_left_none : (classes : List ℕ) (low high : ℕ) (last : Option ℕ) (with_end : Bool) → high ≤ low → representatives_left classes low high last with_end ≡ cond with_end (end_of classes ∷ []) []
 representatives_left_none classes low high last with_end l = rw (from_to_none low high l) refl
 
--- a representative, or the end, begins a walk of its own
+-- a representative, or the end, begins an iterator of its own
 pub representatives_left_again : (classes : List ℕ) (low high c : ℕ) (with_end : Bool) → c ≡ slice_index classes (low - 1) → (low < high → slice_index classes low ≡ c → ⊥) →
     representatives_left classes low high (Some c) with_end ≡ representatives_left classes low high None with_end
 representatives_left_again classes low high c with_end was other =

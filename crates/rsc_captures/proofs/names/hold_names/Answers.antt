@@ -3,7 +3,7 @@ use Rattle.std.specs.Option.{option_copied}
 use Rattle.std.specs.String.{string_bytes}
 use Rattle.rsc_captures.proofs.Places.{take_groups_more}
 use Rattle.rsc_captures.proofs.Held.{held_more}
-use Rattle.rsc_captures.proofs.names.hold.Goals as goal
+use Rattle.rsc_captures.proofs.names.hold_names.Goals as goal
 
 pub loop-group-preserved : goal.loop-group-preserved
 loop-group-preserved g c =

@@ -3,7 +3,7 @@ use Rattle.std.specs.FinSet as sets
 use Rattle.rsc_look.specs.LookSets.{members}
 use Rattle.rsc_look.specs.LookSetLayout.{looks_of}
 use Rattle.rsc_look.proofs.LookSetLemmas.{first_none, first_some, looks_of-remove}
-use Rattle.rsc_look.proofs.look_set.LookSet.split_first.Goals as goal
+use Rattle.rsc_look.proofs.look_set.LookSet.first_member_and_rest.Goals as goal
 
 pub returns-then-self-eq0 : goal.returns-then-self-eq0
 returns-then-self-eq0 c = rw (← c.self.view_is) (first_none c.self.inside.bits c.if-self-eq0.true)

@@ -2,7 +2,7 @@ use Rattle.std.proofs.Common.{take}
 use Rattle.std.specs.String.{string_bytes}
 use Rattle.rsc_captures.specs.Groups.{groups_in}
 use Rattle.rsc_captures.specs.Names.{AreHeld}
-use Rattle.rsc_captures.proofs.names.hold.Given as goal
+use Rattle.rsc_captures.proofs.names.hold_names.Given as goal
 
 -- the names so far are held
 abbrev pub invariant-loop-group : goal.invariant-loop-group

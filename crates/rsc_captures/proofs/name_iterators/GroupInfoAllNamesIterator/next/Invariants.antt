@@ -1,6 +1,6 @@
 use Rattle.std.proofs.Common.{◌≡◌, ◌-◌, length}
-use Rattle.rsc_captures.specs.NameWalks.{names_left}
-use Rattle.rsc_captures.proofs.name_walks.GroupInfoAllNamesIterator.next.Given as goal
+use Rattle.rsc_captures.specs.NameIterators.{names_left}
+use Rattle.rsc_captures.proofs.name_iterators.GroupInfoAllNamesIterator.next.Given as goal
 
 -- no group was passed over
 abbrev pub invariant-loop-self : goal.invariant-loop-self

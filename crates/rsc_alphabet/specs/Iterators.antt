@@ -1,4 +1,4 @@
--- The walks of any map from byte to class, given as the list of the bytes' classes.
+-- The iterators of any map from byte to class, given as the list of the bytes' classes.
 use Rattle.std.specs.Prelude.{ℕ, ◌+◌, ◌-◌, ◌^◌, nat_lt, count_by, ◌==◌, ◌||◌, not, List, [], ◌∷◌, ◌++◌, map, filter, slice_index}
 use Rattle.std.specs.declared.ops.Bound.{Bound}
 use Rattle.std.specs.declared.ops.Bound.TheVariants.{Included, Excluded, Unbounded}

@@ -1,4 +1,4 @@
--- The walks over the names of the groups: of one pattern, and of all patterns with the numbers of pattern and group.
+-- The iterators over the names of the groups: of one pattern, and of all patterns with the numbers of pattern and group.
 use Rattle.std.specs.Prelude.{ℕ, ◌+◌, List, [], ◌∷◌, ◌++◌, drop, Option}
 use Rattle.std.specs.Borrow.{Bor}
 use Rattle.std.specs.Option.{option_copied}
@@ -22,10 +22,10 @@ patterns_from p (groups ∷ rest) = groups_from p 0 groups ++ patterns_from (p +
 abbrev pub all_names_of : GroupLists → List NamedGroup
 all_names_of lists = patterns_from 0 lists
 
--- what a walk over all groups has left at group g of pattern p
+-- what an iterator over all groups has left at group g of pattern p
 abbrev pub names_left : GroupLists → ℕ → ℕ → List NamedGroup
 names_left lists p g = groups_from p g (drop g (groups_of lists p)) ++ patterns_from (p + 1) (drop (p + 1) lists)
 
--- a walk's item, with the name that it lends
+-- an iterator's item, with the name that it lends
 abbrev pub named_group : ℕ × ℕ × Option (Bor (List ℕ)) → NamedGroup
 named_group item = (item.0, item.1, option_copied item.2)

@@ -1,17 +1,17 @@
-//! The walks over the names of a group info.
+//! The iterators over the names of a group info.
 ghost use Rattle.std.specs.Prelude.{◌≡◌, length, Some, IfSome};
 ghost use Rattle.std.specs.Option.{option_copied};
 ghost use Rattle.std.specs.Iterator.{YieldsFirstBy, UpTo, item_count};
 ghost use Rattle.std.specs.Iterator.SizeHint.{IsWithinCount};
 ghost use Rattle.rsc_captures.specs.Groups.{groups_of};
-ghost use Rattle.rsc_captures.specs.NameWalks.{named_group, all_names_of};
+ghost use Rattle.rsc_captures.specs.NameIterators.{named_group, all_names_of};
 
 use crate::group_info::GroupInfo;
 use rsc_primitives::PatternID;
 use std::alloc::{Allocator, Global};
 use std::marker::Model;
 
-/// The walk over the names of a pattern's groups, made by [`GroupInfo::pattern_names`].
+/// The iterator over the names of a pattern's groups, made by [`GroupInfo::pattern_names`].
 /// A contract sees it as the list of those that are left.
 #[derive(Drop)]
 #[derive_where(Clone, Debug)]
@@ -83,7 +83,7 @@ impl<'a, A: Allocator + Clone + Drop> Iterator for GroupInfoPatternNames<'a, A> 
     }
 }
 
-/// The walk over all groups of all patterns, made by [`GroupInfo::all_names`]. A contract sees it as the list of those
+/// The iterator over all groups of all patterns, made by [`GroupInfo::all_names`]. A contract sees it as the list of those
 /// that are left.
 #[derive(Drop)]
 #[derive_where(Debug)]
@@ -95,7 +95,7 @@ pub struct GroupInfoAllNames<'a, A: Allocator = Global> {
 
 impl<'a, A: Allocator> Model for GroupInfoAllNames<'a, A> {
     ghost use Rattle.std.specs.Prelude.{List};
-    ghost use Rattle.rsc_captures.specs.NameWalks.{NamedGroup, names_left};
+    ghost use Rattle.rsc_captures.specs.NameIterators.{NamedGroup, names_left};
 
     ghost Value = { List NamedGroup };
 

@@ -1,15 +1,15 @@
--- How far a walk over a map from byte to class has come.
+-- How far an iterator over a map from byte to class has come.
 use Rattle.std.specs.Prelude.{◌≡◌, ℕ, ◌+◌, ◌-◌, ◌==◌, ◌||◌, ◌&&◌, if◌then◌else◌, is_none, nat_le, Bool, not, List, [], ◌∷◌, ◌++◌, map, filter, slice_index, Option, Some, None}
 use Rattle.rsc_alphabet.specs.Bytes.{from_to}
 use Rattle.rsc_alphabet.specs.Symbols.{Symbol, byte, end_of_input}
-use Rattle.rsc_alphabet.specs.Walks.{end_of}
+use Rattle.rsc_alphabet.specs.Iterators.{end_of}
 
--- what a walk of the classes has left at the class `next`
+-- what an iterator over the classes has left at the class `next`
 abbrev pub symbols_left : List ℕ → ℕ → List Symbol
 symbols_left classes next =
     map (λ c. byte c) (from_to next (slice_index classes 255 + 1)) ++ (if nat_le next (slice_index classes 255 + 1) then end_of classes ∷ [] else [])
 
--- what a walk of the elements of a class has left at the byte `next`
+-- what an iterator over the elements of a class has left at the byte `next`
 abbrev pub elements_left : List ℕ → ℕ → ℕ → Bool → List Symbol
 elements_left classes class next with_end =
     map (λ b. byte b) (filter (λ b. slice_index classes b == class) (from_to next 256)) ++ (if with_end then end_of_input 256 ∷ [] else [])
@@ -18,7 +18,7 @@ elements_left classes class next with_end =
 abbrev pub is_new : List ℕ → Option ℕ → ℕ → ℕ → Bool
 is_new classes last low b = (is_none last && b == low) || not (slice_index classes b == slice_index classes (b - 1))
 
--- what a walk of the representatives has left at `low`
+-- what an iterator over the representatives has left at `low`
 abbrev pub representatives_left : List ℕ → ℕ → ℕ → Option ℕ → Bool → List Symbol
 representatives_left classes low high last with_end =
     map (λ b. byte b) (filter (is_new classes last low) (from_to low high)) ++ (if with_end then end_of classes ∷ [] else [])
