@@ -20,9 +20,10 @@ case ${1:-all} in
     ./wrong-bodies.py
     step 3/4 "what must not compile"
     ./must-not-compile.sh
-    step 4/4 "documents: every name that a public contract cites is in docs/DEFINITIONS.md, and what pages quote is as the sources are"
+    step 4/4 "documents: every name that a public contract cites is in docs/DEFINITIONS.md, what pages quote is as the sources are, and each lemma is named somewhere"
     ./check-documents.py
     ./quoted-pages.py
+    ./unused-lemmas.py
     ;;
   *)
     echo "usage: ./test.sh [quick]" >&2
