@@ -8,7 +8,7 @@ A wrong body is a file `NAME.edit`:
 
     file: src/span.rt                          the file that it changes
     refused: span::Span::len: returns          the function that must be refused, without the crate's name, and how the goal begins that must stay unproved
-    old: self.end.saturating_sub(self.start)   a text of one line that is once in the file
+    old: self.end.saturating_sub(self.start)   a text that is once in the file; ` ⏎ ` is a new line
     new: self.end.wrapping_sub(self.start)     what replaces it; further pairs apply to what the earlier ones made
 
 `rt ci` tries the edits of crates/CRATE/must-fail one by one, each for the price of a start of the checker, and takes any refusal. Here edits of
@@ -49,7 +49,7 @@ def read_edit(path):
     fields, pairs = {}, []
     with open(path, encoding="utf-8") as lines:
         for line in lines.read().splitlines():
-            key, _, value = line.partition(": ")
+            key, _, value = line.replace(" ⏎ ", "\n").partition(": ")
             if key == "new":
                 pairs.append((fields.pop("old"), value))
             elif key in ("file", "refused", "old"):
