@@ -1,12 +1,14 @@
-//! Maps from a byte to its class, and the iterators over the classes, their elements and their representatives.
+//! Maps from a byte to its class.
 ghost use Rattle.std.specs.Prelude.{◌≡◌, ◌↔◌, ℕ, ◌+◌, ◌^◌, ◌<◌, ◌≤◌, IsTrue, IsSome, All, slice_index, slice_set, length};
 ghost use Rattle.std.specs.Range.Bound.{end_index};
-ghost use Rattle.std.specs.Iterator.{YieldsFirst, item_count};
 ghost use Rattle.rsc_alphabet.specs.Bytes.{bytes};
 ghost use Rattle.rsc_alphabet.specs.Symbols.{byte_of, number_of};
 ghost use Rattle.rsc_alphabet.specs.Iterators.{class_at, end_of, stride2_of, symbols, elements_of, representatives_of};
 
+mod iter;
+
 use crate::{ByteSet, Unit};
+pub use iter::{ByteClassElements, ByteClassIter, ByteClassRepresentatives};
 use rsc_primitives::escape::DebugByte;
 use std::fmt;
 use std::marker::Model;
@@ -245,136 +247,5 @@ impl fmt::Debug for ByteClasses {
         }
         let end = self.alphabet_len() - 1;
         write!(f, "{end} => [EOI])")
-    }
-}
-
-/// The iterator over the classes as units, made by [`ByteClasses::iter`].
-/// A contract sees it as the list of those that are left.
-#[derive(Debug, Drop)]
-pub struct ByteClassIter<'a> {
-    classes: &'a ByteClasses,
-    next_class: usize,
-}
-
-impl<'a> Model for ByteClassIter<'a> {
-    ghost use Rattle.std.specs.Prelude.{List};
-    ghost use Rattle.rsc_alphabet.specs.Symbols.{Symbol};
-    ghost use Rattle.rsc_alphabet.specs.IteratorLayout.{symbols_left};
-
-    ghost Value = { List Symbol };
-
-    ghost view = { λ it. symbols_left it.classes.now it.next_class };
-}
-
-impl<'a> Iterator for ByteClassIter<'a> {
-    type Item = Unit;
-
-    ghost next_gives = { YieldsFirst (λ rest. rest) };
-
-    ghost remaining = { item_count (λ rest. rest) };
-
-    fn next(&mut self) -> Option<Unit> {
-        let end = self.classes.alphabet_len() - 1;
-        if self.next_class < end {
-            let class = self.next_class as u8;
-            self.next_class += 1;
-            return Some(Unit::u8(class));
-        }
-        if self.next_class == end {
-            self.next_class += 1;
-            return Some(Unit::eoi(end));
-        }
-        None
-    }
-}
-
-/// The iterator over the elements of a class, made by [`ByteClasses::elements`].
-/// A contract sees it as the list of those that are left.
-#[derive(Debug, Drop)]
-pub struct ByteClassElements<'a> {
-    classes: &'a ByteClasses,
-    class: u8,
-    next_byte: usize,
-    with_end: bool,
-}
-
-impl<'a> Model for ByteClassElements<'a> {
-    ghost use Rattle.std.specs.Prelude.{List};
-    ghost use Rattle.rsc_alphabet.specs.Symbols.{Symbol};
-    ghost use Rattle.rsc_alphabet.specs.IteratorLayout.{elements_left};
-
-    ghost Value = { List Symbol };
-
-    ghost view = { λ it. elements_left it.classes.now it.class it.next_byte it.with_end };
-}
-
-impl<'a> Iterator for ByteClassElements<'a> {
-    type Item = Unit;
-
-    ghost next_gives = { YieldsFirst (λ rest. rest) };
-
-    ghost remaining = { item_count (λ rest. rest) };
-
-    fn next(&mut self) -> Option<Unit> {
-        while self.next_byte <= 255 {
-            let byte = self.next_byte as u8;
-            self.next_byte += 1;
-            if self.classes.get(byte) == self.class {
-                return Some(Unit::u8(byte));
-            }
-        }
-        if self.with_end {
-            self.with_end = false;
-            return Some(Unit::eoi(256));
-        }
-        None
-    }
-}
-
-/// The iterator over a range's representatives, made by [`ByteClasses::representatives`].
-/// A contract sees it as the list of those that are left.
-#[derive(Debug, Drop)]
-pub struct ByteClassRepresentatives<'a> {
-    classes: &'a ByteClasses,
-    // The next representative, if it is below `end_byte`.
-    next_byte: usize,
-    end_byte: usize,
-    with_end: bool,
-}
-
-impl<'a> Model for ByteClassRepresentatives<'a> {
-    ghost use Rattle.std.specs.Prelude.{◌≤◌, List, None};
-    ghost use Rattle.rsc_alphabet.specs.Symbols.{Symbol};
-    ghost use Rattle.rsc_alphabet.specs.IteratorLayout.{representatives_left};
-
-    ghost Value = { List Symbol };
-
-    ghost view = { λ it. representatives_left it.classes.now it.next_byte it.end_byte None it.with_end };
-
-    ghost invariant = { λ it. it.end_byte ≤ 256 };
-}
-
-impl<'a> Iterator for ByteClassRepresentatives<'a> {
-    type Item = Unit;
-
-    ghost next_gives = { YieldsFirst (λ rest. rest) };
-
-    ghost remaining = { item_count (λ rest. rest) };
-
-    fn next(&mut self) -> Option<Unit> {
-        if self.next_byte >= self.end_byte {
-            if !self.with_end {
-                return None;
-            }
-            self.with_end = false;
-            return Some(self.classes.eoi());
-        }
-        let byte = self.next_byte as u8;
-        let class = self.classes.get(byte);
-        self.next_byte += 1;
-        while self.next_byte < self.end_byte && self.classes.get(self.next_byte as u8) == class {
-            self.next_byte += 1;
-        }
-        Some(Unit::u8(byte))
     }
 }

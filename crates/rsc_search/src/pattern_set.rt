@@ -1,18 +1,20 @@
-//! Sets of patterns, and the iterator over their members from both ends.
+//! Sets of patterns.
+//!
+//! A set is held as one bit for each number below its capacity. The Rust has a list of `bool`s: a word answers for 64 of them at
+//! once, where a set is cleared, compared, or gone through.
 ghost use Rattle.std.specs.Prelude.{◌≡◌, ℕ, ◌-◌, ◌<◌, ◌≤◌, ◌↔◌, true, false, not, All, length, IsTrue, IsOk, IfOk, IfErr, IfSome, OnOk, OnErr, Some};
 ghost use Rattle.std.specs.List.Sorted.{IsStrictlyIncreasing};
-ghost use Rattle.std.specs.Iterator.{YieldsFirst, YieldsLast, item_count, UpTo, at_most};
-ghost use Rattle.std.specs.Iterator.SizeHint.{IsWithinCount};
 ghost use Rattle.rsc_search.specs.PatternSets.{Patterns, no_patterns, has_member, with_member};
 
-use crate::words::{
-    BITS, first_from, has_bit, have_same_bits, last_to, with_bit, without_highest, without_lowest,
-    word_at,
-};
+mod error;
+mod iter;
+
+use crate::words::{BITS, has_bit, have_same_bits, with_bit, word_at};
+pub use error::PatternSetInsertError;
+pub use iter::PatternSetIter;
 use rsc_primitives::PatternID;
 use std::alloc::{AllocError, Allocator, Global};
 use std::marker::Model;
-use std::{error, fmt};
 
 /// A set of patterns, each below a capacity that is chosen once.
 ///
@@ -193,136 +195,3 @@ impl<A: Allocator> Eq for PatternSet<A> {
 
     ghost laws = { same_patterns_equiv };
 }
-
-/// The iterator over a set's members, made by [`PatternSet::iter`]. A contract sees it as the list of those that are left:
-/// `next` takes the first and `next_back` the last, so each comes once however they are mixed.
-#[derive(Clone, Debug, Drop)]
-pub struct PatternSetIter<'a> {
-    words: &'a [u64],
-    // Of the two words that were read last from either end what that end hasn't given yet. Where both are one word, what
-    // the other end has given is in them still: the count of those that are left says when to stop.
-    front_index: usize,
-    front: u64,
-    back_index: usize,
-    back: u64,
-    left: usize,
-}
-
-impl<'a> Model for PatternSetIter<'a> {
-    ghost use Rattle.std.specs.Prelude.{ℕ, List};
-    ghost use Rattle.rsc_search.specs.PatternSetLayout.{left_between, IsBetween};
-
-    ghost Value = { List ℕ };
-
-    ghost view = { λ it. left_between it.words.now it.front_index it.front it.back_index it.back };
-
-    ghost invariant = { λ it. IsBetween it.words.now it.front_index it.front it.back_index it.back it.left };
-}
-
-impl<'a> PatternSetIter<'a> {
-    /// How many members are left.
-    #[inline]
-    pub fn len(&self) -> usize
-        ensures { result ≡ length self.now }
-    {
-        self.left
-    }
-}
-
-impl<'a> Iterator for PatternSetIter<'a> {
-    type Item = PatternID;
-
-    ghost next_gives = { YieldsFirst (λ rest. rest) };
-
-    ghost remaining = { item_count (λ rest. rest) };
-
-    #[inline]
-    fn next(&mut self) -> Option<PatternID> {
-        if self.left == 0 {
-            return None;
-        }
-        let (index, word) = first_from(self.words, self.front_index, self.front);
-        let p = BITS * index + word.trailing_zeros() as usize;
-        self.front_index = index;
-        self.front = without_lowest(word);
-        self.left -= 1;
-        Some(PatternID::must(p))
-    }
-
-    #[inline]
-    fn size_hint(&self) -> (usize, Option<usize>)
-        ensures lower { IsWithinCount result.0 (at_most (length self.now)) }
-        ensures upper { IfSome result.1 (UpTo (at_most (length self.now))) }
-        ensures exact { result ≡ (length self.now, Some (length self.now)) }
-    {
-        let left = self.len();
-        (left, Some(left))
-    }
-}
-
-impl<'a> DoubleEndedIterator for PatternSetIter<'a> {
-    ghost next_back_gives = { YieldsLast (λ rest. rest) };
-
-    #[inline]
-    fn next_back(&mut self) -> Option<PatternID> {
-        if self.left == 0 {
-            return None;
-        }
-        let (index, word) = last_to(self.words, self.back_index, self.back);
-        let p = BITS * index + (BITS - 1 - word.leading_zeros() as usize);
-        self.back_index = index;
-        self.back = without_highest(word);
-        self.left -= 1;
-        Some(PatternID::must(p))
-    }
-}
-
-/// The error of [`PatternSet::try_insert`]: the pattern isn't below the set's capacity.
-#[derive(Clone, Debug, Drop)]
-pub struct PatternSetInsertError {
-    attempted: PatternID,
-    capacity: usize,
-}
-
-impl Model for PatternSetInsertError {
-    ghost use Rattle.rsc_search.specs.PatternSets.{RefusedInsertion};
-
-    ghost Value = { RefusedInsertion };
-
-    ghost view = { λ e. record { attempted = e.attempted; capacity = e.capacity } };
-}
-
-impl PatternSetInsertError {
-    /// The pattern that was handed in.
-    #[inline]
-    pub fn attempted(&self) -> PatternID
-        ensures { result ≡ self.now.attempted }
-    {
-        self.attempted
-    }
-
-    /// The set's capacity.
-    #[inline]
-    pub fn capacity(&self) -> usize
-        ensures { result ≡ self.now.capacity }
-    {
-        self.capacity
-    }
-}
-
-impl fmt::Display for PatternSetInsertError {
-    ghost use Rattle.std.specs.Prelude.{Some};
-    ghost use Rattle.rsc_search.specs.Texts.{refused_insertion_text};
-
-    ghost output = { λ e. Some (refused_insertion_text e) };
-
-    fn fmt<W: fmt::Write>(&self, f: &mut fmt::Formatter<W>) -> fmt::Result {
-        let (attempted, capacity) = (self.attempted.as_usize(), self.capacity);
-        write!(
-            f,
-            "failed to insert pattern ID {attempted} into pattern set with insufficient capacity of {capacity}"
-        )
-    }
-}
-
-impl error::Error for PatternSetInsertError {}

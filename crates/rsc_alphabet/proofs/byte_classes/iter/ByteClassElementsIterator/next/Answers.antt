@@ -1,7 +1,7 @@
 use Rattle.std.proofs.Common.{◌≡◌, ◌+◌, refl, [], ◌∷◌, sym, ◌∙◌, rules, false}
 use Rattle.rsc_alphabet.specs.IteratorLayout.{elements_left}
 use Rattle.rsc_alphabet.proofs.IteratorsLemmas.{elements_left_first, elements_left_skip, elements_left_none}
-use Rattle.rsc_alphabet.proofs.byte_classes.ByteClassElementsIterator.next.Goals as goal
+use Rattle.rsc_alphabet.proofs.byte_classes.iter.ByteClassElementsIterator.next.Goals as goal
 
 pub loop-self-preserved : goal.loop-self-preserved
 loop-self-preserved c =

@@ -2,7 +2,7 @@ use Rattle.std.proofs.Common.{◌≡◌, ◌<◌, ◌+◌, ◌*◌, ◌∷◌, l
 use Rattle.std.specs.Int.{trailing_zeros}
 use Rattle.rsc_search.specs.PatternSetLayout.{left_between}
 use Rattle.rsc_search.proofs.IteratorLemmas.{front_some, front_set, front_rest, front_step}
-use Rattle.rsc_search.proofs.pattern_set.PatternSetIterIterator.next.Goals as goal
+use Rattle.rsc_search.proofs.pattern_set.iter.PatternSetIterIterator.next.Goals as goal
 
 pub overflow_mul-p : goal.overflow_mul-p
 overflow_mul-p c =

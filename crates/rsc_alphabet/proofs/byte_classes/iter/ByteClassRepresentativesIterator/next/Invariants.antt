@@ -1,7 +1,7 @@
 use Rattle.std.proofs.Common.{◌-◌, ◌≡◌, ◌≤◌, ◌∷◌, Some, slice_index}
 use Rattle.rsc_alphabet.specs.Symbols.{byte}
 use Rattle.rsc_alphabet.specs.IteratorLayout.{representatives_left}
-use Rattle.rsc_alphabet.proofs.byte_classes.ByteClassRepresentativesIterator.next.Given as goal
+use Rattle.rsc_alphabet.proofs.byte_classes.iter.ByteClassRepresentativesIterator.next.Given as goal
 
 -- the first representative stands before the others, and since then the class is the same
 abbrev pub invariant-loop-self : goal.invariant-loop-self

@@ -3,7 +3,7 @@ use Rattle.std.specs.Int.{leading_zeros}
 use Rattle.rsc_search.specs.WordLayout.{bit_length}
 use Rattle.rsc_search.specs.PatternSetLayout.{left_between}
 use Rattle.rsc_search.proofs.IteratorLemmas.{back_some, back_within, back_set, back_rest, back_step}
-use Rattle.rsc_search.proofs.pattern_set.PatternSetIterDoubleEndedIterator.next_back.Goals as goal
+use Rattle.rsc_search.proofs.pattern_set.iter.PatternSetIterDoubleEndedIterator.next_back.Goals as goal
 
 pub overflow_mul-p : goal.overflow_mul-p
 overflow_mul-p c =

@@ -1,6 +1,6 @@
 use Rattle.std.proofs.Common.{◌≡◌, ◌-◌}
 use Rattle.rsc_alphabet.specs.IteratorLayout.{elements_left}
-use Rattle.rsc_alphabet.proofs.byte_classes.ByteClassElementsIterator.next.Given as goal
+use Rattle.rsc_alphabet.proofs.byte_classes.iter.ByteClassElementsIterator.next.Given as goal
 
 -- no element was passed over
 abbrev pub invariant-loop-self : goal.invariant-loop-self

@@ -2,7 +2,7 @@ use Rattle.std.proofs.Common.{List, ◌≡◌, ◌+◌, ◌-◌, [], ◌∷◌, 
 use Rattle.rsc_alphabet.specs.Symbols.{end_of_input}
 use Rattle.rsc_alphabet.specs.IteratorLayout.{symbols_left}
 use Rattle.rsc_alphabet.proofs.IteratorsLemmas.{symbols_left_more, symbols_left_end, symbols_left_none}
-use Rattle.rsc_alphabet.proofs.byte_classes.ByteClassIterIterator.next.Goals as goal
+use Rattle.rsc_alphabet.proofs.byte_classes.iter.ByteClassIterIterator.next.Goals as goal
 
 pub returns-then-self-end-clause-steps : goal.returns-then-self-end-clause-steps
 returns-then-self-end-clause-steps c =

@@ -2,8 +2,8 @@ use Rattle.std.proofs.Common.{◌≡◌, ◌≤◌, ◌+◌, ◌-◌, refl, [], 
 use Rattle.rsc_alphabet.specs.Symbols.{byte}
 use Rattle.rsc_alphabet.specs.IteratorLayout.{representatives_left}
 use Rattle.rsc_alphabet.proofs.IteratorsLemmas.{representatives_left_new, representatives_left_old, representatives_left_none, representatives_left_again}
-use Rattle.rsc_alphabet.proofs.byte_classes.ByteClassRepresentativesIterator.next.Goals.{then-loop-self-test+else-get-class, else-loop-self-test}
-use Rattle.rsc_alphabet.proofs.byte_classes.ByteClassRepresentativesIterator.next.Goals as goal
+use Rattle.rsc_alphabet.proofs.byte_classes.iter.ByteClassRepresentativesIterator.next.Goals.{then-loop-self-test+else-get-class, else-loop-self-test}
+use Rattle.rsc_alphabet.proofs.byte_classes.iter.ByteClassRepresentativesIterator.next.Goals as goal
 
 pub returns-then-not-self-clause-steps : goal.returns-then-not-self-clause-steps
 returns-then-not-self-clause-steps c =

@@ -1,0 +1,91 @@
+//! The iterator over the members of a set, from both ends.
+ghost use Rattle.std.specs.Prelude.{◌≡◌, length, IfSome, Some};
+ghost use Rattle.std.specs.Iterator.{YieldsFirst, YieldsLast, item_count, UpTo, at_most};
+ghost use Rattle.std.specs.Iterator.SizeHint.{IsWithinCount};
+
+use crate::words::{BITS, first_from, last_to, without_highest, without_lowest};
+use rsc_primitives::PatternID;
+use std::marker::Model;
+
+/// The iterator over a set's members, made by [`crate::PatternSet::iter`]. A contract sees it as the list of those that are left:
+/// `next` takes the first and `next_back` the last, so each comes once however they are mixed.
+#[derive(Clone, Debug, Drop)]
+pub struct PatternSetIter<'a> {
+    pub(super) words: &'a [u64],
+    // Of the two words that were read last from either end what that end hasn't given yet. Where both are one word, what
+    // the other end has given is in them still: the count of those that are left says when to stop.
+    pub(super) front_index: usize,
+    pub(super) front: u64,
+    pub(super) back_index: usize,
+    pub(super) back: u64,
+    pub(super) left: usize,
+}
+
+impl<'a> Model for PatternSetIter<'a> {
+    ghost use Rattle.std.specs.Prelude.{ℕ, List};
+    ghost use Rattle.rsc_search.specs.PatternSetLayout.{left_between, IsBetween};
+
+    ghost Value = { List ℕ };
+
+    ghost view = { λ it. left_between it.words.now it.front_index it.front it.back_index it.back };
+
+    ghost invariant = { λ it. IsBetween it.words.now it.front_index it.front it.back_index it.back it.left };
+}
+
+impl<'a> PatternSetIter<'a> {
+    /// How many members are left.
+    #[inline]
+    pub fn len(&self) -> usize
+        ensures { result ≡ length self.now }
+    {
+        self.left
+    }
+}
+
+impl<'a> Iterator for PatternSetIter<'a> {
+    type Item = PatternID;
+
+    ghost next_gives = { YieldsFirst (λ rest. rest) };
+
+    ghost remaining = { item_count (λ rest. rest) };
+
+    #[inline]
+    fn next(&mut self) -> Option<PatternID> {
+        if self.left == 0 {
+            return None;
+        }
+        let (index, word) = first_from(self.words, self.front_index, self.front);
+        let p = BITS * index + word.trailing_zeros() as usize;
+        self.front_index = index;
+        self.front = without_lowest(word);
+        self.left -= 1;
+        Some(PatternID::must(p))
+    }
+
+    #[inline]
+    fn size_hint(&self) -> (usize, Option<usize>)
+        ensures lower { IsWithinCount result.0 (at_most (length self.now)) }
+        ensures upper { IfSome result.1 (UpTo (at_most (length self.now))) }
+        ensures exact { result ≡ (length self.now, Some (length self.now)) }
+    {
+        let left = self.len();
+        (left, Some(left))
+    }
+}
+
+impl<'a> DoubleEndedIterator for PatternSetIter<'a> {
+    ghost next_back_gives = { YieldsLast (λ rest. rest) };
+
+    #[inline]
+    fn next_back(&mut self) -> Option<PatternID> {
+        if self.left == 0 {
+            return None;
+        }
+        let (index, word) = last_to(self.words, self.back_index, self.back);
+        let p = BITS * index + (BITS - 1 - word.leading_zeros() as usize);
+        self.back_index = index;
+        self.back = without_highest(word);
+        self.left -= 1;
+        Some(PatternID::must(p))
+    }
+}
