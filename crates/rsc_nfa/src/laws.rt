@@ -12,10 +12,12 @@ pub fn last_record_counts()
     ensures { (states : List State) (run : List (ℕ × ℕ)) (slot i : ℕ) → (recorded states run slot ≡ Some i) ↔ IsLastRecord states run slot i }
 {}
 
-/// A clone of a state is that state, and is never refused.
+/// A clone of a state is that state, a clone of a fault is that fault, and none is refused.
 pub fn clones_are_their_sources()
     ensures state { (s u : State) → ⟦<State as Clone>⟧.is_clone s u → u ≡ s }
     ensures state_accepted { (s : State) → ⟦<State as Clone>⟧.is_infallible s }
+    ensures fault { (e f : BuildError) → ⟦<BuildError as Clone>⟧.is_clone e f → f ≡ e }
+    ensures fault_accepted { (e : BuildError) → ⟦<BuildError as Clone>⟧.is_infallible e }
 {}
 
 /// Two states are equal exactly if all their parts are, and so are two faults.
