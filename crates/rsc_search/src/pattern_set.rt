@@ -39,10 +39,10 @@ impl<A: Allocator> Model for PatternSet<A> {
 }
 
 impl<A: Allocator> PatternSet<A> {
-    /// The set with no member and that capacity, which is at most 2147483647. All the room that it will ever need is
+    /// The set with no member and that capacity, which is at most [`PatternID::LIMIT`]. All the room that it will ever need is
     /// taken here; an `AllocError` is answered only where that was refused.
     pub fn new(alloc: A, capacity: usize) -> Result<PatternSet<A>, AllocError>
-        requires { capacity ≤ 2147483647 }
+        requires { capacity ≤ PatternID.LIMIT }
         ensures { IfOk result (λ set. set ≡ no_patterns capacity) }
     {
         Ok(PatternSet {
@@ -136,7 +136,7 @@ impl<A: Allocator> PatternSet<A> {
     #[inline]
     pub fn capacity(&self) -> usize
         ensures capacity { result ≡ self.now.capacity }
-        ensures bound { result ≤ 2147483647 }
+        ensures bound { result ≤ PatternID.LIMIT }
     {
         self.capacity
     }

@@ -1,3 +1,4 @@
+use Rattle.rsc_primitives.specs.Indices.{IsIndex}
 use Rattle.std.proofs.Common.{◌≡◌, ◌<◌, ◌+◌, ◌-◌, ◌*◌, [], ◌∷◌, ◌++◌, length, rules, ap, sym, ◌∙◌, arith, length-append, w64}
 use Rattle.std.specs.Int.{leading_zeros}
 use Rattle.rsc_search.specs.WordLayout.{bit_length}
@@ -7,7 +8,7 @@ use Rattle.rsc_search.proofs.pattern_set.iter.PatternSetIterDoubleEndedIterator.
 
 pub overflow_mul-p : goal.overflow_mul-p
 overflow_mul-p c =
-    let small : 64 * c.last_to-index.result.0 + (63 - leading_zeros w64 c.last_to-index.result.1) < 2147483647 = c.self.invariant.fits _ (back_set c.self.inside.words.now c.self.inside.front_index c.self.inside.front c.self.inside.back_index c.self.inside.back c.self.inside.left c.self.invariant.left_is c.if-self-eq0.false c.last_to-index.result.0 c.last_to-index.result.1 c.last_to-index.ensures) in
+    let small : IsIndex (64 * c.last_to-index.result.0 + (63 - leading_zeros w64 c.last_to-index.result.1)) = c.self.invariant.fits _ (back_set c.self.inside.words.now c.self.inside.front_index c.self.inside.front c.self.inside.back_index c.self.inside.back c.self.inside.left c.self.invariant.left_is c.if-self-eq0.false c.last_to-index.result.0 c.last_to-index.result.1 c.last_to-index.ensures) in
     omega (arith, small)
 
 pub overflow_sub-p-2 : goal.overflow_sub-p-2
@@ -17,7 +18,7 @@ overflow_sub-p-2 c =
 
 pub overflow_add-p : goal.overflow_add-p
 overflow_add-p c =
-    let small : 64 * c.last_to-index.result.0 + (63 - leading_zeros w64 c.last_to-index.result.1) < 2147483647 = c.self.invariant.fits _ (back_set c.self.inside.words.now c.self.inside.front_index c.self.inside.front c.self.inside.back_index c.self.inside.back c.self.inside.left c.self.invariant.left_is c.if-self-eq0.false c.last_to-index.result.0 c.last_to-index.result.1 c.last_to-index.ensures) in
+    let small : IsIndex (64 * c.last_to-index.result.0 + (63 - leading_zeros w64 c.last_to-index.result.1)) = c.self.invariant.fits _ (back_set c.self.inside.words.now c.self.inside.front_index c.self.inside.front c.self.inside.back_index c.self.inside.back c.self.inside.left c.self.invariant.left_is c.if-self-eq0.false c.last_to-index.result.0 c.last_to-index.result.1 c.last_to-index.ensures) in
     omega (arith, small)
 
 pub without_highest-self-inside-requires : goal.without_highest-self-inside-requires
@@ -25,7 +26,7 @@ without_highest-self-inside-requires c = back_some c.self.inside.words.now c.sel
 
 pub must-requires : goal.must-requires
 must-requires c =
-    let small : 64 * c.last_to-index.result.0 + (63 - leading_zeros w64 c.last_to-index.result.1) < 2147483647 = c.self.invariant.fits _ (back_set c.self.inside.words.now c.self.inside.front_index c.self.inside.front c.self.inside.back_index c.self.inside.back c.self.inside.left c.self.invariant.left_is c.if-self-eq0.false c.last_to-index.result.0 c.last_to-index.result.1 c.last_to-index.ensures) in
+    let small : IsIndex (64 * c.last_to-index.result.0 + (63 - leading_zeros w64 c.last_to-index.result.1)) = c.self.invariant.fits _ (back_set c.self.inside.words.now c.self.inside.front_index c.self.inside.front c.self.inside.back_index c.self.inside.back c.self.inside.left c.self.invariant.left_is c.if-self-eq0.false c.last_to-index.result.0 c.last_to-index.result.1 c.last_to-index.ensures) in
     omega (arith, small)
 
 pub invariant_of-self : goal.invariant_of-self

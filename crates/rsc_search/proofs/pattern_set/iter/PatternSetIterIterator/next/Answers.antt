@@ -1,4 +1,5 @@
-use Rattle.std.proofs.Common.{◌≡◌, ◌<◌, ◌+◌, ◌*◌, ◌∷◌, length, rules, ap, sym, ◌∙◌, arith, w64}
+use Rattle.rsc_primitives.specs.Indices.{IsIndex}
+use Rattle.std.proofs.Common.{◌≡◌, ◌+◌, ◌*◌, ◌∷◌, length, rules, ap, sym, ◌∙◌, arith, w64}
 use Rattle.std.specs.Int.{trailing_zeros}
 use Rattle.rsc_search.specs.PatternSetLayout.{left_between}
 use Rattle.rsc_search.proofs.IteratorLemmas.{front_some, front_set, front_rest, front_step}
@@ -6,12 +7,12 @@ use Rattle.rsc_search.proofs.pattern_set.iter.PatternSetIterIterator.next.Goals 
 
 pub overflow_mul-p : goal.overflow_mul-p
 overflow_mul-p c =
-    let small : 64 * c.first_from-index.result.0 + trailing_zeros w64 c.first_from-index.result.1 < 2147483647 = c.self.invariant.fits _ (front_set c.self.inside.words.now c.self.inside.front_index c.self.inside.front c.self.inside.back_index c.self.inside.back c.self.inside.left c.self.invariant.left_is c.if-self-eq0.false c.first_from-index.result.0 c.first_from-index.result.1 c.first_from-index.ensures) in
+    let small : IsIndex (64 * c.first_from-index.result.0 + trailing_zeros w64 c.first_from-index.result.1) = c.self.invariant.fits _ (front_set c.self.inside.words.now c.self.inside.front_index c.self.inside.front c.self.inside.back_index c.self.inside.back c.self.inside.left c.self.invariant.left_is c.if-self-eq0.false c.first_from-index.result.0 c.first_from-index.result.1 c.first_from-index.ensures) in
     omega (arith, small)
 
 pub overflow_add-p : goal.overflow_add-p
 overflow_add-p c =
-    let small : 64 * c.first_from-index.result.0 + trailing_zeros w64 c.first_from-index.result.1 < 2147483647 = c.self.invariant.fits _ (front_set c.self.inside.words.now c.self.inside.front_index c.self.inside.front c.self.inside.back_index c.self.inside.back c.self.inside.left c.self.invariant.left_is c.if-self-eq0.false c.first_from-index.result.0 c.first_from-index.result.1 c.first_from-index.ensures) in
+    let small : IsIndex (64 * c.first_from-index.result.0 + trailing_zeros w64 c.first_from-index.result.1) = c.self.invariant.fits _ (front_set c.self.inside.words.now c.self.inside.front_index c.self.inside.front c.self.inside.back_index c.self.inside.back c.self.inside.left c.self.invariant.left_is c.if-self-eq0.false c.first_from-index.result.0 c.first_from-index.result.1 c.first_from-index.ensures) in
     omega (arith, small)
 
 pub without_lowest-self-inside-requires : goal.without_lowest-self-inside-requires
@@ -19,7 +20,7 @@ without_lowest-self-inside-requires c = front_some c.self.inside.words.now c.sel
 
 pub must-requires : goal.must-requires
 must-requires c =
-    let small : 64 * c.first_from-index.result.0 + trailing_zeros w64 c.first_from-index.result.1 < 2147483647 = c.self.invariant.fits _ (front_set c.self.inside.words.now c.self.inside.front_index c.self.inside.front c.self.inside.back_index c.self.inside.back c.self.inside.left c.self.invariant.left_is c.if-self-eq0.false c.first_from-index.result.0 c.first_from-index.result.1 c.first_from-index.ensures) in
+    let small : IsIndex (64 * c.first_from-index.result.0 + trailing_zeros w64 c.first_from-index.result.1) = c.self.invariant.fits _ (front_set c.self.inside.words.now c.self.inside.front_index c.self.inside.front c.self.inside.back_index c.self.inside.back c.self.inside.left c.self.invariant.left_is c.if-self-eq0.false c.first_from-index.result.0 c.first_from-index.result.1 c.first_from-index.ensures) in
     omega (arith, small)
 
 pub invariant_of-self : goal.invariant_of-self
