@@ -22,14 +22,14 @@ Contains-first x xs = (0, omega arith, refl)
 pub Contains-later : {X : Type 0} (x : X) (xs : List X) (q : X) → Contains xs q → Contains (x ∷ xs) q
 Contains-later x xs q (k, l, e) = (suc k, omega (arith, l), e)
 
-Contains-cases : {X : Type 0} (x : X) (xs : List X) (q : X) → Contains (x ∷ xs) q → (x ≡ q) ⊎ Contains xs q
+pub Contains-cases : {X : Type 0} (x : X) (xs : List X) (q : X) → Contains (x ∷ xs) q → (x ≡ q) ⊎ Contains xs q
 Contains-cases x xs q (zero, l, e) = inl e
 Contains-cases x xs q (suc k, l, e) = inr (k, omega (arith, l), e)
 
-Contains-none : {X : Type 0} (q : X) → Contains [] q → ⊥
+pub Contains-none : {X : Type 0} (q : X) → Contains [] q → ⊥
 Contains-none q (k, l, e) = omega (arith, l)
 
-Contains-filter : {X : Type 0} (p : X → Bool) (xs : List X) (q : X) → p q ≡ true → Contains xs q → Contains (filter p xs) q
+pub Contains-filter : {X : Type 0} (p : X → Bool) (xs : List X) (q : X) → p q ≡ true → Contains xs q → Contains (filter p xs) q
 Contains-filter p [] q is c = c
 Contains-filter {X} p (x ∷ xs) q is c =
     ⊎_elim

@@ -17,7 +17,7 @@ use Rattle.rsc_alphabet.specs.Iterators.{class_at, end_of, symbols, elements_of,
 use Rattle.rsc_alphabet.proofs.PartitionsLemmas.{class_of_none, class_of_more, class_of-between}
 
 -- each number of a range is below its end
-All-from_to : (low high : ℕ) → All (λ k. k < high) (from_to low high)
+pub All-from_to : (low high : ℕ) → All (λ k. k < high) (from_to low high)
 All-from_to low high =
     All-from_get_or (λ k. k < high) (from_to low high) 0 (λ i l.
     let small : i < high - low = rw (length-from_to low high) at l in

@@ -4,13 +4,14 @@ ghost use Rattle.std.specs.List.{Contains, AllAdjacentBelow};
 ghost use Rattle.std.specs.List.Sorted.{IsStrictlyIncreasing};
 ghost use Rattle.std.specs.FinSet as sets;
 ghost use Rattle.std.specs.declared.ops.Bound.{Bound};
+ghost use Rattle.std.specs.declared.ops.Bound.TheVariants.{Unbounded};
 ghost use Rattle.std.specs.Range.Bound.{start_index, end_index};
 ghost use Rattle.rsc_alphabet.specs.Bytes.{bytes};
 ghost use Rattle.rsc_alphabet.specs.ByteSets.{Numbers, members, runs, IsMaximalRun};
 ghost use Rattle.rsc_alphabet.specs.Partitions.{Together, class_map, edges_of, edges_of_each, changes_at};
 ghost use Rattle.rsc_alphabet.specs.Ranges.{holds, are_alike};
 ghost use Rattle.rsc_alphabet.specs.Symbols.{Symbol, byte, symbol_cmp};
-ghost use Rattle.rsc_alphabet.specs.Iterators.{symbols, representatives_of};
+ghost use Rattle.rsc_alphabet.specs.Iterators.{end_of, symbols, representatives_of};
 
 use crate::{ByteClassSet, ByteClasses, ByteSet, Unit};
 
@@ -28,9 +29,11 @@ pub fn classes_rise_by_one()
         ⊎ (slice_index (class_map p) (b + 1) ≡ slice_index (class_map p) b + 1) }
 {}
 
-/// The iterator over the classes of a partition gives each class of a byte once, as the unit of its number, at that place.
+/// The iterator over the classes of a partition gives each class of a byte once, as the unit of its number, at that place, and then the
+/// end of the input.
 pub fn each_class_comes_once()
     ensures place { (classes : List ℕ) (c : ℕ) → c ≤ slice_index classes 255 → slice_get (symbols classes) c ≡ Some (byte c) }
+    ensures end { (classes : List ℕ) → slice_get (symbols classes) (slice_index classes 255 + 1) ≡ Some (end_of classes) }
     ensures count { (classes : List ℕ) → length (symbols classes) ≡ slice_index classes 255 + 2 }
     ensures within { (p : ℕ → Bool) (b : ℕ) → b < 256 → slice_index (class_map p) b ≤ slice_index (class_map p) 255 }
     ensures reached { (p : ℕ → Bool) (c : ℕ) → c ≤ slice_index (class_map p) 255 →
@@ -41,6 +44,16 @@ pub fn each_class_comes_once()
 pub fn first_byte_is_representative()
     ensures { (classes : List ℕ) (from to : Bound ℕ) → start_index from < end_index to 256 →
         (rest : List Symbol) × (representatives_of classes from to ≡ byte (start_index from) ∷ rest) }
+{}
+
+/// The representatives of all bytes are bytes and the end of the input, and each byte has the class of one of them: who looks at the
+/// representatives alone has seen every class.
+pub fn each_class_is_represented()
+    ensures reached { (classes : List ℕ) (b : ℕ) → b < 256 →
+        (r : ℕ) × ((r < 256) × Contains (representatives_of classes Unbounded Unbounded) (byte r) × (slice_index classes r ≡ slice_index classes b)) }
+    ensures end { (classes : List ℕ) → Contains (representatives_of classes Unbounded Unbounded) (end_of classes) }
+    ensures only { (classes : List ℕ) (u : Symbol) → Contains (representatives_of classes Unbounded Unbounded) u →
+        ((b : ℕ) × ((b < 256) × (u ≡ byte b))) ⊎ (u ≡ end_of classes) }
 {}
 
 /// The boundaries of a set's maximal runs are where membership changes from one byte to the next.

@@ -1,9 +1,13 @@
 use Rattle.rsc_alphabet.proofs.PartitionsLemmas.{class_within, class_reached}
 use Rattle.rsc_alphabet.proofs.IteratorsLemmas.{slice_get-symbols, length-symbols}
+use Rattle.rsc_alphabet.proofs.Represented.{end_comes_last}
 use Rattle.rsc_alphabet.proofs.laws.each_class_comes_once.Goals as goal
 
 pub returns-clause-place : goal.returns-clause-place
 returns-clause-place c = slice_get-symbols
+
+pub returns-clause-end : goal.returns-clause-end
+returns-clause-end c = end_comes_last
 
 pub returns-clause-count : goal.returns-clause-count
 returns-clause-count c = length-symbols
