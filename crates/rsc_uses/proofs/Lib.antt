@@ -1,4 +1,7 @@
 mod Bytes
 mod Characters
+mod Filling
 mod ListedLemmas
+mod ReplacedLemmas
+mod Sums
 mod UnionLemmas

@@ -1,9 +1,10 @@
 //! Tables whose columns are the classes of bytes.
-ghost use Rattle.std.specs.Prelude.{◌≡◌, ◌↔◌, ◌+◌, ◌*◌, ◌^◌, ◌<◌, ◌≤◌, ℕ, IsTrue, IfSome, length, slice_index, true};
+ghost use Rattle.std.specs.Prelude.{◌≡◌, ◌↔◌, ◌+◌, ◌*◌, ◌^◌, ◌<◌, ◌≤◌, ℕ, IsTrue, IfSome, is_none, length, slice_index, true};
 ghost use Rattle.std.specs.FinSet as sets;
 ghost use Rattle.rsc_alphabet.specs.ByteSets.{runs};
-ghost use Rattle.rsc_alphabet.specs.Partitions.{Together, edges_of_each};
+ghost use Rattle.rsc_alphabet.specs.Partitions.{Together, class_map, edges_of_each};
 ghost use Rattle.rsc_alphabet.specs.Iterators.{stride2_of};
+ghost use Rattle.rsc_uses.specs.Leads.{lead_of};
 
 use rsc_alphabet::{ByteClassSet, ByteClasses, ByteSet, Unit, classes_of_ranges, laws};
 use std::ops::Bound;
@@ -45,6 +46,9 @@ pub fn transition_of_partition(
     byte: u8,
 ) -> Option<u32>
     requires { length table.now < 2147483647 }
+    ensures cell { IfSome result (λ cell. cell ≡ slice_index table.now
+        (row * 2 ^ stride2_of (class_map (sets.contains partition.now)) + slice_index (class_map (sets.contains partition.now)) byte)) }
+    ensures none { IsTrue (is_none result) ↔ (length table.now < (row + 1) * 2 ^ stride2_of (class_map (sets.contains partition.now))) }
 {
     laws::each_class_comes_once();
     let map = partition.byte_classes();
@@ -73,12 +77,43 @@ pub fn end_is_apart(partition: &ByteClassSet, byte: u8) -> bool
     map.get_by_unit(map.eoi()) != usize::from(map.get(byte))
 }
 
-/// Marks the cell of each class and of the end of the input.
+/// Marks the cell of each class and of the end of the input, and no other.
 pub fn fill_row(map: &ByteClasses, row: &mut [u32])
     requires { slice_index map.now 255 + 2 ≤ length row.old }
+    ensures len { length row.new ≡ length row.old }
+    ensures marked { (k : ℕ) → k < slice_index map.now 255 + 2 → slice_index row.new k ≡ 1 }
+    ensures kept { (k : ℕ) → slice_index map.now 255 + 2 ≤ k → slice_index row.new k ≡ slice_index row.old k }
 {
+    laws::each_class_comes_once();
     for unit in map.iter() {
         row[unit.as_usize()] = 1;
+    }
+}
+
+// Where a unit leads from a state.
+fn lead_of(leads: &[u32; 256], end: u32, unit: Unit) -> u32
+    ensures { result ≡ lead_of leads.now end unit }
+{
+    match unit.as_u8() {
+        Some(byte) => leads[usize::from(byte)],
+        None => end,
+    }
+}
+
+/// Fills a state's row by one byte of each class alone, given where each byte leads. Where bytes of one class lead to one state, the
+/// row then answers for every byte: each byte's column is its class's. And it answers for the end of the input.
+pub fn fill_by_representatives(map: &ByteClasses, leads: &[u32; 256], end: u32, row: &mut [u32])
+    requires rises { (b : ℕ) → b < 256 → slice_index map.now b ≤ slice_index map.now 255 }
+    requires alike { (b c : ℕ) → b < 256 → c < 256 → slice_index map.now b ≡ slice_index map.now c →
+        slice_index leads.now b ≡ slice_index leads.now c }
+    requires room { slice_index map.now 255 + 2 ≤ length row.old }
+    ensures len { length row.new ≡ length row.old }
+    ensures bytes { (b : ℕ) → b < 256 → slice_index row.new (slice_index map.now b) ≡ slice_index leads.now b }
+    ensures end { slice_index row.new (slice_index map.now 255 + 1) ≡ end }
+{
+    laws::each_class_is_represented();
+    for unit in map.representatives(Bound::Unbounded, Bound::Unbounded) {
+        row[map.get_by_unit(unit)] = lead_of(leads, end, unit);
     }
 }
 

@@ -1,7 +1,11 @@
 //! Captures: slots written by a match and read back by group and by name, and parts cut out of a haystack.
-ghost use Rattle.std.specs.Prelude.{◌≡◌, ◌+◌, ◌*◌, ◌<◌, ◌≤◌, ◌∷◌, ℕ, All, IsTrue, IfSome, IfOk, Some, None, length, slice_set, slice_range};
-ghost use Rattle.rsc_captures.specs.Groups.{all_groups, group_count, slot_number};
-ghost use Rattle.rsc_captures.specs.Captured.{span_at, group_span, matched_spans, matched_groups, participating};
+ghost use Rattle.std.specs.Prelude.{◌≡◌, ◌+◌, ◌*◌, ◌<◌, ◌≤◌, ◌∷◌, [], ℕ, List, All, IsTrue, IfSome, IfOk, Some, None, drop, length, slice_index_or, slice_set, slice_range};
+ghost use Rattle.std.specs.Option.{option_map};
+ghost use Rattle.rsc_search.specs.declared.span.Span as spans;
+ghost use Rattle.rsc_search.specs.Spans.{cut_text};
+ghost use Rattle.rsc_captures.specs.Groups.{all_groups, group_count, groups_of, index_of, slot_number};
+ghost use Rattle.rsc_captures.specs.Captured.{group_span, matched_groups, matched_spans, participating, pieces, span_at};
+ghost use Rattle.rsc_uses.specs.Replaced.{replaced};
 
 use rsc_captures::{Captures, GroupInfo, laws};
 use rsc_primitives::{NonMaxUsize, PatternID};
@@ -76,13 +80,18 @@ pub fn write_match(
     Ok(captures.get_match())
 }
 
-/// The offsets of a named group.
+/// The offsets of a named group: what its two slots hold. `None` where the pattern has no group of that name.
 pub fn offsets_of_name(
     captures: &Captures,
     pid: PatternID,
     name: &str,
 ) -> Option<(Option<NonMaxUsize>, Option<NonMaxUsize>)>
     requires { length captures.now.offsets ≡ 2 * all_groups captures.now.groups }
+    ensures { result ≡ option_map (λ group. (
+      slice_index_or captures.now.offsets (slot_number captures.now.groups pid group) None,
+      slice_index_or captures.now.offsets (slot_number captures.now.groups pid group + 1) None,
+    ))
+        (index_of (groups_of captures.now.groups pid) name.now) }
 {
     let group = captures.group_info().to_index(pid, name)?;
     let (first, second) = captures.group_info().slots(pid, group)?;
@@ -135,6 +144,14 @@ pub fn index_within(info: &GroupInfo, pid: PatternID, name: &str) -> bool
     }
 }
 
+/// How many names the iterator over all patterns gives, with those that are none: one for each group.
+pub fn count_names(info: &GroupInfo) -> usize
+    ensures { result ≡ all_groups info.now }
+{
+    let _all = info.all_group_len();
+    info.all_names().count()
+}
+
 /// How many spans the iterator gives: one for each group of the pattern that matched.
 pub fn count_spans(captures: &Captures) -> usize
     ensures { result ≡ matched_groups captures.now }
@@ -160,12 +177,23 @@ pub fn iterator_agrees(alloc: Global, captures: &Captures, index: usize) -> Resu
 
 /// The key and the value of a match of `(\w+)=(\w+)`: parts of the haystack itself, nothing is copied. `None` where one of the groups
 /// took no part.
-pub fn key_and_value<'h>(captures: &Captures, haystack: &'h str) -> Option<(&'h str, &'h str)> {
+pub fn key_and_value<'h>(captures: &Captures, haystack: &'h str) -> Option<(&'h str, &'h str)>
+    ensures { option_map (λ parts. parts.0.now ∷ parts.1.now ∷ []) result
+        ≡ option_map (drop 1) (pieces (cut_text haystack.now) 3 (participating captures.now)) }
+{
     let (_, [key, value]) = captures.extract_from::<&str, 2>(haystack)?;
     Some((key, value))
 }
 
-/// A text with each span of a list replaced: the bytes between the spans stay. The spans come in order and don't overlap.
+/// Where the bytes of each span are those of the replacement already, replacing them gives the haystack.
+pub fn replacing_by_the_same_changes_nothing()
+    ensures { (haystack replacement : List ℕ) (spans : List spans.Span) →
+        All (λ s. (s.start ≤ s.end) × (s.end ≤ length haystack)) spans →
+        All (λ s. slice_range haystack s.start s.end ≡ replacement) spans → replaced haystack replacement 0 spans ≡ haystack }
+{}
+
+/// A text with each span of a list replaced: the bytes between the spans stay. A span that begins before the last one's end is passed
+/// over.
 pub fn replace_all(
     alloc: Global,
     haystack: &[u8],
@@ -173,6 +201,7 @@ pub fn replace_all(
     replacement: &[u8],
 ) -> Result<Vec<u8>, AllocError>
     requires within { All (λ s. (s.start ≤ s.end) × (s.end ≤ length haystack.now)) spans.now }
+    ensures { IfOk result (λ text. text.items ≡ replaced haystack.now replacement.now 0 spans.now) }
 {
     let mut text = Vec::new(alloc);
     let mut from = 0;
@@ -183,8 +212,6 @@ pub fn replace_all(
             from = span.end;
         }
     }
-    if from <= haystack.len() {
-        text.extend_from_slice(&haystack[from..])?;
-    }
+    text.extend_from_slice(&haystack[from..])?;
     Ok(text)
 }

@@ -84,6 +84,15 @@ pub fn each_is_member(set: LookSet) -> bool
     true
 }
 
+/// Whether an assertion that is taken out again is gone, and another one is not: so it is.
+pub fn insert_and_remove(look: Look, other: Look) -> bool
+    requires { ¬ (look ≡ other) }
+    ensures { IsTrue result }
+{
+    let set = LookSet::singleton(look).insert(other).remove(other);
+    set.contains(look) && !set.contains(other)
+}
+
 /// The classes of two line assertions, for words of any kind.
 pub fn line_classes<W: WordClass>(matcher: &LookMatcher<W>) -> ByteClasses
     ensures { IsCoarsestMap result (Look.StartLF ∷ Look.EndCRLF ∷ []) matcher.now.0 (W.word_chars matcher.now.1) }

@@ -1,7 +1,7 @@
 //! Characters counted in bytes, and tables that are indexed by numbers of patterns and states.
-ghost use Rattle.std.specs.Prelude.{◌≡◌, ◌*◌, ◌^◌, ◌<◌, ◌≤◌, ◌+◌, ◌↔◌, ℕ, List, IfSome, IsTrue, is_none, length, slice_index};
+ghost use Rattle.std.specs.Prelude.{◌≡◌, ◌*◌, ◌^◌, ◌%◌, ◌<◌, ◌≤◌, ◌+◌, ◌↔◌, ℕ, List, IfSome, IsTrue, is_none, length, slice_index, sum};
 ghost use Rattle.std.specs.Char.{len_utf8};
-ghost use Rattle.rsc_primitives.specs.Utf8.{BeginsAt, EncodesAll};
+ghost use Rattle.rsc_primitives.specs.Utf8.{BeginsAt, EndsAt, EncodesAll};
 
 use rsc_primitives::{PatternID, StateID, laws, utf8};
 
@@ -36,9 +36,41 @@ pub fn count_characters(bytes: &[u8]) -> usize
     count
 }
 
-/// The sum of a table's cells, each looked up by its pattern's number: no index is out of bounds.
+/// How many bytes the last character takes, or 1 where the bytes end with none: how far a scan from the back moves on.
+#[tactic(auto, using(crate::proofs::Characters::fits_before, crate::proofs::Characters::least_width))]
+pub fn last_width(bytes: &[u8]) -> usize
+    requires { 0 < length bytes.now }
+    ensures some { 1 ≤ result }
+    ensures within { result ≤ length bytes.now }
+    ensures width { (c : ℕ) → EndsAt bytes.now (length bytes.now) c → result ≡ len_utf8 c }
+{
+    laws::encoding_is_that_of_std();
+    laws::at_most_one_ends();
+    match utf8::decode_last(bytes) {
+        Some(Ok(c)) => c.len_utf8(),
+        Some(Err(_)) => 1,
+        None => 1,
+    }
+}
+
+/// How many characters the bytes hold, counted from the back, if they are valid UTF-8: as many as from the front.
+pub fn count_characters_from_back(bytes: &[u8]) -> usize
+    ensures { (characters : List ℕ) → EncodesAll bytes.now characters → result ≡ length characters }
+{
+    laws::encoding_is_that_of_std();
+    let mut end = bytes.len();
+    let mut count = 0;
+    while end > 0 {
+        end -= last_width(&bytes[..end]);
+        count += 1;
+    }
+    count
+}
+
+/// The sum of a table's cells, each looked up by its pattern's number, modulo 2^64: no index is out of bounds.
 pub fn sum_by_pattern(table: &[u64]) -> u64
     requires { length table.now ≤ 2147483647 }
+    ensures { result ≡ sum table.now % 2 ^ 64 }
 {
     let mut sum = 0u64;
     for pid in PatternID::iter(table.len()) {

@@ -1,5 +1,5 @@
 //! Inputs that move on, and sets of patterns.
-ghost use Rattle.std.specs.Prelude.{◌≡◌, ◌↔◌, ◌+◌, ◌<◌, ◌≤◌, ◌++◌, ℕ, All, IsTrue, IfOk, IfSome, is_none, slice_range, length, reverse, true};
+ghost use Rattle.std.specs.Prelude.{◌≡◌, ◌↔◌, ◌+◌, ◌<◌, ◌≤◌, ◌++◌, ℕ, All, IsTrue, IfOk, IfSome, is_none, slice_index, slice_range, length, reverse, sum_by, true, ◌%◌, ◌^◌};
 ghost use Rattle.rsc_search.specs.PatternSets.{has_member};
 
 use rsc_primitives::PatternID;
@@ -57,6 +57,14 @@ pub fn matched<'h>(haystack: &'h [u8], found: &Match) -> &'h [u8]
     ensures { result.now ≡ slice_range haystack.now found.now.span.start found.now.span.end }
 {
     &haystack[found.range()]
+}
+
+/// The bytes of a match, cut by its two ends.
+pub fn matched_by_ends<'h>(haystack: &'h [u8], found: &Match) -> &'h [u8]
+    requires { found.now.span.end ≤ length haystack.now }
+    ensures { result.now ≡ slice_range haystack.now found.now.span.start found.now.span.end }
+{
+    &haystack[found.start()..found.end()]
 }
 
 /// How many bytes a match has.
@@ -131,9 +139,10 @@ pub fn each_is_contained(set: &PatternSet) -> bool
     true
 }
 
-/// The sum of the members' cells in a table of as many cells as the set has room for.
+/// The sum of the members' cells, modulo 2^64, in a table of as many cells as the set has room for.
 pub fn sum_of_members(set: &PatternSet, table: &[u64]) -> u64
     requires { set.now.capacity ≤ length table.now }
+    ensures { result ≡ sum_by (slice_index table.now) set.now.members % 2 ^ 64 }
 {
     let mut sum = 0u64;
     for pid in set.iter() {

@@ -1,6 +1,8 @@
 //! Each caller, run on values.
+ghost use Rattle.std.specs.Prelude.{◌≡◌, ◌<◌, ℕ, slice_index};
+
 use crate::{alphabet, captures, look, nfa, primitives, search};
-use rsc_alphabet::{ByteClassSet, ByteSet};
+use rsc_alphabet::{ByteClassSet, ByteSet, laws};
 use rsc_captures::{Captures, GroupInfo};
 use rsc_look::{AsciiWord, Look, LookMatcher, LookSet, UnicodeWord};
 use rsc_nfa::{Nfa, State};
@@ -24,11 +26,26 @@ fn are_bytes(found: &[u8], want: &[u8]) -> bool {
     found == want
 }
 
+// A row of which each cell is the same state.
+fn all_lead_to(state: u32) -> [u32; 256]
+    ensures { (b : ℕ) → b < 256 → slice_index result b ≡ state }
+{
+    [state; 256]
+}
+
 #[test]
 fn characters_and_tables(rt: HostRuntime) -> Result<(), Fail> {
     assert_eq!(rt; primitives::count_characters("größe 日本".as_bytes()), 8);
     assert_eq!(rt; primitives::count_characters(b"\xFFa\xC3"), 3);
+    assert_eq!(rt; primitives::first_width("日a".as_bytes()), 3);
+    assert_eq!(rt; primitives::last_width("aß".as_bytes()), 2);
+    assert_eq!(rt;
+        primitives::count_characters_from_back("größe 日本".as_bytes()),
+        8
+    );
+    assert_eq!(rt; primitives::count_characters_from_back(b"\xFFa\xC3"), 3);
     assert_eq!(rt; primitives::sum_by_pattern(&[1, 2, 3]), 6);
+    assert_eq!(rt; primitives::sum_by_pattern(&[u64::MAX, 3]), 2);
     assert!(rt;
         primitives::pattern_of_state(&[PatternID::ZERO], StateID::ZERO) == Some(PatternID::ZERO)
     );
@@ -60,6 +77,30 @@ fn rows_of_classes(rt: HostRuntime) -> Result<(), Fail> {
 }
 
 #[test]
+fn cells_of_rows(rt: HostRuntime) -> Result<(), Fail> {
+    laws::each_class_comes_once();
+    let mut partition = ByteClassSet::empty();
+    partition.set_range(b'a', b'z');
+    let map = partition.byte_classes();
+    assert_eq!(rt; alphabet::cell_of(&map, 1, b'q'), 5);
+    let table = [0, 1, 2, 3, 4, 5, 6, 7];
+    if map.stride2() == 2 {
+        assert_eq!(rt; alphabet::transition(&map, &table, 1, b'{'), 6);
+        assert_eq!(rt; alphabet::transition_at_end(&map, &table, 1), 7);
+    }
+    let mut row = [0; 8];
+    if map.alphabet_len() <= 8 {
+        alphabet::fill_row(&map, &mut row);
+    }
+    assert!(rt; row == [1, 1, 1, 1, 0, 0, 0, 0]);
+    if map.alphabet_len() <= 8 {
+        alphabet::fill_by_representatives(&map, &all_lead_to(7), 9, &mut row);
+    }
+    assert!(rt; row == [7, 7, 7, 9, 0, 0, 0, 0]);
+    Ok(())
+}
+
+#[test]
 fn words_and_lines(rt: HostRuntime) -> Result<(), Fail> {
     let mut matcher = LookMatcher::new(UnicodeWord);
     let text = "größe: 日本".as_bytes();
@@ -77,6 +118,25 @@ fn words_and_lines(rt: HostRuntime) -> Result<(), Fail> {
     assert!(rt; look::is_whole_word(&own, b"a1", Span { start: 0, end: 1 }));
     let classes = look::unicode_classes(&matcher, &[Look::WordUnicode]);
     assert!(rt; classes.get(b'a') != classes.get(b' '));
+    assert!(rt; look::insert_and_remove(Look::Start, Look::End));
+    Ok(())
+}
+
+#[test]
+fn classes_of_assertions(rt: HostRuntime) -> Result<(), Fail> {
+    rsc_look::laws::words_agree_with_ascii();
+    look::letters_do_not_agree();
+    let matcher = LookMatcher::new(UnicodeWord);
+    let found = look::positions(rt.alloc(), &matcher, Look::StartLF, b"a\nb")?;
+    assert!(rt; are_positions(found.as_slice(), &[0, 2]));
+    let classes = look::line_classes(&matcher);
+    assert!(rt; classes.get(b'\r') != classes.get(b'\n') && classes.get(b'a') == classes.get(b'z'));
+    let classes = look::byte_classes_of(&matcher, &[Look::StartLF]);
+    assert!(rt; classes.get(b'\r') == classes.get(255) && classes.get(0) != classes.get(255));
+    assert!(rt; look::agree(&matcher, &classes, Look::StartLF, b"a\nb", b"a\nb", 2));
+    let set = look::alphabet_of(&matcher, &[(b'a', b'f')], &[Look::StartLF]);
+    let classes = set.byte_classes();
+    assert!(rt; classes.get(b'f') != classes.get(b'g') && classes.get(b'\n') != classes.get(b'\r'));
     Ok(())
 }
 
@@ -138,8 +198,10 @@ fn matches_one_after_the_other(rt: HostRuntime) -> Result<(), Fail> {
         )
     );
     assert!(rt; are_bytes(search::left(&Input::new(b"ab")), b"ab"));
+    assert!(rt; search::left_by_span(&Input::new(b"ab")).is_some());
     let found = Match::new(PatternID::ZERO, Span { start: 1, end: 3 });
     assert!(rt; are_bytes(search::matched(b"abcd", &found), b"bc"));
+    assert!(rt; are_bytes(search::matched_by_ends(b"abcd", &found), b"bc"));
     assert_eq!(rt; search::width(&found), 2);
     Ok(())
 }
@@ -148,6 +210,13 @@ fn matches_one_after_the_other(rt: HostRuntime) -> Result<(), Fail> {
 fn members_from_both_ends(rt: HostRuntime) -> Result<(), Fail> {
     let ids = [PatternID::must(7), PatternID::must(0), PatternID::must(3)];
     let set = search::set_of(rt.alloc(), 8, &ids)?;
+    let members = search::members(rt.alloc(), &set)?;
+    assert!(rt;
+        are_patterns(
+            members.as_slice(),
+            &[PatternID::ZERO, PatternID::must(3), PatternID::must(7)]
+        )
+    );
     let (front, back) = search::from_both_ends(rt.alloc(), &set)?;
     assert!(rt; are_patterns(front.as_slice(), &[PatternID::ZERO, PatternID::must(3)]));
     assert!(rt; are_patterns(back.as_slice(), &[PatternID::must(7)]));
@@ -180,11 +249,44 @@ fn spans_written_and_read(rt: HostRuntime) -> Result<(), Fail> {
     }
     assert_eq!(rt; captures::count_spans(&found), 3);
     assert!(rt; captures::iterator_agrees(rt.alloc(), &found, 1)?);
-    assert!(rt; captures::index_within(found.group_info(), PatternID::ZERO, "key"));
-    assert!(rt; captures::slots_within(found.group_info(), PatternID::ZERO, 2));
+    Ok(())
+}
+
+#[test]
+fn spans_replaced(rt: HostRuntime) -> Result<(), Fail> {
+    captures::replacing_by_the_same_changes_nothing();
     let spans = [Span { start: 0, end: 3 }, Span { start: 4, end: 9 }];
     let text = captures::replace_all(rt.alloc(), b"key=value", &spans, b"_")?;
     assert!(rt; are_bytes(text.as_slice(), b"_=_"));
+    Ok(())
+}
+
+#[test]
+fn spans_of_groups(rt: HostRuntime) -> Result<(), Fail> {
+    let (zero, one) = (PatternID::ZERO, PatternID::must(1));
+    let info = GroupInfo::new(rt.alloc(), &[&[None, Some("x")], &[None]])?;
+    assert!(rt; captures::slots_apart(&info, zero, 1, one, 0));
+    assert!(rt; captures::index_within(&info, zero, "x") && captures::slots_within(&info, one, 0));
+    let (Some(start), Some(end)) = (NonMaxUsize::new(2), NonMaxUsize::new(5)) else {
+        return Ok(());
+    };
+    let whole = Span { start: 2, end: 5 };
+    if info.pattern_len() > 0 && info.group_len(zero) > 1 {
+        assert!(rt; captures::has_whole(&info, zero));
+        let copy = info.clone()?;
+        assert!(rt;
+            captures::write_and_read(rt.alloc(), copy, zero, 1, start, end)? == Some(whole)
+        );
+        let copy = info.clone()?;
+        let found = captures::write_match(rt.alloc(), copy, zero, start, end)?;
+        assert!(rt; found == Some(Match::new(zero, whole)));
+        let mut found = Captures::all(rt.alloc(), info)?;
+        found.set_pattern(Some(zero));
+        captures::write_span(&mut found, zero, 0, start, end);
+        assert!(rt; found.get_group(0) == Some(whole));
+        assert_eq!(rt; captures::spans(rt.alloc(), &found)?.len(), 2);
+        assert_eq!(rt; captures::count_names(found.group_info()), 3);
+    }
     Ok(())
 }
 
