@@ -2,6 +2,8 @@ pub mod Lists
 pub mod Places
 pub mod Indexed
 pub mod Ordered
+pub mod Blocks
+pub mod Repeats
 pub mod Held
 pub mod Clear
 pub mod Checked

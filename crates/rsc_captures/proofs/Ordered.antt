@@ -26,10 +26,10 @@ use Rattle.rsc_captures.specs.Names.{name_at, name_cmp, HasNamed, IsSortedByName
 use Rattle.rsc_captures.proofs.Places.{Handed, take_groups_more}
 use Rattle.rsc_captures.proofs.Indexed.{index_of-is, has_name-is}
 
-name_total : IsTotalOrder name_cmp
+pub name_total : IsTotalOrder name_cmp
 name_total = options_total nat_list_cmp_total
 
-name_exact : (a b : Option (List ℕ)) → name_cmp a b ≡ Equal → a ≡ b
+pub name_exact : (a b : Option (List ℕ)) → name_cmp a b ≡ Equal → a ≡ b
 name_exact None None e = refl
 name_exact None (Some b) e = cc
 name_exact (Some a) None e = cc

@@ -1,7 +1,9 @@
 -- What the code knows of a list as it reads it, beside the words of `Faults`.
-use Rattle.std.specs.Prelude.{◌≡◌, ℕ, ◌<◌, ◌≤◌, List, length, None}
-use Rattle.rsc_captures.specs.Groups.{GroupLists}
+use Rattle.std.specs.Prelude.{◌≡◌, ℕ, ◌<◌, ◌≤◌, List, length, Some, None}
+use Rattle.std.specs.List.{All, Contains}
+use Rattle.rsc_captures.specs.Groups.{Groups, GroupLists}
 use Rattle.rsc_captures.specs.Faults.{Fault, Duplicate, IsPlace, pattern_fault, place_fault, slots_end}
+use Rattle.rsc_captures.specs.Names.{name_at, IsSortedByName}
 
 -- no place of the patterns before n is at fault
 abbrev pub IsClearBelow : ℕ → GroupLists → ℕ → Type 0
@@ -15,3 +17,24 @@ pub record HasNoOtherFault (limit : ℕ) (lists : GroupLists) : Type 0 where
 -- the fault is a name that is used twice in a pattern
 abbrev pub IsDuplicate : Fault → Type 0
 IsDuplicate f = (p : ℕ) × (name : List ℕ) × (f ≡ Duplicate p name)
+
+-- no group below `end` has the name of a lesser one that is among the first n
+abbrev pub AreApart : Groups → ℕ → ℕ → Type 0
+AreApart groups n end = (g h : ℕ) (name : List ℕ) → g < n → g < h → h < end → name_at groups g ≡ Some name → name_at groups h ≡ Some name → ⊥
+
+-- group h is the first that has the name of a lesser one that is among the first n
+pub record IsRepeatOf (groups : Groups) (n h : ℕ) : Type 0 where
+  pub g : ℕ
+  pub name : List ℕ
+  pub group : h < length groups
+  pub first : g < n
+  pub lesser : g < h
+  pub one : name_at groups g ≡ Some name
+  pub other : name_at groups h ≡ Some name
+  pub apart : AreApart groups n h
+
+-- the order has the groups with a name that are among the first `block` and among the first n, in the order of their names
+pub record IsTable (order : List ℕ) (groups : Groups) (block n : ℕ) : Type 0 where
+  pub sorted : IsSortedByName order groups
+  pub within : All (λ g. (g < block) × (g < n)) order
+  pub named : (g : ℕ) (name : List ℕ) → g < block → g < n → name_at groups g ≡ Some name → Contains order g

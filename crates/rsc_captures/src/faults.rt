@@ -1,14 +1,27 @@
 //! Looks for the first fault of a group list, and takes no memory.
-ghost use Rattle.std.specs.Prelude.{◌≡◌, ℕ, ◌+◌, ◌*◌, ◌<◌, ◌≤◌, length, IfOk, IfErr, OnOk, MatchOption};
+//!
+//! The names of a pattern are looked at for a repeat block by block. A table on the stack has the groups of one block in the order
+//! of their names, and each name of the block and behind it is looked up there by halving. So n names of one pattern make up to
+//! n²/8192 look-ups of at most 13 comparisons, whatever they are.
+ghost use Rattle.std.specs.Prelude.{◌≡◌, ℕ, ◌+◌, ◌*◌, ◌<◌, ◌≤◌, length, take, slice_index_or, Some, None, IfOk, IfErr, OnOk, MatchOption};
 ghost use Rattle.rsc_captures.specs.Groups.{has_name, contains_name, groups_in, lists_in, AreDistinctBelow, explicit_before, group_count};
-ghost use Rattle.rsc_captures.specs.Faults.{LIMIT_OF_IDS, pattern_fault, group_fault, IsClear, IsFirstAtPlace, IsFirstFault, IsFaultless};
-ghost use Rattle.rsc_captures.specs.Checks.{IsClearBelow, HasNoOtherFault};
-ghost use Rattle.rsc_captures.specs.Names.{IsFirstRepeat};
+ghost use Rattle.rsc_captures.specs.Faults.{LIMIT_OF_IDS, pattern_fault, IsClear, IsFirstAtPlace, IsFirstFault, IsFaultless};
+ghost use Rattle.rsc_captures.specs.Checks.{IsClearBelow, HasNoOtherFault, AreApart, IsRepeatOf};
+ghost use Rattle.rsc_captures.specs.Names.{IsFirstRepeat, name_cmp};
 ghost use Rattle.rsc_captures.specs.Found.{fault_found};
 ghost use Rattle.std.specs.Option.{option_copied};
+ghost use Rattle.std.specs.List.{insert};
+ghost use Rattle.std.specs.List.Sorted.{IsBinarySearchResult, IsSearchInRange};
 ghost use Rattle.std.specs.Bool.{MatchBool, OnFalse};
 
 use rsc_primitives::{PatternID, PatternIDError};
+use std::cmp::Ordering;
+
+// With fewer groups than these the names are compared one with another.
+const FEW: usize = 16;
+
+// How many groups a block has, and a table may hold: 8 KiB.
+const BLOCK: usize = 4096;
 
 /// A fault, with the name lent by the list.
 #[derive(Drop)]
@@ -43,8 +56,8 @@ fn contains_name(groups: &[Option<&str>], name: &str) -> bool
     false
 }
 
-/// The first group whose name is used at a lesser one. Names are compared one with another.
-pub(crate) fn first_repeat(groups: &[Option<&str>]) -> Option<usize>
+// The first group whose name is used at a lesser one. Names are compared one with another.
+fn first_repeat_of_few(groups: &[Option<&str>]) -> Option<usize>
     ensures { MatchOption result (AreDistinctBelow (groups_in groups.now) (length groups.now)) (IsFirstRepeat (groups_in groups.now)) }
 {
     for g in 0..groups.len() {
@@ -55,6 +68,87 @@ pub(crate) fn first_repeat(groups: &[Option<&str>]) -> Option<usize>
         }
     }
     None
+}
+
+// How the name of a group compares with a name. A group without one comes before all names.
+#[inline]
+fn compare(groups: &[Option<&str>], g: usize, name: &str) -> Ordering
+    ensures { result ≡ name_cmp (slice_index_or (groups_in groups.now) g None) (Some name.now) }
+{
+    let group = groups.get(g).copied().unwrap_or(None);
+    match group {
+        Some(held) => held.cmp(name),
+        None => Ordering::Less,
+    }
+}
+
+// Where the name is among groups in the order of their names, or where it would be.
+fn find(groups: &[Option<&str>], order: &[u16], name: &str) -> Result<usize, usize>
+    ensures bound { IsSearchInRange result (length order.now) }
+    ensures found { IsBinarySearchResult (λ g. name_cmp (slice_index_or (groups_in groups.now) g None) (Some name.now)) order.now result }
+{
+    order.binary_search_by(|g| compare(groups, usize::from(*g), name))
+}
+
+// Puts a group at the place among the first `len` of the table, which has room for one more.
+fn insert(cells: &mut [u16], len: usize, place: usize, g: u16)
+    requires place { place ≤ len }
+    requires room { len < length cells.old }
+    ensures inserted { take (len + 1) cells.new ≡ insert (take len cells.old) place g }
+    ensures length { length cells.new ≡ length cells.old }
+{
+    cells[len] = g;
+    cells[place..len + 1].rotate_right(1);
+}
+
+// The first group whose name is used at a lesser one that is in the first block. The cells are those of the table.
+fn repeat_of_block(groups: &[Option<&str>], cells: &mut [u16]) -> Option<usize>
+    requires { length cells.old ≡ BLOCK }
+    ensures length { length cells.new ≡ BLOCK }
+    ensures repeat { MatchOption result (AreApart (groups_in groups.now) BLOCK (length groups.now)) (IsRepeatOf (groups_in groups.now) BLOCK) }
+{
+    let mut len = 0;
+    for g in 0..groups.len() {
+        let group = groups[g];
+        let Some(name) = group else { continue };
+        match find(groups, &cells[..len], name) {
+            Ok(_) => return Some(g),
+            Err(place) => {
+                if g < BLOCK {
+                    insert(cells, len, place, g as u16);
+                    len += 1;
+                }
+            }
+        }
+    }
+    None
+}
+
+// The first group whose name is used at a lesser one, block by block: a later block is looked at only before the repeat of an earlier.
+fn first_repeat_of_many(groups: &[Option<&str>]) -> Option<usize>
+    ensures { MatchOption result (AreDistinctBelow (groups_in groups.now) (length groups.now)) (IsFirstRepeat (groups_in groups.now)) }
+{
+    let mut cells = [0u16; BLOCK];
+    let mut end = groups.len();
+    let mut from = 0;
+    while from < end {
+        if let Some(g) = repeat_of_block(&groups[from..end], &mut cells) {
+            end = from + g;
+        }
+        from = from.saturating_add(BLOCK);
+    }
+    if end < groups.len() { Some(end) } else { None }
+}
+
+/// The first group whose name is used at a lesser one.
+pub(crate) fn first_repeat(groups: &[Option<&str>]) -> Option<usize>
+    ensures { MatchOption result (AreDistinctBelow (groups_in groups.now) (length groups.now)) (IsFirstRepeat (groups_in groups.now)) }
+{
+    if groups.len() < FEW {
+        first_repeat_of_few(groups)
+    } else {
+        first_repeat_of_many(groups)
+    }
 }
 
 // Whether the limit is passed by so many groups, the explicit ones before them counted too.
@@ -82,36 +176,6 @@ fn check_pattern<'a>(lists: &[&[Option<&'a str>]], p: usize) -> Result<PatternID
     }
 }
 
-/// Looks at an explicit group, where `before` explicit groups stand in earlier patterns.
-fn check_group<'a>(
-    limit: usize,
-    lists: &[&[Option<&'a str>]],
-    pattern: PatternID,
-    before: usize,
-    g: usize,
-) -> Result<(), Fault<'a>>
-    requires pattern { pattern < length lists.now }
-    requires group { g < group_count (lists_in lists.now) pattern }
-    requires limit { limit ≤ LIMIT_OF_IDS }
-    requires before { before ≡ explicit_before (lists_in lists.now) pattern }
-    requires within { 2 * before ≤ limit }
-    ensures ok { OnOk result ((group_fault limit (lists_in lists.now) pattern g ≡ None) × (2 * (before + g) ≤ limit)) }
-    ensures err { IfErr result (λ fault. group_fault limit (lists_in lists.now) pattern g ≡ Some (fault_found fault)) }
-{
-    if passes_limit(limit, before, g) {
-        return Err(Fault::TooManyGroups(pattern, g));
-    }
-    let groups = lists[pattern.as_usize()];
-    let group = groups[g];
-    let Some(name) = group else {
-        return Ok(());
-    };
-    if contains_name(&groups[..g], name) {
-        return Err(Fault::Duplicate(pattern, name));
-    }
-    Ok(())
-}
-
 /// Looks at the places of a pattern in order.
 fn check_groups<'a>(
     limit: usize,
@@ -131,10 +195,14 @@ fn check_groups<'a>(
         Ok(pattern) => pattern,
         Err(fault) => return Err(fault),
     };
-    for g in 1..lists[p].len() {
-        if let Err(fault) = check_group(limit, lists, pattern, before, g) {
-            return Err(fault);
-        }
+    let groups = lists[p];
+    // The first group that is past the limit, or as many as there are.
+    let end = groups.len().min(limit / 2 - before + 1);
+    if let Some(g) = first_repeat(&groups[..end]) {
+        return Err(Fault::Duplicate(pattern, groups[g].unwrap_or("")));
+    }
+    if end < groups.len() {
+        return Err(Fault::TooManyGroups(pattern, end));
     }
     Ok(())
 }
@@ -156,7 +224,7 @@ fn check_slots<'a>(limit: usize, lists: &[&[Option<&'a str>]]) -> Result<(), Fau
     Ok(())
 }
 
-/// Looks at the places of the list in order, and then at the number of slots. Names are compared one with another.
+/// Looks at the places of the list in order, and then at the number of slots.
 pub(crate) fn check<'a>(limit: usize, lists: &[&[Option<&'a str>]]) -> Result<(), Fault<'a>>
     requires limit { limit ≤ LIMIT_OF_IDS }
     ensures ok { OnOk result (IsFaultless limit (lists_in lists.now)) }

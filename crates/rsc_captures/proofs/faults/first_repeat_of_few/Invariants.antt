@@ -1,5 +1,5 @@
 use Rattle.rsc_captures.specs.Groups.{groups_in, AreDistinctBelow}
-use Rattle.rsc_captures.proofs.faults.first_repeat.Given as goal
+use Rattle.rsc_captures.proofs.faults.first_repeat_of_few.Given as goal
 
 -- no name so far stands at a lesser group
 abbrev pub invariant-loop-g : goal.invariant-loop-g

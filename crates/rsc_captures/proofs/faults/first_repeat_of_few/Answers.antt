@@ -2,8 +2,8 @@ use Rattle.std.proofs.Common.{◌<◌, length, sym, ◌∙◌, arith}
 use borrow.Author.Count.{below_more}
 use Rattle.std.proofs.lemmas.List.{length-map}
 use Rattle.rsc_captures.proofs.Places.{named_repeat_in, unnamed_repeat_in}
-use Rattle.rsc_captures.proofs.faults.first_repeat.Goals.{in-Some+else-contains_name, in_default}
-use Rattle.rsc_captures.proofs.faults.first_repeat.Goals as goal
+use Rattle.rsc_captures.proofs.faults.first_repeat_of_few.Goals.{in-Some+else-contains_name, in_default}
+use Rattle.rsc_captures.proofs.faults.first_repeat_of_few.Goals as goal
 
 pub returns-then-contains_name : goal.returns-then-contains_name
 returns-then-contains_name c =
