@@ -7,50 +7,27 @@ A definition is a name of a crate's `specs/` that a `ghost use` line brings into
 or behind its module, as `Holds` or `Holds.Holds`.
 """
 import collections
-import pathlib
 import re
 import sys
 
-ROOT = pathlib.Path(__file__).resolve().parent
-# programs, and what only measures
-LEFT_OUT = ("rsc_bench", "rsc_compare", "rsc_kernels", "rsc_show", "rsc_uses")
-
-
-def clauses_of(text):
-    """Yields each public function of a file with the text of its clauses."""
-    owner, name, clauses = "", None, []
-    for line in text.splitlines():
-        begins_impl = re.match(r"impl(?:<.*?>)? (?:.* for )?(\w+)", line)
-        if begins_impl:
-            owner = begins_impl[1] + "::"
-        elif line.startswith("}"):
-            owner = ""
-        begins = re.match(r"\s*pub fn (\w+)", line)
-        if begins:
-            name, clauses = owner + begins[1], []
-        elif name and re.match(r"\s*\{", line):
-            yield name, "\n".join(clauses)
-            name = None
-        elif name:
-            clauses.append(line)
+from sources import LIBRARIES, ROOT, functions, sources
 
 
 def cited():
     """Returns, for each crate, each definition that a public function's clauses cite, with those functions."""
     found = collections.defaultdict(lambda: collections.defaultdict(set))
-    for file in sorted(ROOT.glob("crates/rsc_*/src/**/*.rt")):
-        crate = file.relative_to(ROOT).parts[1]
-        if crate.startswith(LEFT_OUT) or "tests" in file.parts or file.name == "tests.rt":
-            continue
-        text = file.read_text(encoding="utf-8")
-        imported = {}
-        for of, module, names in re.findall(r"ghost use Rattle\.(rsc_\w+)\.specs\.([\w.]+)\.\{([^}]*)\}", text):
-            if not module.startswith("declared"):
-                imported.update({it.strip(): (of, module) for it in names.split(",")})
-        for function, clauses in clauses_of(text):
-            for word in set(re.findall(r"[\w-]+", clauses)) & set(imported):
-                of, module = imported[word]
-                found[of][f"{module}.{word}"].add(f"{crate}::{function}")
+    for crate in LIBRARIES:
+        for _, text in sources(crate):
+            imported = {}
+            for of, module, names in re.findall(r"ghost use Rattle\.(rsc_\w+)\.specs\.([\w.]+)\.\{([^}]*)\}", text):
+                if not module.startswith("declared"):
+                    imported.update({it.strip(): (of, module) for it in names.split(",")})
+            for owner, _, signature in functions(text):
+                named = re.match(r"\s*pub (?:const )?fn (\w+)", signature)
+                of_type = re.match(r"\w+", owner.rpartition(" for ")[2])
+                for word in set(re.findall(r"[\w-]+", signature)) & set(imported) if named else ():
+                    of, module = imported[word]
+                    found[of][f"{module}.{word}"].add(f"{crate}::{of_type[0] + '::' if of_type else ''}{named[1]}")
     return found
 
 

@@ -8,12 +8,11 @@ crates/rsc_uses/src/FILE that the page quotes. Below that line all is quoted: th
 words of specs/ with the comment above each. The first Rust block of a library's README.md is its file in crates/rsc_uses/src/readmes, a
 test; that of the repository's is the program of crates/rsc_example.
 """
-import pathlib
 import re
 import sys
 
-ROOT = pathlib.Path(__file__).resolve().parent
-LIBRARIES = ("rsc_primitives", "rsc_alphabet", "rsc_look", "rsc_search", "rsc_captures", "rsc_nfa")
+from sources import LIBRARIES, ROOT, functions, sources
+
 MARK = re.compile(r"<!-- callers: (\S+) (.*) -->\n")
 LAWS = """## Laws, and what else may be cited
 
@@ -22,28 +21,6 @@ A law is a public function of `{crate}::laws` that does nothing, and whose contr
 
 A contract or a proof of yours may name all of `Rattle.{crate}.specs`. Cite no lemma of `Rattle.{crate}.proofs`: they may change.
 """
-
-
-def functions(text):
-    """Yields each function of a file: its type or trait, whether the call is public, and its signature with its clauses."""
-    owner, is_open, lines = "", False, None
-    for line in text.splitlines():
-        block = re.match(r"(?:pub )?(impl|trait)\b(?:<.*?>)? ?(.*?) ?\{", line)
-        if block:
-            owner, is_open = block[2], block[1] == "trait" or " for " in block[2]
-        elif line.startswith("}"):
-            owner, is_open = "", False
-        begins = re.match(r"\s*(pub )?(?:const )?fn \w", line)
-        if begins:
-            is_public, lines = bool(begins[1]) or is_open, []
-        if lines is None:
-            continue
-        is_body = re.match(r"\s*\{", line)
-        if not is_body:
-            lines.append(line)
-        if is_body or re.search(r"\{\s*(\}\s*)?$|;$", line) and not re.match(r"\s*(requires|ensures)", line):
-            yield owner, is_public, "\n".join(lines)
-            lines = None
 
 
 def shortened(owner, signature):
@@ -57,12 +34,6 @@ def shortened(owner, signature):
         prefix = f"<{of} as {trait}>::"
     lines[0] = re.sub(r"(?:pub )?((?:const )?fn )", lambda it: it[1] + prefix, lines[0], count=1)
     return "\n".join(lines)
-
-
-def sources(crate):
-    for file in sorted((ROOT / "crates" / crate / "src").glob("**/*.rt")):
-        if "tests" not in file.parts and file.name != "tests.rt":
-            yield file.relative_to(ROOT / "crates" / crate / "src"), file.read_text(encoding="utf-8")
 
 
 def contracts(crate):
