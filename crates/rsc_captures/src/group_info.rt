@@ -88,6 +88,7 @@ fn build_pattern<A: Allocator + Clone + Drop>(
 ) -> Result<PatternGroups<A>, GroupInfoError<A>>
     requires pattern { p < length lists.now }
     requires number { p ≤ GREATEST_PATTERN }
+    requires count { group_count (lists_in lists.now) p ≤ LIMIT_OF_IDS }
     ensures ok { IfOk result (λ groups. groups ≡ groups_of (lists_in lists.now) p) }
     ensures distinct { OnOk result (AreDistinctBelow (groups_of (lists_in lists.now) p) (group_count (lists_in lists.now) p)) }
     ensures err { IfErr result (λ e. MatchOption e ⊤ (IsDuplicateOf (lists_in lists.now) p)) }
@@ -138,8 +139,9 @@ impl<A: Allocator + Clone + Drop> GroupInfo<A> {
     ///
     /// # Cost
     ///
-    /// Names are sorted, pattern by pattern. A list that is refused costs more: its names are compared one with another within each
-    /// pattern up to the fault, so that n names of one pattern make up to n²/2 comparisons.
+    /// Names are sorted, pattern by pattern, and a name that is used twice is read off their order. A list with any other fault costs
+    /// more: its names are compared one with another within each pattern up to the fault, so that n names of one pattern make up to
+    /// n²/2 comparisons.
     pub fn new(alloc: A, lists: &[&[Option<&str>]]) -> Result<GroupInfo<A>, GroupInfoError<A>>
         ensures groups { IfOk result (λ info. info ≡ lists_in lists.now) }
         ensures faultless { OnOk result (IsFaultless LIMIT_OF_IDS (lists_in lists.now)) }

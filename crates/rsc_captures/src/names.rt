@@ -3,14 +3,15 @@
 //! Where there are few groups, a name is compared with that of each. Else its hash names a few cells of a table, and each of
 //! these proposes a group: where that group has the name, it is the one. Nothing depends on what the table proposes, so no
 //! contract speaks of it. Where none has the name, the groups in the order of their names decide, by halving.
-ghost use Rattle.std.specs.Prelude.{◌≡◌, ℕ, ◌<◌, ◌≤◌, [], ◌++◌, length, Some, IfSome, IfOk, OnOk, MatchOption, slice_index_or, None};
+ghost use Rattle.std.specs.Prelude.{◌≡◌, ℕ, ◌<◌, ◌≤◌, [], ◌++◌, length, true, Some, IfSome, IfOk, OnOk, MatchOption, slice_index_or, None};
 ghost use Rattle.std.specs.Option.{option_copied, unwrap_or};
 ghost use Rattle.std.specs.Str.{IsUtf8};
 ghost use Rattle.std.specs.String.{string_bytes};
-ghost use Rattle.std.specs.Bool.{OnFalse};
-ghost use Rattle.rsc_captures.specs.Groups.{groups_in, index_of, AreDistinctBelow};
+ghost use Rattle.std.specs.List.{range_with_len};
 ghost use Rattle.std.specs.List.Sorted.{IsPermutation};
-ghost use Rattle.rsc_captures.specs.Names.{IsFirstRepeat, IsIndexed, place_held, AreHeld, name_cmp, HasNamed, IsSortedByName, AreNeighboursDistinct};
+ghost use Rattle.rsc_captures.specs.Groups.{groups_in, index_of, is_repeat, AreDistinctBelow};
+ghost use Rattle.rsc_captures.specs.Faults.{LIMIT_OF_IDS};
+ghost use Rattle.rsc_captures.specs.Names.{IsFirstRepeat, IsIndexed, place_held, AreHeld, name_cmp, has_name_of, HasGroups, IsSortedByName};
 
 use crate::faults::{first_repeat, has_name};
 use std::alloc::{AllocError, Allocator, Global};
@@ -32,7 +33,7 @@ struct Place {
 pub(crate) struct PatternGroups<A: Allocator = Global> {
     text: String<A>,
     places: Vec<Option<Place>, A>,
-    order: Vec<usize, A>,
+    order: Vec<u32, A>,
     proposals: Vec<u32, A>,
 }
 
@@ -49,7 +50,7 @@ impl<A: Allocator> Model for PatternGroups<A> {
 }
 
 // With fewer groups than these the names are looked at one by one, and there is neither an order nor a table.
-const FEW: usize = 10;
+const SCANNED_GROUPS: usize = 10;
 
 // How many cells of the table a name has.
 const CELLS_OF_A_NAME: u64 = 4;
@@ -123,56 +124,70 @@ fn named_len(groups: &[Option<&str>]) -> usize {
     count
 }
 
-// The groups with a name.
-fn named<A: Allocator + Clone + Drop>(
-    alloc: A,
-    groups: &[Option<&str>],
-) -> Result<Vec<usize, A>, AllocError>
-    ensures { IfOk result (λ order. HasNamed order.items (groups_in groups.now)) }
+// The numbers from 0 on, so many.
+fn numbers<A: Allocator + Clone + Drop>(alloc: A, count: usize) -> Result<Vec<u32, A>, AllocError>
+    requires { count ≤ LIMIT_OF_IDS }
+    ensures { IfOk result (λ numbers. numbers.items ≡ range_with_len 0 count) }
 {
-    let mut order = Vec::with_capacity(alloc, named_len(groups))?;
-    for (g, group) in groups.iter().enumerate() {
-        if group.is_some() {
-            order.push(g)?;
-        }
+    let mut numbers = Vec::with_capacity(alloc, count)?;
+    for number in 0..count {
+        numbers.push(number as u32)?;
     }
-    Ok(order)
+    Ok(numbers)
 }
 
-// Puts the groups in the order of their names.
-fn sort_by_name(groups: &[Option<&str>], order: &mut [usize])
+// Puts groups in the order of their names, and those of one name in the order of their numbers. A group without a name comes first.
+fn sort_by_name(groups: &[Option<&str>], order: &mut [u32])
     ensures permutation { IsPermutation order.old order.new }
     ensures sorted { IsSortedByName order.new (groups_in groups.now) }
 {
-    order.sort_unstable_by_key(|g| name_at(groups, *g));
+    order.sort_unstable_by_key(|g| (name_at(groups, *g as usize), *g));
 }
 
-/// The groups with a name, in the order of their names; none where there are few groups.
+/// The groups in the order of their names; none where there are few.
 pub(crate) fn order_of<A: Allocator + Clone + Drop>(
     alloc: A,
     groups: &[Option<&str>],
-) -> Result<Vec<usize, A>, AllocError>
-    ensures named { IfOk result (λ order. FEW ≤ length groups.now → HasNamed order.items (groups_in groups.now)) }
+) -> Result<Vec<u32, A>, AllocError>
+    requires { length groups.now ≤ LIMIT_OF_IDS }
+    ensures complete { IfOk result (λ order. SCANNED_GROUPS ≤ length groups.now → HasGroups order.items (length groups.now)) }
     ensures sorted { IfOk result (λ order. IsSortedByName order.items (groups_in groups.now)) }
 {
-    if groups.len() < FEW {
+    if groups.len() < SCANNED_GROUPS {
         return Ok(Vec::new(alloc));
     }
-    let mut order = named(alloc, groups)?;
+    let mut order = numbers(alloc, groups.len())?;
     sort_by_name(groups, order.as_mut_slice());
     Ok(order)
 }
 
-// Whether two groups that stand beside each other have the same name.
-fn has_equal_neighbours(groups: &[Option<&str>], order: &[usize]) -> bool
-    ensures { OnFalse result (AreNeighboursDistinct order.now (groups_in groups.now) (length order.now)) }
+// Whether group h has the name of group g, which comes before it.
+fn has_name_of(groups: &[Option<&str>], g: u32, h: u32) -> bool
+    ensures { result ≡ has_name_of (groups_in groups.now) g h }
 {
+    match name_at(groups, h as usize) {
+        Some(name) => g < h && has_name(name_at(groups, g as usize), name),
+        None => false,
+    }
+}
+
+// The least group whose name is used at a lesser one, or the number of groups where there is none: in the order of the names such a
+// group stands right behind one that has its name.
+fn least_repeat(groups: &[Option<&str>], order: &[u32]) -> usize
+    requires complete { HasGroups order.now (length groups.now) }
+    requires sorted { IsSortedByName order.now (groups_in groups.now) }
+    ensures distinct { AreDistinctBelow (groups_in groups.now) result }
+    ensures repeat { result < length groups.now → is_repeat (groups_in groups.now) result ≡ true }
+    ensures within { result ≤ length groups.now }
+{
+    let mut least = groups.len();
     for i in 1..order.len() {
-        if name_at(groups, order[i - 1]) == name_at(groups, order[i]) {
-            return true;
+        let group = order[i] as usize;
+        if group < least && has_name_of(groups, order[i - 1], order[i]) {
+            least = group;
         }
     }
-    false
+    least
 }
 
 // The cell of the table where a name's cells begin, before it is cut to the table's length.
@@ -204,7 +219,7 @@ fn proposals_of<A: Allocator>(
     groups: &[Option<&str>],
 ) -> Result<Vec<u32, A>, AllocError> {
     let named = named_len(groups);
-    if groups.len() < FEW || named == 0 {
+    if groups.len() < SCANNED_GROUPS || named == 0 {
         return Ok(Vec::new(alloc));
     }
     let length = named
@@ -220,17 +235,21 @@ fn proposals_of<A: Allocator>(
     Ok(proposals)
 }
 
-/// The first group whose name is used at a lesser one. Only where neighbours in the order have one name, and among few groups,
-/// are names compared one with another.
-pub(crate) fn repeat_in(groups: &[Option<&str>], order: &[usize]) -> Option<usize>
-    requires named { FEW ≤ length groups.now → HasNamed order.now (groups_in groups.now) }
+/// The first group whose name is used at a lesser one. It is read off the order; among few groups names are compared one with another.
+pub(crate) fn repeat_in(groups: &[Option<&str>], order: &[u32]) -> Option<usize>
+    requires complete { SCANNED_GROUPS ≤ length groups.now → HasGroups order.now (length groups.now) }
     requires sorted { IsSortedByName order.now (groups_in groups.now) }
     ensures { MatchOption result (AreDistinctBelow (groups_in groups.now) (length groups.now)) (IsFirstRepeat (groups_in groups.now)) }
 {
-    if groups.len() >= FEW && !has_equal_neighbours(groups, order) {
-        return None;
+    if groups.len() < SCANNED_GROUPS {
+        return first_repeat(groups);
     }
-    first_repeat(groups)
+    let least = least_repeat(groups, order);
+    if least < groups.len() {
+        Some(least)
+    } else {
+        None
+    }
 }
 
 impl<A: Allocator + Clone + Drop> PatternGroups<A> {
@@ -239,7 +258,7 @@ impl<A: Allocator + Clone + Drop> PatternGroups<A> {
     pub(crate) fn new(
         alloc: A,
         groups: &[Option<&str>],
-        order: Vec<usize, A>,
+        order: Vec<u32, A>,
     ) -> Result<PatternGroups<A>, AllocError>
         requires { IsIndexed order.items (groups_in groups.now) }
         ensures { IfOk result (λ p. p ≡ groups_in groups.now) }
@@ -315,11 +334,14 @@ impl<A: Allocator + Clone + Drop> PatternGroups<A> {
 
     // The group that has the name, by halving the order.
     fn find_by_order(&self, name: &str) -> Option<usize>
-        requires { FEW ≤ length self.now }
+        requires { SCANNED_GROUPS ≤ length self.now }
         ensures { result ≡ index_of self.now name.now }
     {
-        match self.order.binary_search_by(|g| self.name_cmp(*g, name)) {
-            Ok(place) => Some(self.order[place]),
+        match self
+            .order
+            .binary_search_by(|g| self.name_cmp(*g as usize, name))
+        {
+            Ok(place) => Some(self.order[place] as usize),
             Err(_) => None,
         }
     }
@@ -329,7 +351,7 @@ impl<A: Allocator + Clone + Drop> PatternGroups<A> {
     pub(crate) fn index(&self, name: &str) -> Option<usize>
         ensures { result ≡ index_of self.now name.now }
     {
-        if self.len() < FEW {
+        if self.len() < SCANNED_GROUPS {
             return self.find_by_scan(name);
         }
         if let Some(group) = self.find_by_hash(name) {

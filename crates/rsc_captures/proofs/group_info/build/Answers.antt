@@ -51,6 +51,13 @@ build_pattern-requires-clause-number g c =
     let lt : c.loop-p.p < length (lists_in c.args.lists.now) = rw length-lists_in (omega arith) in
     (pattern_clear (lists_in c.args.lists.now) c.loop-p.p (c.requires.patterns c.loop-p.p lt)).0
 
+pub build_pattern-requires-clause-count : goal.build_pattern-requires-clause-count
+build_pattern-requires-clause-count g c =
+    let lt : c.loop-p.p < length (lists_in c.args.lists.now) = rw length-lists_in (omega arith) in
+    let more : explicit_before (lists_in c.args.lists.now) (c.loop-p.p + 1) ≡ explicit_before (lists_in c.args.lists.now) c.loop-p.p + (group_count (lists_in c.args.lists.now) c.loop-p.p - 1) = sum_by_more explicit_groups (lists_in c.args.lists.now) c.loop-p.p [] lt in
+    let within : slots_end (lists_in c.args.lists.now) c.loop-p.p ≤ 2147483646 = c.requires.within c.loop-p.p lt in
+    omega (arith, more, within)
+
 pub overflow_add-start : goal.overflow_add-start
 overflow_add-start g c =
     let lt : c.loop-p.p < length (lists_in c.args.lists.now) = rw length-lists_in (omega arith) in

@@ -11,7 +11,7 @@ pub returns-in-Ok : goal.returns-in-Ok
 returns-in-Ok g c =
     let indexed : IsIndexed c.deref.result.now c.args.self.now = rw (c.deref.ensures.value, ← c.self.view_is) c.self.invariant.index in
     let found = c.in-Ok.ensures.position (λ h. name_cmp (name_at c.args.self.now h) (Some c.args.name.now)) (always_returns_same _ _ _ (λ a r f' k. search rules)) in
-    let is : index_of c.args.self.now c.args.name.now ≡ Some (get_or c.deref.result.now c.in-Ok.place 0) = index_from_search c.deref.result.now c.args.self.now indexed c.requires c.args.name.now (Ok c.in-Ok.place) found in
+    let is : index_of c.args.self.now c.args.name.now ≡ Some (get_or c.deref.result.now c.in-Ok.place 0) = index_from_search c.args.self.now c.deref.result.now indexed c.requires c.args.name.now (Ok c.in-Ok.place) found in
     let read : c.index.result.now ≡ get_or c.deref.result.now c.in-Ok.place 0 = c.index.ensures ∙ get_or_default c.self.inside.order.items c.in-Ok.place c.index.result.now 0 (rw c.deref.ensures.value at c.in-Ok.ensures.bound) ∙ ap (λ items. get_or items c.in-Ok.place 0) (sym c.deref.ensures.value) in
     ap Some read ∙ sym is
 
@@ -19,4 +19,4 @@ pub returns-in-Err : goal.returns-in-Err
 returns-in-Err g c =
     let indexed : IsIndexed c.deref.result.now c.args.self.now = rw (c.deref.ensures.value, ← c.self.view_is) c.self.invariant.index in
     let split = c.in-Err.ensures.position (λ h. name_cmp (name_at c.args.self.now h) (Some c.args.name.now)) (always_returns_same _ _ _ (λ a r f' k. search rules)) in
-    sym (index_from_search c.deref.result.now c.args.self.now indexed c.requires c.args.name.now (Err c.in-Err.field-0) split)
+    sym (index_from_search c.args.self.now c.deref.result.now indexed c.requires c.args.name.now (Err c.in-Err.field-0) split)
