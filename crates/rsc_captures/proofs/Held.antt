@@ -1,6 +1,5 @@
 -- Names in one text, as one more is added.
 use Rattle.std.proofs.Common.{◌≡◌, ℕ, ◌+◌, ◌-◌, ◌<◌, ◌≤◌, ⊎_elim, List, [], ◌∷◌, ◌++◌, length, take, drop, get_or, Option, Some, None, refl, ap, ap₂, subst, ◌∙◌, arith}
-use Rattle.std.specs.List.{All}
 use Rattle.std.specs.Option.{ForSome, option_map, unwrap_or}
 use Rattle.std.specs.Str.{IsUtf8, IsCharBoundary}
 use Rattle.std.proofs.lemmas.Bool.{cases_lt}
@@ -10,7 +9,7 @@ use Rattle.std.proofs.Math.Seq.{drop-append_seam, take-length}
 use Rattle.std.proofs.lemmas.Str.{IsCharBoundary-at_seam, IsCharBoundary-end}
 use Rattle.rsc_captures.specs.declared.names.Place.{Place}
 use Rattle.rsc_captures.specs.Groups.{Groups}
-use Rattle.rsc_captures.specs.Names.{part, groups_held, place_held, IsCut, AreHeld}
+use Rattle.rsc_captures.specs.Names.{part, names_held, place_held, IsCut, AreCut, AreHeld}
 
 module _ (text more : List ℕ) where
   -- a place where the text may be cut is one of the longer text
@@ -31,7 +30,7 @@ module _ (text more : List ℕ) where
       let rest : (p.start + p.len) - p.start ≤ length (drop p.start text) = rw length-drop (omega (arith, within)) in
       ap (take ((p.start + p.len) - p.start)) (drop-append-le p.start text more (omega (arith, within))) ∙ take-append-le ((p.start + p.len) - p.start) (drop p.start text) more rest
 
-  names_stay : (places : List (Option Place)) → All (λ place. ForSome place (IsCut text)) places → groups_held (text ++ more) places ≡ groups_held text places
+  names_stay : (places : List (Option Place)) → AreCut text places → names_held (text ++ more) places ≡ names_held text places
   names_stay [] cuts = refl
   names_stay (place ∷ places) cuts = ap₂ (λ name names. name ∷ names) (one place (cuts 0 place (omega arith))) (names_stay places (All-tail (λ p. ForSome p (IsCut text)) place places cuts))
     where
@@ -39,7 +38,7 @@ module _ (text more : List ℕ) where
       one None cut = refl
       one (Some p) cut = ap Some (part_stays p (cut p refl))
 
-  cuts_stay : (places : List (Option Place)) → IsUtf8 more → All (λ place. ForSome place (IsCut text)) places → All (λ place. ForSome place (IsCut (text ++ more))) places
+  cuts_stay : (places : List (Option Place)) → IsUtf8 more → AreCut text places → AreCut (text ++ more) places
   cuts_stay places utf8 cuts k d lt p is = cut_stays p utf8 (cuts k d lt p is)
 
 -- the name that is added stands at its place
@@ -66,6 +65,6 @@ cut_added text (Some bytes) utf8 p is = subst (IsCut (text ++ bytes)) same added
 pub held_more : (text : List ℕ) (places : List (Option Place)) (groups : Groups) (name : Option (List ℕ)) → IsUtf8 (unwrap_or name []) → AreHeld text places groups
     → AreHeld (text ++ unwrap_or name []) (places ++ place_held text name ∷ []) (groups ++ name ∷ [])
 held_more text places groups name utf8 held = record {
-  names = map-append (option_map (part (text ++ unwrap_or name []))) places (place_held text name ∷ []) ∙ ap₂ (λ names one. names ++ one ∷ []) (names_stay text (unwrap_or name []) places held.cuts ∙ held.names) (name_added text name);
+  are = map-append (option_map (part (text ++ unwrap_or name []))) places (place_held text name ∷ []) ∙ ap₂ (λ names one. names ++ one ∷ []) (names_stay text (unwrap_or name []) places held.cuts ∙ held.are) (name_added text name);
   cuts = All-push (λ place. ForSome place (IsCut (text ++ unwrap_or name []))) places (place_held text name) (cuts_stay text (unwrap_or name []) places utf8 held.cuts) (cut_added text name utf8);
 }

@@ -11,6 +11,7 @@ pub mod FaultsLemmas
 pub mod Starts
 pub mod Owners
 pub mod SlotsWithin
+pub mod Parts
 pub mod Pieces
 pub mod Spans
 pub mod Extracted

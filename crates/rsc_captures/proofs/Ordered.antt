@@ -11,17 +11,19 @@ use Rattle.std.specs.List.{Contains, range_with_len}
 use Rattle.std.specs.List.Sorted.{IsBinarySearchResult, IsSortedByKey, IsPartitionPoint}
 use Rattle.std.proofs.lemmas.Bool.{cases_lt, cases_eq, lt-ltb, ltb-true}
 use Rattle.std.proofs.lemmas.Cmp.{nat_list_cmp_total, nat_cmp_total, then_total, on_total, tied_itself}
-use Rattle.std.proofs.lemmas.List.{get_or-take, get_or_default, length-take, length-take-le, map-id}
+use Rattle.std.proofs.lemmas.List.{get_or-take, get_or_default, length-take, length-take-le, map-id, length-append, append-nil, drop_all}
 use Rattle.std.proofs.lemmas.List.FromFn.{length-range_with_len, get_or-range_with_len, map-range_with_len_more}
 use Rattle.std.proofs.Math.Bool.{or-false}
-use Rattle.std.proofs.Math.Seq.{take-append_seam}
+use Rattle.std.proofs.Math.Seq.{take-append_seam, drop-append_seam, take-length}
 use Rattle.std.proofs.Math.ListN.{get_or-map as get_or_copied}
 use Rattle.std.proofs.lemmas.List.Folds.{Any-from_list_any, list_any_at}
-use Rattle.std.proofs.lemmas.List.Sorted.{searchable_from_sorted, sorted_far, ranks_by}
+use borrow.Rule.Slice.PartMut.{mid_of, put_mid}
+use Rattle.std.specs.Prelude.{IsPermutation}
+use Rattle.std.proofs.lemmas.List.Sorted.{length_permutation, searchable_from_sorted, sorted_far, ranks_by}
 use Rattle.std.proofs.lemmas.Map.Keys.{ge_from_not_lt}
 use Rattle.std.proofs.lemmas.Map.Lookups.{exact_bytes}
 use Rattle.rsc_captures.specs.Groups.{Groups, groups_in, has_name, index_of, contains_name, is_repeat, AreDistinctBelow}
-use Rattle.rsc_captures.specs.declared.names.TheConstants.{SCANNED_GROUPS}
+use Rattle.rsc_captures.specs.declared.order.TheConstants.{SCANNED_GROUPS}
 use Rattle.rsc_captures.specs.Names.{name_at, name_cmp, named_cmp, named_group, has_name_of, HasGroups, IsSortedByName, IsIndexed}
 use Rattle.rsc_captures.proofs.Places.{Handed}
 use Rattle.rsc_captures.proofs.Indexed.{index_of-is, has_name-is, get_or_past}
@@ -55,9 +57,21 @@ pub sorted_in : (groups : Handed) (order : List ℕ)
 sorted_in groups order sorted k d le lt =
     rw (name_at_in groups (get_or order (k + 1) d), name_at_in groups (get_or order k d), copied_cmp (get_or groups (get_or order (k + 1) d) None) (get_or groups (get_or order k d) None)) (sorted k d le lt)
 
--- what a sort leaves in a list that was lent as a whole
-pub take_sorted : (new old : List ℕ) (n : ℕ) → length new ≡ n → take n (new ++ drop (length new) old) ≡ new
-take_sorted new old n is = rw (← is) (take-append_seam new (drop (length new) old))
+-- what a sort of the elements that were added leaves
+module _ (old added sorted rest : List ℕ) (moved : IsPermutation (mid_of (length old) (length (old ++ added) - length old) (old ++ added)) sorted) where
+  added_len : length (old ++ added) - length old ≡ length added
+  added_len = rw length-append (omega arith)
+
+  pub added_moved : IsPermutation added sorted
+  added_moved = rw (added_len, drop-append_seam old added, take-length added) at moved
+
+  put_sorted : put_mid (length old) (length (old ++ added) - length old) (old ++ added) sorted ≡ old ++ sorted
+  put_sorted = rw (added_len, take-append_seam old added, drop-append_seam old added, drop_all (length added) added (omega arith), append-nil) refl
+
+  pub tail_sorted : (n : ℕ) → n ≡ length (old ++ added) → take n (put_mid (length old) (length (old ++ added) - length old) (old ++ added) sorted ++ drop (length (put_mid (length old) (length (old ++ added) - length old) (old ++ added) sorted)) rest) ≡ old ++ sorted
+  tail_sorted n is =
+      let same : length (old ++ sorted) ≡ length (old ++ added) = length-append old sorted ∙ ap (λ k. length old + k) (length_permutation added sorted added_moved) ∙ sym (length-append old added) in
+      rw (put_sorted, is, ← same, take-append_seam (old ++ sorted) (drop (length (old ++ sorted)) rest)) refl
 
 -- of two answers, one after the other, the first isn't less where both together aren't, and where it is equal the second isn't
 not_less : (a b : Ordering) → is_lt (ordering_then a b) ≡ false → is_lt a ≡ false
@@ -186,7 +200,7 @@ module _ (groups : Groups) where
   index_from_search order indexed many name (Err k) split = by_index (index_of groups name) refl
     where
       by_names : IsSortedByKey (name_at groups) name_cmp order
-      by_names i d le lt = not_less _ _ (indexed.sorted i d le lt)
+      by_names i d le lt = not_less _ _ ((indexed.ordered many).sorted i d le lt)
 
       parts : IsPartitionPoint (λ g. name_cmp (name_at groups g) (Some name) ≡ Less) (λ g. name_cmp (name_at groups g) (Some name) ≡ Greater) order k
       parts = split (searchable_from_sorted name_total (name_at groups) order (Some name) by_names)
@@ -195,7 +209,7 @@ module _ (groups : Groups) where
       by_index None e = refl
       by_index (Some g) e =
           let named : name_at groups g ≡ Some name = (index_of-is groups name indexed.distinct g).0 e in
-          let place : Contains order g = indexed.complete many g (get_or_past groups g name named) in
+          let place : Contains order g = (indexed.ordered many).complete g (get_or_past groups g name named) in
           let equal : name_cmp (name_at groups (get_or order place.0 0)) (Some name) ≡ Equal =
           rw (get_or_default order place.0 0 g place.1, place.2, named) (tied_itself name_total (Some name)) in
           ⊎_elim

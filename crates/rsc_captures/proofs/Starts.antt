@@ -23,7 +23,7 @@ starts_push starts lists n start are is = record {
     last = rw (← are.count) (get_or-append_seam starts start [] 0) ∙ is
 
 -- each of the first n patterns has one group more than its explicit groups
-groups_so_far : (lists : GroupLists) (n : ℕ) → n ≤ length lists → ((p : ℕ) → p < length lists → 0 < group_count lists p) → sum_by length (take n lists) ≡ n + explicit_before lists n
+pub groups_so_far : (lists : GroupLists) (n : ℕ) → n ≤ length lists → ((p : ℕ) → p < length lists → 0 < group_count lists p) → sum_by length (take n lists) ≡ n + explicit_before lists n
 groups_so_far lists zero le nonempty = refl
 groups_so_far lists (suc n) le nonempty =
     let lt : n < length lists = omega arith in

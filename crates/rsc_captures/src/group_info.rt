@@ -1,5 +1,5 @@
 //! The groups of all patterns, and the slots of their offsets.
-ghost use Rattle.std.specs.Prelude.{◌≡◌, ℕ, ◌+◌, ◌-◌, ◌*◌, ◌<◌, ◌≤◌, ◌↔◌, length, ⊤, [], Some, None, IfOk, IfErr, IfSome, OnOk, MatchOption, MatchResult};
+ghost use Rattle.std.specs.Prelude.{◌≡◌, ℕ, ◌+◌, ◌-◌, ◌*◌, ◌<◌, ◌≤◌, ◌↔◌, length, take, drop, ⊤, [], Some, None, IfOk, IfErr, IfSome, OnOk, MatchOption, MatchResult};
 ghost use Rattle.std.specs.Option.{option_copied};
 ghost use Rattle.rsc_captures.specs.Groups.{lists_in, groups_of, group_count, name_of, index_of, slot_of, slots_of, all_groups, AreDistinctBelow};
 ghost use Rattle.rsc_captures.specs.Faults.{GREATEST_PATTERN, LIMIT_OF_IDS, IsFaultless, RefusesFor};
@@ -7,35 +7,20 @@ ghost use Rattle.rsc_captures.specs.Checks.{HasNoOtherFault, IsDuplicate};
 ghost use Rattle.rsc_captures.specs.NameIterators.{all_names_of};
 ghost use Rattle.rsc_captures.specs.SlotOwners.{IsSlotOf, IsOwned};
 ghost use Rattle.rsc_captures.specs.Found.{fault_found};
+ghost use Rattle.rsc_captures.specs.Names.{IsIndexed};
+ghost use Rattle.rsc_captures.specs.Layout.{AreStarts, AreOrdered};
 ghost use Rattle.rsc_captures.specs.Repeats.{IsDuplicateOf, IsFirstDuplicate};
 
 use crate::error::{GroupInfoError, GroupInfoErrorKind};
 use crate::faults::{Fault, check, has_other_fault};
+use crate::layout::{SharedLists, proposals_of};
 use crate::name_iterators::{GroupInfoAllNames, GroupInfoPatternNames};
-use crate::names::{PatternGroups, name_at, order_of, repeat_in};
+use crate::names::{NameList, room_for};
+use crate::order::{add_order, name_at, repeat_in};
 use rsc_primitives::PatternID;
 use std::alloc::{AllocError, Allocator, Global};
 use std::marker::Model;
 use std::rc::Rc;
-
-// The groups of each pattern, and where the slots of its explicit groups begin; last comes how many slots there are.
-#[derive(Drop)]
-#[derive_where(Debug)]
-struct SharedLists<A: Allocator> {
-    patterns: Vec<PatternGroups<A>, A>,
-    starts: Vec<usize, A>,
-}
-
-impl<A: Allocator> Model for SharedLists<A> {
-    ghost use Rattle.rsc_captures.specs.Groups.{GroupLists};
-    ghost use Rattle.rsc_captures.specs.Layout.{IsLaidOut};
-
-    ghost Value = { GroupLists };
-
-    ghost view = { λ a. a.patterns.items };
-
-    ghost invariant = { λ a. IsLaidOut a.starts.items a.patterns.items };
-}
 
 /// Which capturing groups the patterns of a search have, with their names, and which slots hold a group's offsets.
 ///
@@ -80,26 +65,61 @@ fn refusal<A: Allocator + Clone + Drop>(alloc: A, fault: Fault<'_>) -> GroupInfo
     }
 }
 
-// The groups of pattern `p`, held in memory of their own.
-fn build_pattern<A: Allocator + Clone + Drop>(
+// Adds the groups of pattern `p` to the order, and looks for a name that is used twice.
+fn index_pattern<A: Allocator + Clone + Drop>(
     alloc: A,
     lists: &[&[Option<&str>]],
     p: usize,
-) -> Result<PatternGroups<A>, GroupInfoError<A>>
+    order: &mut Vec<u32, A>,
+) -> Result<(), GroupInfoError<A>>
     requires pattern { p < length lists.now }
     requires number { p ≤ GREATEST_PATTERN }
     requires count { group_count (lists_in lists.now) p ≤ LIMIT_OF_IDS }
-    ensures ok { IfOk result (λ groups. groups ≡ groups_of (lists_in lists.now) p) }
-    ensures distinct { OnOk result (AreDistinctBelow (groups_of (lists_in lists.now) p) (group_count (lists_in lists.now) p)) }
+    ensures kept { OnOk result (take (length order.old.items) order.new.items ≡ order.old.items) }
+    ensures len { OnOk result (length order.new.items ≡ length order.old.items + group_count (lists_in lists.now) p) }
+    ensures index { OnOk result (IsIndexed (drop (length order.old.items) order.new.items) (groups_of (lists_in lists.now) p)) }
     ensures err { IfErr result (λ e. MatchOption e ⊤ (IsDuplicateOf (lists_in lists.now) p)) }
 {
     let groups = lists[p];
-    let order = order_of(alloc.clone()?, groups)?;
-    if let Some(g) = repeat_in(groups, order.as_slice()) {
+    let first = order.len();
+    add_order(order, groups)?;
+    if let Some(g) = repeat_in(groups, &order.as_slice()[first..]) {
         let name = name_at(groups, g).unwrap_or("");
         return Err(refusal(alloc, Fault::Duplicate(PatternID::must(p), name)));
     }
-    Ok(PatternGroups::new(alloc, groups, order)?)
+    Ok(())
+}
+
+// The groups of each pattern in the order of their names, where no name is used twice.
+fn order_of<A: Allocator + Clone + Drop>(
+    alloc: A,
+    lists: &[&[Option<&str>]],
+) -> Result<Vec<u32, A>, GroupInfoError<A>>
+    requires { HasNoOtherFault LIMIT_OF_IDS (lists_in lists.now) }
+    ensures ok { IfOk result (λ order. AreOrdered order.items (lists_in lists.now) (length lists.now)) }
+    ensures err { IfErr result (λ e. MatchOption e ⊤ (IsFirstDuplicate (lists_in lists.now))) }
+{
+    let (len, _bytes) = room_for(lists);
+    let mut order: Vec<u32, A> = Vec::with_capacity(alloc.clone()?, len)?;
+    for p in 0..lists.len() {
+        index_pattern(alloc.clone()?, lists, p, &mut order)?;
+    }
+    Ok(order)
+}
+
+// Where the slots of each pattern's explicit groups begin; last comes how many slots there are.
+fn starts_of<A: Allocator>(alloc: A, lists: &[&[Option<&str>]]) -> Result<Vec<usize, A>, AllocError>
+    requires { HasNoOtherFault LIMIT_OF_IDS (lists_in lists.now) }
+    ensures { IfOk result (λ starts. AreStarts starts.items (lists_in lists.now) (length lists.now)) }
+{
+    let mut starts: Vec<usize, A> = Vec::with_capacity(alloc, lists.len() + 1)?;
+    let mut start = 2 * lists.len();
+    starts.push(start)?;
+    for groups in lists {
+        start += 2 * (groups.len() - 1);
+        starts.push(start)?;
+    }
+    Ok(starts)
 }
 
 // Holds the groups of a list that has no fault besides names that are used twice.
@@ -112,18 +132,15 @@ fn build<A: Allocator + Clone + Drop>(
     ensures distinct { OnOk result ((p : ℕ) → p < length lists.now → AreDistinctBelow (groups_of (lists_in lists.now) p) (group_count (lists_in lists.now) p)) }
     ensures err { IfErr result (λ e. MatchOption e ⊤ (IsFirstDuplicate (lists_in lists.now))) }
 {
-    let mut patterns: Vec<PatternGroups<A>, A> = Vec::with_capacity(alloc.clone()?, lists.len())?;
-    let mut starts: Vec<usize, A> = Vec::with_capacity(alloc.clone()?, lists.len() + 1)?;
-    let mut start = 2 * lists.len();
-    starts.push(start)?;
-    for p in 0..lists.len() {
-        let groups = build_pattern(alloc.clone()?, lists, p)?;
-        start += 2 * (groups.len() - 1);
-        patterns.push(groups)?;
-        starts.push(start)?;
-    }
+    let order = order_of(alloc.clone()?, lists)?;
+    let inner = SharedLists {
+        names: NameList::new(alloc.clone()?, lists)?,
+        order,
+        starts: starts_of(alloc.clone()?, lists)?,
+        proposals: proposals_of(alloc.clone()?, lists)?,
+    };
     Ok(GroupInfo {
-        inner: Rc::new(alloc, SharedLists { patterns, starts })?,
+        inner: Rc::new(alloc, inner)?,
     })
 }
 
@@ -228,7 +245,7 @@ impl<A: Allocator + Clone + Drop> GroupInfo<A> {
         ensures indices { result ≤ LIMIT_OF_IDS + 1 }
     {
         let inner: &SharedLists<A> = &self.inner;
-        inner.patterns.len()
+        inner.len()
     }
 
     /// How many groups a pattern has: none where there is no such pattern.
@@ -237,12 +254,8 @@ impl<A: Allocator + Clone + Drop> GroupInfo<A> {
         ensures value { result ≡ group_count self.now pid }
         ensures whole { pid < length self.now → 0 < result }
     {
-        let p = pid.as_usize();
-        if p >= self.pattern_len() {
-            return 0;
-        }
         let inner: &SharedLists<A> = &self.inner;
-        (inner.starts[p + 1] - inner.starts[p]) / 2 + 1
+        inner.group_len(pid.as_usize())
     }
 
     /// The name of a group, or `None` where it has none, or where there is no such group.
@@ -251,8 +264,7 @@ impl<A: Allocator + Clone + Drop> GroupInfo<A> {
         ensures { option_copied result ≡ name_of self.now pid group_index }
     {
         let inner: &SharedLists<A> = &self.inner;
-        let groups = inner.patterns.get(pid.as_usize())?;
-        groups.name(group_index)
+        inner.name(pid.as_usize(), group_index)
     }
 
     /// The group of a pattern that has the name, or `None` where there is none. Names are local to each pattern.
@@ -263,8 +275,7 @@ impl<A: Allocator + Clone + Drop> GroupInfo<A> {
         ensures within { IfSome result (λ g. g < group_count self.now pid) }
     {
         let inner: &SharedLists<A> = &self.inner;
-        let groups = inner.patterns.get(pid.as_usize())?;
-        groups.index(name)
+        inner.index(pid.as_usize(), name)
     }
 
     /// The slot of a group's start, or `None` where there is no such group.
@@ -303,7 +314,7 @@ impl<A: Allocator + Clone + Drop> GroupInfo<A> {
         ensures once { (s p g q h : ℕ) → IsSlotOf self.now p g s → IsSlotOf self.now q h s → (p ≡ q) × (g ≡ h) }
     {
         let inner: &SharedLists<A> = &self.inner;
-        inner.starts[inner.patterns.len()]
+        inner.starts[inner.len()]
     }
 
     /// How many groups all patterns have.
@@ -321,7 +332,7 @@ impl<A: Allocator + Clone + Drop> GroupInfo<A> {
         ensures within { result ≤ 2 * all_groups self.now }
     {
         let inner: &SharedLists<A> = &self.inner;
-        2 * inner.patterns.len()
+        2 * inner.len()
     }
 
     /// How many slots all other groups have.
@@ -330,6 +341,6 @@ impl<A: Allocator + Clone + Drop> GroupInfo<A> {
         ensures { result ≡ 2 * all_groups self.now - 2 * length self.now }
     {
         let inner: &SharedLists<A> = &self.inner;
-        inner.starts[inner.patterns.len()] - 2 * inner.patterns.len()
+        inner.starts[inner.len()] - 2 * inner.len()
     }
 }

@@ -7,8 +7,10 @@ mod extract;
 mod faults;
 mod group_info;
 pub mod laws;
+mod layout;
 mod name_iterators;
 mod names;
+mod order;
 
 pub use captures::{Captures, CapturesPatternIter};
 pub use error::{GroupInfoError, GroupInfoErrorKind};

@@ -1,6 +1,9 @@
-use Rattle.std.proofs.Common.{◌<◌, length, get_or, None, arith}
+use Rattle.std.proofs.Common.{◌<◌, ◌∷◌, [], length, take, get_or, None, arith}
 use Rattle.std.specs.Option.{option_copied}
 use Rattle.std.specs.String.{string_bytes}
+use Rattle.std.proofs.lemmas.List.{append_assoc}
+use Rattle.rsc_captures.specs.Groups.{groups_in}
+use Rattle.rsc_captures.specs.Names.{names_held}
 use Rattle.rsc_captures.proofs.Places.{take_groups_more}
 use Rattle.rsc_captures.proofs.Held.{held_more}
 use Rattle.rsc_captures.proofs.names.hold_names.Goals as goal
@@ -8,5 +11,11 @@ use Rattle.rsc_captures.proofs.names.hold_names.Goals as goal
 pub loop-group-preserved : goal.loop-group-preserved
 loop-group-preserved g c =
     let lt : c.loop-group.group-index < length c.args.groups.now = omega arith in
-    rw (c.in_ok-place.ensures.text, c.in_ok-push.ensures.items, c.in_ok-place.ensures.place, take_groups_more c.args.groups.now c.loop-group.group-index lt)
+    rw (
+      c.in_ok-place.ensures.text,
+      c.in_ok-push.ensures.items,
+      c.in_ok-place.ensures.place,
+      take_groups_more c.args.groups.now c.loop-group.group-index lt,
+      ← append_assoc (names_held (string_bytes c.args.text.now) c.args.places.now.items) (take c.loop-group.group-index (groups_in c.args.groups.now)) (option_copied (get_or c.args.groups.now c.loop-group.group-index None) ∷ []),
+    )
     (held_more (string_bytes c.loop-group.text) c.loop-group.places.items _ (option_copied (get_or c.args.groups.now c.loop-group.group-index None)) c.in_ok-place.ensures.utf8 c.loop-group.invariant)

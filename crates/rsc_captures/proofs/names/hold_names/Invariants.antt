@@ -1,9 +1,10 @@
-use Rattle.std.proofs.Common.{take}
+use Rattle.std.proofs.Common.{◌++◌, take}
 use Rattle.std.specs.String.{string_bytes}
 use Rattle.rsc_captures.specs.Groups.{groups_in}
-use Rattle.rsc_captures.specs.Names.{AreHeld}
+use Rattle.rsc_captures.specs.Names.{names_held, AreHeld}
 use Rattle.rsc_captures.proofs.names.hold_names.Given as goal
 
 -- the names so far are held
 abbrev pub invariant-loop-group : goal.invariant-loop-group
-invariant-loop-group g l = AreHeld (string_bytes l.text) l.places.items (take l.group-index (groups_in l.groups))
+invariant-loop-group g l =
+    AreHeld (string_bytes l.text) l.places.items (names_held (string_bytes l.initial.text) l.initial.places.items ++ take l.group-index (groups_in l.groups))

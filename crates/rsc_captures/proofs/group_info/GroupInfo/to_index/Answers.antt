@@ -1,22 +1,17 @@
-use Rattle.std.proofs.Common.{◌≡◌, ◌<◌, [], length, ◌∙◌}
-use Rattle.rsc_captures.specs.Groups.{groups_of, group_count, AreDistinctBelow}
+use Rattle.std.proofs.Common.{◌≡◌, ◌∙◌}
+use Rattle.rsc_captures.specs.Groups.{groups_of}
+use Rattle.rsc_captures.specs.Faults.{LIMIT_OF_IDS, IsFaultless}
 use Rattle.rsc_captures.proofs.Indexed.{index_of-is, index_of-within}
-use Rattle.rsc_captures.proofs.Checked.{clear_distinct}
+use Rattle.rsc_captures.proofs.Parts.{distinct_in}
 use Rattle.rsc_captures.proofs.group_info.GroupInfo.to_index.Goals as goal
 
 pub returns-clause-named : goal.returns-clause-named
 returns-clause-named g c =
-    let held : c.deref.result.now ≡ c.args.self.now = c.deref.ensures.value ∙ c.inner.view_is ∙ c.deref-inner.ensures ∙ c.self.view_is in
-    let lists : c.inner.inside.patterns.items ≡ c.args.self.now = c.inner.view_is ∙ c.deref-inner.ensures ∙ c.self.view_is in
-    let found = c.in_ok-groups.ensures.lookup in
-    let groups : c.in_ok-groups.groups.now ≡ groups_of c.args.self.now c.args.pid = rw (c.as_usize.ensures.value, held) at (found.3.1 []) in
-    let lt : c.args.pid < length c.args.self.now = rw (c.as_usize.ensures.value, held) at found.3.0 in
-    let distinct : AreDistinctBelow (groups_of c.args.self.now c.args.pid) (group_count c.args.self.now c.args.pid) = clear_distinct (rw lists at c.inner.invariant.faultless) c.args.pid lt in
-    rw (c.index.ensures, groups) (index_of-is (groups_of c.args.self.now c.args.pid) c.args.name.now distinct)
+    let lists : c.deref-inner.result.now ≡ c.args.self.now = c.deref-inner.ensures ∙ c.self.view_is in
+    let faultless : IsFaultless LIMIT_OF_IDS c.args.self.now = rw lists at c.index.ensures.faultless in
+    rw (c.index.ensures.value, lists, c.as_usize.ensures.value) (index_of-is (groups_of c.args.self.now c.args.pid) c.args.name.now (distinct_in c.args.self.now faultless c.args.pid))
 
 pub returns-clause-within : goal.returns-clause-within
 returns-clause-within g c =
-    let held : c.deref.result.now ≡ c.args.self.now = c.deref.ensures.value ∙ c.inner.view_is ∙ c.deref-inner.ensures ∙ c.self.view_is in
-    let found = c.in_ok-groups.ensures.lookup in
-    let groups : c.in_ok-groups.groups.now ≡ groups_of c.args.self.now c.args.pid = rw (c.as_usize.ensures.value, held) at (found.3.1 []) in
-    rw (c.index.ensures, groups) (index_of-within (groups_of c.args.self.now c.args.pid) c.args.name.now)
+    let lists : c.deref-inner.result.now ≡ c.args.self.now = c.deref-inner.ensures ∙ c.self.view_is in
+    rw (c.index.ensures.value, lists, c.as_usize.ensures.value) (index_of-within (groups_of c.args.self.now c.args.pid) c.args.name.now)

@@ -1,0 +1,141 @@
+-- Where the names and the order of each pattern's groups stand in the lists of all groups.
+use Rattle.std.proofs.Common.{◌≡◌, ℕ, zero, suc, ◌+◌, ◌-◌, ◌/◌, ◌<◌, ◌≤◌, ⊎_elim, List, [], ◌∷◌, length, take, drop, get_or, None, ap, ap₂, sym, ◌∙◌, arith}
+use Rattle.std.specs.List.{flat_map}
+use Rattle.std.proofs.lemmas.Bool.{cases_lt}
+use Rattle.std.proofs.lemmas.List.{ext_get_or, get_or_default, get_or-drop, get_or-take, length-drop, drop-take, take-take, take_all}
+use Rattle.std.proofs.lemmas.List.FromFn.{length-map-range_with_len, get_or-map-range_with_len}
+use Rattle.std.proofs.lemmas.List.Sums.{sum_by_more, sum_by-cons}
+use Rattle.std.proofs.Math.Seq.{take-append_seam, drop-append-add}
+use Rattle.rsc_captures.specs.Groups.{Groups, GroupLists, groups_of, group_count, groups_before, name_of, explicit_before, slots_start, AreDistinctBelow}
+use Rattle.rsc_captures.specs.Faults.{LIMIT_OF_IDS, IsFaultless}
+use Rattle.rsc_captures.specs.Checks.{HasNoOtherFault}
+use Rattle.rsc_captures.specs.Names.{IsIndexed}
+use Rattle.rsc_captures.specs.Layout.{first_name, names_of, lists_held, AreStarts, IsLaidOut, AreOrdered, IsLayout}
+use Rattle.rsc_captures.proofs.Checked.{clear_distinct, faultless_from}
+use Rattle.rsc_captures.proofs.Clear.{pattern_clear, some_group}
+use Rattle.rsc_captures.proofs.Owners.{pattern_in}
+use Rattle.rsc_captures.proofs.Starts.{groups_so_far}
+
+pub distinct_in : (lists : GroupLists) → IsFaultless LIMIT_OF_IDS lists → (p : ℕ) → AreDistinctBelow (groups_of lists p) (group_count lists p)
+distinct_in lists faultless p g lt = clear_distinct faultless p (pattern_in lists p g lt) g lt
+
+-- the groups of one more pattern
+pub groups_more : (lists : GroupLists) (p : ℕ) → p < length lists → groups_before lists (p + 1) ≡ groups_before lists p + group_count lists p
+groups_more lists p lt = sum_by_more length lists p [] lt
+
+pub groups_rise : (lists : GroupLists) (p n : ℕ) → p + n ≤ length lists → groups_before lists p ≤ groups_before lists (p + n)
+groups_rise lists p zero le = let e : p + zero ≡ p = omega arith in rw e (omega arith)
+groups_rise lists p (suc n) le =
+    let e : p + suc n ≡ p + n + 1 = omega arith in
+    rw e (omega (arith, groups_rise lists p n (omega arith), groups_more lists (p + n) (omega arith)))
+
+-- a pattern's groups stand before those of the patterns after it
+pub groups_within : (lists : GroupLists) (p n : ℕ) → p < n → n ≤ length lists → groups_before lists p + group_count lists p ≤ groups_before lists n
+groups_within lists p n lt le =
+    let e : p + 1 + (n - (p + 1)) ≡ n = omega arith in
+    let rises : groups_before lists (p + 1) ≤ groups_before lists n = rw e at (groups_rise lists (p + 1) (n - (p + 1)) (omega arith)) in
+    omega (arith, rises, groups_more lists p (omega (arith, lt, le)))
+
+module _ (starts : List ℕ) (lists : GroupLists) (slots : AreStarts starts lists (length lists)) (nonempty : (p : ℕ) → p < length lists → 0 < group_count lists p) where
+  -- the starts tell where a pattern's names begin
+  pub first_is : (p : ℕ) → p ≤ length lists → first_name starts p ≡ groups_before lists p
+  first_is p le =
+      let here : get_or starts p 0 ≡ slots_start lists p = slots.each p (omega arith) in
+      let zeroth : get_or starts 0 0 ≡ slots_start lists 0 = slots.each 0 (omega arith) in
+      let so_far : groups_before lists p ≡ p + explicit_before lists p = groups_so_far lists p le nonempty in
+      omega (arith, here, zeroth, so_far)
+
+  names_of-is : (names : Groups) (p : ℕ) → p < length lists → names_of starts names p ≡ take (group_count lists p) (drop (groups_before lists p) names)
+  names_of-is names p lt =
+      let here : first_name starts p ≡ groups_before lists p = first_is p (omega arith) in
+      let next : first_name starts (p + 1) ≡ groups_before lists (p + 1) = first_is (p + 1) (omega arith) in
+      let count : first_name starts (p + 1) - first_name starts p ≡ group_count lists p = omega (arith, here, next, groups_more lists p lt) in
+      ap₂ (λ k from. take k (drop from names)) count here
+
+abbrev all : GroupLists → Groups
+all lists = flat_map (λ (groups : Groups). groups) lists
+
+-- of all groups, those of one pattern
+flat_part : (lists : GroupLists) (p : ℕ) → p < length lists → take (group_count lists p) (drop (groups_before lists p) (all lists)) ≡ groups_of lists p
+flat_part [] p lt = absurd (omega arith)
+flat_part (groups ∷ lists) zero lt = take-append_seam groups (all lists)
+flat_part (groups ∷ lists) (suc p) lt =
+    rw (sum_by-cons length groups (take p lists), drop-append-add groups (all lists) (groups_before lists p)) (flat_part lists p (omega arith))
+
+-- the names of all groups, cut where the starts say, are the lists
+pub lists_are : (starts : List ℕ) (lists : GroupLists) → AreStarts starts lists (length lists) → ((p : ℕ) → p < length lists → 0 < group_count lists p) → lists_held starts (flat_map (λ (groups : Groups). groups) lists) ≡ lists
+lists_are starts lists slots nonempty = ext_get_or [] (lists_held starts (all lists)) lists same each
+  where
+    same : length (lists_held starts (all lists)) ≡ length lists
+    same = length-map-range_with_len (names_of starts (all lists)) 0 (length starts - 1) ∙ omega (arith, slots.count)
+
+    each : (p : ℕ) → p < length (lists_held starts (all lists)) → get_or (lists_held starts (all lists)) p [] ≡ get_or lists p []
+    each p lt =
+        let in_lists : p < length lists = rw same at lt in
+        get_or-map-range_with_len (names_of starts (all lists)) 0 (length starts - 1) p p [] (omega (arith, in_lists, slots.count)) (omega arith)
+        ∙ names_of-is starts lists slots nonempty (all lists) p in_lists ∙ flat_part lists p in_lists
+
+module _ (starts : List ℕ) (names : Groups) (lists : GroupLists) (are : lists_held starts names ≡ lists) (laid_out : IsLaidOut starts lists) where
+  nonempty : (p : ℕ) → p < length lists → 0 < group_count lists p
+  nonempty = some_group LIMIT_OF_IDS lists laid_out.faultless
+
+  -- the names of a pattern's groups
+  pub part_is : (p : ℕ) → p < length lists → groups_of lists p ≡ take (group_count lists p) (drop (groups_before lists p) names)
+  part_is p lt =
+      ap (λ (lists : GroupLists). get_or lists p []) (sym are) ∙ get_or-map-range_with_len (names_of starts names) 0 (length starts - 1) p p [] (omega (arith, lt, laid_out.slots.count)) (omega arith)
+      ∙ names_of-is starts lists laid_out.slots nonempty names p lt
+
+  pub name_in : (p g : ℕ) → g < group_count lists p → get_or names (groups_before lists p + g) None ≡ name_of lists p g
+  name_in p g lt =
+      sym (ap (λ (groups : Groups). get_or groups g None) (part_is p (pattern_in lists p g lt)) ∙ get_or-take (group_count lists p) (drop (groups_before lists p) names) g None lt ∙ get_or-drop (groups_before lists p) names g None)
+
+-- where a pattern's names begin, as it is computed
+pub first_at : (starts : List ℕ) (lists : GroupLists) (p here zeroth : ℕ) → IsLaidOut starts lists → p < length lists → here ≡ get_or starts p here → zeroth ≡ get_or starts 0 zeroth → (here - zeroth) / 2 + p ≡ groups_before lists p
+first_at starts lists p here zeroth laid_out lt is_here is_zeroth =
+    let from : here ≡ get_or starts p 0 = is_here ∙ get_or_default starts p here 0 (omega (arith, laid_out.slots.count)) in
+    let first : zeroth ≡ get_or starts 0 0 = is_zeroth ∙ get_or_default starts 0 zeroth 0 (omega (arith, laid_out.slots.count)) in
+    rw (from, first) (first_is starts lists laid_out.slots (some_group LIMIT_OF_IDS lists laid_out.faultless) p (omega arith))
+
+-- the part of a pattern's groups, as it is cut
+pub part_indexed : (order lent : List ℕ) (lists : GroupLists) (p first len : ℕ) → AreOrdered order lists (length lists) → p < length lists → lent ≡ order → first ≡ groups_before lists p → len ≡ group_count lists p
+    → ((first + len) ≤ length lent) × IsIndexed (take ((first + len) - first) (drop first lent)) (groups_of lists p)
+part_indexed order lent lists p first len ordered lt is_order is_first is_len =
+    let count : (first + len) - first ≡ group_count lists p = omega (arith, is_len) in
+    let within : groups_before lists p + group_count lists p ≤ groups_before lists (length lists) = groups_within lists p (length lists) lt (omega arith) in
+    (rw is_order (omega (arith, within, ordered.count, is_first, is_len)), rw (count, is_first, is_order) (ordered.each p lt))
+
+-- a part of the first elements is one of all
+part_stays : (xs : List ℕ) (a k n : ℕ) → a + k ≤ n → take k (drop a (take n xs)) ≡ take k (drop a xs)
+part_stays xs a k n le =
+    let e : a + (n - a) ≡ n = omega arith in
+    (rw e at (ap (take k) (drop-take a (n - a) xs))) ∙ take-take k (n - a) (drop a xs) (omega arith)
+
+-- the order of one more pattern
+pub ordered_more : (order more : List ℕ) (lists : GroupLists) (p : ℕ) → p < length lists → AreOrdered order lists p → take (length order) more ≡ order → length more ≡ length order + group_count lists p
+    → IsIndexed (drop (length order) more) (groups_of lists p) → AreOrdered more lists (p + 1)
+ordered_more order more lists p lt ordered kept count indexed = record {
+  count = count ∙ (omega (arith, ordered.count, groups_more lists p lt));
+  each = λ q below. ⊎_elim (λ (before : q < p). earlier q before) (λ (here : p ≤ q). let same : p ≡ q = omega (arith, below, here) in rw same at last) (cases_lt q p);
+}
+  where
+    earlier : (q : ℕ) → q < p → IsIndexed (take (group_count lists q) (drop (groups_before lists q) more)) (groups_of lists q)
+    earlier q before =
+        let stays : take (group_count lists q) (drop (groups_before lists q) order) ≡ take (group_count lists q) (drop (groups_before lists q) more) =
+        rw kept at (part_stays more (groups_before lists q) (group_count lists q) (length order) (omega (arith, ordered.count, groups_within lists q p before (omega arith)))) in
+        rw stays at (ordered.each q before)
+
+    last : IsIndexed (take (group_count lists p) (drop (groups_before lists p) more)) (groups_of lists p)
+    last =
+        let left : length (drop (length order) more) ≤ group_count lists p = rw length-drop (omega (arith, count)) in
+        rw (← ordered.count, take_all (group_count lists p) (drop (length order) more) left) indexed
+
+-- what the three lists of a group info, as they are built, hold
+module _ (starts order : List ℕ) (names : Groups) (lists : GroupLists) (n : ℕ) (no_other : HasNoOtherFault LIMIT_OF_IDS lists) (all_patterns : length lists ≡ n) (slots : AreStarts starts lists n) (are : names ≡ flat_map (λ (groups : Groups). groups) lists) where
+  pub held_are : lists_held starts names ≡ lists
+  held_are = rw are (lists_are starts lists (rw all_patterns slots) (λ p lt. (pattern_clear lists p (no_other.patterns p lt)).1))
+
+  pub layout_is : AreOrdered order lists n → IsLayout starts order (lists_held starts names)
+  layout_is ordered = rw held_are (record {
+    laid_out = record { faultless = faultless_from no_other (λ p lt. (ordered.each p (rw all_patterns at lt)).distinct); slots = rw all_patterns slots };
+    ordered = rw all_patterns ordered;
+  })

@@ -1,0 +1,18 @@
+use Rattle.std.proofs.Common.{◌≡◌, ◌<◌, true, false, ap, sym, ◌∙◌, arith}
+use Rattle.std.proofs.Math.Seq.{take-length}
+use Rattle.std.specs.List.{list_any}
+use Rattle.rsc_captures.specs.Groups.{groups_of, group_count, name_of, has_name}
+use Rattle.rsc_captures.proofs.Indexed.{index_of_first, index_of_none}
+use Rattle.rsc_captures.proofs.layout.SharedLists.find_by_scan.Goals as goal
+
+pub returns-then-has_name : goal.returns-then-has_name
+returns-then-has_name g c =
+    let lt : c.loop-group.group < group_count c.args.self.now c.args.p = omega arith in
+    let named : has_name c.args.name.now (name_of c.args.self.now c.args.p c.loop-group.group) ≡ true = ap (has_name c.args.name.now) (sym c.name.ensures) ∙ sym c.has_name.ensures ∙ c.if-has_name.true in
+    sym (index_of_first (groups_of c.args.self.now c.args.p) c.args.name.now c.loop-group.group lt c.loop-group.invariant named)
+
+pub returns : goal.returns
+returns g c =
+    let at_end : c.loop-group.group ≡ group_count c.args.self.now c.args.p = omega arith in
+    let none : list_any (has_name c.args.name.now) (groups_of c.args.self.now c.args.p) ≡ false = rw (at_end, take-length) at c.loop-group.invariant in
+    sym (index_of_none (groups_of c.args.self.now c.args.p) c.args.name.now none)

@@ -1,0 +1,222 @@
+//! The groups of all patterns, as they are held: their names in one list, and where each pattern's groups begin.
+//!
+//! A name is looked for among few groups one by one. Else its hash names a few cells of a table, and each of these proposes a
+//! group: where that group has the name, it is the one. Nothing depends on what the table proposes, so no contract speaks of it.
+//! Where none has the name, the pattern's groups in the order of their names decide, by halving.
+ghost use Rattle.std.specs.Prelude.{◌≡◌, ◌<◌, ◌≤◌, length, IfOk, IfSome, Some};
+ghost use Rattle.std.specs.Option.{option_copied};
+ghost use Rattle.rsc_captures.specs.Groups.{groups_of, group_count, groups_before, name_of, index_of};
+ghost use Rattle.rsc_captures.specs.Faults.{LIMIT_OF_IDS, IsFaultless};
+ghost use Rattle.rsc_captures.specs.Names.{name_cmp};
+
+use crate::faults::has_name;
+use crate::names::NameList;
+use crate::order::SCANNED_GROUPS;
+use std::alloc::{AllocError, Allocator};
+use std::cmp::Ordering;
+use std::hash::{FoldHasher, Hasher};
+use std::marker::Model;
+
+// How many cells of the table a name has.
+const CELLS_OF_A_NAME: usize = 4;
+
+/// The names of all groups by pattern and then by group; for each pattern its groups in the order of their names; where the
+/// slots of each pattern's explicit groups begin, and last how many slots there are; and a table that proposes groups by name.
+#[derive(Drop)]
+#[derive_where(Debug)]
+pub(crate) struct SharedLists<A: Allocator> {
+    pub(crate) names: NameList<A>,
+    pub(crate) order: Vec<u32, A>,
+    pub(crate) starts: Vec<usize, A>,
+    pub(crate) proposals: Vec<u32, A>,
+}
+
+impl<A: Allocator> Model for SharedLists<A> {
+    ghost use Rattle.rsc_captures.specs.Groups.{GroupLists};
+    ghost use Rattle.rsc_captures.specs.Layout.{lists_held, IsLayout};
+
+    ghost Value = { GroupLists };
+
+    ghost view = { λ a. lists_held a.starts.items a.names };
+
+    ghost invariant = { λ a. IsLayout a.starts.items a.order.items (lists_held a.starts.items a.names) };
+}
+
+// The cell of the table where a name's cells begin, before it is cut to the table's length.
+#[inline]
+fn first_cell(p: usize, name: &str) -> usize {
+    let mut hasher = FoldHasher::default();
+    hasher.write(name.as_bytes());
+    (hasher.finish() as usize).wrapping_add(p.wrapping_mul(CELLS_OF_A_NAME))
+}
+
+// Puts the group into the first free cell of the name.
+fn propose(proposals: &mut [u32], first: usize, group: u32) {
+    let mask = proposals.len().wrapping_sub(1);
+    for i in 0..CELLS_OF_A_NAME {
+        if let Some(held) = proposals.get_mut(first.wrapping_add(i) & mask) {
+            if *held == 0 {
+                *held = group;
+                return;
+            }
+        }
+    }
+}
+
+// Proposes each group of a pattern that has a name.
+fn propose_groups(proposals: &mut [u32], p: usize, groups: &[Option<&str>]) {
+    for (g, group) in groups.iter().enumerate() {
+        if let Some(name) = group {
+            propose(
+                proposals,
+                first_cell(p, name),
+                u32::try_from(g).unwrap_or(0),
+            );
+        }
+    }
+}
+
+// How many names the table is for: those of the patterns whose groups are not few.
+fn proposed_len(lists: &[&[Option<&str>]]) -> usize {
+    let mut len: usize = 0;
+    for groups in lists {
+        if groups.len() >= SCANNED_GROUPS {
+            len = len.saturating_add(groups.len());
+        }
+    }
+    len
+}
+
+/// A table in which most names find their group: its length is a power of two, 0 stands for no proposal. There is none where all
+/// patterns have few groups.
+pub(crate) fn proposals_of<A: Allocator>(
+    alloc: A,
+    lists: &[&[Option<&str>]],
+) -> Result<Vec<u32, A>, AllocError> {
+    let proposed = proposed_len(lists);
+    if proposed == 0 {
+        return Ok(Vec::new(alloc));
+    }
+    let length = proposed
+        .checked_next_power_of_two()
+        .unwrap_or(1)
+        .saturating_mul(2);
+    let mut proposals: Vec<u32, A> = vec![in alloc; 0u32; length]?;
+    for (p, groups) in lists.iter().enumerate() {
+        if groups.len() >= SCANNED_GROUPS {
+            propose_groups(&mut proposals, p, groups);
+        }
+    }
+    Ok(proposals)
+}
+
+impl<A: Allocator + Clone + Drop> SharedLists<A> {
+    /// How many patterns there are.
+    #[inline]
+    pub(crate) fn len(&self) -> usize
+        ensures value { result ≡ length self.now }
+        ensures faultless { IsFaultless LIMIT_OF_IDS self.now }
+    {
+        self.starts.len() - 1
+    }
+
+    /// How many groups a pattern has: none where there is no such pattern.
+    #[inline]
+    pub(crate) fn group_len(&self, p: usize) -> usize
+        ensures value { result ≡ group_count self.now p }
+        ensures faultless { IsFaultless LIMIT_OF_IDS self.now }
+    {
+        if p >= self.len() {
+            return 0;
+        }
+        (self.starts[p + 1] - self.starts[p]) / 2 + 1
+    }
+
+    // Where the names of a pattern's groups begin.
+    #[inline]
+    fn first(&self, p: usize) -> usize
+        requires { p < length self.now }
+        ensures { result ≡ groups_before self.now p }
+    {
+        (self.starts[p] - self.starts[0]) / 2 + p
+    }
+
+    /// The name of a group of a pattern, if there is such a group and it has one.
+    #[inline]
+    pub(crate) fn name(&self, p: usize, group: usize) -> Option<&str>
+        ensures { option_copied result ≡ name_of self.now p group }
+    {
+        if group >= self.group_len(p) {
+            return None;
+        }
+        self.names.get(self.first(p) + group)
+    }
+
+    // The group that the name's cells propose, if it has the name.
+    #[inline]
+    fn find_by_hash(&self, p: usize, name: &str) -> Option<usize>
+        ensures { IfSome result (λ g. index_of (groups_of self.now p) name.now ≡ Some g) }
+    {
+        let mask = self.proposals.len().wrapping_sub(1);
+        let first = first_cell(p, name);
+        for i in 0..CELLS_OF_A_NAME {
+            let group = *self.proposals.get(first.wrapping_add(i) & mask)? as usize;
+            if has_name(self.name(p, group), name) {
+                return Some(group);
+            }
+        }
+        None
+    }
+
+    // How the group's name stands to a name. A group without one comes before all names.
+    #[inline]
+    fn name_cmp(&self, p: usize, group: usize, name: &str) -> Ordering
+        ensures { result ≡ name_cmp (name_of self.now p group) (Some name.now) }
+    {
+        match self.name(p, group) {
+            Some(held) => held.cmp(name),
+            None => Ordering::Less,
+        }
+    }
+
+    // The group that has the name, by looking at one after another.
+    #[inline]
+    fn find_by_scan(&self, p: usize, name: &str) -> Option<usize>
+        ensures { result ≡ index_of (groups_of self.now p) name.now }
+    {
+        for group in 0..self.group_len(p) {
+            if has_name(self.name(p, group), name) {
+                return Some(group);
+            }
+        }
+        None
+    }
+
+    // The group that has the name, by halving the pattern's part of the order.
+    fn find_by_order(&self, p: usize, name: &str) -> Option<usize>
+        requires { SCANNED_GROUPS ≤ group_count self.now p }
+        ensures { result ≡ index_of (groups_of self.now p) name.now }
+    {
+        let first = self.first(p);
+        let order = &self.order[first..first + self.group_len(p)];
+        match order.binary_search_by(|g| self.name_cmp(p, *g as usize, name)) {
+            Ok(place) => Some(order[place] as usize),
+            Err(_) => None,
+        }
+    }
+
+    /// The first group of the pattern with the name.
+    #[inline]
+    pub(crate) fn index(&self, p: usize, name: &str) -> Option<usize>
+        ensures value { result ≡ index_of (groups_of self.now p) name.now }
+        ensures faultless { IsFaultless LIMIT_OF_IDS self.now }
+    {
+        if self.group_len(p) < SCANNED_GROUPS {
+            return self.find_by_scan(p, name);
+        }
+        if let Some(group) = self.find_by_hash(p, name) {
+            return Some(group);
+        }
+        self.find_by_order(p, name)
+    }
+}
