@@ -2,3 +2,4 @@
 mod captures;
 mod group_info;
 mod memory;
+mod repeats;

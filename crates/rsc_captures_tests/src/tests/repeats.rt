@@ -1,0 +1,192 @@
+//! Names that are used twice in long lists, which are looked at block by block.
+
+use rsc_captures::GroupInfo;
+use std::alloc::{AllocError, Global};
+use std::test::Fail;
+
+// So many names, each another.
+fn names(alloc: Global, count: usize) -> Result<Vec<String>, AllocError> {
+    let mut names = Vec::new(alloc);
+    for i in 0..count {
+        names.push(format!(in alloc; "n{i}")?)?;
+    }
+    Ok(names)
+}
+
+// So many groups: the first has no name, and each other the name with its number.
+fn groups<'a>(
+    alloc: Global,
+    names: &'a [String],
+    count: usize,
+) -> Result<Vec<Option<&'a str>>, AllocError> {
+    let mut groups: Vec<Option<&str>> = Vec::new(alloc);
+    groups.push(None)?;
+    for name in names.iter().take(count).skip(1) {
+        groups.push(Some(name.as_str()))?;
+    }
+    Ok(groups)
+}
+
+// What the list says whose first pattern has these groups, and whose second, where it is wanted, has a fault of its own.
+fn answer(alloc: Global, groups: &[Option<&str>], with_fault: bool) -> Result<String, Fail> {
+    let faulty: [Option<&str>; 1] = [Some("faulty")];
+    let mut lists: Vec<&[Option<&str>]> = Vec::new(alloc);
+    lists.push(groups)?;
+    if with_fault {
+        lists.push(&faulty)?;
+    }
+    match GroupInfo::new(alloc, &lists) {
+        Ok(_) => Ok(String::from_str(alloc, "no fault")?),
+        Err(error) => Ok(error.to_string(alloc)?),
+    }
+}
+
+// What it has to say where the first name that is used twice is this one, if there is one.
+fn wanted(alloc: Global, repeat: Option<&str>, with_fault: bool) -> Result<String, AllocError> {
+    match repeat {
+        Some(name) => {
+            format!(in alloc; "duplicate capture group name '{name}' found for pattern 0")
+        }
+        None if with_fault => String::from_str(
+            alloc,
+            "first capture group (at index 0) for pattern 1 has a name (it must be unnamed)",
+        ),
+        None => String::from_str(alloc, "no fault"),
+    }
+}
+
+// Whether a list of so many groups is refused for the name of the last pair alone, where each pair's later group has the name of
+// its earlier one.
+fn is_refused(
+    alloc: Global,
+    names: &[String],
+    count: usize,
+    pairs: &[(usize, usize)],
+    with_fault: bool,
+) -> Result<bool, Fail> {
+    let mut list = groups(alloc, names, count)?;
+    let mut repeat: Option<&str> = None;
+    for (earlier, later) in pairs {
+        if let Some(name) = names.get(*earlier) {
+            if let Some(group) = list.get_mut(*later) {
+                *group = Some(name.as_str());
+                repeat = Some(name.as_str());
+            }
+        }
+    }
+    Ok(answer(alloc, &list, with_fault)? == wanted(alloc, repeat, with_fault)?)
+}
+
+#[test]
+fn finds_a_name_that_is_used_twice_in_a_short_list(rt: HostRuntime) -> Result<(), Fail> {
+    let alloc = rt.alloc();
+    let names = names(alloc, 17)?;
+    for count in 1..=17usize {
+        for with_fault in [false, true] {
+            assert!(rt;
+                is_refused(alloc, &names, count, &[], with_fault)?,
+                "{count}"
+            );
+            for later in 2..count {
+                for earlier in 1..later {
+                    assert!(rt;
+                        is_refused(alloc, &names, count, &[(earlier, later)], with_fault)?,
+                        "{earlier}, {later} of {count}"
+                    );
+                }
+            }
+        }
+    }
+    Ok(())
+}
+
+#[test]
+fn finds_a_name_that_is_used_twice_at_each_edge_of_a_block(rt: HostRuntime) -> Result<(), Fail> {
+    let alloc = rt.alloc();
+    let names = names(alloc, 8193)?;
+    for (count, earlier, later) in [
+        (4095usize, 1usize, 4094usize),
+        (4096, 1, 4095),
+        (4096, 4094, 4095),
+        (4097, 1, 4096),
+        (4097, 4095, 4096),
+        (4098, 4095, 4097),
+        (4098, 4096, 4097),
+        (8193, 1, 8192),
+        (8193, 4095, 8191),
+        (8193, 4096, 8192),
+        (8193, 8191, 8192),
+    ] {
+        assert!(rt;
+            is_refused(alloc, &names, count, &[(earlier, later)], true)?,
+            "{earlier}, {later} of {count}"
+        );
+    }
+    for count in [4096usize, 4097, 8193] {
+        assert!(rt; is_refused(alloc, &names, count, &[], true)?, "{count}");
+    }
+    Ok(())
+}
+
+#[test]
+fn names_the_first_of_several(rt: HostRuntime) -> Result<(), Fail> {
+    let alloc = rt.alloc();
+    let names = names(alloc, 8193)?;
+    // The pair that has to be found comes last.
+    assert!(rt; is_refused(alloc, &names, 8193, &[(1, 8000), (5000, 6000)], true)?);
+    assert!(rt; is_refused(alloc, &names, 8193, &[(5000, 6000), (1, 5999)], true)?);
+    assert!(rt; is_refused(alloc, &names, 8193, &[(1, 4000), (1, 3000), (1, 2)], true)?);
+    assert!(rt; is_refused(alloc, &names, 4097, &[(1, 4096), (3, 4095)], true)?);
+    Ok(())
+}
+
+// Whether one of the first `count` groups has the name.
+fn is_among(groups: &[Option<&str>], count: usize, name: &str) -> bool {
+    for group in groups.iter().take(count) {
+        if *group == Some(name) {
+            return true;
+        }
+    }
+    false
+}
+
+// The first name that is used twice, found by the plainest means.
+fn first_used_twice<'a>(groups: &[Option<&'a str>]) -> Option<&'a str> {
+    for (g, group) in groups.iter().enumerate() {
+        let group = *group;
+        if let Some(name) = group {
+            if is_among(groups, g, name) {
+                return Some(name);
+            }
+        }
+    }
+    None
+}
+
+#[test]
+fn agrees_with_plain_comparisons(rt: HostRuntime) -> Result<(), Fail> {
+    let alloc = rt.alloc();
+    let names = names(alloc, 192)?;
+    let mut random = 1u64;
+    for count in 0..256usize {
+        let mut list: Vec<Option<&str>> = Vec::new(alloc);
+        list.push(None)?;
+        for _ in 0..count {
+            random = random
+                .wrapping_mul(6364136223846793005)
+                .wrapping_add(1442695040888963407);
+            match names.get((random >> 56) as usize) {
+                Some(name) => list.push(Some(name.as_str()))?,
+                None => list.push(None)?,
+            }
+        }
+        let repeat = first_used_twice(&list);
+        for with_fault in [false, true] {
+            assert!(rt;
+                answer(alloc, &list, with_fault)? == wanted(alloc, repeat, with_fault)?,
+                "{count}"
+            );
+        }
+    }
+    Ok(())
+}
