@@ -10,6 +10,7 @@ A wrong body is a file `NAME.edit`:
     refused: span::Span::len: returns          the function that must be refused, without the crate's name, and how the goal begins that must stay unproved
     old: self.end.saturating_sub(self.start)   a text that is once in the file; ` ⏎ ` is a new line
     new: self.end.wrapping_sub(self.start)     what replaces it; further pairs apply to what the earlier ones made
+    apart: extract_from                        if there: functions on whose proof this one's rests, so that their edits are tried apart from this
 
 `rt ci` tries the edits of crates/CRATE/must-fail one by one, each for the price of a start of the checker, and takes any refusal. Here edits of
 different functions are applied together to a copy, and one check of those functions judges them all: it goes on behind a refused function, and
@@ -27,7 +28,7 @@ import sys
 import tempfile
 
 ROOT = os.path.dirname(os.path.realpath(__file__))
-Edit = collections.namedtuple("Edit", "name file function goal pairs")
+Edit = collections.namedtuple("Edit", "name file function goal pairs apart")
 
 
 def crates():
@@ -52,12 +53,12 @@ def read_edit(path):
             key, _, value = line.replace(" ⏎ ", "\n").partition(": ")
             if key == "new":
                 pairs.append((fields.pop("old"), value))
-            elif key in ("file", "refused", "old"):
+            elif key in ("file", "refused", "old", "apart"):
                 fields[key] = value
             else:
-                raise ValueError(f"{path}: a line that begins with neither of 'file: ', 'refused: ', 'old: ' and 'new: '")
+                raise ValueError(f"{path}: a line that begins with neither of 'file: ', 'refused: ', 'old: ', 'new: ' and 'apart: '")
     function, _, goal = fields["refused"].rpartition(": ")
-    return Edit(os.path.basename(path)[: -len(".edit")], fields["file"], function, goal, pairs)
+    return Edit(os.path.basename(path)[: -len(".edit")], fields["file"], function, goal, pairs, fields.get("apart", "").split())
 
 
 def edits_of(crate):
@@ -79,13 +80,19 @@ def apply(edit, texts, folder):
     return {**texts, edit.file: text}
 
 
+def are_apart(one, other):
+    """Says whether two edits change different functions, neither of which is one on whose proof the other's rests."""
+    ends = [it.function.rpartition("::")[2] for it in (one, other)]
+    return one.function != other.function and ends[0] not in other.apart and ends[1] not in one.apart
+
+
 def batches_of(edits, folder):
-    """Groups the edits so that no two of a group change one function or one text; an edit that fits nowhere makes a group of its own."""
+    """Groups the edits so that those of a group are apart and no two change one text; an edit that fits nowhere makes a group of its own."""
     batches = []
     for edit in edits:
         for batch in batches:
             texts = None if batch[1] is None else apply(edit, batch[1], folder)
-            if texts is not None and all(edit.function != it.function for it in batch[0]):
+            if texts is not None and all(are_apart(edit, it) for it in batch[0]):
                 batch[0].append(edit)
                 batch[1] = texts
                 break
