@@ -1,16 +1,16 @@
 -- Where the names and the order of each pattern's groups stand in the lists of all groups.
-use Rattle.std.proofs.Common.{◌≡◌, ℕ, zero, suc, ◌+◌, ◌-◌, ◌/◌, ◌<◌, ◌≤◌, ⊎_elim, List, [], ◌∷◌, length, take, drop, get_or, None, ap, ap₂, sym, ◌∙◌, arith}
+use Rattle.std.proofs.Common.{◌≡◌, ℕ, zero, suc, ◌+◌, ◌-◌, ◌/◌, ◌<◌, ◌≤◌, ⊎_elim, List, [], ◌∷◌, length, take, drop, get_or, min, Option, None, ap, ap₂, sym, ◌∙◌, arith}
 use Rattle.std.specs.List.{flat_map}
 use Rattle.std.proofs.lemmas.Bool.{cases_lt}
-use Rattle.std.proofs.lemmas.List.{ext_get_or, get_or_default, get_or-drop, get_or-take, length-drop, drop-take, take-take, take_all}
+use Rattle.std.proofs.lemmas.List.{ext_get_or, get_or_default, get_or-drop, get_or-take, length-take, length-drop, drop-take, take-take, take_all}
 use Rattle.std.proofs.lemmas.List.FromFn.{length-map-range_with_len, get_or-map-range_with_len}
 use Rattle.std.proofs.lemmas.List.Sums.{sum_by_more, sum_by-cons}
 use Rattle.std.proofs.Math.Seq.{take-append_seam, drop-append-add}
-use Rattle.rsc_captures.specs.Groups.{Groups, GroupLists, groups_of, group_count, groups_before, name_of, explicit_before, slots_start, AreDistinctBelow}
+use Rattle.rsc_captures.specs.Groups.{Groups, GroupLists, groups_of, group_count, name_of, explicit_before, AreDistinctBelow}
 use Rattle.rsc_captures.specs.Faults.{LIMIT_OF_IDS, IsFaultless}
 use Rattle.rsc_captures.specs.Checks.{HasNoOtherFault}
 use Rattle.rsc_captures.specs.Names.{IsIndexed}
-use Rattle.rsc_captures.specs.Layout.{first_name, names_of, lists_held, AreStarts, IsLaidOut, AreOrdered, IsLayout}
+use Rattle.rsc_captures.specs.Layout.{slots_start, groups_before, first_name, names_of, lists_held, AreStarts, IsLaidOut, AreOrdered, IsLayout}
 use Rattle.rsc_captures.proofs.Checked.{clear_distinct, faultless_from}
 use Rattle.rsc_captures.proofs.Clear.{pattern_clear, some_group}
 use Rattle.rsc_captures.proofs.Owners.{pattern_in}
@@ -89,12 +89,24 @@ module _ (starts : List ℕ) (names : Groups) (lists : GroupLists) (are : lists_
   name_in p g lt =
       sym (ap (λ (groups : Groups). get_or groups g None) (part_is p (pattern_in lists p g lt)) ∙ get_or-take (group_count lists p) (drop (groups_before lists p) names) g None lt ∙ get_or-drop (groups_before lists p) names g None)
 
+  pub named_at : (p g first : ℕ) (held : Option (List ℕ)) → first ≡ groups_before lists p → g < group_count lists p → held ≡ get_or names (first + g) None → held ≡ name_of lists p g
+  named_at p g first held is_first lt is = is ∙ ap (λ n. get_or names (n + g) None) is_first ∙ name_in p g lt
+
+  pub part_within : (p : ℕ) → p < length lists → groups_before lists p + group_count lists p ≤ length names
+  part_within p lt =
+      let count : group_count lists p ≡ min (group_count lists p) (length names - groups_before lists p) =
+      ap length (part_is p lt) ∙ length-take (group_count lists p) (drop (groups_before lists p) names) ∙ ap (min (group_count lists p)) (length-drop (groups_before lists p) names) in
+      omega (arith, count, nonempty p lt)
+
+  pub cut_is : (p : ℕ) → p < length lists → drop (groups_before lists p) (take (groups_before lists p + group_count lists p) names) ≡ groups_of lists p
+  cut_is p lt = drop-take (groups_before lists p) (group_count lists p) names ∙ sym (part_is p lt)
+
 -- where a pattern's names begin, as it is computed
-pub first_at : (starts : List ℕ) (lists : GroupLists) (p here zeroth : ℕ) → IsLaidOut starts lists → p < length lists → here ≡ get_or starts p here → zeroth ≡ get_or starts 0 zeroth → (here - zeroth) / 2 + p ≡ groups_before lists p
-first_at starts lists p here zeroth laid_out lt is_here is_zeroth =
-    let from : here ≡ get_or starts p 0 = is_here ∙ get_or_default starts p here 0 (omega (arith, laid_out.slots.count)) in
-    let first : zeroth ≡ get_or starts 0 0 = is_zeroth ∙ get_or_default starts 0 zeroth 0 (omega (arith, laid_out.slots.count)) in
-    rw (from, first) (first_is starts lists laid_out.slots (some_group LIMIT_OF_IDS lists laid_out.faultless) p (omega arith))
+pub first_at : (starts : List ℕ) (lists : GroupLists) (p here : ℕ) → IsLaidOut starts lists → p < length lists → here ≡ get_or starts p here → (length lists ≤ here / 2 + p) × (here / 2 + p - length lists ≡ groups_before lists p)
+first_at starts lists p here laid_out lt is_here =
+    let from : here ≡ slots_start lists p = is_here ∙ get_or_default starts p here 0 (omega (arith, laid_out.slots.count)) ∙ laid_out.slots.each p (omega arith) in
+    let so_far : groups_before lists p ≡ p + explicit_before lists p = groups_so_far lists p (omega arith) (some_group LIMIT_OF_IDS lists laid_out.faultless) in
+    (omega (arith, from), omega (arith, from, so_far))
 
 -- the part of a pattern's groups, as it is cut
 pub part_indexed : (order lent : List ℕ) (lists : GroupLists) (p first len : ℕ) → AreOrdered order lists (length lists) → p < length lists → lent ≡ order → first ≡ groups_before lists p → len ≡ group_count lists p

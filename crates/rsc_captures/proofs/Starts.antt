@@ -5,10 +5,10 @@ use borrow.Author.Count.{below_more}
 use Rattle.std.proofs.lemmas.List.{length_push, get_or_append_left, get_or_default}
 use Rattle.std.proofs.Math.Seq.{get_or-append_seam, take-length}
 use Rattle.std.proofs.lemmas.List.Sums.{sum_by_more}
-use Rattle.rsc_captures.specs.Groups.{GroupLists, group_count, explicit_groups, explicit_before, all_groups, slots_start, slot_of}
+use Rattle.rsc_captures.specs.Groups.{GroupLists, group_count, explicit_groups, explicit_before, all_groups, slot_of}
 use Rattle.rsc_captures.specs.Faults.{LIMIT_OF_IDS, IsFaultless}
 use Rattle.rsc_captures.proofs.Clear.{some_group}
-use Rattle.rsc_captures.specs.Layout.{AreStarts, IsLaidOut}
+use Rattle.rsc_captures.specs.Layout.{slots_start, AreStarts, IsLaidOut}
 
 pub starts_push : (starts : List ℕ) (lists : GroupLists) (n start : ℕ) → AreStarts starts lists n → start ≡ slots_start lists (n + 1) → AreStarts (starts ++ start ∷ []) lists (n + 1)
 starts_push starts lists n start are is = record {

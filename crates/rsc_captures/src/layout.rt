@@ -5,11 +5,13 @@
 //! Where none has the name, the pattern's groups in the order of their names decide, by halving.
 ghost use Rattle.std.specs.Prelude.{◌≡◌, ◌<◌, ◌≤◌, length, IfOk, IfSome, Some};
 ghost use Rattle.std.specs.Option.{option_copied};
-ghost use Rattle.rsc_captures.specs.Groups.{groups_of, group_count, groups_before, name_of, index_of};
+ghost use Rattle.rsc_captures.specs.Groups.{groups_of, group_count, name_of, index_of};
 ghost use Rattle.rsc_captures.specs.Faults.{LIMIT_OF_IDS, IsFaultless};
+ghost use Rattle.rsc_captures.specs.Layout.{groups_before};
 ghost use Rattle.rsc_captures.specs.Names.{name_cmp};
 
 use crate::faults::has_name;
+use crate::name_iterators::GroupInfoPatternNames;
 use crate::names::NameList;
 use crate::order::SCANNED_GROUPS;
 use std::alloc::{AllocError, Allocator};
@@ -138,7 +140,7 @@ impl<A: Allocator + Clone + Drop> SharedLists<A> {
         requires { p < length self.now }
         ensures { result ≡ groups_before self.now p }
     {
-        (self.starts[p] - self.starts[0]) / 2 + p
+        self.starts[p] / 2 + p - self.len()
     }
 
     /// The name of a group of a pattern, if there is such a group and it has one.
@@ -152,16 +154,32 @@ impl<A: Allocator + Clone + Drop> SharedLists<A> {
         self.names.get(self.first(p) + group)
     }
 
+    /// The names of a pattern's groups in order; nothing where there is no such pattern.
+    #[inline]
+    pub(crate) fn pattern_names(&self, p: usize) -> GroupInfoPatternNames<'_, A>
+        ensures { result ≡ groups_of self.now p }
+    {
+        let count = self.group_len(p);
+        if count == 0 {
+            return GroupInfoPatternNames::new(&self.names, 0, 0);
+        }
+        let first = self.first(p);
+        GroupInfoPatternNames::new(&self.names, first, first + count)
+    }
+
     // The group that the name's cells propose, if it has the name.
     #[inline]
     fn find_by_hash(&self, p: usize, name: &str) -> Option<usize>
+        requires { p < length self.now }
         ensures { IfSome result (λ g. index_of (groups_of self.now p) name.now ≡ Some g) }
     {
         let mask = self.proposals.len().wrapping_sub(1);
-        let first = first_cell(p, name);
+        let cell = first_cell(p, name);
+        let first = self.first(p);
+        let count = self.group_len(p);
         for i in 0..CELLS_OF_A_NAME {
-            let group = *self.proposals.get(first.wrapping_add(i) & mask)? as usize;
-            if has_name(self.name(p, group), name) {
+            let group = *self.proposals.get(cell.wrapping_add(i) & mask)? as usize;
+            if group < count && has_name(self.names.get(first + group), name) {
                 return Some(group);
             }
         }
@@ -182,10 +200,12 @@ impl<A: Allocator + Clone + Drop> SharedLists<A> {
     // The group that has the name, by looking at one after another.
     #[inline]
     fn find_by_scan(&self, p: usize, name: &str) -> Option<usize>
+        requires { p < length self.now }
         ensures { result ≡ index_of (groups_of self.now p) name.now }
     {
+        let first = self.first(p);
         for group in 0..self.group_len(p) {
-            if has_name(self.name(p, group), name) {
+            if has_name(self.names.get(first + group), name) {
                 return Some(group);
             }
         }
@@ -211,7 +231,11 @@ impl<A: Allocator + Clone + Drop> SharedLists<A> {
         ensures value { result ≡ index_of (groups_of self.now p) name.now }
         ensures faultless { IsFaultless LIMIT_OF_IDS self.now }
     {
-        if self.group_len(p) < SCANNED_GROUPS {
+        let count = self.group_len(p);
+        if count == 0 {
+            return None;
+        }
+        if count < SCANNED_GROUPS {
             return self.find_by_scan(p, name);
         }
         if let Some(group) = self.find_by_hash(p, name) {

@@ -1,12 +1,12 @@
 //! The iterators over the names of a group info.
-ghost use Rattle.std.specs.Prelude.{◌≡◌, length, Some, IfSome};
+ghost use Rattle.std.specs.Prelude.{◌≡◌, ◌≤◌, length, take, drop, Some, IfSome};
 ghost use Rattle.std.specs.Option.{option_copied};
 ghost use Rattle.std.specs.Iterator.{YieldsFirstBy, UpTo, item_count};
 ghost use Rattle.std.specs.Iterator.SizeHint.{IsWithinCount};
-ghost use Rattle.rsc_captures.specs.Groups.{groups_of};
 ghost use Rattle.rsc_captures.specs.NameIterators.{named_group, all_names_of};
 
 use crate::group_info::GroupInfo;
+use crate::names::NameList;
 use rsc_primitives::PatternID;
 use std::alloc::{Allocator, Global};
 use std::marker::Model;
@@ -16,33 +16,34 @@ use std::marker::Model;
 #[derive(Drop)]
 #[derive_where(Clone, Debug)]
 pub struct GroupInfoPatternNames<'a, A: Allocator = Global> {
-    group_info: &'a GroupInfo<A>,
-    pattern: PatternID,
-    next_group: usize,
+    names: &'a NameList<A>,
+    next: usize,
+    end: usize,
 }
 
 impl<'a, A: Allocator> Model for GroupInfoPatternNames<'a, A> {
-    ghost use Rattle.std.specs.Prelude.{drop};
-    ghost use Rattle.rsc_captures.specs.Groups.{Groups, groups_of};
+    ghost use Rattle.std.specs.Prelude.{◌≤◌, length, take, drop};
+    ghost use Rattle.rsc_captures.specs.Groups.{Groups};
 
     ghost Value = { Groups };
 
-    ghost view = { λ it. drop it.next_group (groups_of it.group_info.now it.pattern) };
+    ghost view = { λ it. drop it.next (take it.end it.names.now) };
+
+    ghost invariant = { λ it. it.end ≤ length it.names.now };
 }
 
 impl<'a, A: Allocator + Clone + Drop> GroupInfoPatternNames<'a, A> {
+    // The names from one place to before another.
     #[inline]
     pub(crate) fn new(
-        group_info: &'a GroupInfo<A>,
-        pattern: PatternID,
+        names: &'a NameList<A>,
+        next: usize,
+        end: usize,
     ) -> GroupInfoPatternNames<'a, A>
-        ensures { result ≡ groups_of group_info.now pattern }
+        requires { end ≤ length names.now }
+        ensures { result ≡ drop next (take end names.now) }
     {
-        GroupInfoPatternNames {
-            group_info,
-            pattern,
-            next_group: 0,
-        }
+        GroupInfoPatternNames { names, next, end }
     }
 
     /// How many groups are left.
@@ -50,9 +51,7 @@ impl<'a, A: Allocator + Clone + Drop> GroupInfoPatternNames<'a, A> {
     pub fn len(&self) -> usize
         ensures { result ≡ length self.now }
     {
-        self.group_info
-            .group_len(self.pattern)
-            .saturating_sub(self.next_group)
+        self.end.saturating_sub(self.next)
     }
 }
 
@@ -65,12 +64,12 @@ impl<'a, A: Allocator + Clone + Drop> Iterator for GroupInfoPatternNames<'a, A> 
 
     #[inline]
     fn next(&mut self) -> Option<Option<&'a str>> {
-        let group = self.next_group;
-        if group >= self.group_info.group_len(self.pattern) {
+        let i = self.next;
+        if i >= self.end {
             return None;
         }
-        self.next_group += 1;
-        Some(self.group_info.to_name(self.pattern, group))
+        self.next += 1;
+        Some(self.names.get(i))
     }
 
     fn size_hint(&self) -> (usize, Option<usize>)

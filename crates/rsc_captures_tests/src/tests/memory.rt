@@ -280,3 +280,27 @@ fn ample_memory_suffices(rt: HostRuntime) -> Result<(), Fail> {
     }
     Ok(())
 }
+
+// How many bytes the group info of so many patterns takes, each with a group that has a name of four bytes; none where it isn't answered.
+fn bytes_of(heap: &LocalHeap, count: usize) -> usize {
+    let groups: [Option<&str>; 2] = [None, Some("name")];
+    let patterns: [&[Option<&str>]; 300] = [&groups; 300];
+    if count > 300 {
+        return 0;
+    }
+    match GroupInfo::new(heap, &patterns[..count]) {
+        Ok(_info) => heap.used(),
+        Err(_) => 0,
+    }
+}
+
+#[test]
+fn no_pattern_takes_a_request_of_its_own(rt: HostRuntime) -> Result<(), Fail> {
+    // A pattern takes 8 bytes, a group 28, and a name its own. A request takes 16 or more, so one for each pattern would show.
+    for count in [1usize, 30, 300] {
+        let heap = LocalHeap::new(rt.alloc(), 64 * 1024)?;
+        let bytes = bytes_of(&heap, count);
+        assert!(rt; 68 * count <= bytes && bytes <= 68 * count + 256, "{count} patterns take {bytes} bytes");
+    }
+    Ok(())
+}

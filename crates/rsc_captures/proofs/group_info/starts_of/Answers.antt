@@ -1,5 +1,6 @@
 use Rattle.std.proofs.Common.{◌≡◌, ◌<◌, ◌≤◌, ◌+◌, ◌-◌, ◌*◌, [], length, get_or, arith}
-use Rattle.rsc_captures.specs.Groups.{lists_in, group_count, slots_start}
+use Rattle.rsc_captures.specs.Groups.{lists_in, group_count}
+use Rattle.rsc_captures.specs.Layout.{slots_start}
 use Rattle.rsc_captures.specs.Faults.{slots_end}
 use Rattle.rsc_captures.proofs.Clear.{pattern_clear}
 use Rattle.rsc_captures.proofs.Places.{length-lists_in, group_count_in, explicit_before_more}

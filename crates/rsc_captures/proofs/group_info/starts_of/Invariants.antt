@@ -1,6 +1,6 @@
 use Rattle.std.proofs.Common.{◌≡◌}
-use Rattle.rsc_captures.specs.Groups.{lists_in, slots_start}
-use Rattle.rsc_captures.specs.Layout.{AreStarts}
+use Rattle.rsc_captures.specs.Groups.{lists_in}
+use Rattle.rsc_captures.specs.Layout.{slots_start, AreStarts}
 use Rattle.rsc_captures.proofs.group_info.starts_of.Given as goal
 
 abbrev pub invariant-loop-groups : goal.invariant-loop-groups
