@@ -1,8 +1,8 @@
 //! Looks for the first fault of a group list, and takes no memory.
 //!
 //! The names of a pattern are looked at for a repeat block by block. A table on the stack has the groups of one block in the order
-//! of their names, and each name of the block and behind it is looked up there by halving. So n names of one pattern make up to
-//! n²/8192 look-ups of at most 13 comparisons, whatever they are.
+//! of their names, and each name of the block and behind it is looked up there by halving. So n names of one pattern make at most
+//! n + n²/8192 look-ups of at most 13 comparisons, whatever names they are.
 ghost use Rattle.std.specs.Prelude.{◌≡◌, ℕ, ◌+◌, ◌*◌, ◌<◌, ◌≤◌, length, take, slice_index_or, Some, None, IfOk, IfErr, OnOk, MatchOption};
 ghost use Rattle.rsc_captures.specs.Groups.{has_name, contains_name, groups_in, lists_in, AreDistinctBelow, explicit_before, group_count};
 ghost use Rattle.rsc_captures.specs.Faults.{LIMIT_OF_IDS, pattern_fault, IsClear, IsFirstAtPlace, IsFirstFault, IsFaultless};
