@@ -263,9 +263,16 @@ fn captures(kernel: u32, data: &[u8], reps: u64) -> u64 {
         .split(';')
         .map(|p| p.split(',').map(|g| if g == "-" { None } else { Some(g) }).collect())
         .collect();
-    let make = |lists: &[Vec<Option<&str>>]| {
-        GroupInfo::new(lists.iter().map(|groups| groups.iter().copied())).unwrap()
+    let try_make = |lists: &[Vec<Option<&str>>]| {
+        GroupInfo::new(lists.iter().map(|groups| groups.iter().copied()))
     };
+    if kernel == GI_REFUSED {
+        return repeat(reps, || match try_make(black_box(&lists)) {
+            Ok(info) => info.slot_len() as u64,
+            Err(err) => err.to_string().len() as u64,
+        });
+    }
+    let make = |lists: &[Vec<Option<&str>>]| try_make(lists).unwrap();
     if kernel == GI_NEW {
         return repeat(reps, || make(black_box(&lists)).slot_len() as u64);
     }

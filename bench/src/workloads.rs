@@ -44,6 +44,7 @@ pub const GI_SLOT: u32 = 53;
 pub const GI_CLONE: u32 = 54;
 pub const GI_ALL_NAMES: u32 = 55;
 pub const GI_PATTERN_NAMES: u32 = 56;
+pub const GI_REFUSED: u32 = 57;
 pub const CAPS_ALL: u32 = 60;
 pub const CAPS_GET: u32 = 61;
 pub const CAPS_BY_NAME: u32 = 62;
@@ -255,6 +256,33 @@ fn group_lists(patterns: usize, named: usize) -> Vec<u8> {
     patterns.join(";").into_bytes()
 }
 
+/// One pattern whose groups after the first have these names.
+fn one_pattern(names: impl Iterator<Item = String>) -> String {
+    let names: String = names.map(|name| format!(",{name}")).collect();
+    format!("-{names}")
+}
+
+/// Names of a thousand bytes that differ in the last one alone.
+fn names_of_1000_bytes() -> impl Iterator<Item = String> {
+    let shared = "x".repeat(999);
+    ('0'..='z').filter(|&last| last != ';').map(move |last| format!("{shared}{last}"))
+}
+
+/// The first names of seven bytes that the port's table of `named` names has on one cell, by the hash
+/// of the toolchain's library.
+fn names_on_one_cell(named: usize) -> impl Iterator<Item = String> {
+    const MULTIPLIER: u64 = 0x9E37_79B9_7F4A_7C15;
+    let cells = 2 * named.next_power_of_two() as u64;
+    let cell = move |name: &str| {
+        let word = |at: usize| u32::from_le_bytes(name.as_bytes()[at..at + 4].try_into().unwrap());
+        let read = u64::from(word(0)) | u64::from(word(3)) << 32;
+        let (a, b) = (0x243F_6A88_85A3_08D3 ^ read, MULTIPLIER ^ (2 * 7));
+        let product = u128::from(a) * u128::from(b);
+        (product as u64 ^ (product >> 64) as u64) % cells
+    };
+    (0u32..).map(|i| format!("n{i:06x}")).filter(move |name| cell(name) == 0).take(named)
+}
+
 /// All workloads, in the order in which they are measured.
 pub fn all() -> Vec<Workload> {
     let mut all = vec![];
@@ -389,5 +417,31 @@ pub fn all() -> Vec<Workload> {
         add("captures_extract_3", CAPS_EXTRACT, 1);
         add("captures_extract_bytes_3", CAPS_EXTRACT_BYTES, 1);
     }
+
+    // rsc_captures: lists that cost most, and lists that are refused
+    let mut add = |name: &str, kernel: u32, data: &str, ops: u64| {
+        let (name, data) = (name.to_string(), data.as_bytes().to_vec());
+        all.push(Workload { name, kernel, data, param: 0, ops, less: None });
+    };
+    let name = |g: usize| format!("name_0_{g}");
+    let many = one_pattern((0..20_000).map(name));
+    let long = one_pattern(names_of_1000_bytes());
+    let one_cell = one_pattern(names_on_one_cell(1000));
+    let patterns = String::from_utf8(group_lists(1000, 1)).unwrap();
+    add("group_info_new_1000x1", GI_NEW, &patterns, 1);
+    add("group_info_new_names_of_1000_bytes", GI_NEW, &long, 1);
+    add("group_info_new_names_on_one_cell", GI_NEW, &one_cell, 1);
+    add("group_info_to_index_names_on_one_cell", GI_TO_INDEX, &one_cell, 1000);
+    // The last pattern has a name where it may have none.
+    let mut add = |name: &str, list: &str| add(name, GI_REFUSED, list, 1);
+    add("group_info_refused_1000x1", &format!("{patterns};x"));
+    add("group_info_refused_names_of_1000_bytes", &format!("{long};x"));
+    add("group_info_refused_names_on_one_cell", &format!("{one_cell};x"));
+    add("group_info_refused_1x20000", &format!("{many};x"));
+    add("group_info_refused_1x20000_first_used_twice", &format!("{many},name_0_0"));
+    add("group_info_refused_1x20000_last_used_twice", &format!("{many},name_0_19999"));
+    add("group_info_refused_1x20000_used_twice_and_x", &format!("{many},name_0_10000;x"));
+    let very_many = one_pattern((0..200_000).map(name));
+    add("group_info_refused_1x200000", &format!("{very_many};x"));
     all
 }

@@ -17,6 +17,9 @@ pub fn run(alloc: Global, kernel: u32, data: &[u8], reps: u64) -> Result<u64, Al
     if kernel == 50 {
         return Ok(repeat(reps, |sum| slots_of_new(alloc, &lists, sum)));
     }
+    if kernel == 57 {
+        return Ok(repeat(reps, |sum| text_of_refusal(alloc, &lists, sum)));
+    }
     let Ok(info) = GroupInfo::new(alloc, &lists) else {
         return Ok(0);
     };
@@ -92,6 +95,18 @@ fn slots_of_new(alloc: Global, lists: &[&[Option<&str>]], sum: u64) -> u64 {
     match GroupInfo::new(alloc, lists) {
         Ok(info) => sum.wrapping_add(info.slot_len() as u64),
         Err(_) => sum,
+    }
+}
+
+// The length of the text that says why there is no group info.
+#[inline(never)]
+fn text_of_refusal(alloc: Global, lists: &[&[Option<&str>]], sum: u64) -> u64 {
+    match GroupInfo::new(alloc, lists) {
+        Ok(info) => sum.wrapping_add(info.slot_len() as u64),
+        Err(err) => match format!(in alloc; "{err}") {
+            Ok(text) => sum.wrapping_add(text.len() as u64),
+            Err(_) => sum,
+        },
     }
 }
 
