@@ -268,8 +268,8 @@ fn names_of_1000_bytes() -> impl Iterator<Item = String> {
     ('0'..='z').filter(|&last| last != ';').map(move |last| format!("{shared}{last}"))
 }
 
-/// The first names of seven bytes that the port's table of `named` names has on one cell, by the hash
-/// of the toolchain's library.
+/// The first names of seven bytes that the port's table of `named` names has on one cell, by the
+/// hash of the toolchain's library.
 fn names_on_one_cell(named: usize) -> impl Iterator<Item = String> {
     const MULTIPLIER: u64 = 0x9E37_79B9_7F4A_7C15;
     let cells = 2 * named.next_power_of_two() as u64;
