@@ -12,8 +12,8 @@ pub mod Starts
 pub mod Owners
 pub mod SlotsWithin
 pub mod Parts
-pub mod Pieces
 pub mod Spans
+pub mod Pieces
 pub mod Extracted
 pub mod Alone
 pub mod NamesCounted

@@ -1,5 +1,5 @@
 -- What captures hold: the groups, the pattern that matched, if there is one, and an offset, if it is set, in each slot.
-use Rattle.std.specs.Prelude.{ℕ, ◌+◌, ◌-◌, ◌*◌, ◌==◌, List, [], ◌∷◌, ◌++◌, length, take, drop, map, replicate, slice_index_or, Option, Some, None, if◌then◌else◌, option_and_then}
+use Rattle.std.specs.Prelude.{ℕ, ◌+◌, ◌*◌, ◌==◌, List, [], ◌∷◌, ◌++◌, length, take, drop, map, replicate, slice_index_or, Option, Some, None, if◌then◌else◌, option_and_then}
 use Rattle.std.specs.Option.{option_map, option_map_or}
 use Rattle.std.specs.List.{filter_map, range_with_len}
 use Rattle.rsc_search.specs.declared.span.Span.{Span}
@@ -13,7 +13,9 @@ pub record Captured : Type 0 where
 
 -- the span whose offsets stand in a slot and the next, if both are there and set
 abbrev pub span_at : List (Option ℕ) → ℕ → Option Span
-span_at offsets slot = option_and_then (λ from. option_map (λ to. record { start = from; end = to }) (slice_index_or offsets (slot + 1) None)) (slice_index_or offsets slot None)
+span_at offsets slot =
+    option_and_then (λ from. option_map (λ to. record { start = from; end = to }) (slice_index_or offsets (slot + 1) None))
+    (slice_index_or offsets slot None)
 
 -- the first slot of group i of pattern q; where there is one pattern, whatever q is, and whether it has the group or not
 abbrev pub first_slot : GroupLists → ℕ → ℕ → Option ℕ
@@ -35,21 +37,13 @@ no_offsets groups count = record { groups = groups; pattern = None; offsets = re
 abbrev pub matched_groups : Captured → ℕ
 matched_groups c = option_map_or (group_count c.groups) c.pattern 0
 
--- the span of each group of the pattern that matched, from i on
-abbrev pub spans_from : Captured → ℕ → List (Option Span)
-spans_from c i = map (group_span c) (range_with_len i (matched_groups c - i))
-
 -- the span of each group of the pattern that matched
 abbrev pub matched_spans : Captured → List (Option Span)
-matched_spans c = spans_from c 0
+matched_spans c = map (group_span c) (range_with_len 0 (matched_groups c))
 
--- the spans of the groups from i on that participate in the match, in order
-abbrev pub participating_from : Captured → ℕ → List Span
-participating_from c i = filter_map (group_span c) (range_with_len i (matched_groups c - i))
-
--- the spans of all groups that participate
+-- the spans of the groups that participate in the match, in order
 abbrev pub participating : Captured → List Span
-participating c = participating_from c 0
+participating c = filter_map (group_span c) (range_with_len 0 (matched_groups c))
 
 -- the values, where each is there
 abbrev pub all_some : {X : Type 0} → List (Option X) → Option (List X)

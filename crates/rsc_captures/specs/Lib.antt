@@ -1,4 +1,5 @@
 pub mod Captured
+pub mod CapturedLayout
 pub mod Checks
 pub mod Faults
 pub mod Found

@@ -295,7 +295,7 @@ pub struct CapturesPatternIter<'a, A: Allocator = Global> {
 impl<'a, A: Allocator> Model for CapturesPatternIter<'a, A> {
     ghost use Rattle.std.specs.Prelude.{List, Option};
     ghost use Rattle.rsc_search.specs.declared.span.Span.{Span};
-    ghost use Rattle.rsc_captures.specs.Captured.{spans_from};
+    ghost use Rattle.rsc_captures.specs.CapturedLayout.{spans_from};
 
     ghost Value = { List (Option Span) };
 

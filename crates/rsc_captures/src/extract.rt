@@ -3,7 +3,8 @@ ghost use Rattle.std.specs.Prelude.{◌≡◌, ℕ, List, Option, ◌+◌, ◌�
 ghost use Rattle.std.specs.Option.{option_map};
 ghost use Rattle.rsc_search.specs.Spans.{cut, cut_text};
 ghost use Rattle.rsc_search.specs.declared.span.Span.{Span};
-ghost use Rattle.rsc_captures.specs.Captured.{participating, participating_from, pieces};
+ghost use Rattle.rsc_captures.specs.Captured.{participating, pieces};
+ghost use Rattle.rsc_captures.specs.CapturedLayout.{participating_from};
 
 use crate::captures::Captures;
 use rsc_search::Span;

@@ -1,5 +1,5 @@
 use Rattle.std.proofs.Common.{◌≡◌}
-use Rattle.rsc_captures.specs.Captured.{participating_from}
+use Rattle.rsc_captures.specs.CapturedLayout.{participating_from}
 use Rattle.rsc_captures.proofs.captures.Captures.next_participating.Given as goal
 
 -- no group before the index participates
