@@ -1,8 +1,8 @@
 -- Where the names and the order of each pattern's groups stand in the lists of all groups.
-use Rattle.std.proofs.Common.{◌≡◌, ℕ, zero, suc, ◌+◌, ◌-◌, ◌/◌, ◌<◌, ◌≤◌, ⊎_elim, List, [], ◌∷◌, length, take, drop, get_or, min, Option, None, ap, ap₂, sym, ◌∙◌, arith}
+use Rattle.std.proofs.Common.{◌≡◌, ℕ, zero, suc, ◌+◌, ◌-◌, ◌/◌, ◌<◌, ◌≤◌, ⊎_elim, List, [], ◌∷◌, length, take, drop, get_or, Option, None, ap, ap₂, sym, ◌∙◌, arith}
 use Rattle.std.specs.List.{flat_map}
 use Rattle.std.proofs.lemmas.Bool.{cases_lt}
-use Rattle.std.proofs.lemmas.List.{ext_get_or, get_or_default, get_or-drop, get_or-take, length-take, length-drop, drop-take, take-take, take_all}
+use Rattle.std.proofs.lemmas.List.{ext_get_or, get_or_default, get_or-drop, get_or-take, length-drop, drop-take, take-take, take_all}
 use Rattle.std.proofs.lemmas.List.FromFn.{length-map-range_with_len, get_or-map-range_with_len}
 use Rattle.std.proofs.lemmas.List.Sums.{sum_by_more, sum_by-cons}
 use Rattle.std.proofs.Math.Seq.{take-append_seam, drop-append-add}
@@ -91,15 +91,6 @@ module _ (starts : List ℕ) (names : Groups) (lists : GroupLists) (are : lists_
 
   pub named_at : (p g first : ℕ) (held : Option (List ℕ)) → first ≡ groups_before lists p → g < group_count lists p → held ≡ get_or names (first + g) None → held ≡ name_of lists p g
   named_at p g first held is_first lt is = is ∙ ap (λ n. get_or names (n + g) None) is_first ∙ name_in p g lt
-
-  pub part_within : (p : ℕ) → p < length lists → groups_before lists p + group_count lists p ≤ length names
-  part_within p lt =
-      let count : group_count lists p ≡ min (group_count lists p) (length names - groups_before lists p) =
-      ap length (part_is p lt) ∙ length-take (group_count lists p) (drop (groups_before lists p) names) ∙ ap (min (group_count lists p)) (length-drop (groups_before lists p) names) in
-      omega (arith, count, nonempty p lt)
-
-  pub cut_is : (p : ℕ) → p < length lists → drop (groups_before lists p) (take (groups_before lists p + group_count lists p) names) ≡ groups_of lists p
-  cut_is p lt = drop-take (groups_before lists p) (group_count lists p) names ∙ sym (part_is p lt)
 
 -- where a pattern's names begin, as it is computed
 pub first_at : (starts : List ℕ) (lists : GroupLists) (p here : ℕ) → IsLaidOut starts lists → p < length lists → here ≡ get_or starts p here → (length lists ≤ here / 2 + p) × (here / 2 + p - length lists ≡ groups_before lists p)

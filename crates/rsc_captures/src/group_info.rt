@@ -213,8 +213,7 @@ impl<A: Allocator + Clone + Drop> GroupInfo<A> {
     pub fn pattern_names(&self, pid: PatternID) -> GroupInfoPatternNames<'_, A>
         ensures { result ≡ groups_of self.now pid }
     {
-        let inner: &SharedLists<A> = &self.inner;
-        inner.pattern_names(pid.as_usize())
+        GroupInfoPatternNames::new(self, pid)
     }
 
     /// All groups by pattern and then by group, each with its pattern, its number and its name, if it has one.

@@ -11,7 +11,6 @@ ghost use Rattle.rsc_captures.specs.Layout.{groups_before};
 ghost use Rattle.rsc_captures.specs.Names.{name_cmp};
 
 use crate::faults::has_name;
-use crate::name_iterators::GroupInfoPatternNames;
 use crate::names::NameList;
 use crate::order::SCANNED_GROUPS;
 use std::alloc::{AllocError, Allocator};
@@ -152,19 +151,6 @@ impl<A: Allocator + Clone + Drop> SharedLists<A> {
             return None;
         }
         self.names.get(self.first(p) + group)
-    }
-
-    /// The names of a pattern's groups in order; nothing where there is no such pattern.
-    #[inline]
-    pub(crate) fn pattern_names(&self, p: usize) -> GroupInfoPatternNames<'_, A>
-        ensures { result ≡ groups_of self.now p }
-    {
-        let count = self.group_len(p);
-        if count == 0 {
-            return GroupInfoPatternNames::new(&self.names, 0, 0);
-        }
-        let first = self.first(p);
-        GroupInfoPatternNames::new(&self.names, first, first + count)
     }
 
     // The group that the name's cells propose, if it has the name.

@@ -1,12 +1,12 @@
 //! The iterators over the names of a group info.
-ghost use Rattle.std.specs.Prelude.{◌≡◌, ◌≤◌, length, take, drop, Some, IfSome};
+ghost use Rattle.std.specs.Prelude.{◌≡◌, length, Some, IfSome};
 ghost use Rattle.std.specs.Option.{option_copied};
 ghost use Rattle.std.specs.Iterator.{YieldsFirstBy, UpTo, item_count};
 ghost use Rattle.std.specs.Iterator.SizeHint.{IsWithinCount};
+ghost use Rattle.rsc_captures.specs.Groups.{groups_of};
 ghost use Rattle.rsc_captures.specs.NameIterators.{named_group, all_names_of};
 
 use crate::group_info::GroupInfo;
-use crate::names::NameList;
 use rsc_primitives::PatternID;
 use std::alloc::{Allocator, Global};
 use std::marker::Model;
@@ -16,34 +16,33 @@ use std::marker::Model;
 #[derive(Drop)]
 #[derive_where(Clone, Debug)]
 pub struct GroupInfoPatternNames<'a, A: Allocator = Global> {
-    names: &'a NameList<A>,
-    next: usize,
-    end: usize,
+    group_info: &'a GroupInfo<A>,
+    pattern: PatternID,
+    next_group: usize,
 }
 
 impl<'a, A: Allocator> Model for GroupInfoPatternNames<'a, A> {
-    ghost use Rattle.std.specs.Prelude.{◌≤◌, length, take, drop};
-    ghost use Rattle.rsc_captures.specs.Groups.{Groups};
+    ghost use Rattle.std.specs.Prelude.{drop};
+    ghost use Rattle.rsc_captures.specs.Groups.{Groups, groups_of};
 
     ghost Value = { Groups };
 
-    ghost view = { λ it. drop it.next (take it.end it.names.now) };
-
-    ghost invariant = { λ it. it.end ≤ length it.names.now };
+    ghost view = { λ it. drop it.next_group (groups_of it.group_info.now it.pattern) };
 }
 
 impl<'a, A: Allocator + Clone + Drop> GroupInfoPatternNames<'a, A> {
-    // The names from one place to before another.
     #[inline]
     pub(crate) fn new(
-        names: &'a NameList<A>,
-        next: usize,
-        end: usize,
+        group_info: &'a GroupInfo<A>,
+        pattern: PatternID,
     ) -> GroupInfoPatternNames<'a, A>
-        requires { end ≤ length names.now }
-        ensures { result ≡ drop next (take end names.now) }
+        ensures { result ≡ groups_of group_info.now pattern }
     {
-        GroupInfoPatternNames { names, next, end }
+        GroupInfoPatternNames {
+            group_info,
+            pattern,
+            next_group: 0,
+        }
     }
 
     /// How many groups are left.
@@ -51,7 +50,9 @@ impl<'a, A: Allocator + Clone + Drop> GroupInfoPatternNames<'a, A> {
     pub fn len(&self) -> usize
         ensures { result ≡ length self.now }
     {
-        self.end.saturating_sub(self.next)
+        self.group_info
+            .group_len(self.pattern)
+            .saturating_sub(self.next_group)
     }
 }
 
@@ -64,12 +65,12 @@ impl<'a, A: Allocator + Clone + Drop> Iterator for GroupInfoPatternNames<'a, A> 
 
     #[inline]
     fn next(&mut self) -> Option<Option<&'a str>> {
-        let i = self.next;
-        if i >= self.end {
+        let group = self.next_group;
+        if group >= self.group_info.group_len(self.pattern) {
             return None;
         }
-        self.next += 1;
-        Some(self.names.get(i))
+        self.next_group += 1;
+        Some(self.group_info.to_name(self.pattern, group))
     }
 
     fn size_hint(&self) -> (usize, Option<usize>)

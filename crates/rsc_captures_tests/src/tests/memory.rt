@@ -300,7 +300,10 @@ fn no_pattern_takes_a_request_of_its_own(rt: HostRuntime) -> Result<(), Fail> {
     for count in [1usize, 30, 300] {
         let heap = LocalHeap::new(rt.alloc(), 64 * 1024)?;
         let bytes = bytes_of(&heap, count);
-        assert!(rt; 68 * count <= bytes && bytes <= 68 * count + 256, "{count} patterns take {bytes} bytes");
+        assert!(rt;
+            68 * count <= bytes && bytes <= 68 * count + 256,
+            "{count} patterns take {bytes} bytes"
+        );
     }
     Ok(())
 }
