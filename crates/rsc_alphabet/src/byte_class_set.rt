@@ -14,6 +14,16 @@ use std::marker::Model;
 ///
 /// A contract sees it as the finite set of its boundaries, numbers from 0 to 254.
 /// The boundary `b` separates the byte `b` from the byte `b + 1`.
+///
+/// # Examples
+///
+/// ```
+/// let mut partition = ByteClassSet::empty();
+/// partition.set_range(b'a', b'z');
+/// let classes = partition.byte_classes();
+/// assert!(rt; classes.get(b'A') == 0 && classes.get(b'a') == 1 && classes.get(b'z') == 1);
+/// assert!(rt; classes.get(b'{') == 2);
+/// ```
 #[derive(Clone, Debug, Drop)]
 pub struct ByteClassSet {
     // The last bytes of the intervals; the byte 255, which ends the last one, may be among them.
@@ -81,6 +91,9 @@ impl ByteClassSet {
     }
 
     /// The class map of the partition: the class of a byte is the number of boundaries below it.
+    ///
+    /// Classes are intervals, so that the map is made in one pass over the bytes: two bytes that every range treats alike have
+    /// different classes where a byte between them is treated otherwise.
     pub fn byte_classes(&self) -> ByteClasses
         ensures map { result ≡ class_map (sets.contains self.now) }
         ensures below { (k : ℕ) → sets.contains self.now k ≡ true → k < 255 }
@@ -111,6 +124,15 @@ fn set_classes(classes: &mut ByteClasses, first: u8, ends: u128, below: u8)
 ///
 /// Two bytes have one class exactly if each range holds all bytes from the one to the other, or none of them.
 /// Needs the first byte of each pair to be at most the second.
+///
+/// # Examples
+///
+/// ```
+/// let classes = classes_of_ranges(&[(b'a', b'z'), (b'q', b'q')]);
+/// assert!(rt; classes.get(b'a') == classes.get(b'p') && classes.get(b'p') != classes.get(b'q'));
+/// // Both are in the first range alone, but `q` is between them.
+/// assert!(rt; classes.get(b'p') != classes.get(b'r'));
+/// ```
 pub fn classes_of_ranges(ranges: &[(u8, u8)]) -> ByteClasses
     requires { All (λ r. r.0 ≤ r.1) ranges.now }
     ensures counts { result ≡ class_map (separates ranges.now) }

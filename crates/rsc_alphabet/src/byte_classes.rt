@@ -96,7 +96,17 @@ impl ByteClasses {
         }
     }
 
-    /// How many symbols there are: the classes 0 to that of the byte 255, and the end of the input.
+    /// How many symbols there are: the classes 0 to that of the byte 255, and one more, the end of the input.
+    ///
+    /// It is one more than the number of classes, since an automaton has a transition for the end of the input too, by which it
+    /// decides what looks at the next byte, as `$` and `\b` do.
+    ///
+    /// # Examples
+    ///
+    /// ```
+    /// let classes = classes_of_ranges(&[(b'a', b'z')]);
+    /// assert!(rt; classes.get(255) == 2 && classes.alphabet_len() == 4);
+    /// ```
     #[inline]
     pub fn alphabet_len(&self) -> usize
         ensures value { result ≡ slice_index self.now 255 + 2 }
@@ -106,7 +116,14 @@ impl ByteClasses {
         usize::from(self.classes[255]) + 1 + 1
     }
 
-    /// The end of the input.
+    /// The end of the input, as the symbol after all classes of bytes: its number is one more than the class of the byte 255.
+    ///
+    /// # Examples
+    ///
+    /// ```
+    /// let classes = classes_of_ranges(&[(b'a', b'z')]);
+    /// assert!(rt; classes.get_by_unit(classes.eoi()) == 3);
+    /// ```
     pub fn eoi(&self) -> Unit
         ensures value { result ≡ end_of self.now }
         ensures most { number_of result ≤ 256 }
@@ -116,6 +133,16 @@ impl ByteClasses {
 
     /// The exponent of the least power of two that is at least [`ByteClasses::alphabet_len`], from 1 to 9: the rows of a
     /// transition table are as long as that power.
+    ///
+    /// With rows of that length the place of a state's row is its number shifted to the left, and a table needs no multiplication.
+    ///
+    /// # Examples
+    ///
+    /// ```
+    /// let classes = classes_of_ranges(&[(b'a', b'z')]);
+    /// assert!(rt; classes.alphabet_len() == 4 && classes.stride2() == 2);
+    /// assert!(rt; ByteClasses::singletons().stride2() == 9);
+    /// ```
     #[inline]
     pub fn stride2(&self) -> usize
         ensures value { result ≡ stride2_of self.now }
@@ -148,6 +175,16 @@ impl ByteClasses {
 
     /// The bytes of a class, ascending, where the unit is the byte of that number. Of any end of the input it is the end
     /// of the input after 256 classes alone.
+    ///
+    /// # Examples
+    ///
+    /// ```
+    /// let classes = classes_of_ranges(&[(b'a', b'b')]);
+    /// let mut letters = classes.elements(Unit::u8(1));
+    /// assert!(rt; letters.next() == Some(Unit::u8(b'a')));
+    /// assert!(rt; letters.next() == Some(Unit::u8(b'b')));
+    /// assert!(rt; letters.next() == None);
+    /// ```
     #[inline]
     pub fn elements(&self, class: Unit) -> ByteClassElements<'_>
         ensures list { result ≡ elements_of self.now class }
@@ -171,6 +208,19 @@ impl ByteClasses {
 
     /// The first byte of a range, each later one whose class differs from its predecessor's, and then, where the range
     /// has no end, the end of the input.
+    ///
+    /// Whoever computes something for each class, as where a state leads, needs to do so for the representatives alone.
+    ///
+    /// # Examples
+    ///
+    /// ```
+    /// let classes = classes_of_ranges(&[(b'a', b'z')]);
+    /// let mut units = classes.representatives(Bound::Included(b'b'), Bound::Unbounded);
+    /// assert!(rt; units.next() == Some(Unit::u8(b'b')));
+    /// assert!(rt; units.next() == Some(Unit::u8(b'z' + 1)));
+    /// assert!(rt; units.next() == Some(classes.eoi()));
+    /// assert!(rt; units.next() == None);
+    /// ```
     pub fn representatives(&self, start: Bound<u8>, end: Bound<u8>) -> ByteClassRepresentatives<'_>
         ensures list { result ≡ representatives_of self.now start end }
         ensures within { ((b : ℕ) → b < 256 → slice_index self.now b ≤ slice_index self.now 255) →

@@ -15,6 +15,16 @@ use std::marker::{Model, PhantomData};
 /// A set of bytes.
 ///
 /// A contract sees it as the finite set of its members.
+///
+/// # Examples
+///
+/// ```
+/// let mut set = ByteSet::empty();
+/// set.add(b'a');
+/// set.add(b'b');
+/// set.add(b'x');
+/// assert!(rt; set.contains(b'b') && set.contains_range(b'a', b'b') && !set.contains(b'c'));
+/// ```
 #[derive(Clone, Copy, Debug)]
 pub struct ByteSet {
     // Bit b stands for the byte b.
@@ -161,6 +171,19 @@ impl ByteSet {
     }
 
     /// The maximal runs of consecutive members, ascending, each by its first and its last byte.
+    ///
+    /// # Examples
+    ///
+    /// ```
+    /// let mut set = ByteSet::empty();
+    /// set.add(b'a');
+    /// set.add(b'b');
+    /// set.add(b'x');
+    /// let mut runs = set.iter_ranges();
+    /// assert!(rt; runs.next() == Some((b'a', b'b')));
+    /// assert!(rt; runs.next() == Some((b'x', b'x')));
+    /// assert!(rt; runs.next() == None);
+    /// ```
     #[inline]
     pub fn iter_ranges(&self) -> ByteSetRangeIter<'_>
         ensures list { result ≡ runs self.now }

@@ -13,6 +13,13 @@ use std::marker::Model;
 /// The end of the input is a symbol of its own, so that an assertion that looks one place ahead can be decided there.
 /// It carries a sentinel, the number of byte classes, which no class of a byte has.
 /// All bytes come before all ends of input; within each the number decides.
+///
+/// # Examples
+///
+/// ```
+/// assert!(rt; Unit::u8(b'a').as_u8() == Some(b'a') && Unit::eoi(3).as_u8() == None);
+/// assert!(rt; Unit::eoi(3).as_usize() == 3 && Unit::u8(255) < Unit::eoi(0));
+/// ```
 #[derive(Clone, Copy)]
 pub struct Unit(UnitKind);
 

@@ -6,6 +6,14 @@ ghost use Rattle.std.specs.Prelude.{◌≡◌, ◌↔◌, Some};
 /// The assertions with `Ascii` in their name ask whether a neighbouring byte is one of `0-9`, `A-Z`, `_` and `a-z`, a word
 /// byte. Those with `Unicode` ask whether a character that ends or begins at the position is a word character of the
 /// matcher's [`crate::WordClass`].
+///
+/// # Examples
+///
+/// ```
+/// assert!(rt; Look::StartLF.reversed() == Look::EndLF);
+/// assert!(rt; Look::from_repr(Look::End.as_repr()) == Some(Look::End));
+/// assert!(rt; Look::WordUnicode.as_char() == '𝛃');
+/// ```
 #[derive(Clone, Copy, Debug, PartialEq, Eq)]
 pub enum Look {
     /// The start of the haystack.

@@ -21,6 +21,16 @@ impl<W: WordClass> LookMatcher<W> {
     /// A partition with these boundaries keeps the assertion: to replace bytes by bytes of their interval changes it at no
     /// position of any haystack. Of a Unicode assertion this is said of replacements within ASCII, and where the matcher's
     /// word characters below 128 are the word bytes.
+    ///
+    /// # Examples
+    ///
+    /// ```
+    /// let mut set = ByteClassSet::empty();
+    /// set.set_range(b'a', b'c');
+    /// LookMatcher::new(AsciiWord).add_to_byteset(Look::EndLF, &mut set);
+    /// let classes = set.byte_classes();
+    /// assert!(rt; classes.get(b'c') != classes.get(b'd') && classes.get(b'\n') != classes.get(b'\r'));
+    /// ```
     pub fn add_to_byteset(&self, look: Look, set: &mut ByteClassSet)
         ensures adds { set.new ≡ sets.union set.old (boundaries_of look self.now.0) }
         ensures at { (b : ℕ) → sets.contains set.new b ≡ (sets.contains set.old b || sets.contains (boundaries_of look self.now.0) b) }
@@ -36,6 +46,14 @@ impl<W: WordClass> LookMatcher<W> {
     /// Two bytes of one class may replace each other anywhere in any haystack, and no assertion of the list changes at any
     /// position. Of a Unicode assertion this is said of replacements within ASCII, and where the matcher's word characters
     /// below 128 are the word bytes; without that the classes are still those of the list's boundaries.
+    ///
+    /// # Examples
+    ///
+    /// ```
+    /// let matcher = LookMatcher::new(UnicodeWord);
+    /// let classes = matcher.classes_of(&[Look::WordAscii]);
+    /// assert!(rt; classes.get(b'a') == classes.get(b'z') && classes.get(b'a') != classes.get(b'-'));
+    /// ```
     pub fn classes_of(&self, looks: &[Look]) -> ByteClasses
         ensures classes { result ≡ class_map (sets.contains (boundaries_of_each looks.now self.now.0)) }
         ensures coarsest { AgreesWhereAsked (W.word_chars self.now.1) looks.now →

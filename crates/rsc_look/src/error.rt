@@ -10,6 +10,10 @@ pub struct UnicodeWordBoundaryError(());
 
 impl UnicodeWordBoundaryError {
     /// Whether the Unicode assertions can be asked, which is always `Ok`.
+    ///
+    /// # Errors
+    ///
+    /// None: the Rust answers one where it was built without the tables.
     pub fn check() -> Result<(), UnicodeWordBoundaryError>
         ensures { IsOk result }
     {

@@ -4,6 +4,7 @@
 mod assertion;
 mod boundaries;
 mod error;
+/// Laws that a caller may cite.
 pub mod laws;
 mod look_set;
 mod matcher;

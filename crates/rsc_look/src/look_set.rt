@@ -17,6 +17,15 @@ const ALL_BITS: u32 = (1 << 18) - 1;
 /// A set of assertions, held as eighteen bits.
 ///
 /// A contract sees it as the finite set of its members.
+///
+/// # Examples
+///
+/// ```
+/// let set = LookSet::singleton(Look::Start).insert(Look::WordUnicode);
+/// assert!(rt; set.len() == 2 && set.contains(Look::Start));
+/// assert!(rt; set.contains_word_unicode() && !set.contains_anchor_line());
+/// assert!(rt; LookSet::from_bits(set.bits()) == Some(set));
+/// ```
 #[derive(Clone, Copy)]
 pub struct LookSet {
     bits: u32,
@@ -349,6 +358,10 @@ impl LookSet {
     }
 
     /// Whether the members can be asked, which is always `Ok`: the tables of word characters are always there.
+    ///
+    /// # Errors
+    ///
+    /// None: the Rust answers one where it was built without the tables.
     pub fn available(self) -> Result<(), UnicodeWordBoundaryError>
         ensures { IsOk result }
     {

@@ -22,6 +22,16 @@ pub(crate) const CARRIAGE_RETURN: u8 = b'\r';
 ///
 /// A haystack is any list of bytes, UTF-8 or not. Every call that takes a position needs it to be at most the haystack's
 /// length. A contract sees a matcher as the pair of its line terminator and its [`WordClass`].
+///
+/// # Examples
+///
+/// ```
+/// let mut matcher = LookMatcher::new(UnicodeWord);
+/// assert!(rt; matcher.matches(Look::StartLF, b"a\nb", 2));
+/// matcher.set_line_terminator(0);
+/// assert!(rt; !matcher.matches(Look::StartLF, b"a\nb", 2));
+/// assert!(rt; matcher.matches(Look::EndLF, b"a\0", 1));
+/// ```
 #[derive(Debug, Drop)]
 pub struct LookMatcher<W: WordClass> {
     line_terminator: u8,
@@ -59,7 +69,10 @@ impl<W: WordClass> LookMatcher<W> {
     }
 
     /// A matcher with the same line terminator, and a clone of the choice of word characters.
-    /// It is refused only where that clone is.
+    ///
+    /// # Errors
+    ///
+    /// An `AllocError` is answered only where the clone of the choice of word characters is refused.
     pub fn clone(&self) -> Result<Self, AllocError>
     where
         W: Clone,
@@ -141,6 +154,15 @@ impl<W: WordClass> LookMatcher<W> {
     }
 
     /// Whether every assertion of a set holds at a position of a haystack; so it is where the set has no member.
+    ///
+    /// # Examples
+    ///
+    /// ```
+    /// let matcher = LookMatcher::new(UnicodeWord);
+    /// let empty_line = LookSet::singleton(Look::StartLF).insert(Look::EndLF);
+    /// assert!(rt; matcher.matches_set(empty_line, b"a\n\nb", 2));
+    /// assert!(rt; !matcher.matches_set(empty_line, b"a\n\nb", 1));
+    /// ```
     #[inline(always)]
     pub fn matches_set(&self, set: LookSet, haystack: &[u8], at: usize) -> bool
         requires { at ≤ length haystack.now }
@@ -274,6 +296,12 @@ impl<W: WordClass> LookMatcher<W> {
     }
 
     /// Whether a word character stands on exactly one side.
+    ///
+    /// Bytes that are no character count as no word character, so a boundary may stand beside them.
+    ///
+    /// # Errors
+    ///
+    /// None: the tables of word characters are always there.
     #[inline(never)]
     pub fn is_word_unicode(
         &self,
@@ -289,6 +317,23 @@ impl<W: WordClass> LookMatcher<W> {
     }
 
     /// Whether no side has bytes that are no character, and a word character stands on both sides or on neither.
+    ///
+    /// It is no mere negation of [`LookMatcher::is_word_unicode`]: that would hold between two bytes of one character too, and a
+    /// match of `\B` would split it.
+    ///
+    /// # Errors
+    ///
+    /// None: the tables of word characters are always there.
+    ///
+    /// # Examples
+    ///
+    /// ```
+    /// let matcher = LookMatcher::new(UnicodeWord);
+    /// assert!(rt; matcher.matches(Look::WordUnicodeNegate, "ab".as_bytes(), 1));
+    /// // Between two bytes of one character neither it nor its counterpart holds.
+    /// assert!(rt; !matcher.matches(Look::WordUnicodeNegate, "𝛃".as_bytes(), 2));
+    /// assert!(rt; !matcher.matches(Look::WordUnicode, "𝛃".as_bytes(), 2));
+    /// ```
     #[inline(never)]
     pub fn is_word_unicode_negate(
         &self,
@@ -326,6 +371,10 @@ impl<W: WordClass> LookMatcher<W> {
     }
 
     /// Whether a word character stands after the position, and none before it.
+    ///
+    /// # Errors
+    ///
+    /// None: the tables of word characters are always there.
     #[inline(never)]
     pub fn is_word_start_unicode(
         &self,
@@ -340,6 +389,10 @@ impl<W: WordClass> LookMatcher<W> {
     }
 
     /// Whether a word character stands before the position, and none after it.
+    ///
+    /// # Errors
+    ///
+    /// None: the tables of word characters are always there.
     #[inline(never)]
     pub fn is_word_end_unicode(
         &self,
@@ -372,6 +425,10 @@ impl<W: WordClass> LookMatcher<W> {
     }
 
     /// Whether the haystack begins at the position, or a character that is no word character ends there.
+    ///
+    /// # Errors
+    ///
+    /// None: the tables of word characters are always there.
     #[inline(never)]
     pub fn is_word_start_half_unicode(
         &self,
@@ -385,6 +442,10 @@ impl<W: WordClass> LookMatcher<W> {
     }
 
     /// Whether the haystack ends at the position, or a character that is no word character begins there.
+    ///
+    /// # Errors
+    ///
+    /// None: the tables of word characters are always there.
     #[inline(never)]
     pub fn is_word_end_half_unicode(
         &self,

@@ -9,6 +9,8 @@ use unicode::perl;
 /// A choice of word characters, which the six Unicode assertions ask for.
 ///
 /// A contract names the choice that a value makes by `word_chars`, the test of the characters that it accepts.
+///
+/// A choice of your own is a type with these two members; `rsc_uses::look::Letters` is one.
 pub trait WordClass: Drop {
     /// The word characters that the value stands for.
     ghost word_chars: { Self → ℕ → Bool };

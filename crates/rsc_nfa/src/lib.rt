@@ -2,6 +2,7 @@
 #![tactic(auto)]
 
 mod error;
+/// Laws that a caller may cite.
 pub mod laws;
 mod nfa;
 mod state;

@@ -19,6 +19,27 @@ use std::alloc::{Allocator, Global};
 use std::marker::Model;
 
 /// An automaton over bytes, whose states are numbered by their places in a list.
+///
+/// # Examples
+///
+/// ```
+/// // [a-z]
+/// let info = GroupInfo::new(rt.alloc(), &[&[None]])?;
+/// let accept = StateID::must(1);
+/// let states = [
+///     State::ByteRange {
+///         start: b'a',
+///         end: b'z',
+///         next: accept,
+///     },
+///     State::Accept {
+///         pattern: PatternID::ZERO,
+///     },
+/// ];
+/// let nfa = Nfa::new(rt.alloc(), info, LookMatcher::new(AsciiWord), &states)?;
+/// assert!(rt; nfa.check_run(&Input::new(b"q"), &[(StateID::ZERO, 0), (accept, 1)]));
+/// assert!(rt; nfa.classes().get(b'a') == nfa.classes().get(b'z'));
+/// ```
 #[derive(Drop)]
 pub struct Nfa<W: WordClass, A: Allocator = Global> {
     states: Vec<State, A>,

@@ -32,7 +32,19 @@ impl<'a> fmt::Debug for DebugHaystack<'a> {
     }
 }
 
-/// The text that [`DebugByte`] shows, or a refusal where there is no memory for it.
+/// The text that [`DebugByte`] shows: the byte as a character where it prints, and else an escape.
+///
+/// # Errors
+///
+/// An `AllocError` is answered where there is no memory for the text.
+///
+/// # Examples
+///
+/// ```
+/// assert!(rt; escape::byte_text(rt.alloc(), b'a')?.as_str() == "a");
+/// assert!(rt; escape::byte_text(rt.alloc(), b' ')?.as_str() == "' '");
+/// assert!(rt; escape::byte_text(rt.alloc(), 0xFF)?.as_str() == "\\xFF");
+/// ```
 pub fn byte_text<A: Allocator + Drop>(alloc: A, byte: u8) -> Result<String<A>, AllocError>
     ensures { IfOk result (λ text. string_bytes text ≡ byte_text byte) }
 {
@@ -43,9 +55,19 @@ pub fn byte_text<A: Allocator + Drop>(alloc: A, byte: u8) -> Result<String<A>, A
     }
 }
 
-/// The text that [`DebugHaystack`] shows, or a refusal where there is no memory for it.
+/// The text that [`DebugHaystack`] shows: the bytes' characters in quotes, with an escape for each byte that is part of none.
 ///
 /// A character past ASCII is shown as std's `escape_debug` shows it.
+///
+/// # Errors
+///
+/// An `AllocError` is answered where there is no memory for the text.
+///
+/// # Examples
+///
+/// ```
+/// assert!(rt; escape::haystack_text(rt.alloc(), b"a\xFF\n")?.as_str() == "\"a\\xff\\n\"");
+/// ```
 pub fn haystack_text<A: Allocator + Drop>(
     alloc: A,
     haystack: &[u8],

@@ -36,6 +36,16 @@ fn has_bit(number: u64, bit: u8) -> bool
 /// Whether `at` is the length of the bytes, or the place of a byte that isn't within a character: at most 7F or at least C0.
 ///
 /// Any number is allowed. Above the length the answer is false.
+///
+/// # Examples
+///
+/// ```
+/// let text = "€1".as_bytes();
+/// assert!(rt;
+///     utf8::is_boundary(text, 0) && utf8::is_boundary(text, 3) && utf8::is_boundary(text, 4)
+/// );
+/// assert!(rt; !utf8::is_boundary(text, 1) && !utf8::is_boundary(text, 5));
+/// ```
 #[inline(always)]
 pub fn is_boundary(bytes: &[u8], at: usize) -> bool
     ensures { IsTrue result ↔ IsBoundary bytes.now at }
@@ -50,6 +60,16 @@ pub fn is_boundary(bytes: &[u8], at: usize) -> bool
 ///
 /// It looks at no more than four bytes. What counts as an encoding is RFC 3629, section 4: no overlong form, no surrogate, no
 /// number above 10FFFF.
+///
+/// The error is one byte, so that a scan of any bytes can go on after it: each byte that begins no character counts as one.
+///
+/// # Examples
+///
+/// ```
+/// assert!(rt; utf8::decode("€5".as_bytes()) == Some(Ok('€')));
+/// assert!(rt; utf8::decode(b"\xE2\x82") == Some(Err(0xE2)));
+/// assert!(rt; utf8::decode(b"") == None);
+/// ```
 #[inline(always)]
 pub fn decode(bytes: &[u8]) -> Option<Result<char, u8>>
     ensures answer { DecodesTo bytes.now result }
@@ -68,6 +88,13 @@ pub fn decode(bytes: &[u8]) -> Option<Result<char, u8>>
 /// The character whose encoding ends the bytes, or else the last byte. `None` is for no bytes.
 ///
 /// The encoding has to reach the end: of `a` and a byte 80 the answer is that byte. It looks at no more than four bytes.
+///
+/// # Examples
+///
+/// ```
+/// assert!(rt; utf8::decode_last("5€".as_bytes()) == Some(Ok('€')));
+/// assert!(rt; utf8::decode_last(b"a\x80") == Some(Err(0x80)));
+/// ```
 #[inline(always)]
 pub fn decode_last(bytes: &[u8]) -> Option<Result<char, u8>>
     ensures { DecodesLastTo bytes.now result }

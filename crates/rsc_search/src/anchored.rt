@@ -7,6 +7,13 @@ ghost use Rattle.rsc_search.specs.Modes.{pattern_of};
 use rsc_primitives::PatternID;
 
 /// Whether a match has to begin where the search begins.
+///
+/// # Examples
+///
+/// ```
+/// assert!(rt; !Anchored::No.is_anchored() && Anchored::Yes.is_anchored());
+/// assert!(rt; Anchored::Pattern(PatternID::must(2)).pattern() == Some(PatternID::must(2)));
+/// ```
 #[derive(Clone, Copy, Debug, PartialEq, Eq)]
 pub enum Anchored {
     /// A match may begin anywhere in the span that is searched.

@@ -37,6 +37,13 @@ pub enum MatchErrorKind {
 }
 
 /// The error of a search that gives no answer.
+///
+/// # Examples
+///
+/// ```
+/// let error = MatchError::gave_up(7);
+/// assert!(rt; *error.kind() == MatchErrorKind::GaveUp { offset: 7 });
+/// ```
 #[derive(Clone, Debug, Drop, PartialEq, Eq)]
 pub struct MatchError {
     kind: MatchErrorKind,

@@ -15,6 +15,18 @@ use std::ops::{Bound, Range};
 ///
 /// The span's end is at most the haystack's length, and its start at most its end and one: so that a search can say
 /// by a start above the end that it is done.
+///
+/// # Examples
+///
+/// ```
+/// let mut input = Input::new(b"ab");
+/// assert!(rt; input.start() == 0 && input.end() == 2);
+/// // After a match that ends at 2 an empty one may still be there; after that one the search is done.
+/// input.set_start(2);
+/// assert!(rt; !input.is_done());
+/// input.set_start(3);
+/// assert!(rt; input.is_done());
+/// ```
 #[derive(Clone, Drop)]
 pub struct Input<'h> {
     haystack: &'h [u8],
@@ -50,7 +62,7 @@ impl<'h> Input<'h> {
         }
     }
 
-    /// This input with another span.
+    /// This input with another span, whose end is a position of the haystack, and whose start is at most its end and one.
     #[inline]
     pub fn span(mut self, span: Span) -> Input<'h>
         requires { IsSpanWithin self.haystack span }
@@ -60,8 +72,17 @@ impl<'h> Input<'h> {
         self
     }
 
-    /// This input with the span between two bounds: an excluded start or an included end is its number plus 1, an
-    /// unbounded start is 0, and an unbounded end the haystack's length.
+    /// This input with the span between two bounds: an excluded start or an included end is its number plus 1, an unbounded start
+    /// is 0, and an unbounded end the haystack's length.
+    ///
+    /// The span's end has to be a position of the haystack, and its start at most its end and one.
+    ///
+    /// # Examples
+    ///
+    /// ```
+    /// let input = Input::new(b"abcd").range(Bound::Excluded(0), Bound::Included(2));
+    /// assert!(rt; input.get_span() == Span { start: 1, end: 3 });
+    /// ```
     #[inline]
     pub fn range(mut self, start: Bound<usize>, end: Bound<usize>) -> Input<'h>
         requires { IsSpanWithin self.haystack (span_between start end (length self.haystack)) }
@@ -89,7 +110,7 @@ impl<'h> Input<'h> {
         self
     }
 
-    /// Sets the span.
+    /// Sets the span, to one whose end is a position of the haystack, and whose start is at most its end and one.
     #[inline]
     pub fn set_span(&mut self, span: Span)
         requires { IsSpanWithin self.old.haystack span }
@@ -98,7 +119,7 @@ impl<'h> Input<'h> {
         self.span = span;
     }
 
-    /// Sets the span to the one between two bounds, as [`Input::range`] does.
+    /// Sets the span to the one between two bounds, as [`Input::range`] does, and under its condition.
     #[inline]
     pub fn set_range(&mut self, start: Bound<usize>, end: Bound<usize>)
         requires { IsSpanWithin self.old.haystack (span_between start end (length self.old.haystack)) }
@@ -118,7 +139,7 @@ impl<'h> Input<'h> {
         self.set_span(Span { start, end });
     }
 
-    /// Sets the span's start.
+    /// Sets the span's start, to at most its end and one.
     #[inline]
     pub fn set_start(&mut self, start: usize)
         requires { start ≤ self.old.span.end + 1 }
@@ -127,7 +148,7 @@ impl<'h> Input<'h> {
         self.span.start = start;
     }
 
-    /// Sets the span's end.
+    /// Sets the span's end, to a position of the haystack that the start is at most one above.
     #[inline]
     pub fn set_end(&mut self, end: usize)
         requires within { end ≤ length self.old.haystack }

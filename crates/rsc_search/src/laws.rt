@@ -7,7 +7,9 @@ ghost use Rattle.rsc_primitives.specs.Utf8.{IsBoundary};
 ghost use Rattle.rsc_search.specs.PatternSets.{Patterns, has_member, with_member};
 ghost use Rattle.rsc_search.specs.Spans.{is_boundary};
 
+/// Laws of clones.
 pub mod clones;
+/// Laws of equality, of hashes and of defaults.
 pub mod equality;
 
 /// An insertion makes its number a member, and no other number below the capacity.

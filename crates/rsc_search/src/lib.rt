@@ -4,6 +4,7 @@
 mod anchored;
 mod error;
 mod input;
+/// Laws that a caller may cite.
 pub mod laws;
 mod matches;
 mod pattern_set;

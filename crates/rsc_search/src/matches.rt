@@ -8,6 +8,13 @@ use std::marker::Model;
 use std::ops::Range;
 
 /// The pattern that matched, and one end of the match: what a search knows that doesn't look for the other end.
+///
+/// # Examples
+///
+/// ```
+/// let found = HalfMatch::must(1, 5);
+/// assert!(rt; found.pattern() == PatternID::must(1) && found.offset() == 5);
+/// ```
 #[derive(Clone, Copy, Debug, PartialEq, Eq, Hash)]
 pub struct HalfMatch {
     pattern: PatternID,
@@ -60,6 +67,13 @@ impl HalfMatch {
 }
 
 /// The pattern that matched, and the span of the match. The span's start is at most its end.
+///
+/// # Examples
+///
+/// ```
+/// let found = Match::must(0, Span { start: 2, end: 5 });
+/// assert!(rt; found.start() == 2 && found.end() == 5 && found.len() == 3);
+/// ```
 #[derive(Clone, Copy, Debug, PartialEq, Eq, Hash)]
 pub struct Match {
     pattern: PatternID,
@@ -89,7 +103,7 @@ impl Match {
         Match { pattern, span }
     }
 
-    /// A match of the pattern with that number, which is at most 2147483646.
+    /// A match of the pattern with that number, which is at most 2147483646, at a span whose start is at most its end.
     #[inline]
     pub fn must(pattern: usize, span: Span) -> Match
         requires pattern { IsIndex pattern }

@@ -19,6 +19,16 @@ use std::marker::Model;
 /// A set of patterns, each below a capacity that is chosen once.
 ///
 /// A contract sees it as its capacity and its members, ascending.
+///
+/// # Examples
+///
+/// ```
+/// let mut set = PatternSet::new(rt.alloc(), 3)?;
+/// assert!(rt; set.insert(PatternID::must(2)));
+/// assert!(rt; !set.insert(PatternID::must(2)));
+/// assert!(rt; set.try_insert(PatternID::must(3)).is_err());
+/// assert!(rt; set.contains(PatternID::must(2)) && set.len() == 1);
+/// ```
 #[derive(Debug, Drop)]
 pub struct PatternSet<A: Allocator = Global> {
     // Pattern `p` is a member where bit `p % 64` of word `p / 64` is set.
@@ -39,8 +49,11 @@ impl<A: Allocator> Model for PatternSet<A> {
 }
 
 impl<A: Allocator> PatternSet<A> {
-    /// The set with no member and that capacity, which is at most [`PatternID::LIMIT`]. All the room that it will ever need is
-    /// taken here; an `AllocError` is answered only where that was refused.
+    /// The set with no member and that capacity, which is at most [`PatternID::LIMIT`]. All the room that it will ever need is taken here.
+    ///
+    /// # Errors
+    ///
+    /// An `AllocError` is answered only where memory was refused.
     pub fn new(alloc: A, capacity: usize) -> Result<PatternSet<A>, AllocError>
         requires { capacity ≤ PatternID.LIMIT }
         ensures { IfOk result (λ set. set ≡ no_patterns capacity) }
@@ -87,7 +100,11 @@ impl<A: Allocator> PatternSet<A> {
         true
     }
 
-    /// As [`PatternSet::insert`], but a pattern at or above the capacity is refused, and the set is as before.
+    /// Makes a pattern a member if it is below the capacity, and says whether it is new.
+    ///
+    /// # Errors
+    ///
+    /// A pattern at or above the capacity is refused, and the set is as before.
     #[inline]
     pub fn try_insert(&mut self, pid: PatternID) -> Result<bool, PatternSetInsertError>
         ensures accepted { IsOk result ↔ (pid < self.old.capacity) }
@@ -163,8 +180,11 @@ impl<A: Allocator> PatternSet<A> {
 }
 
 impl<A: Allocator + Clone + Drop> PatternSet<A> {
-    /// A set of its own with this capacity and these members. An `AllocError` is answered only where memory was
-    /// refused, and this set is as before.
+    /// A set of its own with this capacity and these members.
+    ///
+    /// # Errors
+    ///
+    /// An `AllocError` is answered only where memory was refused, and this set is as before.
     pub fn clone(&self) -> Result<PatternSet<A>, AllocError>
         ensures { IfOk result (λ set. set ≡ self.now) }
     {

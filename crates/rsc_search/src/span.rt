@@ -11,6 +11,14 @@ use std::ops::Range;
 /// A part of a haystack: from the byte at `start` up to, and without, the byte at `end`.
 ///
 /// Both are positions in bytes. Nothing is asked of their order: a span whose start is above its end is empty.
+///
+/// # Examples
+///
+/// ```
+/// let span = Span { start: 1, end: 3 };
+/// assert!(rt; span.len() == 2 && !span.is_empty());
+/// assert!(rt; span.contains(3) && !span.contains(4));
+/// ```
 #[derive(Clone, Copy, Hash)]
 pub struct Span {
     /// The position of the first byte.
@@ -120,6 +128,13 @@ impl Span {
 
     /// The text of a haystack that the span names, or `None` where [`Span::get`] is `None` or an end of the span
     /// isn't a character boundary.
+    ///
+    /// # Examples
+    ///
+    /// ```
+    /// assert!(rt; Span { start: 1, end: 3 }.get_str("aébc") == Some("é"));
+    /// assert!(rt; Span { start: 1, end: 2 }.get_str("aébc") == None);
+    /// ```
     #[inline]
     pub fn get_str<'h>(&self, haystack: &'h str) -> Option<&'h str>
         ensures { option_copied result ≡ cut_text haystack.now self.now }

@@ -4,6 +4,8 @@
 
 pub mod alphabet;
 pub mod captures;
+#[cfg(test)]
+mod examples;
 pub mod look;
 pub mod nfa;
 pub mod primitives;

@@ -11,6 +11,14 @@ use std::marker::Model;
 ///
 /// It is held as its eight bytes, the least significant first: an optional one then takes nine bytes, where one of a
 /// `usize` takes sixteen.
+///
+/// # Examples
+///
+/// ```
+/// let offset = NonMaxUsize::new(5);
+/// assert!(rt; offset.map_or(0, |it| it.get()) == 5);
+/// assert!(rt; NonMaxUsize::new(usize::MAX) == None);
+/// ```
 #[derive(Clone, Copy)]
 pub struct NonMaxUsize([u8; 8]);
 

@@ -12,6 +12,14 @@ use std::marker::Model;
 /// The number of a pattern, from 0 to 2147483646, in four bytes.
 ///
 /// A contract sees it as the number. The number plus 1 and a count of all such numbers fit in an `i32`.
+///
+/// # Examples
+///
+/// ```
+/// let pattern = PatternID::must(3);
+/// assert!(rt; pattern.as_usize() == 3 && pattern.one_more() == 4);
+/// assert!(rt; PatternID::new(2147483646).is_ok() && PatternID::new(2147483647).is_err());
+/// ```
 #[derive(Clone, Copy, Debug, PartialEq, Eq, PartialOrd, Ord, Hash)]
 pub struct PatternID(u32);
 
@@ -42,6 +50,10 @@ impl PatternID {
     pub const SIZE: usize = 4;
 
     /// The index of that number, or a refusal of it where it is above [`PatternID::MAX`].
+    ///
+    /// # Errors
+    ///
+    /// A number above the greatest index is refused, and the error holds it.
     #[inline]
     pub fn new(index: usize) -> Result<PatternID, PatternIDError>
         ensures { result ≡ index_of index }
@@ -105,6 +117,10 @@ impl PatternID {
 
     /// The index whose four bytes these are, the least significant first, or a refusal of their number where it is above
     /// [`PatternID::MAX`].
+    ///
+    /// # Errors
+    ///
+    /// A number above the greatest index is refused, and the error holds it.
     #[inline]
     pub fn from_le_bytes(bytes: [u8; 4]) -> Result<PatternID, PatternIDError>
         ensures { result ≡ index_of (from_le_bytes w32 bytes) }
@@ -120,7 +136,16 @@ impl PatternID {
         self.0.to_le_bytes()
     }
 
-    /// The indices from 0 to `len - 1`, ascending.
+    /// The indices from 0 to `len - 1`, ascending, where `len` is at most [`PatternID::LIMIT`].
+    ///
+    /// # Examples
+    ///
+    /// ```
+    /// let mut patterns = PatternID::iter(2);
+    /// assert!(rt; patterns.next() == Some(PatternID::ZERO));
+    /// assert!(rt; patterns.next() == Some(PatternID::must(1)));
+    /// assert!(rt; patterns.next() == None);
+    /// ```
     #[inline]
     pub fn iter(len: usize) -> PatternIDIter
         requires { len ≤ PatternID.LIMIT }
@@ -197,6 +222,14 @@ impl TryFrom<usize> for PatternID {
 }
 
 /// The refusal of a number that is above [`PatternID::MAX`]. A contract sees it as the number.
+///
+/// # Examples
+///
+/// ```
+/// if let Err(error) = PatternID::new(2147483647) {
+///     assert!(rt; error.attempted() == 2147483647);
+/// }
+/// ```
 #[derive(Clone, Debug, Drop, PartialEq, Eq)]
 pub struct PatternIDError {
     attempted: u64,

@@ -12,6 +12,14 @@ use std::marker::Model;
 /// An index from 0 to 2147483646, in four bytes.
 ///
 /// A contract sees it as the number. The number plus 1 and a count of all such numbers fit in an `i32`.
+///
+/// # Examples
+///
+/// ```
+/// let index = SmallIndex::must(258);
+/// assert!(rt; index.to_le_bytes() == [2, 1, 0, 0]);
+/// assert!(rt; SmallIndex::from_le_bytes([255, 255, 255, 127]).is_err());
+/// ```
 #[derive(Clone, Copy, Debug, PartialEq, Eq, PartialOrd, Ord, Hash)]
 pub struct SmallIndex(u32);
 
@@ -42,6 +50,10 @@ impl SmallIndex {
     pub const SIZE: usize = 4;
 
     /// The index of that number, or a refusal of it where it is above [`SmallIndex::MAX`].
+    ///
+    /// # Errors
+    ///
+    /// A number above the greatest index is refused, and the error holds it.
     #[inline]
     pub fn new(index: usize) -> Result<SmallIndex, SmallIndexError>
         ensures { result ≡ index_of index }
@@ -105,6 +117,10 @@ impl SmallIndex {
 
     /// The index whose four bytes these are, the least significant first, or a refusal of their number where it is above
     /// [`SmallIndex::MAX`].
+    ///
+    /// # Errors
+    ///
+    /// A number above the greatest index is refused, and the error holds it.
     #[inline]
     pub fn from_le_bytes(bytes: [u8; 4]) -> Result<SmallIndex, SmallIndexError>
         ensures { result ≡ index_of (from_le_bytes w32 bytes) }
@@ -120,7 +136,7 @@ impl SmallIndex {
         self.0.to_le_bytes()
     }
 
-    /// The indices from 0 to `len - 1`, ascending.
+    /// The indices from 0 to `len - 1`, ascending, where `len` is at most [`SmallIndex::LIMIT`].
     #[inline]
     pub fn iter(len: usize) -> SmallIndexIter
         requires { len ≤ SmallIndex.LIMIT }

@@ -12,6 +12,13 @@ use std::marker::Model;
 /// The number of an automaton's state, from 0 to 2147483646, in four bytes.
 ///
 /// A contract sees it as the number. The number plus 1 and a count of all such numbers fit in an `i32`.
+///
+/// # Examples
+///
+/// ```
+/// let state = StateID::must(5);
+/// assert!(rt; state > StateID::ZERO && state.as_u32() == 5);
+/// ```
 #[derive(Clone, Copy, Debug, PartialEq, Eq, PartialOrd, Ord, Hash)]
 pub struct StateID(u32);
 
@@ -42,6 +49,10 @@ impl StateID {
     pub const SIZE: usize = 4;
 
     /// The index of that number, or a refusal of it where it is above [`StateID::MAX`].
+    ///
+    /// # Errors
+    ///
+    /// A number above the greatest index is refused, and the error holds it.
     #[inline]
     pub fn new(index: usize) -> Result<StateID, StateIDError>
         ensures { result ≡ index_of index }
@@ -105,6 +116,10 @@ impl StateID {
 
     /// The index whose four bytes these are, the least significant first, or a refusal of their number where it is above
     /// [`StateID::MAX`].
+    ///
+    /// # Errors
+    ///
+    /// A number above the greatest index is refused, and the error holds it.
     #[inline]
     pub fn from_le_bytes(bytes: [u8; 4]) -> Result<StateID, StateIDError>
         ensures { result ≡ index_of (from_le_bytes w32 bytes) }
@@ -120,7 +135,7 @@ impl StateID {
         self.0.to_le_bytes()
     }
 
-    /// The indices from 0 to `len - 1`, ascending.
+    /// The indices from 0 to `len - 1`, ascending, where `len` is at most [`StateID::LIMIT`].
     #[inline]
     pub fn iter(len: usize) -> StateIDIter
         requires { len ≤ StateID.LIMIT }

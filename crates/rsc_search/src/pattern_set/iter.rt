@@ -9,6 +9,18 @@ use std::marker::Model;
 
 /// The iterator over a set's members, made by [`crate::PatternSet::iter`]. A contract sees it as the list of those that are left:
 /// `next` takes the first and `next_back` the last, so each comes once however they are mixed.
+///
+/// # Examples
+///
+/// ```
+/// let mut set = PatternSet::new(rt.alloc(), 8)?;
+/// set.insert(PatternID::must(5));
+/// set.insert(PatternID::must(2));
+/// let mut patterns = set.iter();
+/// assert!(rt; patterns.next_back() == Some(PatternID::must(5)));
+/// assert!(rt; patterns.next() == Some(PatternID::must(2)));
+/// assert!(rt; patterns.len() == 0);
+/// ```
 #[derive(Clone, Debug, Drop)]
 pub struct PatternSetIter<'a> {
     pub(super) words: &'a [u64],

@@ -1,0 +1,62 @@
+use rsc_alphabet::ByteClassSet;
+use rsc_look::{AsciiWord, Look, LookMatcher, LookSet, UnicodeWord};
+use std::test::Fail;
+
+#[test]
+fn assertion(rt: HostRuntime) -> Result<(), Fail> {
+    // `Look`
+    assert!(rt; Look::StartLF.reversed() == Look::EndLF);
+    assert!(rt; Look::from_repr(Look::End.as_repr()) == Some(Look::End));
+    assert!(rt; Look::WordUnicode.as_char() == '𝛃');
+    Ok(())
+}
+
+#[test]
+fn look_set(rt: HostRuntime) -> Result<(), Fail> {
+    // `LookSet`
+    let set = LookSet::singleton(Look::Start).insert(Look::WordUnicode);
+    assert!(rt; set.len() == 2 && set.contains(Look::Start));
+    assert!(rt; set.contains_word_unicode() && !set.contains_anchor_line());
+    assert!(rt; LookSet::from_bits(set.bits()) == Some(set));
+    Ok(())
+}
+
+#[test]
+fn matcher(rt: HostRuntime) -> Result<(), Fail> {
+    // `LookMatcher`
+    let mut matcher = LookMatcher::new(UnicodeWord);
+    assert!(rt; matcher.matches(Look::StartLF, b"a\nb", 2));
+    matcher.set_line_terminator(0);
+    assert!(rt; !matcher.matches(Look::StartLF, b"a\nb", 2));
+    assert!(rt; matcher.matches(Look::EndLF, b"a\0", 1));
+
+    // `LookMatcher::matches_set`
+    let matcher = LookMatcher::new(UnicodeWord);
+    let empty_line = LookSet::singleton(Look::StartLF).insert(Look::EndLF);
+    assert!(rt; matcher.matches_set(empty_line, b"a\n\nb", 2));
+    assert!(rt; !matcher.matches_set(empty_line, b"a\n\nb", 1));
+
+    // `LookMatcher::is_word_unicode_negate`
+    let matcher = LookMatcher::new(UnicodeWord);
+    assert!(rt; matcher.matches(Look::WordUnicodeNegate, "ab".as_bytes(), 1));
+    // Between two bytes of one character neither it nor its counterpart holds.
+    assert!(rt; !matcher.matches(Look::WordUnicodeNegate, "𝛃".as_bytes(), 2));
+    assert!(rt; !matcher.matches(Look::WordUnicode, "𝛃".as_bytes(), 2));
+    Ok(())
+}
+
+#[test]
+fn boundaries(rt: HostRuntime) -> Result<(), Fail> {
+    // `LookMatcher::classes_of`
+    let matcher = LookMatcher::new(UnicodeWord);
+    let classes = matcher.classes_of(&[Look::WordAscii]);
+    assert!(rt; classes.get(b'a') == classes.get(b'z') && classes.get(b'a') != classes.get(b'-'));
+
+    // `LookMatcher::add_to_byteset`
+    let mut set = ByteClassSet::empty();
+    set.set_range(b'a', b'c');
+    LookMatcher::new(AsciiWord).add_to_byteset(Look::EndLF, &mut set);
+    let classes = set.byte_classes();
+    assert!(rt; classes.get(b'c') != classes.get(b'd') && classes.get(b'\n') != classes.get(b'\r'));
+    Ok(())
+}
