@@ -21,9 +21,6 @@ cases : (x : Symbol) (xs : List Symbol) (q : Symbol) → Contains (x ∷ xs) q �
 cases x xs q (zero, l, e) = inl e
 cases x xs q (suc k, l, e) = inr (k, omega (arith, l), e)
 
-pub none_filled : (place value : Symbol → ℕ) (row : List ℕ) (left all : List Symbol) → left ≡ all → Awaits place value row left all
-none_filled place value row left all e = record { among = λ u c. subst (λ xs. Contains xs u) e c; filled = λ u c. inl (subst (λ xs. Contains xs u) (sym e) c) }
-
 pub next_is_among : (place value : Symbol → ℕ) (row : List ℕ) (left rest all : List Symbol) (u : Symbol) → left ≡ u ∷ rest → Awaits place value row left all → Contains all u
 next_is_among place value row left rest all u e a = a.among u (subst (λ xs. Contains xs u) (sym e) (0, omega arith, refl))
 

@@ -1,7 +1,7 @@
 //! Tables whose columns are the classes of bytes.
-ghost use Rattle.std.specs.Prelude.{◌≡◌, ◌↔◌, ◌+◌, ◌*◌, ◌^◌, ◌<◌, ◌≤◌, ℕ, IsTrue, IfSome, is_none, length, slice_index, true};
+ghost use Rattle.std.specs.Prelude.{◌≡◌, ◌↔◌, ◌+◌, ◌*◌, ◌^◌, ◌<◌, ◌≤◌, ℕ, IsTrue, IfSome, is_none, length, slice_get, slice_index, true};
 ghost use Rattle.std.specs.FinSet as sets;
-ghost use Rattle.rsc_alphabet.specs.ByteSets.{runs};
+ghost use Rattle.rsc_alphabet.specs.ByteSets.{members, runs};
 ghost use Rattle.rsc_alphabet.specs.Partitions.{Together, class_map, edges_of_each};
 ghost use Rattle.rsc_alphabet.specs.Iterators.{stride2_of};
 ghost use Rattle.rsc_uses.specs.Leads.{lead_of};
@@ -28,7 +28,7 @@ pub fn transition(map: &ByteClasses, table: &[u32], row: usize, byte: u8) -> u32
     table[(row << map.stride2()) + usize::from(map.get(byte))]
 }
 
-/// The same of the end of the input, whose class is the one after all bytes'.
+/// A table's cell of a row and the end of the input, whose class is the one after all bytes'.
 pub fn transition_at_end(map: &ByteClasses, table: &[u32], row: usize) -> u32
     requires rows { row < 2147483647 }
     requires table { (row + 1) * 2 ^ stride2_of map.now ≤ length table.now }
@@ -141,7 +141,8 @@ pub fn range_separates(byte: u8) -> bool
 
 /// The least member of a set.
 pub fn first_byte(set: &ByteSet) -> Option<u8>
-    ensures { IfSome result (λ byte. sets.contains set.now byte ≡ true) }
+    ensures first { result ≡ slice_get (members set.now) 0 }
+    ensures member { IfSome result (λ byte. sets.contains set.now byte ≡ true) }
 {
     set.iter().next()
 }

@@ -1,5 +1,5 @@
 //! Characters counted in bytes, and tables that are indexed by numbers of patterns and states.
-ghost use Rattle.std.specs.Prelude.{◌≡◌, ◌*◌, ◌^◌, ◌%◌, ◌<◌, ◌≤◌, ◌+◌, ◌↔◌, ℕ, List, IfSome, IsTrue, is_none, length, slice_index, sum};
+ghost use Rattle.std.specs.Prelude.{◌≡◌, ◌*◌, ◌^◌, ◌%◌, ◌<◌, ◌≤◌, ◌+◌, ◌↔◌, ℕ, List, IfSome, IsTrue, is_none, length, slice_get, sum};
 ghost use Rattle.std.specs.Char.{len_utf8};
 ghost use Rattle.rsc_primitives.specs.Utf8.{BeginsAt, EndsAt, EncodesAll};
 
@@ -81,7 +81,8 @@ pub fn sum_by_pattern(table: &[u64]) -> u64
 
 /// The pattern that a state stands for; `None` for a state that the table has no cell for.
 pub fn pattern_of_state(table: &[PatternID], state: StateID) -> Option<PatternID>
-    ensures { IsTrue (is_none result) ↔ (length table.now ≤ state) }
+    ensures cell { result ≡ slice_get table.now state }
+    ensures none { IsTrue (is_none result) ↔ (length table.now ≤ state) }
 {
     table.get(state.as_usize()).copied()
 }
@@ -96,7 +97,8 @@ pub fn row_of(state: StateID, stride2: usize) -> usize
 
 /// The number of the state after this one; `None` after the last that there can be.
 pub fn next_state(state: StateID) -> Option<StateID>
-    ensures { IfSome result (λ next. next ≡ state + 1) }
+    ensures next { IfSome result (λ next. next ≡ state + 1) }
+    ensures none { IsTrue (is_none result) ↔ (2147483646 ≤ state) }
 {
     StateID::new(state.one_more()).ok()
 }

@@ -1,6 +1,8 @@
 //! Inputs that move on, and sets of patterns.
 ghost use Rattle.std.specs.Prelude.{◌≡◌, ◌↔◌, ◌+◌, ◌<◌, ◌≤◌, ◌++◌, ℕ, All, IsTrue, IfOk, IfSome, is_none, slice_index, slice_range, length, reverse, sum_by, true, ◌%◌, ◌^◌};
+ghost use Rattle.std.specs.Option.{option_copied};
 ghost use Rattle.rsc_search.specs.PatternSets.{has_member};
+ghost use Rattle.rsc_search.specs.Spans.{cut};
 
 use rsc_primitives::PatternID;
 use rsc_search::{Input, Match, PatternSet, Span, laws};
@@ -44,9 +46,10 @@ pub fn left<'h>(input: &Input<'h>) -> &'h [u8]
     &input.haystack()[input.get_range()]
 }
 
-/// The same by the input's span, which is out of order once a search is done.
+/// The bytes that are left to search, cut by the input's span; `None` once the search is done, when the span is out of order.
 pub fn left_by_span<'h>(input: &Input<'h>) -> Option<&'h [u8]>
-    ensures { IsTrue (is_none result) ↔ (input.now.span.end < input.now.span.start) }
+    ensures bytes { option_copied result ≡ cut input.now.haystack input.now.span }
+    ensures none { IsTrue (is_none result) ↔ (input.now.span.end < input.now.span.start) }
 {
     input.get_span().get(input.haystack())
 }
