@@ -85,6 +85,7 @@ def caller(path, name):
 def imports(path, quoted):
     """Returns what a file of rsc_uses brings in, without the names that the quoted callers don't use."""
     text = (ROOT / "crates/rsc_uses/src" / path).read_text(encoding="utf-8")
+    quoted = re.sub(r"^///.*$", "", quoted, flags=re.M)
     kinds = {"ghost ": [], "": []}
     for kind, source, group, names, alias in re.findall(r"^(ghost |)use ([^{};]+?)(\{([^}]*)\}| as (\w+)|);$", text, flags=re.M):
         words = names.replace("\n", " ").split(",") if group.startswith("{") else [alias or source.rpartition("::")[2]]
@@ -97,7 +98,7 @@ def imports(path, quoted):
 
 
 def mentioned(name):
-    """Returns a pattern of where a name is used: an operator's first sign, or a whole word."""
+    """Returns a pattern of where a name is used: an operator by its first sign, a word as a whole."""
     word = name.split(" as ")[-1].strip()
     sign = word.replace("◌", " ").split()[0]
     return re.escape(sign) if word != sign and not sign.isalpha() else rf"(?<!\w){re.escape(sign)}(?!\w)"

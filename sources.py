@@ -12,7 +12,8 @@ def functions(text):
     for line in text.splitlines():
         block = re.match(r"(?:pub )?(impl|trait)\b(?:<.*?>)? ?(.*?) ?\{", line)
         if block:
-            owner, is_open = block[2], block[1] == "trait" or " for " in block[2]
+            owner = block[2].partition(":")[0] if block[1] == "trait" else block[2]
+            is_open = block[1] == "trait" or " for " in owner
         elif line.startswith("}"):
             owner, is_open = "", False
         begins = re.match(r"\s*(pub )?(?:const )?fn \w", line)
@@ -23,8 +24,9 @@ def functions(text):
         is_body = re.match(r"\s*\{", line)
         if not is_body:
             lines.append(line)
-        if is_body or re.search(r"\{\s*(\}\s*)?$|;$", line) and not re.match(r"\s*(requires|ensures)", line):
-            yield owner, is_public, "\n".join(lines)
+        is_last_clause = re.match(r"\s*(requires|ensures)\b.*\};$", line)
+        if is_body or is_last_clause or re.search(r"\{\s*(\}\s*)?$|;$", line) and not re.match(r"\s*(requires|ensures)", line):
+            yield owner, is_public, "\n".join(lines).removesuffix(";")
             lines = None
 
 

@@ -81,6 +81,18 @@ impl ByteClassSet {
     }
 
     /// Separates each maximal run of a set's members from all other bytes, as by [`ByteClassSet::set_range`] of each.
+    ///
+    /// # Examples
+    ///
+    /// ```
+    /// let mut letters = ByteSet::empty();
+    /// letters.add(b'a');
+    /// letters.add(b'b');
+    /// let mut partition = ByteClassSet::empty();
+    /// partition.add_set(&letters);
+    /// let classes = partition.byte_classes();
+    /// assert!(rt; classes.get(b'a') == classes.get(b'b') && classes.get(b'b') != classes.get(b'c'));
+    /// ```
     pub fn add_set(&mut self, set: &ByteSet)
         ensures set { self.new ≡ sets.union self.old (edges_of_each (runs set.now)) }
         ensures boundaries { (k : ℕ) → sets.contains self.new k ≡ (sets.contains self.old k || changes_at set.now k) }

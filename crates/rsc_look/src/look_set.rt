@@ -391,6 +391,15 @@ impl LookSet {
 }
 
 /// The iterator over a set's members, made by [`LookSet::iter`]. A contract sees it as the list of those that are left.
+///
+/// # Examples
+///
+/// ```
+/// let mut looks = LookSet::singleton(Look::End).insert(Look::Start).iter();
+/// assert!(rt; looks.next() == Some(Look::Start));
+/// assert!(rt; looks.next() == Some(Look::End));
+/// assert!(rt; looks.next() == None);
+/// ```
 #[derive(Clone, Debug, Drop)]
 pub struct LookSetIter {
     set: LookSet,

@@ -21,6 +21,12 @@ pub trait WordClass: Drop {
 }
 
 /// The word bytes `0-9`, `A-Z`, `_` and `a-z`, and no character past ASCII.
+///
+/// # Examples
+///
+/// ```
+/// assert!(rt; AsciiWord.is_word('a') && AsciiWord.is_word('_') && !AsciiWord.is_word('ß'));
+/// ```
 #[derive(Clone, Copy, Debug, Default)]
 pub struct AsciiWord;
 
@@ -39,6 +45,12 @@ impl WordClass for AsciiWord {
 /// The word characters of Unicode, by Unicode Technical Standard 18, Annex C: below 128 the word bytes, which no table is
 /// asked for; from 128 on what is alphabetic, a mark, a decimal number, connector punctuation or a joiner, by one look-up
 /// in the tables of the crate `unicode`.
+///
+/// # Examples
+///
+/// ```
+/// assert!(rt; UnicodeWord.is_word('ß') && UnicodeWord.is_word('_') && !UnicodeWord.is_word('-'));
+/// ```
 #[derive(Clone, Copy, Debug, Default)]
 pub struct UnicodeWord;
 

@@ -49,6 +49,13 @@ impl Anchored {
 }
 
 /// Which matches a search reports.
+///
+/// # Examples
+///
+/// ```
+/// assert!(rt; MatchKind::All.continue_past_first_match());
+/// assert!(rt; !MatchKind::LeftmostFirst.continue_past_first_match());
+/// ```
 #[derive(Clone, Copy, Debug, PartialEq, Eq)]
 pub enum MatchKind {
     /// All matches, also those that a preferred one would hide.

@@ -90,8 +90,8 @@ pub fn fill_row(map: &ByteClasses, row: &mut [u32])
     }
 }
 
-// Where a unit leads from a state.
-fn lead_of(leads: &[u32; 256], end: u32, unit: Unit) -> u32
+/// Where a unit leads from a state: a byte where its cell says, and an end of the input to `end`.
+pub fn lead_of(leads: &[u32; 256], end: u32, unit: Unit) -> u32
     ensures { result ≡ lead_of leads.now end unit }
 {
     match unit.as_u8() {

@@ -97,6 +97,7 @@ fn cells_of_rows(rt: HostRuntime) -> Result<(), Fail> {
         alphabet::fill_by_representatives(&map, &all_lead_to(7), 9, &mut row);
     }
     assert!(rt; row == [7, 7, 7, 9, 0, 0, 0, 0]);
+    assert_eq!(rt; alphabet::lead_of(&all_lead_to(7), 9, map.eoi()), 9);
     Ok(())
 }
 

@@ -6,6 +6,15 @@ use std::marker::Model;
 use std::{error, fmt};
 
 /// The error of [`crate::PatternSet::try_insert`]: the pattern isn't below the set's capacity.
+///
+/// # Examples
+///
+/// ```
+/// let mut set = PatternSet::new(rt.alloc(), 3)?;
+/// if let Err(error) = set.try_insert(PatternID::must(3)) {
+///     assert!(rt; error.attempted() == PatternID::must(3) && error.capacity() == 3);
+/// }
+/// ```
 #[derive(Clone, Debug, Drop)]
 pub struct PatternSetInsertError {
     pub(super) attempted: PatternID,

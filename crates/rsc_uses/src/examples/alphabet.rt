@@ -37,6 +37,15 @@ fn byte_class_set(rt: HostRuntime) -> Result<(), Fail> {
     assert!(rt; classes.get(b'a') == classes.get(b'p') && classes.get(b'p') != classes.get(b'q'));
     // Both are in the first range alone, but `q` is between them.
     assert!(rt; classes.get(b'p') != classes.get(b'r'));
+
+    // `ByteClassSet::add_set`
+    let mut letters = ByteSet::empty();
+    letters.add(b'a');
+    letters.add(b'b');
+    let mut partition = ByteClassSet::empty();
+    partition.add_set(&letters);
+    let classes = partition.byte_classes();
+    assert!(rt; classes.get(b'a') == classes.get(b'b') && classes.get(b'b') != classes.get(b'c'));
     Ok(())
 }
 

@@ -1,5 +1,5 @@
 use rsc_alphabet::ByteClassSet;
-use rsc_look::{AsciiWord, Look, LookMatcher, LookSet, UnicodeWord};
+use rsc_look::{AsciiWord, Look, LookMatcher, LookSet, UnicodeWord, WordClass};
 use std::test::Fail;
 
 #[test]
@@ -18,6 +18,12 @@ fn look_set(rt: HostRuntime) -> Result<(), Fail> {
     assert!(rt; set.len() == 2 && set.contains(Look::Start));
     assert!(rt; set.contains_word_unicode() && !set.contains_anchor_line());
     assert!(rt; LookSet::from_bits(set.bits()) == Some(set));
+
+    // `LookSetIter`
+    let mut looks = LookSet::singleton(Look::End).insert(Look::Start).iter();
+    assert!(rt; looks.next() == Some(Look::Start));
+    assert!(rt; looks.next() == Some(Look::End));
+    assert!(rt; looks.next() == None);
     Ok(())
 }
 
@@ -58,5 +64,15 @@ fn boundaries(rt: HostRuntime) -> Result<(), Fail> {
     LookMatcher::new(AsciiWord).add_to_byteset(Look::EndLF, &mut set);
     let classes = set.byte_classes();
     assert!(rt; classes.get(b'c') != classes.get(b'd') && classes.get(b'\n') != classes.get(b'\r'));
+    Ok(())
+}
+
+#[test]
+fn word(rt: HostRuntime) -> Result<(), Fail> {
+    // `AsciiWord`
+    assert!(rt; AsciiWord.is_word('a') && AsciiWord.is_word('_') && !AsciiWord.is_word('ß'));
+
+    // `UnicodeWord`
+    assert!(rt; UnicodeWord.is_word('ß') && UnicodeWord.is_word('_') && !UnicodeWord.is_word('-'));
     Ok(())
 }

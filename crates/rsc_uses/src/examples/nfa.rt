@@ -26,3 +26,16 @@ fn nfa(rt: HostRuntime) -> Result<(), Fail> {
     assert!(rt; nfa.classes().get(b'a') == nfa.classes().get(b'z'));
     Ok(())
 }
+
+#[test]
+fn error(rt: HostRuntime) -> Result<(), Fail> {
+    // `BuildError`
+    let info = GroupInfo::new(rt.alloc(), &[&[None]])?;
+    let states = [State::Fork {
+        a: StateID::ZERO,
+        b: StateID::must(9),
+    }];
+    // There is no state 9.
+    assert!(rt; Nfa::new(rt.alloc(), info, LookMatcher::new(AsciiWord), &states).is_err());
+    Ok(())
+}

@@ -1,5 +1,7 @@
 use rsc_primitives::PatternID;
-use rsc_search::{Anchored, HalfMatch, Input, Match, MatchError, MatchErrorKind, PatternSet, Span};
+use rsc_search::{
+    Anchored, HalfMatch, Input, Match, MatchError, MatchErrorKind, MatchKind, PatternSet, Span,
+};
 use std::ops::Bound;
 use std::test::Fail;
 
@@ -50,6 +52,10 @@ fn anchored(rt: HostRuntime) -> Result<(), Fail> {
     // `Anchored`
     assert!(rt; !Anchored::No.is_anchored() && Anchored::Yes.is_anchored());
     assert!(rt; Anchored::Pattern(PatternID::must(2)).pattern() == Some(PatternID::must(2)));
+
+    // `MatchKind`
+    assert!(rt; MatchKind::All.continue_past_first_match());
+    assert!(rt; !MatchKind::LeftmostFirst.continue_past_first_match());
     Ok(())
 }
 
@@ -78,5 +84,11 @@ fn pattern_set(rt: HostRuntime) -> Result<(), Fail> {
     assert!(rt; patterns.next_back() == Some(PatternID::must(5)));
     assert!(rt; patterns.next() == Some(PatternID::must(2)));
     assert!(rt; patterns.len() == 0);
+
+    // `PatternSetInsertError`
+    let mut set = PatternSet::new(rt.alloc(), 3)?;
+    if let Err(error) = set.try_insert(PatternID::must(3)) {
+        assert!(rt; error.attempted() == PatternID::must(3) && error.capacity() == 3);
+    }
     Ok(())
 }
