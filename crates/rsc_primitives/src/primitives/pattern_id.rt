@@ -142,7 +142,7 @@ impl PatternID {
     ///
     /// ```
     /// let mut patterns = PatternID::iter(2);
-    /// assert!(rt; patterns.next() == Some(PatternID::ZERO));
+    /// assert!(rt; patterns.next() == Some(PatternID::must(0)));
     /// assert!(rt; patterns.next() == Some(PatternID::must(1)));
     /// assert!(rt; patterns.next() == None);
     /// ```

@@ -15,7 +15,7 @@ fn pattern_id(rt: HostRuntime) -> Result<(), Fail> {
 
     // `PatternID::iter`
     let mut patterns = PatternID::iter(2);
-    assert!(rt; patterns.next() == Some(PatternID::ZERO));
+    assert!(rt; patterns.next() == Some(PatternID::must(0)));
     assert!(rt; patterns.next() == Some(PatternID::must(1)));
     assert!(rt; patterns.next() == None);
     Ok(())
