@@ -77,7 +77,7 @@ fn propose_groups(proposals: &mut [u32], p: usize, groups: &[Option<&str>]) {
     }
 }
 
-// How many names the table is for: those of the patterns whose groups are not few.
+// How many groups the table is for: those of the patterns whose groups are not few.
 fn proposed_len(lists: &[&[Option<&str>]]) -> usize {
     let mut len: usize = 0;
     for groups in lists {
