@@ -14,11 +14,9 @@ ghost use Rattle.std.specs.List.{insert};
 ghost use Rattle.std.specs.List.Sorted.{IsBinarySearchResult, IsSearchInRange};
 ghost use Rattle.std.specs.Bool.{MatchBool, OnFalse};
 
+use crate::order::SCANNED_GROUPS;
 use rsc_primitives::{PatternID, PatternIDError};
 use std::cmp::Ordering;
-
-// With fewer groups than these the names are compared one with another.
-const FEW: usize = 16;
 
 // How many groups a block has, and a table may hold: 8 KiB.
 const BLOCK: usize = 4096;
@@ -144,7 +142,7 @@ fn first_repeat_of_many(groups: &[Option<&str>]) -> Option<usize>
 pub(crate) fn first_repeat(groups: &[Option<&str>]) -> Option<usize>
     ensures { MatchOption result (AreDistinctBelow (groups_in groups.now) (length groups.now)) (IsFirstRepeat (groups_in groups.now)) }
 {
-    if groups.len() < FEW {
+    if groups.len() < SCANNED_GROUPS {
         first_repeat_of_few(groups)
     } else {
         first_repeat_of_many(groups)
