@@ -1,19 +1,19 @@
-pub mod Lists
-pub mod Places
-pub mod Indexed
-pub mod Ordered
-pub mod Blocks
-pub mod Repeats
-pub mod Held
-pub mod Clear
-pub mod Checked
-pub mod FaultsLemmas
-pub mod Starts
-pub mod Owners
-pub mod SlotsWithin
-pub mod Parts
-pub mod Spans
-pub mod Pieces
-pub mod Extracted
-pub mod Alone
-pub mod NamesCounted
+pub mod Lists  -- facts about lists that the layers above share
+pub mod Places  -- the places of a group list as it is handed in
+pub mod Indexed  -- the group of a name, where no name is used twice
+pub mod Ordered  -- the groups in the order of their names
+pub mod Blocks  -- a table of the groups of a block in the order of their names, and which groups have the name of a lesser one
+pub mod Repeats  -- the first fault of a pattern, of whose groups those within the limit were looked at for a repeat
+pub mod Held  -- names in one text, as one more is added
+pub mod Clear  -- lists of which no place, or no place of the patterns before one, is at fault; and the first place at fault
+pub mod Checked  -- which lists have no fault, and whose first fault is a name that is used twice
+pub mod FaultsLemmas  -- the first fault of a list: there is at most one, and a list without a fault has none
+pub mod Starts  -- the starts of a layout, as one more is pushed
+pub mod Owners  -- each slot is a slot of exactly one group
+pub mod SlotsWithin  -- the slots of a group are below the number of all slots
+pub mod Parts  -- where the names and the order of each pattern's groups stand in the lists of all groups
+pub mod Spans  -- the steps of the iterator over the groups of the pattern that matched
+pub mod Pieces  -- the pieces that the first groups cut, as a loop over the groups finds them
+pub mod Extracted  -- what `extract` and `extract_bytes` pass on for `H` and return, over the haystack's type as a field F, and that their result is lawful
+pub mod Alone  -- where there is one pattern, a group's slots are those of its place
+pub mod NamesCounted  -- how many groups an iterator over all of them gives

@@ -1,15 +1,15 @@
-pub mod AsciiWords
-pub mod Asked
-pub mod BytesKept
-pub mod Coarsest
-pub mod GrownSets
-pub mod Inside
-pub mod LookSetLemmas
-pub mod Marks
-pub mod Mirrored
-pub mod Needed
-mod Rows
-pub mod Sides
-pub mod Single
-pub mod UnicodeWords
-pub mod WordMarks
+pub mod AsciiWords  -- both choices of word characters agree with the word bytes below 128
+pub mod Asked  -- a loop over the members of a set that asks each for something
+pub mod BytesKept  -- the twelve assertions on bytes are kept by a partition that has their boundaries
+pub mod Coarsest  -- the boundaries of a list's members make the coarsest partition that keeps them
+pub mod GrownSets  -- the members of sets of assertions that are made of others
+pub mod Inside  -- no assertion on characters holds inside an encoded character
+pub mod LookSetLemmas  -- what the operations on eighteen bits do to the set that they stand for
+pub mod Marks  -- the boundaries of an assertion as tests that compute
+pub mod Mirrored  -- an assertion at a place is the reversed one at the same place of the mirror
+pub mod Needed  -- each boundary of an assertion is needed: at one end of a haystack of one byte the assertion tells that byte from the next
+mod Rows  -- worked rows of the definitions
+pub mod Sides  -- the sides of a place: each place has one on either hand, and bytes below 128 may replace one another
+pub mod Single  -- one assertion and its boundaries
+pub mod UnicodeWords  -- the class `\w` of the tables, and the word characters from 128 on
+pub mod WordMarks  -- the boundaries of the word bytes are where two neighbouring bytes differ: computed for all 255 of them

@@ -1,9 +1,9 @@
-pub mod BoundariesLemmas
-pub mod Decided
-pub mod Encode
-pub mod EncodingsLemmas
-mod EscapesLemmas
-mod IndicesLemmas
-mod Rows
-pub mod Texts
-pub mod Utf8Lemmas
+pub mod BoundariesLemmas  -- the boundaries of encoded text are the places where a character begins, and the end
+pub mod Decided  -- a character begins at a place or none does, and a character ends there or none does
+pub mod Encode  -- the nine forms are std's encoding, in both directions
+pub mod EncodingsLemmas  -- what the encodings are beside std's, and beside one another
+mod EscapesLemmas  -- the texts of bytes, and the steps of a row of bytes
+mod IndicesLemmas  -- the iterator over the first indices: what is left of it at a place
+mod Rows  -- the definitions, computed at single values
+pub mod Texts  -- where the characters of a text stand in its bytes
+pub mod Utf8Lemmas  -- what the nine forms say of bytes and places, in numbers alone

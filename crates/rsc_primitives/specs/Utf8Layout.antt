@@ -8,7 +8,8 @@ abbrev pub IsFirstNumber : List ℕ → ℕ → Type 0
 IsFirstNumber h n =
     ((1 ≤ length h) × (slice_index h 0 ≤ 0x7F) × (n ≡ slice_index h 0))
     ⊎ ((2 ≤ length h) × IsInRange 0xC2 0xDF (slice_index h 0) × IsTail (slice_index h 1) × (n ≡ (slice_index h 0 - 0xC0) * 64 + (slice_index h 1 - 0x80)))
-    ⊎ ((3 ≤ length h) × OpensThree (slice_index h 0) (slice_index h 1) × IsTail (slice_index h 2) × (n ≡ (slice_index h 0 - 0xE0) * 4096 + (slice_index h 1 - 0x80) * 64 + (slice_index h 2 - 0x80)))
+    ⊎ ((3 ≤ length h) × OpensThree (slice_index h 0) (slice_index h 1) × IsTail (slice_index h 2)
+    × (n ≡ (slice_index h 0 - 0xE0) * 4096 + (slice_index h 1 - 0x80) * 64 + (slice_index h 2 - 0x80)))
     ⊎ ((4 ≤ length h) × OpensFour (slice_index h 0) (slice_index h 1) × IsTail (slice_index h 2) × IsTail (slice_index h 3)
     × (n ≡ (slice_index h 0 - 0xF0) * 262144 + (slice_index h 1 - 0x80) * 4096 + (slice_index h 2 - 0x80) * 64 + (slice_index h 3 - 0x80)))
 
@@ -19,6 +20,9 @@ IsLastNumber h n =
     ⊎ ((2 ≤ length h) × IsInRange 0xC2 0xDF (slice_index h (length h - 2)) × IsTail (slice_index h (length h - 1))
     × (n ≡ (slice_index h (length h - 2) - 0xC0) * 64 + (slice_index h (length h - 1) - 0x80)))
     ⊎ ((3 ≤ length h) × OpensThree (slice_index h (length h - 3)) (slice_index h (length h - 2)) × IsTail (slice_index h (length h - 1))
-    × (n ≡ (slice_index h (length h - 3) - 0xE0) * 4096 + (slice_index h (length h - 2) - 0x80) * 64 + (slice_index h (length h - 1) - 0x80)))
-    ⊎ ((4 ≤ length h) × OpensFour (slice_index h (length h - 4)) (slice_index h (length h - 3)) × IsTail (slice_index h (length h - 2)) × IsTail (slice_index h (length h - 1))
-    × (n ≡ (slice_index h (length h - 4) - 0xF0) * 262144 + (slice_index h (length h - 3) - 0x80) * 4096 + (slice_index h (length h - 2) - 0x80) * 64 + (slice_index h (length h - 1) - 0x80)))
+    × (n ≡ (slice_index h (length h - 3) - 0xE0) * 4096
+    + (slice_index h (length h - 2) - 0x80) * 64 + (slice_index h (length h - 1) - 0x80)))
+    ⊎ ((4 ≤ length h) × OpensFour (slice_index h (length h - 4)) (slice_index h (length h - 3)) × IsTail (slice_index h (length h - 2))
+    × IsTail (slice_index h (length h - 1))
+    × (n ≡ (slice_index h (length h - 4) - 0xF0) * 262144 + (slice_index h (length h - 3) - 0x80) * 4096
+    + (slice_index h (length h - 2) - 0x80) * 64 + (slice_index h (length h - 1) - 0x80)))

@@ -1,1 +1,1 @@
-pub mod Chosen
+pub mod Chosen  -- the word characters that a choice stands for

@@ -5,7 +5,7 @@ use Rattle.rsc_captures.proofs.Indexed.{index_of-is, has_name-is}
 use Rattle.rsc_captures.proofs.Parts.{distinct_in, named_at}
 use Rattle.rsc_captures.proofs.layout.SharedLists.find_by_hash.Goals as goal
 
--- no name stands twice, so a group that has the name is the first that has it
+-- no name is used twice, so a group that has the name is the first that has it
 pub returns-then-has_name : goal.returns-then-has_name
 returns-then-has_name g c =
     let distinct : AreDistinctBelow (groups_of c.args.self.now c.args.p) (group_count c.args.self.now c.args.p) = distinct_in c.args.self.now (rw c.self.view_is at c.self.invariant.laid_out.faultless) c.args.p in
