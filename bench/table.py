@@ -32,4 +32,5 @@ def main():
         print(f"above 1: {sum(log > 0 for log in logs)} of {len(logs)}")
 
 
-main()
+if __name__ == "__main__":
+    main()
