@@ -1,6 +1,7 @@
 //! The arguments of `looks` and `classes`.
 ghost use Rattle.std.specs.Prelude.{◌≤◌, ◌<◌, IfSome};
 
+use crate::color::{Color, color_of};
 use crate::error::{ShowError, refused};
 use crate::names::{look_of, nearest};
 use crate::words::Words;
@@ -12,6 +13,8 @@ const EXPECTED_BYTE: &str = "two hexadecimal digits";
 const EXPECTED_RANGE: &str = "a range of bytes as 61-7a, its first byte at most its last";
 
 const EXPECTED_WORDS: &str = "ascii or unicode";
+
+const EXPECTED_COLOR: &str = "auto, always or never";
 
 /// Where a haystack comes from.
 #[derive(Drop)]
@@ -35,6 +38,8 @@ pub struct Request {
     pub ranges: Vec<(u8, u8)>,
     /// The assertions, in the order of the arguments.
     pub looks: Vec<Look>,
+    /// When to use colour.
+    pub color: Color,
     /// The haystack.
     pub haystack: Haystack,
 }
@@ -46,6 +51,7 @@ enum Next {
     Terminator,
     Words,
     Range,
+    Color,
     Hex,
     Text,
     Nothing,
@@ -71,6 +77,7 @@ pub fn parse(alloc: Global, arguments: &[String]) -> Result<Request, ShowError> 
         words: Words::Unicode,
         ranges: Vec::new(alloc),
         looks: Vec::new(alloc),
+        color: Color::Auto,
         haystack: Haystack::Missing,
     };
     let mut next = Next::Plain;
@@ -82,6 +89,7 @@ pub fn parse(alloc: Global, arguments: &[String]) -> Result<Request, ShowError> 
         Next::Terminator => Err(refused(alloc, "--terminator", EXPECTED_BYTE)),
         Next::Words => Err(refused(alloc, "--words", EXPECTED_WORDS)),
         Next::Range => Err(refused(alloc, "--range", EXPECTED_RANGE)),
+        Next::Color => Err(refused(alloc, "--color", EXPECTED_COLOR)),
         Next::Hex => Err(refused(alloc, "--hex", EXPECTED_BYTE)),
         Next::Text => Err(refused(alloc, "--", "one text")),
     }
@@ -112,6 +120,10 @@ fn take(
                 .push(range.ok_or(refused(alloc, argument, EXPECTED_RANGE))?)?;
             Ok(Next::Plain)
         }
+        Next::Color => {
+            request.color = color_of(argument).ok_or(refused(alloc, argument, EXPECTED_COLOR))?;
+            Ok(Next::Plain)
+        }
         Next::Hex => {
             request.haystack = Haystack::Given(parse_bytes(alloc, argument)?);
             Ok(Next::Nothing)
@@ -130,6 +142,7 @@ fn take_plain(alloc: Global, request: &mut Request, argument: &str) -> Result<Ne
         b"--terminator" => Ok(Next::Terminator),
         b"--words" => Ok(Next::Words),
         b"--range" => Ok(Next::Range),
+        b"--color" => Ok(Next::Color),
         b"--hex" => Ok(Next::Hex),
         b"--" => Ok(Next::Text),
         b"-" => {

@@ -19,8 +19,8 @@ use std::alloc::Global;
 use std::fmt::Write;
 use std::ops::Bound;
 
-/// The answer to the arguments of `classes`.
-pub fn answer(alloc: Global, arguments: &[String]) -> Result<String, ShowError> {
+/// The answer to the arguments of `classes`, for an output that wants colour or not.
+pub fn answer(alloc: Global, arguments: &[String], wants_color: bool) -> Result<String, ShowError> {
     let request = parse(alloc, arguments)?;
     if !matches!(&request.haystack, Haystack::Missing) {
         return Err(refused(alloc, "classes", "no haystack"));
@@ -35,7 +35,7 @@ pub fn answer(alloc: Global, arguments: &[String]) -> Result<String, ShowError> 
     push_classes(alloc, &mut text, &classes)?;
     push_sizes(&mut text, &classes)?;
     push_boundaries(alloc, &mut text, &request, &matcher, &classes)?;
-    push_picture(&mut text, &classes)?;
+    push_picture(&mut text, &classes, request.color.is_used(wants_color))?;
     Ok(text)
 }
 

@@ -2,6 +2,7 @@
 ghost use Rattle.std.specs.Prelude.{◌≤◌, length};
 
 use crate::arguments::{Haystack, Request, parse};
+use crate::color::Color;
 use crate::error::{ShowError, refused};
 use crate::input::read_all;
 use crate::names::{meaning_of, name_of};
@@ -13,8 +14,8 @@ use std::alloc::Global;
 use std::fmt::Write;
 use std::io::Read;
 
-// The width of the columns before and after.
-const SIDE_WIDTH: usize = 22;
+// The width of the columns before and after: with all assertions a line has 74 columns.
+const SIDE_WIDTH: usize = 15;
 
 /// The answer to the arguments of `looks`.
 pub fn answer<R: Read>(
@@ -25,6 +26,9 @@ pub fn answer<R: Read>(
     let request = parse(alloc, arguments)?;
     if !request.ranges.is_empty() {
         return Err(refused(alloc, "--range", "an argument of classes"));
+    }
+    if !matches!(request.color, Color::Auto) {
+        return Err(refused(alloc, "--color", "an argument of classes"));
     }
     match &request.haystack {
         Haystack::Missing => Err(refused(

@@ -3,6 +3,7 @@
 
 mod arguments;
 mod classes;
+mod color;
 mod error;
 mod groups;
 mod help;
@@ -21,6 +22,8 @@ mod words;
 use error::ShowError;
 use run::run;
 use std::alloc::Global;
+use std::env::VarError;
+use std::io::IsTerminal;
 use std::process::ExitCode;
 use std::{env, io};
 
@@ -35,6 +38,7 @@ fn main(rt: HostRuntime) -> ExitCode {
     match run(
         rt.alloc(),
         words.as_slice(),
+        wants_color(&rt),
         &mut rt.reader(),
         &mut io::writer(&rt),
     ) {
@@ -47,5 +51,16 @@ fn main(rt: HostRuntime) -> ExitCode {
             let _ = rt.eprintln(error);
             ExitCode::FAILURE
         }
+    }
+}
+
+// Whether standard output is a terminal, and `NO_COLOR` is not set to anything but the empty text.
+fn wants_color(rt: &HostRuntime) -> bool {
+    if !rt.stdout().is_terminal() {
+        return false;
+    }
+    match env::var(rt, "NO_COLOR") {
+        Ok(value) => value.is_empty(),
+        Err(error) => error == VarError::NotPresent,
     }
 }

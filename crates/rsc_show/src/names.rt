@@ -27,28 +27,27 @@ pub fn name_of(look: Look) -> &'static str {
     }
 }
 
-/// What an assertion asks of the two sides of a position, in words.
+/// What an assertion asks of the two sides of a position, in words of at most 57 columns.
 pub fn meaning_of(look: Look) -> &'static str {
     match look {
         Look::Start => "the haystack starts here",
         Look::End => "the haystack ends here",
-        Look::StartLF => "the haystack starts here, or the line terminator is before",
-        Look::EndLF => "the haystack ends here, or the line terminator is after",
-        Look::StartCRLF => "the haystack starts here, or \\n is before, or \\r that no \\n follows",
-        Look::EndCRLF => "the haystack ends here, or \\r is after, or \\n that follows no \\r",
+        Look::StartLF => "the start, or the line terminator is before",
+        Look::EndLF => "the end, or the line terminator is after",
+        Look::StartCRLF => "the start, or \\n is before, or \\r that no \\n follows",
+        Look::EndCRLF => "the end, or \\r is after, or \\n that follows no \\r",
         Look::WordAscii => "a word byte on exactly one side",
         Look::WordAsciiNegate => "a word byte on both sides or on neither",
         Look::WordUnicode => "a word character on exactly one side",
-        Look::WordUnicodeNegate =>
-            "characters or ends on both sides, and a word character on both or on neither",
+        Look::WordUnicodeNegate => "word characters on both sides or neither, no bad bytes",
         Look::WordStartAscii => "a word byte after, and none before",
         Look::WordEndAscii => "a word byte before, and none after",
         Look::WordStartUnicode => "a word character after, and none before",
         Look::WordEndUnicode => "a word character before, and none after",
         Look::WordStartHalfAscii => "no word byte before",
         Look::WordEndHalfAscii => "no word byte after",
-        Look::WordStartHalfUnicode => "the start, or a character that is no word character, before",
-        Look::WordEndHalfUnicode => "the end, or a character that is no word character, after",
+        Look::WordStartHalfUnicode => "the start, or a non-word character before",
+        Look::WordEndHalfUnicode => "the end, or a non-word character after",
     }
 }
 

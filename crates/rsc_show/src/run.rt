@@ -8,7 +8,7 @@ use std::io::{ErrorKind, Read, Write};
 
 const EXPECTED_COMMAND: &str = "looks, classes, groups or --help";
 
-/// Answers the arguments after the program's name.
+/// Answers the arguments after the program's name, for an output that wants colour or not.
 ///
 /// # Errors
 ///
@@ -16,10 +16,11 @@ const EXPECTED_COMMAND: &str = "looks, classes, groups or --help";
 pub fn run<R: Read, W: Write>(
     alloc: Global,
     arguments: &[String],
+    wants_color: bool,
     input: &mut R,
     output: &mut W,
 ) -> Result<(), ShowError> {
-    let text = answer(alloc, arguments, input)?;
+    let text = answer(alloc, arguments, wants_color, input)?;
     match output.write_all(text.as_bytes()) {
         Ok(()) => Ok(()),
         Err(error) => match error.kind() {
@@ -32,6 +33,7 @@ pub fn run<R: Read, W: Write>(
 fn answer<R: Read>(
     alloc: Global,
     arguments: &[String],
+    wants_color: bool,
     input: &mut R,
 ) -> Result<String, ShowError> {
     let [command, rest @ ..] = arguments else {
@@ -39,7 +41,7 @@ fn answer<R: Read>(
     };
     match command.as_bytes() {
         b"looks" => looks::answer(alloc, rest, input),
-        b"classes" => classes::answer(alloc, rest),
+        b"classes" => classes::answer(alloc, rest, wants_color),
         b"groups" => groups::answer(alloc, rest),
         b"--help" => Ok(String::from_str(alloc, HELP)?),
         _ => Err(refused(alloc, command.as_str(), EXPECTED_COMMAND)),

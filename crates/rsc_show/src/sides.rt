@@ -61,11 +61,7 @@ fn side(
     write!(text, "{byte:02x} ")?;
     match character {
         Some(Ok(c)) => push_character(alloc, &mut text, byte, c)?,
-        Some(Err(_)) | None => text.push_str(if inside {
-            "inside a character"
-        } else {
-            "no character"
-        })?,
+        Some(Err(_)) | None => text.push_str(if inside { "inside" } else { "no character" })?,
     }
     Ok(text)
 }

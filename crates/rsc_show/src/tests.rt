@@ -6,23 +6,23 @@ use std::fmt::Write;
 use std::io;
 use std::test::Fail;
 
-const LOOKS: &str = "    at before                 after                  ^ b 𝛃
-     0 start                  61 a                   x x x
-     1 61 a                   c3 U+00E9 é            . x .
-     2 c3 inside a character  a9 inside a character  . . .
-     3 a9 U+00E9 é            0a \\n                  . . x
-     4 0a \\n                  end                    x . .
+const LOOKS: &str = "    at before          after           ^ b 𝛃
+     0 start           61 a            x x x
+     1 61 a            c3 U+00E9 é     . x .
+     2 c3 inside       a9 inside       . . .
+     3 a9 U+00E9 é     0a \\n           . . x
+     4 0a \\n           end             x . .
 
-^ StartLF              the haystack starts here, or the line terminator is before
+^ StartLF              the start, or the line terminator is before
 b WordAscii            a word byte on exactly one side
 𝛃 WordUnicode          a word character on exactly one side
 ";
 
-const BAD_BYTES: &str = "    at before                 after                  $ 𝛃
-     0 start                  ff no character        . .
-     1 ff no character        end                    x .
+const BAD_BYTES: &str = "    at before          after           $ 𝛃
+     0 start           ff no character . .
+     1 ff no character end             x .
 
-$ EndLF                the haystack ends here, or the line terminator is after
+$ EndLF                the end, or the line terminator is after
 𝛃 WordUnicode          a word character on exactly one side
 ";
 
@@ -44,7 +44,7 @@ fn answer_to(alloc: Global, line: &str, input: &[u8]) -> Result<String, Fail> {
     }
     let mut reader = input;
     let mut writer = Vec::new(alloc);
-    match run(alloc, words.as_slice(), &mut reader, &mut writer) {
+    match run(alloc, words.as_slice(), true, &mut reader, &mut writer) {
         Ok(()) => Ok(String::from_utf8_lossy(alloc, writer.as_slice())?),
         Err(error) => {
             let mut text = String::new(alloc);
@@ -115,6 +115,30 @@ fn names_each_boundary_with_its_witness(rt: HostRuntime) -> Result<(), Fail> {
 }
 
 #[test]
+fn adds_colour_to_the_letters(rt: HostRuntime) -> Result<(), Fail> {
+    let rows = [
+        (
+            "classes --range 01-ff",
+            "\n00 \x1B[31mA\x1B[0m \x1B[32mB\x1B[0m \x1B[32mB\x1B[0m ",
+        ),
+        (
+            "classes --color always --range 01-ff",
+            "\n00 \x1B[31mA\x1B[0m \x1B[32mB\x1B[0m \x1B[32mB\x1B[0m ",
+        ),
+        ("classes --color never --range 01-ff", "\n00 A B B "),
+        (
+            "classes --range 01-ff --color auto",
+            "\n10 \x1B[32mB\x1B[0m ",
+        ),
+    ];
+    for (line, want) in rows {
+        let answer = answer_to(rt.alloc(), line, b"")?;
+        assert!(rt; answer.as_str().contains(want), "at {line:?}");
+    }
+    Ok(())
+}
+
+#[test]
 fn refuses_what_is_not_expected(rt: HostRuntime) -> Result<(), Fail> {
     let rows = [
         (
@@ -156,6 +180,14 @@ fn refuses_what_is_not_expected(rt: HostRuntime) -> Result<(), Fail> {
         (
             "classes --words latin",
             "rsc_show: `latin`: expected ascii or unicode",
+        ),
+        (
+            "classes --color blue",
+            "rsc_show: `blue`: expected auto, always or never",
+        ),
+        (
+            "looks --color always -- a",
+            "rsc_show: `--color`: expected an argument of classes",
         ),
         (
             "classes --range 7a-61",
@@ -211,7 +243,7 @@ fn tells_a_closed_pipe_from_a_failed_write(rt: HostRuntime) -> Result<(), Fail> 
     let mut reader: &[u8] = b"";
     assert!(rt;
         matches!(
-            &run(rt.alloc(), &words, &mut reader, &mut closed),
+            &run(rt.alloc(), &words, false, &mut reader, &mut closed),
             Err(ShowError::Closed)
         )
     );
@@ -220,7 +252,7 @@ fn tells_a_closed_pipe_from_a_failed_write(rt: HostRuntime) -> Result<(), Fail> 
     };
     assert!(rt;
         matches!(
-            &run(rt.alloc(), &words, &mut reader, &mut full),
+            &run(rt.alloc(), &words, false, &mut reader, &mut full),
             Err(ShowError::Write)
         )
     );
@@ -236,7 +268,7 @@ fn stops_where_reading_fails(rt: HostRuntime) -> Result<(), Fail> {
     let mut writer = Vec::new(rt.alloc());
     assert!(rt;
         matches!(
-            &run(rt.alloc(), &words, &mut FailingReader, &mut writer),
+            &run(rt.alloc(), &words, false, &mut FailingReader, &mut writer),
             Err(ShowError::Read)
         )
     );
