@@ -1,1 +1,2 @@
-pub mod Chosen  -- the word characters that a choice stands for
+pub mod Chosen
+pub mod Ranges

@@ -1,5 +1,5 @@
 //! The arguments of `looks` and `classes`.
-ghost use Rattle.std.specs.Prelude.{◌≤◌, ◌<◌, IfSome};
+ghost use Rattle.std.specs.Prelude.{◌≡◌, ◌≤◌, ◌<◌, IfSome};
 
 use crate::color::{Color, color_of};
 use crate::error::{ShowError, refused};
@@ -59,7 +59,9 @@ enum Next {
 
 impl Request {
     /// The matcher that it asks for.
-    pub fn matcher(&self) -> LookMatcher<Words> {
+    pub fn matcher(&self) -> LookMatcher<Words>
+        ensures { result ≡ (self.now.terminator, self.now.words) }
+    {
         let mut matcher = LookMatcher::new(self.words);
         let _ = matcher.set_line_terminator(self.terminator);
         matcher

@@ -1,18 +1,20 @@
 //! The command `classes`: which bytes share a class, and why the others don't.
-ghost use Rattle.std.specs.Prelude.{◌≡◌, ◌≤◌, ◌<◌, []};
+ghost use Rattle.std.specs.Prelude.{◌≡◌, ◌≤◌, ◌<◌, ◌⊎◌, [], ℕ, true};
 ghost use Rattle.std.specs.FinSet as sets;
 ghost use Rattle.rsc_look.specs.Keeping.{IsCoarsestMap, Keeps};
 ghost use Rattle.rsc_show.specs.Chosen.{chosen_words};
+ghost use Rattle.rsc_show.specs.Ranges.{HasEdge, IsCoarsestParting, IsOfLook, Parts};
 
 use crate::arguments::{Haystack, Request, parse};
 use crate::error::{ShowError, refused};
 use crate::names::name_of;
 use crate::picture::push_picture;
 use crate::text::{push_cell, push_right};
-use crate::witness::witness;
+use crate::witness::witnesses;
 use crate::words::{Words, words_agree};
+use rsc_alphabet::laws::edges_part_a_range;
 use rsc_alphabet::{ByteClassSet, ByteClasses};
-use rsc_look::laws::kept_lists_are_joined;
+use rsc_look::laws::{boundaries_are_exact, kept_lists_are_joined};
 use rsc_look::{Look, LookMatcher};
 use rsc_primitives::escape::byte_text;
 use std::alloc::Global;
@@ -39,40 +41,44 @@ pub fn answer(alloc: Global, arguments: &[String], wants_color: bool) -> Result<
     Ok(text)
 }
 
-/// The classes of bytes that neither a listed assertion nor a listed range tells apart.
+// The classes of bytes that neither a listed assertion nor a listed range tells apart.
 fn classes_of(matcher: &LookMatcher<Words>, looks: &[Look], ranges: &[(u8, u8)]) -> ByteClasses
-    ensures { ranges.now ≡ [] → IsCoarsestMap result looks.now matcher.now.0 (chosen_words matcher.now.1) }
+    ensures parting { IsCoarsestParting result ranges.now looks.now matcher.now.0 (chosen_words matcher.now.1) }
+    ensures coarsest { ranges.now ≡ [] → IsCoarsestMap result looks.now matcher.now.0 (chosen_words matcher.now.1) }
 {
-    if ranges.is_empty() {
-        return coarsest_classes(matcher, looks);
-    }
+    words_agree();
+    boundaries_are_exact();
     alphabet_of(matcher, looks, ranges).byte_classes()
 }
 
-// A partition for ranges and for assertions, which keeps the assertions.
+// A partition that keeps the assertions and parts the ranges, with no boundary but theirs.
 fn alphabet_of(matcher: &LookMatcher<Words>, looks: &[Look], ranges: &[(u8, u8)]) -> ByteClassSet
-    ensures { Keeps (sets.contains result) looks.now matcher.now.0 (chosen_words matcher.now.1) }
+    ensures keeps { Keeps (sets.contains result) looks.now matcher.now.0 (chosen_words matcher.now.1) }
+    ensures parts { Parts (sets.contains result) ranges.now }
+    ensures only { (b : ℕ) → b < 255 → sets.contains result b ≡ true → HasEdge b ranges.now ⊎ IsOfLook b looks.now matcher.now.0 }
 {
     words_agree();
     kept_lists_are_joined();
-    let mut set = ByteClassSet::empty();
-    for (start, end) in ranges {
-        if *start <= *end {
-            set.set_range(*start, *end);
-        }
-    }
+    let mut set = set_of(ranges);
     for look in looks {
         matcher.add_to_byteset(*look, &mut set);
     }
     set
 }
 
-// The classes of the coarsest partition that keeps the list.
-fn coarsest_classes(matcher: &LookMatcher<Words>, looks: &[Look]) -> ByteClasses
-    ensures { IsCoarsestMap result looks.now matcher.now.0 (chosen_words matcher.now.1) }
+// The edges of ranges.
+fn set_of(ranges: &[(u8, u8)]) -> ByteClassSet
+    ensures parts { Parts (sets.contains result) ranges.now }
+    ensures only { (b : ℕ) → b < 255 → sets.contains result b ≡ true → HasEdge b ranges.now }
 {
-    words_agree();
-    matcher.classes_of(looks)
+    edges_part_a_range();
+    let mut set = ByteClassSet::empty();
+    for (start, end) in ranges {
+        if *start <= *end {
+            set.set_range(*start, *end);
+        }
+    }
+    set
 }
 
 // A line for each class: its number, its bytes by their numbers, and as they are shown.
@@ -155,7 +161,7 @@ fn push_boundaries(
     Ok(())
 }
 
-// What tells a byte from the next one.
+// What tells a byte from the next one: an assertion, or the first range that begins or ends there, or both.
 fn push_boundary(
     text: &mut String,
     request: &Request,
@@ -166,15 +172,19 @@ fn push_boundary(
 {
     let next = byte + 1;
     write!(text, "between {byte:02x} and {next:02x}:")?;
-    if let Some((look, position)) = witness(matcher, request.looks.as_slice(), byte) {
+    let (told, edge) = witnesses(
+        matcher,
+        request.looks.as_slice(),
+        request.ranges.as_slice(),
+        byte,
+    );
+    if let Some((look, position)) = told {
         if position <= 1 {
             push_witness(text, matcher, look, position, byte)?;
         }
     }
-    for (start, end) in request.ranges.as_slice() {
-        if *start == next || *end == byte {
-            push_edge(text, *start, *end, *start == next)?;
-        }
+    if let Some((start, end)) = edge {
+        push_edge(text, start, end, start == next)?;
     }
     text.push('\n')?;
     Ok(())
