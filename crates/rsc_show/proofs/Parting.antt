@@ -32,7 +32,12 @@ parts_more p q ranges r grows added before = λ x inside fills b lt edge.
 
 -- an edge of one of the ranges is one of them and one more
 pub edge_kept : (b : ℕ) (ranges : List (ℕ × ℕ)) (r : ℕ × ℕ) → HasEdge b ranges → HasEdge b (ranges ++ r ∷ [])
-edge_kept b ranges r e = record { range = e.range; listed = Contains-append_left ranges (r ∷ []) e.range e.listed; holds_a_byte = e.holds_a_byte; edge = e.edge }
+edge_kept b ranges r e = record {
+  range = e.range;
+  listed = Contains-append_left ranges (r ∷ []) e.range e.listed;
+  holds_a_byte = e.holds_a_byte;
+  edge = e.edge;
+}
 
 pub edge_added : (b : ℕ) (ranges : List (ℕ × ℕ)) (r : ℕ × ℕ) → r.0 ≤ r.1 → IsEdge b r → HasEdge b (ranges ++ r ∷ [])
 edge_added b ranges r fills edge = record { range = r; listed = Contains-push ranges r; holds_a_byte = fills; edge = edge }

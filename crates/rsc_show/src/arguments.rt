@@ -1,5 +1,5 @@
 //! The arguments of `looks` and `classes`.
-ghost use Rattle.std.specs.Prelude.{◌≡◌, ◌≤◌, ◌<◌, IfSome};
+ghost use Rattle.std.specs.Prelude.{◌≡◌, All, IfOk, ◌≤◌, ◌<◌, IfSome};
 
 use crate::color::{Color, color_of};
 use crate::error::{ShowError, refused};
@@ -73,7 +73,9 @@ impl Request {
 /// # Errors
 ///
 /// [`ShowError::Usage`] at the first argument that is not what was expected.
-pub fn parse(alloc: Global, arguments: &[String]) -> Result<Request, ShowError> {
+pub fn parse(alloc: Global, arguments: &[String]) -> Result<Request, ShowError>
+    ensures { IfOk result (λ request. All (λ r. r.0 ≤ r.1) request.ranges.items) }
+{
     let mut request = Request {
         terminator: b'\n',
         words: Words::Unicode,
@@ -98,12 +100,9 @@ pub fn parse(alloc: Global, arguments: &[String]) -> Result<Request, ShowError> 
 }
 
 // Takes an argument, and says what the next one is.
-fn take(
-    alloc: Global,
-    request: &mut Request,
-    next: Next,
-    argument: &str,
-) -> Result<Next, ShowError> {
+fn take(alloc: Global, request: &mut Request, next: Next, argument: &str) -> Result<Next, ShowError>
+    ensures { All (λ r. r.0 ≤ r.1) request.old.ranges.items → All (λ r. r.0 ≤ r.1) request.new.ranges.items }
+{
     match next {
         Next::Plain => take_plain(alloc, request, argument),
         Next::Terminator => {
@@ -139,7 +138,9 @@ fn take(
 }
 
 // Takes an option's name, or an assertion.
-fn take_plain(alloc: Global, request: &mut Request, argument: &str) -> Result<Next, ShowError> {
+fn take_plain(alloc: Global, request: &mut Request, argument: &str) -> Result<Next, ShowError>
+    ensures { request.new.ranges.items ≡ request.old.ranges.items }
+{
     match argument.as_bytes() {
         b"--terminator" => Ok(Next::Terminator),
         b"--words" => Ok(Next::Words),

@@ -30,4 +30,5 @@ loop-start-preserved c =
 
 pub returns-clause-parts : goal.returns-clause-parts
 returns-clause-parts c =
-    subst (λ rs. Parts (sets.contains c.loop-start.set) rs) (take_all c.loop-start.start-index c.args.ranges.now c.loop-start-test.false) c.loop-start.invariant.0
+    subst (λ rs. Parts (sets.contains c.loop-start.set) rs) (take_all c.loop-start.start-index c.args.ranges.now c.loop-start-test.false)
+    c.loop-start.invariant.0

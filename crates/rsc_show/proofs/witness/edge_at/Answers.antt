@@ -20,4 +20,5 @@ loop-start-preserved c = λ x inside edge.
 
 pub returns-clause-found : goal.returns-clause-found
 returns-clause-found c = λ r inside edge.
-    absurd (c.loop-start.invariant r (subst (λ xs. Contains xs r) (sym (take_all c.loop-start.start-index c.args.ranges.now c.loop-start-test.false)) inside) edge)
+    absurd (c.loop-start.invariant r
+    (subst (λ xs. Contains xs r) (sym (take_all c.loop-start.start-index c.args.ranges.now c.loop-start-test.false)) inside) edge)

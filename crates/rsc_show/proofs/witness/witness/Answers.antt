@@ -34,10 +34,14 @@ loop-look-preserved c =
 pub returns-clause-needed : goal.returns-clause-needed
 returns-clause-needed c = (
   λ e. absurd (true≢false (sym e)),
-  λ needed. absurd (not_needed c.args.byte c.loop-look.look-index c.args.looks.now c.args.matcher.now.0 (chosen_words c.args.matcher.now.1) (omega (arith, c.loop-look-test.false)) c.loop-look.invariant needed),
+  λ needed.
+      absurd (not_needed c.args.byte c.loop-look.look-index c.args.looks.now c.args.matcher.now.0 (chosen_words c.args.matcher.now.1)
+      (omega (arith, c.loop-look-test.false)) c.loop-look.invariant needed),
 )
 
 pub returns-clause-boundary : goal.returns-clause-boundary
 returns-clause-boundary c = λ m coarsest differs.
-    absurd (not_needed c.args.byte c.loop-look.look-index c.args.looks.now c.args.matcher.now.0 (chosen_words c.args.matcher.now.1) (omega (arith, c.loop-look-test.false)) c.loop-look.invariant
-    (classes_differ m c.args.byte c.args.looks.now c.args.matcher.now.0 (chosen_words c.args.matcher.now.1) c.one_class_is_together.ensures c.requires coarsest differs))
+    absurd (not_needed c.args.byte c.loop-look.look-index c.args.looks.now c.args.matcher.now.0 (chosen_words c.args.matcher.now.1)
+    (omega (arith, c.loop-look-test.false)) c.loop-look.invariant
+    (classes_differ m c.args.byte c.args.looks.now c.args.matcher.now.0 (chosen_words c.args.matcher.now.1)
+    c.one_class_is_together.ensures c.requires coarsest differs))
