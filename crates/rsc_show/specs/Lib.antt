@@ -1,2 +1,2 @@
-pub mod Chosen
-pub mod Ranges
+pub mod Chosen  -- the word characters that a choice stands for
+pub mod Ranges  -- partitions that keep assertions and part ranges of bytes
