@@ -40,6 +40,22 @@ fn span_at(slots: &[Option<NonMaxUsize>], slot: usize) -> Option<Span>
 /// A search fills the slots and sets the pattern. Nothing is asked of what stands in the slots, and no call here fails on
 /// it. A contract sees captures as the groups, the pattern and the offset of each slot, if it is set. How many slots
 /// there are never changes.
+///
+/// # Examples
+///
+/// ```
+/// let info = GroupInfo::new(rt.alloc(), &[&[None, Some("x"), None]])?;
+/// let mut captures = Captures::all(rt.alloc(), info)?;
+/// captures.set_pattern(Some(PatternID::ZERO));
+/// for (slot, offset) in [(0, 0), (1, 3), (2, 1), (3, 2)] {
+///     if slot < captures.slots().len() {
+///         captures.slots_mut()[slot] = NonMaxUsize::new(offset);
+///     }
+/// }
+/// assert!(rt; captures.get_group_by_name("x") == Some(Span { start: 1, end: 2 }));
+/// // The slots of the last group aren't set.
+/// assert!(rt; captures.get_group(2) == None);
+/// ```
 #[derive(Drop)]
 pub struct Captures<A: Allocator = Global> {
     group_info: GroupInfo<A>,

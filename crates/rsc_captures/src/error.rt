@@ -10,6 +10,14 @@ use std::fmt;
 use std::marker::Model;
 
 /// What is wrong with a group list, or that memory was refused.
+///
+/// # Examples
+///
+/// ```
+/// if let Err(error) = GroupInfo::new(rt.alloc(), &[&[None, Some("x"), Some("x")]]) {
+///     assert!(rt; matches!(error.kind(), GroupInfoErrorKind::Duplicate { .. }));
+/// }
+/// ```
 #[derive(Drop)]
 #[derive_where(Debug)]
 pub enum GroupInfoErrorKind<A: Allocator = Global> {

@@ -61,6 +61,14 @@ impl<A: Allocator + Clone + Drop> Captures<A> {
     /// What the groups that take part in the match cut out of a text or of bytes: the first, which is the whole match, and
     /// the next `N`. Any after them are not looked at. `None` exactly if there are fewer than `N + 1` of them, or one of
     /// those doesn't cut the haystack. The parts live as long as the haystack.
+    ///
+    /// # Examples
+    ///
+    /// ```
+    /// assert!(rt; captures.extract_from::<&str, 1>("abc") == Some(("abc", ["b"])));
+    /// // Two groups take part, and three are asked for.
+    /// assert!(rt; captures.extract_from::<&str, 2>("abc") == None);
+    /// ```
     #[inline]
     pub fn extract_from<H: Haystack, const N: usize>(&self, haystack: H) -> Option<(H, [H; N])>
         ensures { option_map (λ parts. H.bytes parts.0 ∷ map H.bytes parts.1) result

@@ -27,6 +27,19 @@ use std::rc::Rc;
 /// The first group of each pattern stands for its whole match, and has no name; the slots of the first groups come before
 /// all others. A group's offsets stand in a slot and the next. A contract sees a group info as the list of its patterns,
 /// each the list of its groups' names. A clone shares its memory.
+///
+/// # Examples
+///
+/// ```
+/// let info = GroupInfo::new(
+///     rt.alloc(),
+///     &[&[None, Some("y")], &[None, Some("d"), Some("m")]],
+/// )?;
+/// // The slots of both whole matches come first.
+/// assert!(rt; info.slots(PatternID::must(0), 1) == Some((4, 5)));
+/// assert!(rt; info.to_index(PatternID::must(1), "m") == Some(2));
+/// assert!(rt; info.to_name(PatternID::must(1), 1) == Some("d"));
+/// ```
 #[derive(Drop)]
 #[derive_where(Debug)]
 pub struct GroupInfo<A: Allocator = Global> {
@@ -176,6 +189,14 @@ impl<A: Allocator + Clone + Drop> GroupInfo<A> {
     /// # Errors
     ///
     /// As for [`GroupInfo::new`].
+    ///
+    /// # Examples
+    ///
+    /// ```
+    /// // Three groups, so six slots.
+    /// assert!(rt; GroupInfo::new_limited(rt.alloc(), 6, &[&[None], &[None, None]]).is_ok());
+    /// assert!(rt; GroupInfo::new_limited(rt.alloc(), 5, &[&[None], &[None, None]]).is_err());
+    /// ```
     pub fn new_limited(
         alloc: A,
         limit: usize,
@@ -209,6 +230,16 @@ impl<A: Allocator + Clone + Drop> GroupInfo<A> {
     }
 
     /// The names of a pattern's groups in order, `None` for a group without one; nothing where there is no such pattern.
+    ///
+    /// # Examples
+    ///
+    /// ```
+    /// let info = GroupInfo::new(rt.alloc(), &[&[None, Some("x")]])?;
+    /// let mut names = info.pattern_names(PatternID::ZERO);
+    /// assert!(rt; names.next() == Some(None));
+    /// assert!(rt; names.next() == Some(Some("x")));
+    /// assert!(rt; names.next() == None);
+    /// ```
     #[inline]
     pub fn pattern_names(&self, pid: PatternID) -> GroupInfoPatternNames<'_, A>
         ensures { result ≡ groups_of self.now pid }

@@ -1,5 +1,6 @@
 //! The examples of the libraries' doc comments.
 mod alphabet;
+mod captures;
 mod look;
 mod nfa;
 mod primitives;
