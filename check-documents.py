@@ -3,7 +3,7 @@
 
     ./check-documents.py [--write]     # --write makes the page's last section anew, which lists the calls that carry each definition
 
-A definition is a name of a crate's `specs/` that a `ghost use` line brings into a file; it is on the page if it stands there in backquotes, alone
+A definition is a name of a crate's `specs/` that a `ghost use` line brings into a file; it is on the page if it is there in backquotes, alone
 or behind its module, as `Holds` or `Holds.Holds`.
 """
 import collections

@@ -7,7 +7,7 @@ of the libraries' doc comments.
 A page's upper part is written by hand. It ends with a line `<!-- callers: FILE FUNCTION .. -->`, which names the functions of
 crates/rsc_uses/src/FILE that the page quotes. Below that line all is quoted: the callers, the contract of each public call, and the
 words of specs/ with the comment above each. The first Rust block of a library's README.md is its file in crates/rsc_uses/src/readmes, a
-test; that of the repository's is the program of crates/rsc_example. An example of a doc comment is what stands in a test of
+test; that of the repository's is the program of crates/rsc_example. An example of a doc comment is what is in a test of
 crates/rsc_uses/src/examples below the comment that names its item.
 """
 import re

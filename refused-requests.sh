@@ -1,7 +1,7 @@
 #!/usr/bin/env bash
 # Refuses each request for memory of rsc_bench in turn. For each command the program answers two lines, and its Nth request
 # fails, for N from 1 up: it must end with status 1, the text of want of memory on standard error, and nothing but answers of
-# earlier lines on standard output, until a run meets no refusal and gives both answers. It stands outside the gate, since each
+# earlier lines on standard output, until a run meets no refusal and gives both answers. It is outside the gate, since each
 # N takes a build, of some 20 seconds: `rt try` has no other way to choose the request.
 set -u
 cd "$(dirname "$0")/crates/rsc_bench"

@@ -32,7 +32,7 @@ Edit = collections.namedtuple("Edit", "name file function goal pairs apart")
 
 
 def crates():
-    """Returns the crates of crates.txt, each with the crates that it stands on, lowest first."""
+    """Returns the crates of crates.txt, each with the crates that it rests on, lowest first."""
     found = {}
     with open(f"{ROOT}/crates.txt", encoding="utf-8") as lines:
         for line in lines:

@@ -12,7 +12,7 @@ fi
 mkdir -p "$2"
 out=$(cd "$2" && pwd)
 
-# `rt lib` proves the kernels and what they stand on, and makes the static library; the toolchain's C library stands in the folder
+# `rt lib` proves the kernels and what they rest on, and makes the static library; the toolchain's C library is in the folder
 # `c` beside the page that `rt doc` names.
 kernels=$here/../crates/rsc_kernels
 (cd "$kernels" && rt lib) > "$out/rt-lib.log" 2>&1 || {

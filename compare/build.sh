@@ -1,5 +1,5 @@
 #!/usr/bin/env bash
-# Builds a program out of the original's sources, which are read where they lie and not copied.
+# Builds a program out of the original's sources, which stay where they are and aren't copied.
 #   build.sh SOURCES OUT [MAIN.rs NAME [FLAGS..]]
 # SOURCES is a checkout of regex-automata or of the repository around it, or any folder that holds the modules as
 # src/util/NAME.rs, NAME.rs or src--src--util--NAME.rs.txt. The program is OUT/NAME; without a main file it is OUT/original,
@@ -31,7 +31,7 @@ source_of() {
   return 1
 }
 
-# The modules by their paths, and what stands for the ones that they name but never call here.
+# The modules by their paths, and what is in place of the ones that they name but never call here.
 list_modules() {
   local module path
   for module in alphabet captures escape int look primitives search utf8; do
@@ -45,7 +45,7 @@ list_modules() {
 list_modules > "$out/modules.rs"
 python3 "$here/word_table.py" > "$out/word_table.rs"
 
-# The word table stands in a crate of its own, as the original's dependency.
+# The word table is a crate of its own, as the original's dependency.
 export ORIGINAL_MODULES=$out/modules.rs WORD_TABLE=$out/word_table.rs
 flags=(--edition 2021 -C opt-level=3)
 rustc "${flags[@]}" --crate-type rlib --crate-name regex_syntax \

@@ -111,7 +111,7 @@ fn seen(found: Result<char, u8>) -> (u64, usize) {
     }
 }
 
-/// Ranges and what stands behind them.
+/// Ranges and what is behind them.
 fn ranges(data: &[u8]) -> (Vec<(u8, u8)>, &[u8]) {
     let (pairs, rest) = data[1..].split_at(2 * usize::from(data[0]));
     (pairs.chunks_exact(2).map(|p| (p[0], p[1])).collect(), rest)

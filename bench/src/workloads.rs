@@ -166,7 +166,7 @@ fn letters(len: usize, first: u32, count: u64) -> Vec<u8> {
     })
 }
 
-/// Bytes that begin no encoding: continuations, and bytes that never stand in UTF-8.
+/// Bytes that begin no encoding: continuations, and bytes that are never in UTF-8.
 fn invalid(len: usize) -> Vec<u8> {
     let mut numbers = Numbers(4);
     let never = [0xC0, 0xC1, 0xF5, 0xF8, 0xFE, 0xFF];
@@ -196,7 +196,7 @@ fn binary_of_old_letters(len: usize) -> Vec<u8> {
     text
 }
 
-/// How many steps a walk by characters takes: one a character, and one for each byte
+/// How many steps a pass over characters takes: one a character, and one for each byte
 /// that is in none.
 fn steps(data: &[u8]) -> u64 {
     let steps = |valid: &str, invalid: &[u8]| valid.chars().count() + invalid.len();

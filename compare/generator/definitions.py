@@ -133,7 +133,7 @@ PLAIN = [code for code, (_, plain) in ALLOWED.items() if plain]
 
 
 def all_characters(data, accepted):
-    """True where every character past ASCII, wherever its encoding stands, is accepted."""
+    """True where every character past ASCII, wherever its encoding is, is accepted."""
     found = (begins(data, at) for at in range(len(data)))
     return all(code is None or code < 128 or code in accepted for code in found)
 

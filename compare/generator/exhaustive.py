@@ -112,9 +112,9 @@ def pattern_set_lines():
         for size in range(capacity + 1):
             for chosen in itertools.combinations(range(capacity), size):
                 inserts = [f"i{number}" for number in chosen]
-                for walk in itertools.product("fbh", repeat=5):
-                    name = tagged("pset", "h" in walk)
-                    yield " ".join([name, str(capacity), *inserts, "w" + "".join(walk)])
+                for steps in itertools.product("fbh", repeat=5):
+                    name = tagged("pset", "h" in steps)
+                    yield " ".join([name, str(capacity), *inserts, "w" + "".join(steps)])
 
 
 def span_lines():

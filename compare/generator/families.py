@@ -292,7 +292,7 @@ def match_command(draw):
 CAPACITIES = [0, 1, 2, 3, 63, 64, 65, 66, 127, 128, 129, 130, 192, 200, 1000]
 
 
-def walk_op(draw, asks):
+def steps_op(draw, asks):
     style = draw.choice(["fb", "f", "b", "fffb", "bbbf", "fc", "bcf"])
     letters = "".join(draw.choice(style) for _ in range(draw.choice([1, 3, 8, 20])))
     if asks:
@@ -308,7 +308,7 @@ def pattern_set_op(draw, capacity, asks):
     if op in "tc":
         return [f"{op}{draw.choice([0, max(capacity - 1, 0), capacity, capacity + 1, MAX])}"]
     if op == "w":
-        return [walk_op(draw, asks)]
+        return [steps_op(draw, asks)]
     if op == "x":
         return ["x", "q"] if draw.random() < 0.5 else []
     return [op]
@@ -328,7 +328,7 @@ def pattern_set_command(draw):
     ops = [f"i{number}" for number in members(draw, capacity)]
     for _ in range(draw.randrange(8)):
         ops += pattern_set_op(draw, capacity, asks)
-    return " ".join([tagged("pset", asks), str(capacity), *ops, "q", walk_op(draw, asks)])
+    return " ".join([tagged("pset", asks), str(capacity), *ops, "q", steps_op(draw, asks)])
 
 
 # Group infos, captures.

@@ -65,7 +65,7 @@ def pieces(draw, most):
 
 
 def haystack(draw, most=12):
-    """Mixed valid and invalid UTF-8 in which only allowed characters stand."""
+    """Mixed valid and invalid UTF-8 with allowed characters alone."""
     while True:
         data = pieces(draw, most)
         if comparable(data):

@@ -63,7 +63,7 @@ pub fn unicode_word(c: char) -> bool {
     regex_syntax::try_is_word_character(c).unwrap_or(false)
 }
 
-/// What stands on one side of a position.
+/// What is on one side of a position.
 #[derive(Clone, Copy, PartialEq)]
 enum Side {
     None,

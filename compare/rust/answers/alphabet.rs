@@ -85,8 +85,8 @@ fn byteset(ops: &[&str]) -> Read<String> {
                 let (start, end) = pair(rest, false)?;
                 answers.push(show_truth(set.contains_range(start, end)).to_string());
             }
-            "i" => answers.push(walk(set.iter(), ",", |b| format!("{b:02x}"))),
-            "g" => answers.push(walk(set.iter_ranges(), ",", |(start, end)| {
+            "i" => answers.push(iterated(set.iter(), ",", |b| format!("{b:02x}"))),
+            "g" => answers.push(iterated(set.iter_ranges(), ",", |(start, end)| {
                 format!("{start:02x}-{end:02x}")
             })),
             "e" => answers.push(show_truth(set.is_empty()).to_string()),
@@ -159,12 +159,12 @@ pub fn answer(name: &str, port: bool, args: &[&str]) -> Read<String> {
             ))
         }
         ("map_unit", false, [m, u]) => Ok(map(m)?.get_by_unit(unit(u)?).to_string()),
-        ("map_iter", false, [m]) => Ok(walk(map(m)?.iter(), " ", show_unit)),
+        ("map_iter", false, [m]) => Ok(iterated(map(m)?.iter(), " ", show_unit)),
         ("map_reps", false, [m, start, end]) => {
             let range = (bound(start, byte)?, bound(end, byte)?);
-            Ok(walk(map(m)?.representatives(range), " ", show_unit))
+            Ok(iterated(map(m)?.representatives(range), " ", show_unit))
         }
-        ("map_elems", false, [m, u]) => Ok(walk(map(m)?.elements(unit(u)?), " ", show_unit)),
+        ("map_elems", false, [m, u]) => Ok(iterated(map(m)?.elements(unit(u)?), " ", show_unit)),
         ("map_debug", false, [m]) => Ok(format!("{:?}", map(m)?)),
         _ => Err(Bad),
     }

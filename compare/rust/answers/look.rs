@@ -66,7 +66,7 @@ fn show_set(set: LookSet) -> String {
             set.contains_word_unicode(),
             set.contains_word_ascii(),
         ]),
-        walk(set.iter(), ",", |look| look.as_repr().to_string()),
+        iterated(set.iter(), ",", |look| look.as_repr().to_string()),
         set
     )
 }

@@ -78,12 +78,12 @@ fn first(mut it: impl Iterator<Item = usize>, take: usize) -> String {
     join((0..take).map(|_| show_option(it.next())), ",")
 }
 
-fn index_walk(kind: &str, len: usize, take: usize, port: bool) -> Read<String> {
+fn iterated_index(kind: &str, len: usize, take: usize, port: bool) -> Read<String> {
     if len > SmallIndex::LIMIT {
         return Err(Bad);
     }
     match (kind, port) {
-        // The original has no such call; the walk is stated as 0 to len - 1.
+        // The original has no such call; the iterator is stated as 0 to len - 1.
         ("small", true) => Ok(first(0..len, take)),
         ("pattern", false) => Ok(first(PatternID::iter(len).map(|x| x.as_usize()), take)),
         ("state", false) => Ok(first(StateID::iter(len).map(|x| x.as_usize()), take)),
@@ -101,7 +101,7 @@ fn show_decoded(decoded: Option<Result<char, u8>>) -> String {
 
 pub fn answer(name: &str, port: bool, args: &[&str]) -> Read<String> {
     match (name, port, args) {
-        ("idx_iter", _, [kind, len, take]) => index_walk(kind, number(len)?, number(take)?, port),
+        ("idx_iter", _, [kind, len, take]) => iterated_index(kind, number(len)?, number(take)?, port),
         (_, false, ["small", rest @ ..]) => small(name, rest),
         (_, false, ["pattern", rest @ ..]) => pattern_id(name, rest),
         (_, false, ["state", rest @ ..]) => state(name, rest),

@@ -131,9 +131,9 @@ fn pattern_set(cap: &str, members: &str) -> Read<PatternSet> {
     Ok(set)
 }
 
-/// A walk by letters: `f` next, `b` next_back, `h` size_hint, `n` len (own),
+/// The steps of an iterator by letters: `f` next, `b` next_back, `h` size_hint, `n` len (own),
 /// `c` goes on with a clone. As the port states it, `h` and `n` tell the members left.
-fn pattern_walk(set: &PatternSet, letters: &str, port: bool) -> Read<String> {
+fn pattern_iterated(set: &PatternSet, letters: &str, port: bool) -> Read<String> {
     let mut it = set.iter();
     let mut rest: VecDeque<PatternID> = set.iter().collect();
     let mut answers = vec![];
@@ -182,8 +182,8 @@ fn pattern_set_script(port: bool, cap: &str, ops: &[&str]) -> Read<String> {
                 show_truth(set.is_full()),
                 set.capacity()
             )),
-            "l" => answers.push(walk(set.iter(), ",", |p| p.as_usize().to_string())),
-            "w" => answers.push(pattern_walk(&set, rest, port)?),
+            "l" => answers.push(iterated(set.iter(), ",", |p| p.as_usize().to_string())),
+            "w" => answers.push(pattern_iterated(&set, rest, port)?),
             _ => return Err(Bad),
         }
     }

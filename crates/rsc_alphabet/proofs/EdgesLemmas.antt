@@ -15,7 +15,7 @@ use Rattle.rsc_alphabet.proofs.RunsLemmas.{runs_from, parts_no_run, runs_from_fi
 abbrev pub changes : Numbers → ℕ → Bool
 changes s k = (sets.contains s k && not (sets.contains s (k + 1))) || (not (sets.contains s k) && sets.contains s (k + 1))
 
--- the last byte of the run that b stands in
+-- the last byte of the run that has b
 pub record EndsAt (s : Numbers) (b e : ℕ) : Type 0 where
   pub from : b ≤ e
   pub fits : e < 256

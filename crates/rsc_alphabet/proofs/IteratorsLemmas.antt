@@ -94,7 +94,7 @@ length-symbols classes =
     let low : length (from_to 0 (slice_index classes 255 + 1)) ≡ slice_index classes 255 + 1 = length-from_to 0 (slice_index classes 255 + 1) ∙ omega arith in
     rw (length-append, length-map) (omega (arith, low))
 
--- each class stands at the place of its number
+-- each class is at the place of its number
 pub slice_get-symbols : (classes : List ℕ) (c : ℕ) → c ≤ slice_index classes 255 → slice_get (symbols classes) c ≡ Some (byte c)
 slice_get-symbols classes c l =
     let low : c < length (map (λ k. byte k) (from_to 0 (slice_index classes 255 + 1))) =
@@ -140,7 +140,7 @@ is_bytes xs long each =
     ext_get_or 0 xs bytes (long ∙ sym (length-from_to 0 256))
     (λ i l. let h : i < 256 = omega (arith, long) in each i h ∙ sym (get_or-from_to 0 256 i 0 h ∙ omega arith))
 
--- each byte stands at its place
+-- each byte is at its place
 pub bytes_own : (b : ℕ) → b < 256 → slice_index bytes b ≡ b
 bytes_own b l = get_or-from_to 0 256 b 0 l ∙ omega arith
 

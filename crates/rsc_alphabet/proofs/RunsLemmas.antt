@@ -13,7 +13,7 @@ use Rattle.rsc_alphabet.specs.ByteSets.{Numbers, members, runs, begins_run, ends
 abbrev pub runs_from : Numbers → ℕ → List (ℕ × ℕ)
 runs_from s low = zip (filter (begins_run s) (from_to low 256)) (filter (ends_run s) (from_to low 256))
 
--- `low` doesn't stand inside a run: it is 0, or past the bytes, or it or the byte before it is no member
+-- `low` isn't inside a run: it is 0, or past the bytes, or it or the byte before it is no member
 abbrev pub parts_no_run : Numbers → ℕ → Bool
 parts_no_run s low = nat_eq low 0 || (nat_lt 255 low || (not (sets.contains s (low - 1)) || not (sets.contains s low)))
 

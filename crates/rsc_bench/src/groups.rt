@@ -107,7 +107,7 @@ fn describe<A: Allocator + Copy + Drop>(
     Ok(text)
 }
 
-// What stands before a group's slot: a space before the first of all, `;` before the first of a pattern, `,` before any other.
+// What comes before a group's slot: a space before the first of all, `;` before the first of a pattern, `,` before any other.
 fn separator_before(pattern: PatternID, group: usize) -> char {
     if group > 0 {
         ','

@@ -95,7 +95,7 @@ fn anchor_of(name: &[u8]) -> Option<Look> {
     }
 }
 
-// What stands after `Word`.
+// What comes after `Word`.
 fn word_look_of(kind: &[u8]) -> Option<Look> {
     match kind {
         b"Ascii" => Some(Look::WordAscii),
@@ -108,7 +108,7 @@ fn word_look_of(kind: &[u8]) -> Option<Look> {
     }
 }
 
-// What stands after `WordStart`.
+// What comes after `WordStart`.
 fn word_start_of(characters: &[u8]) -> Option<Look> {
     match characters {
         b"Ascii" => Some(Look::WordStartAscii),
@@ -119,7 +119,7 @@ fn word_start_of(characters: &[u8]) -> Option<Look> {
     }
 }
 
-// What stands after `WordEnd`.
+// What comes after `WordEnd`.
 fn word_end_of(characters: &[u8]) -> Option<Look> {
     match characters {
         b"Ascii" => Some(Look::WordEndAscii),

@@ -1,4 +1,4 @@
-//! How lines are cut, and what stands where reading or writing fails.
+//! How lines are cut, and what is left where reading or writing fails.
 use crate::error::CommandError::{BadCommand, UnknownName};
 use crate::error::{CommandError, RunError};
 use crate::run::{Answerer, run};

@@ -49,7 +49,7 @@ pub fn two_of(token: &[u8], separator: u8) -> Result<(&[u8], &[u8]), CommandErro
     Err(BadCommand)
 }
 
-/// The first byte of a token, and what stands after it.
+/// The first byte of a token, and what is after it.
 pub fn letter(token: &[u8]) -> Result<(u8, &[u8]), CommandError> {
     match token {
         [letter, rest @ ..] => Ok((*letter, rest)),

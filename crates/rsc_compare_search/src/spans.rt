@@ -35,7 +35,7 @@ pub fn describe(alloc: Global, arguments: &[&[u8]]) -> Result<String, CommandErr
     parts.finish()
 }
 
-/// Whether a position stands in a span.
+/// Whether a position is in a span.
 pub fn contains(alloc: Global, arguments: &[&[u8]]) -> Result<String, CommandError> {
     let [start, end, at] = arguments else {
         return Err(BadCommand);

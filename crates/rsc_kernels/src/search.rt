@@ -65,8 +65,8 @@ fn pass(
         41 => clear(set, members, sum),
         42 => refused(set, members, sum),
         43 => found(set, queries, sum),
-        44 => walk(set, sum),
-        _ => walk_back(set, sum),
+        44 => sum_of_members(set, sum),
+        _ => sum_from_back(set, sum),
     }
 }
 
@@ -121,7 +121,7 @@ fn found(set: &PatternSet, queries: &[PatternID], sum: u64) -> u64 {
 }
 
 #[inline(never)]
-fn walk(set: &PatternSet, sum: u64) -> u64 {
+fn sum_of_members(set: &PatternSet, sum: u64) -> u64 {
     let mut sum = sum;
     for id in set.iter() {
         sum = sum.wrapping_add(id.as_u64());
@@ -130,7 +130,7 @@ fn walk(set: &PatternSet, sum: u64) -> u64 {
 }
 
 #[inline(never)]
-fn walk_back(set: &PatternSet, sum: u64) -> u64 {
+fn sum_from_back(set: &PatternSet, sum: u64) -> u64 {
     let mut sum = sum;
     for id in set.iter().rev() {
         sum = sum.wrapping_add(id.as_u64());

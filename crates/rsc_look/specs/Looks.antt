@@ -1,4 +1,4 @@
--- The eighteen assertions: their numbers, their characters, their order, and what each one is read from the other end.
+-- The eighteen assertions: their numbers, their characters, their order, and what each one is from the other end.
 use Rattle.std.specs.Prelude.{ℕ, Bool, true, false, List, [], ◌∷◌}
 use Rattle.rsc_look.specs.declared.assertion.Look.{Look}
 use Rattle.rsc_look.specs.declared.assertion.Look.TheVariants.{Start, End, StartLF, EndLF, StartCRLF, EndCRLF, WordAscii, WordAsciiNegate, WordUnicode, WordUnicodeNegate, WordStartAscii, WordEndAscii, WordStartUnicode, WordEndUnicode, WordStartHalfAscii, WordEndHalfAscii, WordStartHalfUnicode, WordEndHalfUnicode}
@@ -62,7 +62,7 @@ is_unicode WordStartHalfUnicode = true
 is_unicode WordEndHalfUnicode = true
 is_unicode _ = false
 
--- the assertion that says the same of what is read from the other end
+-- the assertion that says the same from the other end
 abbrev pub reversed : Look → Look
 reversed Start = End
 reversed End = Start

@@ -28,7 +28,7 @@ pub record EndsFirst (h : List ℕ) (i : ℕ) (cs : List ℕ) (k : ℕ) : Type 0
   pub front_text : EncodesAll front (take k cs)
   pub front_length : i ≡ length front
 
--- where i stands after the first k characters of a text, P says what the reversed assertion says of the text of the same
+-- where i is after the first k characters of a text, P says what the reversed assertion says of the text of the same
 -- characters in reverse, after all but k of them
 abbrev pub IsTextMirrored : Look → ℕ → (ℕ → Bool) → List ℕ → ℕ → Type 0 → Type 0
 IsTextMirrored l t W h i P =

@@ -1,7 +1,7 @@
 //! The eighteen assertions.
 ghost use Rattle.std.specs.Prelude.{◌≡◌, ◌↔◌, Some};
 
-/// An assertion about a position of a haystack: what stands before it, and what stands after it.
+/// An assertion about a position of a haystack: what is before it, and what is after it.
 ///
 /// The assertions with `Ascii` in their name ask whether a neighbouring byte is one of `0-9`, `A-Z`, `_` and `a-z`, a word
 /// byte. Those with `Unicode` ask whether a character that ends or begins at the position is a word character of the

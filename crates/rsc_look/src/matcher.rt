@@ -177,7 +177,7 @@ impl<W: WordClass> LookMatcher<W> {
         true
     }
 
-    // What stands before a position.
+    // What is before a position.
     #[inline(always)]
     fn side_before(&self, haystack: &[u8], at: usize) -> Side
         requires { at ≤ length haystack.now }
@@ -190,7 +190,7 @@ impl<W: WordClass> LookMatcher<W> {
         }
     }
 
-    // What stands after a position.
+    // What is after a position.
     #[inline(always)]
     fn side_after(&self, haystack: &[u8], at: usize) -> Side
         requires { at ≤ length haystack.now }
@@ -233,7 +233,7 @@ impl<W: WordClass> LookMatcher<W> {
         byte_after(haystack, at).is_none()
     }
 
-    /// Whether the position is the start of the haystack, or stands after a line terminator.
+    /// Whether the position is the start of the haystack, or is after a line terminator.
     #[inline(always)]
     pub fn is_start_lf(&self, haystack: &[u8], at: usize) -> bool
         requires { at ≤ length haystack.now }
@@ -243,7 +243,7 @@ impl<W: WordClass> LookMatcher<W> {
         before.is_none() || is_byte(self.line_terminator, before)
     }
 
-    /// Whether the position is the end of the haystack, or stands before a line terminator.
+    /// Whether the position is the end of the haystack, or is before a line terminator.
     #[inline(always)]
     pub fn is_end_lf(&self, haystack: &[u8], at: usize) -> bool
         requires { at ≤ length haystack.now }
@@ -253,7 +253,7 @@ impl<W: WordClass> LookMatcher<W> {
         after.is_none() || is_byte(self.line_terminator, after)
     }
 
-    /// Whether the position is the start of the haystack, or stands after `\n`, or after a `\r` that no `\n` follows.
+    /// Whether the position is the start of the haystack, or is after `\n`, or after a `\r` that no `\n` follows.
     #[inline(always)]
     pub fn is_start_crlf(&self, haystack: &[u8], at: usize) -> bool
         requires { at ≤ length haystack.now }
@@ -265,7 +265,7 @@ impl<W: WordClass> LookMatcher<W> {
             || (is_byte(CARRIAGE_RETURN, before) && !is_byte(LINE_FEED, byte_after(haystack, at)))
     }
 
-    /// Whether the position is the end of the haystack, or stands before `\r`, or before a `\n` that follows no `\r`.
+    /// Whether the position is the end of the haystack, or is before `\r`, or before a `\n` that follows no `\r`.
     #[inline(always)]
     pub fn is_end_crlf(&self, haystack: &[u8], at: usize) -> bool
         requires { at ≤ length haystack.now }
@@ -295,9 +295,9 @@ impl<W: WordClass> LookMatcher<W> {
         is_word_at(byte_before(haystack, at)) == is_word_at(byte_after(haystack, at))
     }
 
-    /// Whether a word character stands on exactly one side.
+    /// Whether a word character is on exactly one side.
     ///
-    /// Bytes that are no character count as no word character, so a boundary may stand beside them.
+    /// Bytes that are no character count as no word character, so a boundary may be beside them.
     ///
     /// # Errors
     ///
@@ -316,7 +316,7 @@ impl<W: WordClass> LookMatcher<W> {
         Ok(before.is_word() != after.is_word())
     }
 
-    /// Whether no side has bytes that are no character, and a word character stands on both sides or on neither.
+    /// Whether no side has bytes that are no character, and a word character is on both sides or on neither.
     ///
     /// It is no mere negation of [`LookMatcher::is_word_unicode`]: that would hold between two bytes of one character too, and a
     /// match of `\B` would split it.
@@ -370,7 +370,7 @@ impl<W: WordClass> LookMatcher<W> {
         is_word_at(byte_before(haystack, at)) & !is_word_at(byte_after(haystack, at))
     }
 
-    /// Whether a word character stands after the position, and none before it.
+    /// Whether a word character is after the position, and none before it.
     ///
     /// # Errors
     ///
@@ -388,7 +388,7 @@ impl<W: WordClass> LookMatcher<W> {
         Ok(starts && !self.side_before(haystack, at).is_word())
     }
 
-    /// Whether a word character stands before the position, and none after it.
+    /// Whether a word character is before the position, and none after it.
     ///
     /// # Errors
     ///
@@ -406,7 +406,7 @@ impl<W: WordClass> LookMatcher<W> {
         Ok(ends && !self.side_after(haystack, at).is_word())
     }
 
-    /// Whether no word byte stands before the position.
+    /// Whether no word byte is before the position.
     #[inline(always)]
     pub fn is_word_start_half_ascii(&self, haystack: &[u8], at: usize) -> bool
         requires { at ≤ length haystack.now }
@@ -415,7 +415,7 @@ impl<W: WordClass> LookMatcher<W> {
         !is_word_at(byte_before(haystack, at))
     }
 
-    /// Whether no word byte stands after the position.
+    /// Whether no word byte is after the position.
     #[inline(always)]
     pub fn is_word_end_half_ascii(&self, haystack: &[u8], at: usize) -> bool
         requires { at ≤ length haystack.now }

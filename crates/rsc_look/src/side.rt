@@ -1,10 +1,10 @@
-//! The sides of a position: the neighbouring bytes, and what stands there as a character.
+//! The sides of a position: the neighbouring bytes, and what is there as a character.
 ghost use Rattle.std.specs.Prelude.{◌≡◌, ◌≤◌, length};
 ghost use Rattle.rsc_look.specs.Holds.{byte_before, byte_after, is_byte, is_word_at};
 
 use rsc_primitives::utf8;
 
-/// What stands on one side of a position.
+/// What is on one side of a position.
 #[derive(Clone, Copy)]
 pub(crate) enum Side {
     /// No byte.

@@ -1,5 +1,6 @@
 //! The Rust's own tests, worked rows, and a slow reader over bytes of every kind.
 mod any_bytes;
 mod carried;
-mod rows;
-mod slow_reader;
+mod classes;
+mod look_sets;
+mod matchers;

@@ -69,7 +69,7 @@ fn check_target(count: usize, s: usize, target: StateID) -> Option<BuildError>
     }
 }
 
-// The fault of a state that stands at `s` among `count` states.
+// The fault of a state at place `s` among `count` states.
 fn check_state<A: Allocator + Clone + Drop>(
     group_info: &GroupInfo<A>,
     count: usize,

@@ -5,5 +5,5 @@ pub mod EncodingsLemmas  -- what the encodings are beside std's, and beside one 
 mod EscapesLemmas  -- the texts of bytes, and the steps of a row of bytes
 mod IndicesLemmas  -- the iterator over the first indices: what is left of it at a place
 mod Rows  -- the definitions, computed at single values
-pub mod Texts  -- where the characters of a text stand in its bytes
+pub mod Texts  -- where the characters of a text are in its bytes
 pub mod Utf8Lemmas  -- what the nine forms say of bytes and places, in numbers alone

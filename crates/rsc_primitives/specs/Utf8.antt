@@ -1,4 +1,4 @@
--- UTF-8 by RFC 3629, section 4: which bytes encode which character, and where in a list of bytes a character stands.
+-- UTF-8 by RFC 3629, section 4: which bytes encode which character, and where in a list of bytes a character is.
 use Rattle.std.specs.Prelude.{◌≡◌, ℕ, ◌+◌, ◌-◌, ◌*◌, ◌<◌, ◌≤◌, Bool, ◌||◌, ◌==◌, ◌⊎◌, List, [], ◌∷◌, ◌++◌, length, slice_range, slice_index, slice_get, Option, Some, None, Result, Ok, Err}
 use Rattle.std.specs.Int.{IsInRange, is_in_range}
 
@@ -65,7 +65,7 @@ DecodesLastTo h None = h ≡ []
 DecodesLastTo h (Some (Ok c)) = EndsAt h (length h) c
 DecodesLastTo h (Some (Err b)) = (0 < length h) × (slice_get h (length h - 1) ≡ Some b) × ((c : ℕ) → EndsAt h (length h) c → ⊥)
 
--- i is the end of the bytes, or a byte stands there that is no UTF8-tail
+-- i is the end of the bytes, or a byte is there that is no UTF8-tail
 abbrev pub IsBoundary : List ℕ → ℕ → Type 0
 IsBoundary h i = (i ≡ length h) ⊎ ((i < length h) × ((slice_index h i ≤ 0x7F) ⊎ (0xC0 ≤ slice_index h i)))
 

@@ -168,7 +168,7 @@ fn first_number(bytes: &[u8]) -> Option<u32>
     }
 }
 
-// The number of the character past ASCII that ends the bytes. It stops at the first byte from the back that can't stand there.
+// The number of the character past ASCII that ends the bytes. It stops at the first byte from the back that can't be there.
 #[inline(always)]
 fn last_number(bytes: &[u8]) -> Option<u32>
     requires some { 1 ≤ length bytes.now }

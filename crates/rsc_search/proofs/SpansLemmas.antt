@@ -15,7 +15,7 @@ cut_past haystack s lt = grind (arith, common_steps)
 pub cut_within : (haystack : List ℕ) (s : Span) → s.start ≤ s.end → s.end ≤ length haystack → cut haystack s ≡ Some (take (s.end - s.start) (drop s.start haystack))
 cut_within haystack s order within = grind (arith, common_steps)
 
--- a list is what stands before a part, the part, and what stands after it
+-- a list is what is before a part, the part, and what is after it
 pub cut_apart : (xs : List ℕ) (i j : ℕ) → i ≤ j → xs ≡ take i xs ++ (take (j - i) (drop i xs) ++ drop j xs)
 cut_apart xs i j order =
     let past : i + (j - i) ≡ j = omega arith in

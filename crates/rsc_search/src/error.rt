@@ -16,7 +16,7 @@ pub enum MatchErrorKind {
     Quit {
         /// The byte.
         byte: u8,
-        /// The position where it stands.
+        /// The position where it is.
         offset: usize,
     },
     /// The search stopped of itself, as it was taking too long.

@@ -73,8 +73,8 @@ impl Span {
         self.end.saturating_sub(self.start)
     }
 
-    /// Whether a position stands in the span. The end of a span that isn't empty counts too, although no byte of the
-    /// span stands there.
+    /// Whether a position is in the span. The end of a span that isn't empty counts too, although no byte of the
+    /// span is there.
     #[inline]
     pub fn contains(&self, offset: usize) -> bool
         ensures { IsTrue result ↔ ((self.now.start < self.now.end) × (self.now.start ≤ offset) × (offset ≤ self.now.end)) }

@@ -1,8 +1,8 @@
 //! The six Unicode assertions against the slow reader, at every position of bytes of every kind.
-use super::slow_reader::{first_character, last_character};
 use rsc_look::{Look, LookMatcher, UnicodeWord, WordClass};
+use rsc_primitives_tests::slow_reader::{first_character, last_character};
 
-/// What stands on one side of a position.
+/// What is on one side of a position.
 #[derive(Clone, Copy, PartialEq, Eq)]
 enum Side {
     /// No byte.

@@ -1,5 +1,5 @@
 //! `decode` and `decode_last` against the slow reader, on bytes of every kind.
-use super::slow_reader::{first_character, last_character};
+use crate::slow_reader::{first_character, last_character};
 use rsc_primitives::utf8::{decode, decode_last};
 
 /// Bytes on both sides of each limit in the encoding's table (RFC 3629, section 4), and two in the middle.

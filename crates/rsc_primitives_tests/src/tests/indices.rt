@@ -16,10 +16,10 @@ fn read_back(id: PatternID) -> Result<PatternID, PatternIDError>
     PatternID::from_le_bytes(id.to_le_bytes())
 }
 
-fn walk_again(walk: &PatternIDIter) -> Result<PatternIDIter, AllocError>
-    ensures { IsOkAnd result (λ copy. copy ≡ walk.now) }
+fn copy_of(ids: &PatternIDIter) -> Result<PatternIDIter, AllocError>
+    ensures { IsOkAnd result (λ copy. copy ≡ ids.now) }
 {
-    walk.clone()
+    ids.clone()
 }
 
 fn error_again(error: &PatternIDError) -> Result<PatternIDError, AllocError>
@@ -172,10 +172,10 @@ fn tells_the_number(rt: HostRuntime) {
 }
 
 #[test]
-fn walks_from_zero_and_rests_at_the_end(rt: HostRuntime) -> Result<(), Fail> {
-    let mut walk = StateID::iter(3);
+fn counts_from_zero_and_rests_at_the_end(rt: HostRuntime) -> Result<(), Fail> {
+    let mut ids = StateID::iter(3);
     for want in [Some(0), Some(1), Some(2), None, None] {
-        assert_eq!(rt; walk.next().map(|id| id.as_usize()), want);
+        assert_eq!(rt; ids.next().map(|id| id.as_usize()), want);
     }
     assert_eq!(rt; SmallIndex::iter(0).next(), None);
     let indices = all_below(rt.alloc(), 2)?;
@@ -183,11 +183,11 @@ fn walks_from_zero_and_rests_at_the_end(rt: HostRuntime) -> Result<(), Fail> {
         indices.as_slice(),
         [SmallIndex::ZERO, SmallIndex::must(1)].as_slice()
     );
-    let mut walk = PatternID::iter(2);
-    assert_eq!(rt; walk.next(), Some(PatternID::ZERO));
-    let mut again = walk_again(&walk)?;
+    let mut ids = PatternID::iter(2);
+    assert_eq!(rt; ids.next(), Some(PatternID::ZERO));
+    let mut again = copy_of(&ids)?;
     assert_eq!(rt; again.next(), Some(PatternID::must(1)));
-    assert_eq!(rt; walk.next(), Some(PatternID::must(1)));
+    assert_eq!(rt; ids.next(), Some(PatternID::must(1)));
     Ok(())
 }
 

@@ -1,7 +1,7 @@
 //! A slow reader of UTF-8, which tries the definition itself: bytes are a character where they are its encoding, wholly.
 
 /// The character that begins the bytes: the first 1 to 4 of them are its encoding. `Err` of the first byte if there is none.
-pub(super) fn first_character(bytes: &[u8]) -> Option<Result<char, u8>> {
+pub fn first_character(bytes: &[u8]) -> Option<Result<char, u8>> {
     let first = *bytes.first()?;
     for length in 1..=4usize {
         if let Some(c) = bytes.get(..length).and_then(|part| character_of(part)) {
@@ -12,7 +12,7 @@ pub(super) fn first_character(bytes: &[u8]) -> Option<Result<char, u8>> {
 }
 
 /// The character that ends the bytes: the last 1 to 4 of them are its encoding. `Err` of the last byte if there is none.
-pub(super) fn last_character(bytes: &[u8]) -> Option<Result<char, u8>> {
+pub fn last_character(bytes: &[u8]) -> Option<Result<char, u8>> {
     let last = *bytes.last()?;
     for length in 1..=4usize {
         let start = bytes.len().checked_sub(length);
