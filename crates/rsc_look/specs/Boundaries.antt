@@ -5,19 +5,20 @@ use Rattle.rsc_alphabet.specs.ByteSets.{Numbers}
 use Rattle.rsc_alphabet.specs.Partitions.{edges_of}
 use Rattle.rsc_look.specs.declared.assertion.Look.{Look}
 use Rattle.rsc_look.specs.declared.assertion.Look.TheVariants.{Start, End, StartLF, EndLF, StartCRLF, EndCRLF}
+use Rattle.rsc_look.specs.Looks.{line_feed, carriage_return}
 
 -- where word bytes and other bytes meet: at the ends of `0-9`, `A-Z`, `_` and `a-z`
 unfoldable pub word_boundaries : Numbers
 word_boundaries = sets.from_list (0x2F ∷ 0x39 ∷ 0x40 ∷ 0x5A ∷ 0x5E ∷ 0x5F ∷ 0x60 ∷ 0x7A ∷ [])
 
--- the boundaries of an assertion, for the line terminator t; 10 is `\n` and 13 is `\r`
+-- the boundaries of an assertion, for the line terminator t
 abbrev pub boundaries_of : Look → ℕ → Numbers
 boundaries_of Start t = sets.empty
 boundaries_of End t = sets.empty
 boundaries_of StartLF t = edges_of (t, t)
 boundaries_of EndLF t = edges_of (t, t)
-boundaries_of StartCRLF t = sets.union (edges_of (13, 13)) (edges_of (10, 10))
-boundaries_of EndCRLF t = sets.union (edges_of (13, 13)) (edges_of (10, 10))
+boundaries_of StartCRLF t = sets.union (edges_of (carriage_return, carriage_return)) (edges_of (line_feed, line_feed))
+boundaries_of EndCRLF t = sets.union (edges_of (carriage_return, carriage_return)) (edges_of (line_feed, line_feed))
 boundaries_of _ t = word_boundaries
 
 -- the boundaries of all members of a list

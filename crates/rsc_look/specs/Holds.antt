@@ -5,7 +5,7 @@ use Rattle.rsc_look.specs.declared.assertion.Look.{Look}
 use Rattle.rsc_look.specs.declared.assertion.Look.TheVariants.{Start, End, StartLF, EndLF, StartCRLF, EndCRLF, WordAscii, WordAsciiNegate, WordUnicode, WordUnicodeNegate, WordStartAscii, WordEndAscii, WordStartUnicode, WordEndUnicode, WordStartHalfAscii, WordEndHalfAscii, WordStartHalfUnicode, WordEndHalfUnicode}
 use Rattle.rsc_look.specs.declared.side.Side.{Side}
 use Rattle.rsc_look.specs.declared.side.Side.TheVariants.{Absent, Bad, Word, Other}
-use Rattle.rsc_look.specs.Looks.{is_unicode}
+use Rattle.rsc_look.specs.Looks.{is_unicode, line_feed, carriage_return}
 
 -- the byte before a position of a haystack, and the byte after it
 abbrev pub byte_before : List ℕ → ℕ → Option ℕ
@@ -29,14 +29,14 @@ abbrev pub exactly_one : Bool → Bool → Bool
 exactly_one true b = not b
 exactly_one false b = b
 
--- the table of the twelve: t is the line terminator, p the byte before and n the byte after; 10 is `\n` and 13 is `\r`
+-- the table of the twelve: t is the line terminator, p the byte before and n the byte after
 abbrev pub holds_at_bytes : Look → ℕ → Option ℕ → Option ℕ → Bool
 holds_at_bytes Start t p n = is_none p
 holds_at_bytes End t p n = is_none n
 holds_at_bytes StartLF t p n = is_none p || is_byte t p
 holds_at_bytes EndLF t p n = is_none n || is_byte t n
-holds_at_bytes StartCRLF t p n = is_none p || is_byte 10 p || (is_byte 13 p && not (is_byte 10 n))
-holds_at_bytes EndCRLF t p n = is_none n || is_byte 13 n || (is_byte 10 n && not (is_byte 13 p))
+holds_at_bytes StartCRLF t p n = is_none p || is_byte line_feed p || (is_byte carriage_return p && not (is_byte line_feed n))
+holds_at_bytes EndCRLF t p n = is_none n || is_byte carriage_return n || (is_byte line_feed n && not (is_byte carriage_return p))
 holds_at_bytes WordAscii t p n = exactly_one (is_word_at p) (is_word_at n)
 holds_at_bytes WordAsciiNegate t p n = not (exactly_one (is_word_at p) (is_word_at n))
 holds_at_bytes WordStartAscii t p n = is_word_at n && not (is_word_at p)
@@ -93,3 +93,7 @@ pub record HoldsAtSides (l : Look) (W : ℕ → Bool) (h : List ℕ) (i : ℕ) :
 -- the assertion l holds at the position i of the haystack h, where t is the line terminator and W the word characters
 abbrev pub Holds : Look → ℕ → (ℕ → Bool) → List ℕ → ℕ → Type 0
 Holds l t W h i = MatchBool (is_unicode l) (HoldsAtSides l W h i) (IsTrue (holds_at_bytes l t (byte_before h i) (byte_after h i)))
+
+-- the same for a matcher m: its line terminator, and its choice of word characters, of which `word_chars` says which they are
+abbrev pub HoldsFor : {C : Type 0} → (C → ℕ → Bool) → Look → ℕ × C → List ℕ → ℕ → Type 0
+HoldsFor word_chars l m h i = Holds l m.0 (word_chars m.1) h i

@@ -3,7 +3,7 @@ use Rattle.std.specs.Prelude.{ℕ, Bool, true, false, ◌==◌, ◌≡◌, ◌�
 use Rattle.rsc_primitives.specs.Utf8.{EncodesAll}
 use Rattle.rsc_look.specs.declared.assertion.Look.{Look}
 use Rattle.rsc_look.specs.declared.assertion.Look.TheVariants.{StartCRLF, EndCRLF}
-use Rattle.rsc_look.specs.Looks.{reversed}
+use Rattle.rsc_look.specs.Looks.{reversed, line_feed, carriage_return}
 use Rattle.rsc_look.specs.Holds.{Holds}
 
 -- the two assertions that look at `\r\n`
@@ -14,7 +14,7 @@ is_crlf _ = false
 
 -- `\r` and `\n` in each other's place
 abbrev pub exchanged : ℕ → ℕ
-exchanged b = if b == 13 then 10 else if b == 10 then 13 else b
+exchanged b = if b == carriage_return then line_feed else if b == line_feed then carriage_return else b
 
 -- the haystack read from the other end, for the two assertions that look at `\r\n` with these bytes exchanged
 abbrev pub mirror : Look → List ℕ → List ℕ

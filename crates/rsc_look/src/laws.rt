@@ -5,7 +5,7 @@ ghost use Rattle.std.specs.FinSet as sets;
 ghost use Rattle.rsc_primitives.specs.Utf8.{is_word_byte};
 ghost use Rattle.rsc_look.specs.declared.assertion.Look.{Look};
 ghost use Rattle.rsc_look.specs.declared.side.Side.{Side};
-ghost use Rattle.rsc_look.specs.Looks.{is_unicode};
+ghost use Rattle.rsc_look.specs.Looks.{is_unicode, line_feed};
 ghost use Rattle.rsc_look.specs.LookSets.{Looks};
 ghost use Rattle.rsc_look.specs.Holds.{Holds, IsBefore, IsAfter};
 ghost use Rattle.rsc_look.specs.Boundaries.{boundaries_of};
@@ -100,6 +100,6 @@ pub fn equality_is_of_the_value()
 /// The default set has no member, and the default matcher has the line terminator `\n` and the word characters of Unicode.
 pub fn defaults()
     ensures set { (s : Looks) → ⟦<LookSet as Default>⟧.is_default s → s ≡ sets.empty }
-    ensures terminator { (m : ℕ × UnicodeWord) → ⟦<LookMatcher<UnicodeWord> as Default>⟧.is_default m → m.0 ≡ 10 }
+    ensures terminator { (m : ℕ × UnicodeWord) → ⟦<LookMatcher<UnicodeWord> as Default>⟧.is_default m → m.0 ≡ line_feed }
     ensures words { (w : UnicodeWord) (c : ℕ) → ⟦<UnicodeWord as WordClass>⟧.word_chars w c ≡ is_unicode_word c }
 {}

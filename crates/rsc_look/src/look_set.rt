@@ -1,13 +1,16 @@
-//! Sets of assertions, and the iterator over their members.
+//! Sets of assertions.
 ghost use Rattle.std.specs.Prelude.{◌≡◌, ◌↔◌, ◌^◌, ◌<◌, ◌≤◌, ◌&&◌, ◌||◌, true, false, not, [], ◌∷◌, Some, IsTrue, IsOk, IsNone, MatchOption, length};
 ghost use Rattle.std.specs.List.{All};
 ghost use Rattle.std.specs.FinSet as sets;
-ghost use Rattle.std.specs.Iterator.{YieldsFirst, item_count};
 ghost use Rattle.rsc_look.specs.declared.assertion.Look.{Look};
 ghost use Rattle.rsc_look.specs.Looks.{every_look};
-ghost use Rattle.rsc_look.specs.LookSets.{Looks, members, bits_of, has_one_of, anchors, line_anchors, ascii_words, unicode_words, words};
+ghost use Rattle.rsc_look.specs.LookSets.{Looks, members, bits_of};
+
+mod iter;
+mod kinds;
 
 use crate::{Look, UnicodeWordBoundaryError};
+pub use iter::LookSetIter;
 use std::fmt;
 use std::marker::Model;
 
@@ -170,80 +173,6 @@ impl LookSet {
         self.bits & look.as_repr() != 0
     }
 
-    /// Whether a member looks for the haystack's ends or for a line's, that is, for no word.
-    #[inline]
-    pub fn contains_anchor(self) -> bool
-        ensures { result ≡ has_one_of self anchors }
-    {
-        self.contains_anchor_haystack() || self.contains_anchor_line()
-    }
-
-    /// Whether `Start` or `End` is a member.
-    #[inline]
-    pub fn contains_anchor_haystack(self) -> bool
-        ensures { result ≡ has_one_of self (Look.Start ∷ Look.End ∷ []) }
-    {
-        self.contains(Look::Start) || self.contains(Look::End)
-    }
-
-    /// Whether one of the four assertions about lines is a member.
-    #[inline]
-    pub fn contains_anchor_line(self) -> bool
-        ensures { result ≡ has_one_of self line_anchors }
-    {
-        self.contains_anchor_lf() || self.contains_anchor_crlf()
-    }
-
-    /// Whether `StartLF` or `EndLF` is a member, the two that look for the line terminator.
-    #[inline]
-    pub fn contains_anchor_lf(self) -> bool
-        ensures { result ≡ has_one_of self (Look.StartLF ∷ Look.EndLF ∷ []) }
-    {
-        self.contains(Look::StartLF) || self.contains(Look::EndLF)
-    }
-
-    /// Whether `StartCRLF` or `EndCRLF` is a member.
-    #[inline]
-    pub fn contains_anchor_crlf(self) -> bool
-        ensures { result ≡ has_one_of self (Look.StartCRLF ∷ Look.EndCRLF ∷ []) }
-    {
-        self.contains(Look::StartCRLF) || self.contains(Look::EndCRLF)
-    }
-
-    /// Whether one of the twelve assertions about words is a member.
-    #[inline]
-    pub fn contains_word(self) -> bool
-        ensures { result ≡ has_one_of self words }
-    {
-        self.contains_word_unicode() || self.contains_word_ascii()
-    }
-
-    /// Whether one of the six Unicode assertions is a member.
-    #[inline]
-    pub fn contains_word_unicode(self) -> bool
-        ensures { result ≡ has_one_of self unicode_words }
-    {
-        self.contains(Look::WordUnicode)
-            || self.contains(Look::WordUnicodeNegate)
-            || self.contains(Look::WordStartUnicode)
-            || self.contains(Look::WordEndUnicode)
-            || self.contains(Look::WordStartHalfUnicode)
-            || self.contains(Look::WordEndHalfUnicode)
-    }
-
-    /// Whether one of the six assertions about words of ASCII is a member.
-    #[inline]
-    pub fn contains_word_ascii(self) -> bool
-        ensures { result ≡ has_one_of self ascii_words }
-    {
-        self.contains(Look::WordAscii)
-            || self.contains(Look::WordAsciiNegate)
-            || self.contains(Look::WordStartAscii)
-            || self.contains(Look::WordEndAscii)
-            || self.contains(Look::WordStartHalfAscii)
-            || self.contains(Look::WordEndHalfAscii)
-    }
-
     /// The members, by ascending number.
     #[inline]
     pub fn iter(self) -> LookSetIter
@@ -387,45 +316,5 @@ impl LookSet {
             bits: self.bits & !bit,
         };
         Some((look, rest))
-    }
-}
-
-/// The iterator over a set's members, made by [`LookSet::iter`]. A contract sees it as the list of those that are left.
-///
-/// # Examples
-///
-/// ```
-/// let mut looks = LookSet::singleton(Look::End).insert(Look::Start).iter();
-/// assert!(rt; looks.next() == Some(Look::Start));
-/// assert!(rt; looks.next() == Some(Look::End));
-/// assert!(rt; looks.next() == None);
-/// ```
-#[derive(Clone, Debug, Drop)]
-pub struct LookSetIter {
-    set: LookSet,
-}
-
-impl Model for LookSetIter {
-    ghost use Rattle.std.specs.Prelude.{List};
-    ghost use Rattle.rsc_look.specs.declared.assertion.Look.{Look};
-    ghost use Rattle.rsc_look.specs.LookSets.{members};
-
-    ghost Value = { List Look };
-
-    ghost view = { λ it. members it.set };
-}
-
-impl Iterator for LookSetIter {
-    type Item = Look;
-
-    ghost next_gives = { YieldsFirst (λ rest. rest) };
-
-    ghost remaining = { item_count (λ rest. rest) };
-
-    #[inline]
-    fn next(&mut self) -> Option<Look> {
-        let (look, rest) = self.set.first_member_and_rest()?;
-        self.set = rest;
-        Some(look)
     }
 }

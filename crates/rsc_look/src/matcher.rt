@@ -1,18 +1,18 @@
-//! The matcher: where the assertions hold.
-ghost use Rattle.std.specs.Prelude.{◌≡◌, ◌≤◌, ◌-◌, ◌↔◌, true, false, IsTrue, IsOkAnd, IfOk, IsOk, length};
+//! The matcher: where the assertions hold. Those about lines and those about words have a file each.
+ghost use Rattle.std.specs.Prelude.{◌≡◌, ◌≤◌, ◌-◌, ◌↔◌, true, false, IsTrue, IfOk, IsOk, length};
 ghost use Rattle.std.specs.FinSet as sets;
 ghost use Rattle.rsc_primitives.specs.Utf8.{IsInside};
 ghost use Rattle.rsc_look.specs.declared.assertion.Look.{Look};
-ghost use Rattle.rsc_look.specs.Looks.{is_unicode, reversed};
-ghost use Rattle.rsc_look.specs.Holds.{Holds, IsBefore, IsAfter, holds_at_bytes, byte_before, byte_after};
-ghost use Rattle.rsc_look.specs.SideLayout.{IsSideOf};
+ghost use Rattle.rsc_look.specs.Looks.{is_unicode, reversed, line_feed};
+ghost use Rattle.rsc_look.specs.Holds.{HoldsFor, holds_at_bytes, byte_before, byte_after};
 ghost use Rattle.rsc_look.specs.Mirrors.{mirror, IsTextMirrored};
 
-use crate::side::{Side, byte_after, byte_before, is_byte, is_word_at};
-use crate::{Look, LookSet, UnicodeWord, UnicodeWordBoundaryError, WordClass};
-use rsc_primitives::utf8;
+use crate::{Look, LookSet, UnicodeWord, WordClass};
 use std::alloc::AllocError;
 use std::marker::Model;
+
+mod lines;
+mod words;
 
 pub(crate) const LINE_FEED: u8 = b'\n';
 
@@ -48,8 +48,9 @@ impl<W: WordClass> Model for LookMatcher<W> {
 
 impl Default for LookMatcher<UnicodeWord> {
     ghost use Rattle.std.specs.Prelude.{◌≡◌};
+    ghost use Rattle.rsc_look.specs.Looks.{line_feed};
 
-    ghost is_default = { λ m. m.0 ≡ 10 };
+    ghost is_default = { λ m. m.0 ≡ line_feed };
 
     fn default() -> Self {
         Self::new(UnicodeWord)
@@ -60,7 +61,7 @@ impl<W: WordClass> LookMatcher<W> {
     /// A matcher whose line terminator is `\n`.
     #[inline]
     pub fn new(words: W) -> Self
-        ensures { result ≡ (10, words) }
+        ensures { result ≡ (line_feed, words) }
     {
         LookMatcher {
             line_terminator: LINE_FEED,
@@ -112,12 +113,12 @@ impl<W: WordClass> LookMatcher<W> {
     #[inline(always)]
     pub fn matches(&self, look: Look, haystack: &[u8], at: usize) -> bool
         requires { at ≤ length haystack.now }
-        ensures holds { IsTrue result ↔ Holds look self.now.0 (W.word_chars self.now.1) haystack.now at }
+        ensures holds { IsTrue result ↔ HoldsFor W.word_chars look self.now haystack.now at }
         ensures bytes { is_unicode look ≡ false →
             result ≡ holds_at_bytes look self.now.0 (byte_before haystack.now at) (byte_after haystack.now at) }
         ensures inside { is_unicode look ≡ true → IsInside haystack.now at → result ≡ false }
         ensures mirrored { is_unicode look ≡ false →
-            IsTrue result ↔ Holds (reversed look) self.now.0 (W.word_chars self.now.1) (mirror look haystack.now) (length haystack.now - at) }
+            IsTrue result ↔ HoldsFor W.word_chars (reversed look) self.now (mirror look haystack.now) (length haystack.now - at) }
         ensures text_mirrored { is_unicode look ≡ true →
             IsTextMirrored look self.now.0 (W.word_chars self.now.1) haystack.now at (IsTrue result) }
     {
@@ -129,7 +130,7 @@ impl<W: WordClass> LookMatcher<W> {
     #[inline(always)]
     fn holds_at(&self, look: Look, haystack: &[u8], at: usize) -> bool
         requires { at ≤ length haystack.now }
-        ensures { IsTrue result ↔ Holds look self.now.0 (W.word_chars self.now.1) haystack.now at }
+        ensures { IsTrue result ↔ HoldsFor W.word_chars look self.now haystack.now at }
     {
         match look {
             Look::Start => self.is_start(haystack, at),
@@ -167,7 +168,7 @@ impl<W: WordClass> LookMatcher<W> {
     pub fn matches_set(&self, set: LookSet, haystack: &[u8], at: usize) -> bool
         requires { at ≤ length haystack.now }
         ensures { IsTrue result ↔ ((look : Look) → sets.contains set look ≡ true →
-            Holds look self.now.0 (W.word_chars self.now.1) haystack.now at) }
+            HoldsFor W.word_chars look self.now haystack.now at) }
     {
         for look in set.iter() {
             if !self.matches(look, haystack, at) {
@@ -175,286 +176,5 @@ impl<W: WordClass> LookMatcher<W> {
             }
         }
         true
-    }
-
-    // What is before a position.
-    #[inline(always)]
-    fn side_before(&self, haystack: &[u8], at: usize) -> Side
-        requires { at ≤ length haystack.now }
-        ensures { IsBefore (W.word_chars self.now.1) haystack.now at result }
-    {
-        match utf8::decode_last(&haystack[..at]) {
-            None => Side::Absent,
-            Some(Ok(c)) => self.side_of(c),
-            Some(Err(_)) => Side::Bad,
-        }
-    }
-
-    // What is after a position.
-    #[inline(always)]
-    fn side_after(&self, haystack: &[u8], at: usize) -> Side
-        requires { at ≤ length haystack.now }
-        ensures { IsAfter (W.word_chars self.now.1) haystack.now at result }
-    {
-        match utf8::decode(&haystack[at..]) {
-            None => Side::Absent,
-            Some(Ok(c)) => self.side_of(c),
-            Some(Err(_)) => Side::Bad,
-        }
-    }
-
-    // What a character on a side makes of it.
-    #[inline(always)]
-    fn side_of(&self, c: char) -> Side
-        ensures { IsSideOf (W.word_chars self.now.1) c result }
-    {
-        if self.words.is_word(c) {
-            Side::Word
-        } else {
-            Side::Other
-        }
-    }
-
-    /// Whether the position is the start of the haystack.
-    #[inline(always)]
-    pub fn is_start(&self, haystack: &[u8], at: usize) -> bool
-        requires { at ≤ length haystack.now }
-        ensures { IsTrue result ↔ Holds Look.Start self.now.0 (W.word_chars self.now.1) haystack.now at }
-    {
-        byte_before(haystack, at).is_none()
-    }
-
-    /// Whether the position is the end of the haystack.
-    #[inline(always)]
-    pub fn is_end(&self, haystack: &[u8], at: usize) -> bool
-        requires { at ≤ length haystack.now }
-        ensures { IsTrue result ↔ Holds Look.End self.now.0 (W.word_chars self.now.1) haystack.now at }
-    {
-        byte_after(haystack, at).is_none()
-    }
-
-    /// Whether the position is the start of the haystack, or is after a line terminator.
-    #[inline(always)]
-    pub fn is_start_lf(&self, haystack: &[u8], at: usize) -> bool
-        requires { at ≤ length haystack.now }
-        ensures { IsTrue result ↔ Holds Look.StartLF self.now.0 (W.word_chars self.now.1) haystack.now at }
-    {
-        let before = byte_before(haystack, at);
-        before.is_none() || is_byte(self.line_terminator, before)
-    }
-
-    /// Whether the position is the end of the haystack, or is before a line terminator.
-    #[inline(always)]
-    pub fn is_end_lf(&self, haystack: &[u8], at: usize) -> bool
-        requires { at ≤ length haystack.now }
-        ensures { IsTrue result ↔ Holds Look.EndLF self.now.0 (W.word_chars self.now.1) haystack.now at }
-    {
-        let after = byte_after(haystack, at);
-        after.is_none() || is_byte(self.line_terminator, after)
-    }
-
-    /// Whether the position is the start of the haystack, or is after `\n`, or after a `\r` that no `\n` follows.
-    #[inline(always)]
-    pub fn is_start_crlf(&self, haystack: &[u8], at: usize) -> bool
-        requires { at ≤ length haystack.now }
-        ensures { IsTrue result ↔ Holds Look.StartCRLF self.now.0 (W.word_chars self.now.1) haystack.now at }
-    {
-        let before = byte_before(haystack, at);
-        before.is_none()
-            || is_byte(LINE_FEED, before)
-            || (is_byte(CARRIAGE_RETURN, before) && !is_byte(LINE_FEED, byte_after(haystack, at)))
-    }
-
-    /// Whether the position is the end of the haystack, or is before `\r`, or before a `\n` that follows no `\r`.
-    #[inline(always)]
-    pub fn is_end_crlf(&self, haystack: &[u8], at: usize) -> bool
-        requires { at ≤ length haystack.now }
-        ensures { IsTrue result ↔ Holds Look.EndCRLF self.now.0 (W.word_chars self.now.1) haystack.now at }
-    {
-        let after = byte_after(haystack, at);
-        after.is_none()
-            || is_byte(CARRIAGE_RETURN, after)
-            || (is_byte(LINE_FEED, after) && !is_byte(CARRIAGE_RETURN, byte_before(haystack, at)))
-    }
-
-    /// Whether exactly one neighbour is a word byte.
-    #[inline(always)]
-    pub fn is_word_ascii(&self, haystack: &[u8], at: usize) -> bool
-        requires { at ≤ length haystack.now }
-        ensures { IsTrue result ↔ Holds Look.WordAscii self.now.0 (W.word_chars self.now.1) haystack.now at }
-    {
-        is_word_at(byte_before(haystack, at)) != is_word_at(byte_after(haystack, at))
-    }
-
-    /// Whether both neighbours are word bytes, or neither is.
-    #[inline(always)]
-    pub fn is_word_ascii_negate(&self, haystack: &[u8], at: usize) -> bool
-        requires { at ≤ length haystack.now }
-        ensures { IsTrue result ↔ Holds Look.WordAsciiNegate self.now.0 (W.word_chars self.now.1) haystack.now at }
-    {
-        is_word_at(byte_before(haystack, at)) == is_word_at(byte_after(haystack, at))
-    }
-
-    /// Whether a word character is on exactly one side.
-    ///
-    /// Bytes that are no character count as no word character, so a boundary may be beside them.
-    ///
-    /// # Errors
-    ///
-    /// None: the tables of word characters are always there.
-    #[inline(never)]
-    pub fn is_word_unicode(
-        &self,
-        haystack: &[u8],
-        at: usize,
-    ) -> Result<bool, UnicodeWordBoundaryError>
-        requires { at ≤ length haystack.now }
-        ensures { IsOkAnd result (λ r. IsTrue r ↔ Holds Look.WordUnicode self.now.0 (W.word_chars self.now.1) haystack.now at) }
-    {
-        let before = self.side_before(haystack, at);
-        let after = self.side_after(haystack, at);
-        Ok(before.is_word() != after.is_word())
-    }
-
-    /// Whether no side has bytes that are no character, and a word character is on both sides or on neither.
-    ///
-    /// It is no mere negation of [`LookMatcher::is_word_unicode`]: that would hold between two bytes of one character too, and a
-    /// match of `\B` would split it.
-    ///
-    /// # Errors
-    ///
-    /// None: the tables of word characters are always there.
-    ///
-    /// # Examples
-    ///
-    /// ```
-    /// let matcher = LookMatcher::new(UnicodeWord);
-    /// assert!(rt; matcher.matches(Look::WordUnicodeNegate, "ab".as_bytes(), 1));
-    /// // Between two bytes of one character neither it nor its counterpart holds.
-    /// assert!(rt; !matcher.matches(Look::WordUnicodeNegate, "𝛃".as_bytes(), 2));
-    /// assert!(rt; !matcher.matches(Look::WordUnicode, "𝛃".as_bytes(), 2));
-    /// ```
-    #[inline(never)]
-    pub fn is_word_unicode_negate(
-        &self,
-        haystack: &[u8],
-        at: usize,
-    ) -> Result<bool, UnicodeWordBoundaryError>
-        requires { at ≤ length haystack.now }
-        ensures { IsOkAnd result (λ r. IsTrue r ↔ Holds Look.WordUnicodeNegate self.now.0 (W.word_chars self.now.1) haystack.now at) }
-    {
-        let before = self.side_before(haystack, at);
-        // A side whose bytes are no character is reason enough not to read the other one.
-        if before.is_bad() {
-            return Ok(false);
-        }
-        let after = self.side_after(haystack, at);
-        Ok(!after.is_bad() & (before.is_word() == after.is_word()))
-    }
-
-    /// Whether the byte after the position is a word byte, and none is before it.
-    #[inline(always)]
-    pub fn is_word_start_ascii(&self, haystack: &[u8], at: usize) -> bool
-        requires { at ≤ length haystack.now }
-        ensures { IsTrue result ↔ Holds Look.WordStartAscii self.now.0 (W.word_chars self.now.1) haystack.now at }
-    {
-        is_word_at(byte_after(haystack, at)) & !is_word_at(byte_before(haystack, at))
-    }
-
-    /// Whether the byte before the position is a word byte, and none is after it.
-    #[inline(always)]
-    pub fn is_word_end_ascii(&self, haystack: &[u8], at: usize) -> bool
-        requires { at ≤ length haystack.now }
-        ensures { IsTrue result ↔ Holds Look.WordEndAscii self.now.0 (W.word_chars self.now.1) haystack.now at }
-    {
-        is_word_at(byte_before(haystack, at)) & !is_word_at(byte_after(haystack, at))
-    }
-
-    /// Whether a word character is after the position, and none before it.
-    ///
-    /// # Errors
-    ///
-    /// None: the tables of word characters are always there.
-    #[inline(never)]
-    pub fn is_word_start_unicode(
-        &self,
-        haystack: &[u8],
-        at: usize,
-    ) -> Result<bool, UnicodeWordBoundaryError>
-        requires { at ≤ length haystack.now }
-        ensures { IsOkAnd result (λ r. IsTrue r ↔ Holds Look.WordStartUnicode self.now.0 (W.word_chars self.now.1) haystack.now at) }
-    {
-        let starts = self.side_after(haystack, at).is_word();
-        Ok(starts && !self.side_before(haystack, at).is_word())
-    }
-
-    /// Whether a word character is before the position, and none after it.
-    ///
-    /// # Errors
-    ///
-    /// None: the tables of word characters are always there.
-    #[inline(never)]
-    pub fn is_word_end_unicode(
-        &self,
-        haystack: &[u8],
-        at: usize,
-    ) -> Result<bool, UnicodeWordBoundaryError>
-        requires { at ≤ length haystack.now }
-        ensures { IsOkAnd result (λ r. IsTrue r ↔ Holds Look.WordEndUnicode self.now.0 (W.word_chars self.now.1) haystack.now at) }
-    {
-        let ends = self.side_before(haystack, at).is_word();
-        Ok(ends && !self.side_after(haystack, at).is_word())
-    }
-
-    /// Whether no word byte is before the position.
-    #[inline(always)]
-    pub fn is_word_start_half_ascii(&self, haystack: &[u8], at: usize) -> bool
-        requires { at ≤ length haystack.now }
-        ensures { IsTrue result ↔ Holds Look.WordStartHalfAscii self.now.0 (W.word_chars self.now.1) haystack.now at }
-    {
-        !is_word_at(byte_before(haystack, at))
-    }
-
-    /// Whether no word byte is after the position.
-    #[inline(always)]
-    pub fn is_word_end_half_ascii(&self, haystack: &[u8], at: usize) -> bool
-        requires { at ≤ length haystack.now }
-        ensures { IsTrue result ↔ Holds Look.WordEndHalfAscii self.now.0 (W.word_chars self.now.1) haystack.now at }
-    {
-        !is_word_at(byte_after(haystack, at))
-    }
-
-    /// Whether the haystack begins at the position, or a character that is no word character ends there.
-    ///
-    /// # Errors
-    ///
-    /// None: the tables of word characters are always there.
-    #[inline(never)]
-    pub fn is_word_start_half_unicode(
-        &self,
-        haystack: &[u8],
-        at: usize,
-    ) -> Result<bool, UnicodeWordBoundaryError>
-        requires { at ≤ length haystack.now }
-        ensures { IsOkAnd result (λ r. IsTrue r ↔ Holds Look.WordStartHalfUnicode self.now.0 (W.word_chars self.now.1) haystack.now at) }
-    {
-        Ok(self.side_before(haystack, at).is_absent_or_other())
-    }
-
-    /// Whether the haystack ends at the position, or a character that is no word character begins there.
-    ///
-    /// # Errors
-    ///
-    /// None: the tables of word characters are always there.
-    #[inline(never)]
-    pub fn is_word_end_half_unicode(
-        &self,
-        haystack: &[u8],
-        at: usize,
-    ) -> Result<bool, UnicodeWordBoundaryError>
-        requires { at ≤ length haystack.now }
-        ensures { IsOkAnd result (λ r. IsTrue r ↔ Holds Look.WordEndHalfUnicode self.now.0 (W.word_chars self.now.1) haystack.now at) }
-    {
-        Ok(self.side_after(haystack, at).is_absent_or_other())
     }
 }
