@@ -1,5 +1,5 @@
 -- The boundaries of a set's maximal runs: they are where membership changes, and `add_set` adds them one run after the other.
-use Rattle.std.proofs.Common.{◌≡◌, ◌≢◌, ℕ, zero, suc, ◌+◌, ◌-◌, ◌<◌, ◌≤◌, Bool, true, false, not, ◌&&◌, ◌||◌, List, [], ◌∷◌, refl, sym, ap, ap₂, ◌∙◌, arith, nat_eq, nat_lt, nat_le, ⊎_elim}
+use Rattle.std.proofs.Common.{◌≡◌, ◌≢◌, ℕ, zero, suc, ◌+◌, ◌-◌, ◌<◌, ◌≤◌, Bool, true, false, not, ◌&&◌, ◌||◌, List, [], ◌∷◌, refl, sym, ap, ap₂, subst, ◌∙◌, arith, nat_eq, nat_lt, nat_le, ⊎_elim}
 use Rattle.std.specs.List.{list_any, list_all}
 use Rattle.std.specs.Cmp.{nat_cmp_total}
 use Rattle.std.specs.FinSet as sets
@@ -88,34 +88,43 @@ stepped b e k false false from fits inner end next = let out : k ≡ e → e < 2
 abbrev pub is_edge : ℕ → ℕ × ℕ → Bool
 is_edge k r = sets.contains (edges_of r) k
 
--- from `low` on, the edges of the runs are the changes, and the run that begins at `low` has its edge there
-edges_from : (s : Numbers) (n low k : ℕ) → 256 ≤ low + n → parts_no_run s low ≡ true →
-    list_any (is_edge k) (runs_from s low) ≡ (nat_lt k 255 && ((nat_le low k && changes s k) || (nat_eq (k + 1) low && sets.contains s low)))
-edges_from s zero low k far clean =
-    ap (list_any (is_edge k)) (runs_from_none s low (omega arith)) ∙ sym (past low k (changes s k) (sets.contains s low) (omega arith))
-edges_from s (suc n) low k far clean =
+-- what is true of no runs past the bytes, of the runs behind one that begins here and so with it, and of the runs behind a byte that is no
+-- member and so of the same runs, is true of the runs from each place on
+pub for_runs_from : (s : Numbers) (P : ℕ → List (ℕ × ℕ) → Type 0)
+    → ((low : ℕ) → 256 ≤ low → P low [])
+    → ((low e : ℕ) → low < 256 → parts_no_run s low ≡ true → EndsAt s low e → P (e + 1) (runs_from s (e + 1)) → P low ((low, e) ∷ runs_from s (e + 1)))
+    → ((low : ℕ) → low < 256 → sets.contains s low ≡ false → P (low + 1) (runs_from s (low + 1)) → P low (runs_from s (low + 1)))
+    → (n low : ℕ) → 256 ≤ low + n → parts_no_run s low ≡ true → P low (runs_from s low)
+for_runs_from s P none first skipped zero low far clean = subst (P low) (sym (runs_from_none s low (omega arith))) (none low (omega arith))
+for_runs_from s P none first skipped (suc n) low far clean =
     ⊎_elim
     (λ (h : low < 256). ⊎_elim
     (λ (is : sets.contains s low ≡ true).
     let found : (e : ℕ) × EndsAt s low e = find_end s 256 low (omega arith) (omega arith) is in
     let e = found.0 in
     let run = found.1 in
-    ap (list_any (is_edge k)) (runs_from_first s low e run.from run.fits run.within run.last clean)
-    ∙ ap₂ (λ t u. t || u) (contains-edges_of low e k)
-    (edges_from s n (e + 1) k (omega (arith, run.from)) (parts_no_run-after s low e run.from run.fits run.within run.last))
+    subst (P low) (sym (runs_from_first s low e run.from run.fits run.within run.last clean)) (first low e h clean run
+    (for_runs_from s P none first skipped n (e + 1) (omega (arith, run.from)) (parts_no_run-after s low e run.from run.fits run.within run.last))))
+    (λ (no : sets.contains s low ≡ false).
+    subst (P low) (sym (runs_from_skip s low (omega arith) no)) (skipped low h no (for_runs_from s P none first skipped n (low + 1) (omega arith) (parts_no_run-skip s low no))))
+    (cases_Bool (sets.contains s low)))
+    (λ (h : 256 ≤ low). subst (P low) (sym (runs_from_none s low (omega arith))) (none low h))
+    (cases_lt low 256)
+
+-- from `low` on, the edges of the runs are the changes, and the run that begins at `low` has its edge there
+edges_from : (s : Numbers) (k n low : ℕ) → 256 ≤ low + n → parts_no_run s low ≡ true →
+    list_any (is_edge k) (runs_from s low) ≡ (nat_lt k 255 && ((nat_le low k && changes s k) || (nat_eq (k + 1) low && sets.contains s low)))
+edges_from s k =
+    for_runs_from s (λ low rs. list_any (is_edge k) rs ≡ (nat_lt k 255 && ((nat_le low k && changes s k) || (nat_eq (k + 1) low && sets.contains s low))))
+    (λ low h. sym (past low k (changes s k) (sets.contains s low) h))
+    (λ low e h clean run rest.
+    ap₂ (λ t u. t || u) (contains-edges_of low e k) rest
     ∙ stepped low e k (changes s k) (sets.contains s (e + 1)) run.from run.fits
     (λ p q. inside (sets.contains s k) (sets.contains s (k + 1)) (run.within k p (omega arith)) (run.within (k + 1) (omega arith) (omega arith)))
     (λ at h. rw at (ends (sets.contains s e) (sets.contains s (e + 1)) e run.last h))
     (λ h. after (sets.contains s e) (sets.contains s (e + 1)) e run.last h)
-    ∙ rw is refl)
-    (λ (none : sets.contains s low ≡ false).
-    ap (list_any (is_edge k)) (runs_from_skip s low (omega arith) none)
-    ∙ edges_from s n (low + 1) k (omega arith) (parts_no_run-skip s low none)
-    ∙ skipped low k (changes s k) (sets.contains s (low + 1)) (omega arith) (λ at. rw (at, none) refl)
-    ∙ rw none refl)
-    (cases_Bool (sets.contains s low)))
-    (λ (h : 256 ≤ low). ap (list_any (is_edge k)) (runs_from_none s low (omega arith)) ∙ sym (past low k (changes s k) (sets.contains s low) h))
-    (cases_lt low 256)
+    ∙ rw (run.within low (omega arith) run.from) refl)
+    (λ low h none rest. rest ∙ skipped low k (changes s k) (sets.contains s (low + 1)) (omega arith) (λ at. rw (at, none) refl) ∙ rw none refl)
   where
     inside : (x y : Bool) → x ≡ true → y ≡ true → ((x && not y) || (not x && y)) ≡ false
     inside x y p q = rw (p, q) refl
@@ -138,7 +147,7 @@ contains-edges_of_each (r ∷ rest) k = contains-joined (edges_of r) (edges_of_e
 -- the boundaries of a set's maximal runs are where membership changes
 pub contains-edges_of_runs : (s : Numbers) (k : ℕ) → sets.contains (edges_of_each (runs s)) k ≡ changes_at s k
 contains-edges_of_runs s k =
-    contains-edges_of_each (runs s) k ∙ edges_from s 256 0 k (omega arith) (rw (eq-eqb 0 0 refl) refl) ∙ whole (changes s k) (sets.contains s 0)
+    contains-edges_of_each (runs s) k ∙ edges_from s k 256 0 (omega arith) (rw (eq-eqb 0 0 refl) refl) ∙ whole (changes s k) (sets.contains s 0)
   where
     whole : (x y : Bool) → (nat_lt k 255 && ((nat_le 0 k && x) || (nat_eq (k + 1) 0 && y))) ≡ (nat_lt k 255 && x)
     whole true true = grind (arith, nat_tests)
@@ -150,22 +159,8 @@ abbrev pub is_ordered : ℕ × ℕ → Bool
 is_ordered r = nat_le r.0 r.1
 
 ordered_from : (s : Numbers) (n low : ℕ) → 256 ≤ low + n → parts_no_run s low ≡ true → list_all is_ordered (runs_from s low) ≡ true
-ordered_from s zero low far clean = ap (list_all is_ordered) (runs_from_none s low (omega arith))
-ordered_from s (suc n) low far clean =
-    ⊎_elim
-    (λ (h : low < 256). ⊎_elim
-    (λ (is : sets.contains s low ≡ true).
-    let found : (e : ℕ) × EndsAt s low e = find_end s 256 low (omega arith) (omega arith) is in
-    let e = found.0 in
-    let run = found.1 in
-    ap (list_all is_ordered) (runs_from_first s low e run.from run.fits run.within run.last clean)
-    ∙ rw (le-leb low e run.from) (ordered_from s n (e + 1) (omega (arith, run.from)) (parts_no_run-after s low e run.from run.fits run.within run.last)))
-    (λ (none : sets.contains s low ≡ false).
-    ap (list_all is_ordered) (runs_from_skip s low (omega arith) none)
-    ∙ ordered_from s n (low + 1) (omega arith) (parts_no_run-skip s low none))
-    (cases_Bool (sets.contains s low)))
-    (λ (h : 256 ≤ low). ap (list_all is_ordered) (runs_from_none s low (omega arith)))
-    (cases_lt low 256)
+ordered_from s =
+    for_runs_from s (λ low rs. list_all is_ordered rs ≡ true) (λ low h. refl) (λ low e h clean run rest. rw (le-leb low e run.from) rest) (λ low h none rest. rest)
 
 pub ordered_runs : (s : Numbers) → list_all is_ordered (runs s) ≡ true
 ordered_runs s = ordered_from s 256 0 (omega arith) (rw (eq-eqb 0 0 refl) refl)

@@ -3,7 +3,7 @@ use Rattle.std.proofs.Common.{◌≡◌, ◌≢◌, ◌↔◌, ◌⊎◌, inl, i
 use Rattle.std.specs.List.{All, Contains, AllAdjacentBelow}
 use Rattle.std.specs.List.Sorted.{IsStrictlyIncreasing}
 use Rattle.std.specs.FinSet as sets
-use Rattle.std.proofs.lemmas.Bool.{cases_lt, cases_Bool, cases_eq, eq-eqb, true≢false, leb-true}
+use Rattle.std.proofs.lemmas.Bool.{cases_lt, cases_eq, eq-eqb, true≢false, leb-true}
 use Rattle.std.proofs.lemmas.Bool.Decides.{nat_tests}
 use Rattle.std.proofs.lemmas.List.Elements.{All-contains, All-weaker, filter_passes}
 use Rattle.std.proofs.lemmas.List.Kept.{IsStrictlyIncreasing-filter}
@@ -11,8 +11,8 @@ use Rattle.std.proofs.lemmas.List.Sums.{AllPass-from_list_all}
 use Rattle.rsc_alphabet.specs.Bytes.{bytes}
 use Rattle.rsc_alphabet.specs.BytesLaws.{length-from_to, get_or-from_to}
 use Rattle.rsc_alphabet.specs.ByteSets.{Numbers, members, runs, ends_run, IsMaximalRun}
-use Rattle.rsc_alphabet.proofs.EdgesLemmas.{EndsAt, find_end, is_ordered, ordered_runs}
-use Rattle.rsc_alphabet.proofs.RunsLemmas.{runs_from, parts_no_run, runs_from_first, runs_from_skip, runs_from_none, parts_no_run-after, parts_no_run-skip}
+use Rattle.rsc_alphabet.proofs.EdgesLemmas.{EndsAt, for_runs_from, is_ordered, ordered_runs}
+use Rattle.rsc_alphabet.proofs.RunsLemmas.{runs_from, parts_no_run, parts_no_run-after}
 
 -- ---- lists
 
@@ -93,26 +93,14 @@ maximal s low e l clean run = record {
 }
 
 runs_are_maximal : (s : Numbers) (n low : ℕ) → 256 ≤ low + n → parts_no_run s low ≡ true → (r : ℕ × ℕ) → Contains (runs_from s low) r → IsMaximalRun s r × (low ≤ r.0)
-runs_are_maximal s zero low far clean r c = absurd (Contains-none r (subst (λ rs. Contains rs r) (runs_from_none s low (omega arith)) c))
-runs_are_maximal s (suc n) low far clean r c =
-    ⊎_elim
-    (λ (h : low < 256). ⊎_elim
-    (λ (is : sets.contains s low ≡ true).
-    let found : (e : ℕ) × EndsAt s low e = find_end s 256 low (omega arith) (omega arith) is in
-    let e = found.0 in
-    let run = found.1 in
-    ⊎_elim
+runs_are_maximal s =
+    for_runs_from s (λ low rs. (r : ℕ × ℕ) → Contains rs r → IsMaximalRun s r × (low ≤ r.0))
+    (λ low h r c. absurd (Contains-none r c))
+    (λ low e h clean run rest r c. ⊎_elim
     (λ (same : (low, e) ≡ r). subst (λ q. IsMaximalRun s q × (low ≤ q.0)) same (maximal s low e h clean run, omega arith))
-    (λ (later : Contains (runs_from s (e + 1)) r).
-    let rest = runs_are_maximal s n (e + 1) (omega (arith, run.from)) (parts_no_run-after s low e run.from run.fits run.within run.last) r later in
-    (rest.0, omega (arith, run.from, rest.1)))
-    (Contains-cases (low, e) (runs_from s (e + 1)) r (subst (λ rs. Contains rs r) (runs_from_first s low e run.from run.fits run.within run.last clean) c)))
-    (λ (none : sets.contains s low ≡ false).
-    let rest = runs_are_maximal s n (low + 1) (omega arith) (parts_no_run-skip s low none) r (subst (λ rs. Contains rs r) (runs_from_skip s low (omega arith) none) c) in
-    (rest.0, omega (arith, rest.1)))
-    (cases_Bool (sets.contains s low)))
-    (λ (h : 256 ≤ low). absurd (Contains-none r (subst (λ rs. Contains rs r) (runs_from_none s low (omega arith)) c)))
-    (cases_lt low 256)
+    (λ (later : Contains (runs_from s (e + 1)) r). let m = rest r later in (m.0, omega (arith, run.from, m.1)))
+    (Contains-cases (low, e) (runs_from s (e + 1)) r c))
+    (λ low h none rest r c. let m = rest r c in (m.0, omega (arith, m.1)))
 
 -- a maximal run that begins where e ends a run ends there too
 same_end : (s : Numbers) (low e : ℕ) → EndsAt s low e → (r : ℕ × ℕ) → IsMaximalRun s r → r.0 ≡ low → r.1 ≡ e
@@ -126,29 +114,21 @@ same_end s low e run r m first =
     (cases_lt r.1 e)
 
 maximal_are_runs : (s : Numbers) (n low : ℕ) → 256 ≤ low + n → parts_no_run s low ≡ true → (r : ℕ × ℕ) → IsMaximalRun s r → low ≤ r.0 → Contains (runs_from s low) r
-maximal_are_runs s zero low far clean r m from = absurd (omega (arith, m.ordered, m.fits, from, far))
-maximal_are_runs s (suc n) low far clean r m from =
-    ⊎_elim
-    (λ (is : sets.contains s low ≡ true).
-    let h : low < 256 = omega (arith, m.ordered, m.fits, from) in
-    let found : (e : ℕ) × EndsAt s low e = find_end s 256 low (omega arith) (omega arith) is in
-    let e = found.0 in
-    let run = found.1 in
-    subst (λ rs. Contains rs r) (sym (runs_from_first s low e run.from run.fits run.within run.last clean))
-    (⊎_elim
+maximal_are_runs s =
+    for_runs_from s (λ low rs. (r : ℕ × ℕ) → IsMaximalRun s r → low ≤ r.0 → Contains rs r)
+    (λ low h r m from. absurd (omega (arith, m.ordered, m.fits, from, h)))
+    (λ low e h clean run rest r m from. ⊎_elim
     (λ (first : r.0 ≡ low).
     let last : r.1 ≡ e = same_end s low e run r m first in
     let same : (low, e) ≡ r = ap₂ (λ (x y : ℕ). (x, y)) (sym first) (sym last) in
     subst (λ q. Contains ((low, e) ∷ runs_from s (e + 1)) q) same (Contains-first (low, e) (runs_from s (e + 1))))
     (λ (other : r.0 ≢ low).
     let past : e < r.0 = ⊎_elim (λ (l : e < r.0). l) (λ (l : r.0 ≤ e). absurd (true≢false (sym (run.within (r.0 - 1) (omega (arith, other, from)) (omega (arith, l))) ∙ m.before (r.0 - 1) (omega (arith, other, from))))) (cases_lt e r.0) in
-    Contains-later (low, e) (runs_from s (e + 1)) r (maximal_are_runs s n (e + 1) (omega (arith, run.from, far)) (parts_no_run-after s low e run.from run.fits run.within run.last) r m (omega (arith, past))))
-    (cases_eq r.0 low)))
-    (λ (none : sets.contains s low ≡ false).
+    Contains-later (low, e) (runs_from s (e + 1)) r (rest r m (omega (arith, past))))
+    (cases_eq r.0 low))
+    (λ low h none rest r m from.
     let other : r.0 ≢ low = λ e. true≢false (sym (m.members low (omega (arith, e)) (omega (arith, e, m.ordered))) ∙ none) in
-    subst (λ rs. Contains rs r) (sym (runs_from_skip s low (omega (arith, m.ordered, m.fits, from)) none))
-    (maximal_are_runs s n (low + 1) (omega (arith, far)) (parts_no_run-skip s low none) r m (omega (arith, other, from))))
-    (cases_Bool (sets.contains s low))
+    rest r m (omega (arith, other, from)))
 
 clean_start : (s : Numbers) → parts_no_run s 0 ≡ true
 clean_start s = rw (eq-eqb 0 0 refl) refl
@@ -169,25 +149,16 @@ apart_first r (q ∷ rs) first rest zero d l = first q (Contains-first q rs)
 apart_first r (q ∷ rs) first rest (suc k) d l = let e : suc k + 1 ≡ suc (k + 1) = omega arith in rw e (rest k d (omega (arith, l)))
 
 apart_from : (s : Numbers) (n low : ℕ) → 256 ≤ low + n → parts_no_run s low ≡ true → AllAdjacentBelow Apart (runs_from s low) (length (runs_from s low))
-apart_from s zero low far clean = rw (runs_from_none s low (omega arith)) (λ k d l. absurd (omega (arith, l)))
-apart_from s (suc n) low far clean =
-    ⊎_elim
-    (λ (h : low < 256). ⊎_elim
-    (λ (is : sets.contains s low ≡ true).
-    let found : (e : ℕ) × EndsAt s low e = find_end s 256 low (omega arith) (omega arith) is in
-    let e = found.0 in
-    let run = found.1 in
-    let after : parts_no_run s (e + 1) ≡ true = parts_no_run-after s low e run.from run.fits run.within run.last in
-    rw (runs_from_first s low e run.from run.fits run.within run.last clean) (apart_first (low, e) (runs_from s (e + 1))
-    (λ q c. let later = runs_are_maximal s n (e + 1) (omega (arith, run.from, far)) after q c in
+apart_from s =
+    for_runs_from s (λ low rs. AllAdjacentBelow Apart rs (length rs))
+    (λ low h k d l. absurd (omega (arith, l)))
+    (λ low e h clean run rest. apart_first (low, e) (runs_from s (e + 1))
+    (λ q c.
+    let later = runs_are_maximal s 256 (e + 1) (omega arith) (parts_no_run-after s low e run.from run.fits run.within run.last) q c in
     let other : q.0 ≢ e + 1 = λ at. true≢false (sym (run.within e run.from (omega arith)) ∙ later.0.before e (sym at)) in
     omega (arith, other, later.1))
-    (apart_from s n (e + 1) (omega (arith, run.from, far)) after)))
-    (λ (none : sets.contains s low ≡ false).
-    rw (runs_from_skip s low (omega arith) none) (apart_from s n (low + 1) (omega arith) (parts_no_run-skip s low none)))
-    (cases_Bool (sets.contains s low)))
-    (λ (h : 256 ≤ low). rw (runs_from_none s low (omega arith)) (λ k d l. absurd (omega (arith, l))))
-    (cases_lt low 256)
+    rest)
+    (λ low h none rest. rest)
 
 pub runs_apart : (s : Numbers) → AllAdjacentBelow (λ r q. r.1 + 1 < q.0) (runs s) (length (runs s))
 runs_apart s = apart_from s 256 0 (omega arith) (clean_start s)

@@ -1,10 +1,10 @@
 //! The commands `groups` and `limited`: the slots of a list of groups, or why it is refused.
 ghost use Rattle.std.specs.Prelude.{◌≤◌, IfSome};
 
-use crate::tokens::parse_number;
 use rsc_captures::{GroupInfo, GroupInfoError, GroupInfoErrorKind};
+use rsc_notation::bytes::parse_number;
+use rsc_notation::groups::{parse_patterns, slices_of};
 use rsc_primitives::PatternID;
-use rsc_primitives::utf8::is_word_byte;
 use std::alloc::{AllocError, Allocator};
 use std::fmt::Write;
 
@@ -73,7 +73,7 @@ fn answer_patterns<A: Allocator + Copy + Drop>(
 ) -> Result<String<A>, AllocError>
     requires { limit ≤ 2147483646 }
 {
-    let lists = lists_of(alloc, patterns)?;
+    let lists = slices_of(alloc, patterns)?;
     answer_lists(alloc, limit, lists.as_slice())
 }
 
@@ -129,75 +129,4 @@ fn describe_refusal<A: Allocator + Copy + Drop>(
     let mut text = String::new(alloc);
     write!(text, "{error}")?;
     Ok(text)
-}
-
-// The groups of each pattern, lent as slices.
-fn lists_of<'a, 'b, A: Allocator + Copy + Drop>(
-    alloc: A,
-    patterns: &'a [Vec<Option<&'b str>, A>],
-) -> Result<Vec<&'a [Option<&'b str>], A>, AllocError> {
-    let mut lists = Vec::new(alloc);
-    for groups in patterns {
-        lists.push(groups.as_slice())?;
-    }
-    Ok(lists)
-}
-
-// The patterns that a token writes, or `None` where one of its groups isn't written rightly.
-fn parse_patterns<'a, A: Allocator + Copy + Drop>(
-    alloc: A,
-    token: &'a [u8],
-) -> Result<Option<Vec<Vec<Option<&'a str>, A>, A>>, AllocError> {
-    let mut patterns = Vec::new(alloc);
-    for pattern in token.split(|byte| *byte == b';') {
-        match parse_groups(alloc, pattern)? {
-            Some(groups) => patterns.push(groups)?,
-            None => return Ok(None),
-        }
-    }
-    Ok(Some(patterns))
-}
-
-// The groups of a pattern; an empty one has none.
-fn parse_groups<'a, A: Allocator + Copy + Drop>(
-    alloc: A,
-    pattern: &'a [u8],
-) -> Result<Option<Vec<Option<&'a str>, A>>, AllocError> {
-    let mut groups = Vec::new(alloc);
-    if pattern.is_empty() {
-        return Ok(Some(groups));
-    }
-    for group in pattern.split(|byte| *byte == b',') {
-        match parse_group(group) {
-            Some(name) => groups.push(name)?,
-            None => return Ok(None),
-        }
-    }
-    Ok(Some(groups))
-}
-
-// The optional name of a group, or `None` where it isn't written rightly.
-fn parse_group(group: &[u8]) -> Option<Option<&str>> {
-    match group {
-        [] => None,
-        b"-" => Some(None),
-        _ => {
-            if !all_word_bytes(group) {
-                return None;
-            }
-            match std::str::from_utf8(group) {
-                Ok(name) => Some(Some(name)),
-                Err(_) => None,
-            }
-        }
-    }
-}
-
-fn all_word_bytes(name: &[u8]) -> bool {
-    for byte in name {
-        if !is_word_byte(*byte) {
-            return false;
-        }
-    }
-    true
 }

@@ -1,8 +1,9 @@
 //! The commands `looks` and `look`: the classes of a list of assertions, and whether one holds at a position.
 
 use crate::classes::describe;
-use crate::tokens::{parse_byte, parse_hay, parse_number};
+use crate::tokens::parse_hay;
 use rsc_look::{Look, LookMatcher, UnicodeWord};
+use rsc_notation::bytes::{parse_byte, parse_number};
 use std::alloc::{AllocError, Allocator};
 
 /// The answer to the arguments of `looks`, or `None` where they aren't a terminator and names of assertions.

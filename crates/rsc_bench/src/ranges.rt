@@ -2,8 +2,8 @@
 ghost use Rattle.std.specs.Prelude.{◌≤◌, All, IfSome, IfOk};
 
 use crate::classes::describe;
-use crate::tokens::parse_range;
 use rsc_alphabet::classes_of_ranges;
+use rsc_notation::bytes::parse_range;
 use std::alloc::{AllocError, Allocator};
 
 /// The answer to the arguments of `ranges`, or `None` where one of them is no range.

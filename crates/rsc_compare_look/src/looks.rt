@@ -112,14 +112,14 @@ pub fn matches_set(alloc: Global, arguments: &[&[u8]]) -> Result<String, Command
 pub fn all(alloc: Global, arguments: &[&[u8]]) -> Result<String, CommandError> {
     let (terminator, haystack) = two(arguments)?;
     let matcher = matcher(byte(terminator)?, UnicodeWord);
-    masks(alloc, &matcher, bytes(alloc, haystack)?.as_slice())
+    masks(alloc, &matcher, bytes(alloc, haystack)?.as_slice(), false)
 }
 
 /// The same by the call of each assertion.
 pub fn all_named_calls(alloc: Global, arguments: &[&[u8]]) -> Result<String, CommandError> {
     let (terminator, haystack) = two(arguments)?;
     let matcher = matcher(byte(terminator)?, UnicodeWord);
-    masks_of_calls(alloc, &matcher, bytes(alloc, haystack)?.as_slice())
+    masks(alloc, &matcher, bytes(alloc, haystack)?.as_slice(), true)
 }
 
 /// Whether all assertions of a set hold, at each position.
@@ -146,11 +146,11 @@ pub fn with_words(alloc: Global, arguments: &[&[u8]]) -> Result<String, CommandE
     let haystack = bytes(alloc, haystack)?;
     let haystack = haystack.as_slice();
     match *words {
-        b"ascii" => masks(alloc, &matcher(terminator, AsciiWord), haystack),
-        b"unicode" => masks(alloc, &matcher(terminator, UnicodeWord), haystack),
+        b"ascii" => masks(alloc, &matcher(terminator, AsciiWord), haystack, false),
+        b"unicode" => masks(alloc, &matcher(terminator, UnicodeWord), haystack, false),
         _ => {
             let words = RangeWord::read(alloc, words)?;
-            masks(alloc, &matcher(terminator, words), haystack)
+            masks(alloc, &matcher(terminator, words), haystack, false)
         }
     }
 }
@@ -192,50 +192,31 @@ fn named_call<W: WordClass>(
     }
 }
 
-// The assertions that hold at each position, as the sums of their numbers.
+// The assertions that hold at each position, as the sums of their numbers: by `matches`, or by the call of each assertion.
 fn masks<W: WordClass>(
     alloc: Global,
     matcher: &LookMatcher<W>,
     haystack: &[u8],
+    by_calls: bool,
 ) -> Result<String, CommandError> {
     let mut parts = Parts::new(alloc, " ");
     for at in 0..=haystack.len() {
-        parts.push(mask(matcher, haystack, at));
+        parts.push(mask(matcher, haystack, at, by_calls));
     }
     parts.finish()
 }
 
-fn mask<W: WordClass>(matcher: &LookMatcher<W>, haystack: &[u8], at: usize) -> u32
+fn mask<W: WordClass>(matcher: &LookMatcher<W>, haystack: &[u8], at: usize, by_calls: bool) -> u32
     requires { at ≤ length haystack.now }
 {
     let mut mask = 0;
     for look in LookSet::full().iter() {
-        if matcher.matches(look, haystack, at) {
-            mask |= look.as_repr();
-        }
-    }
-    mask
-}
-
-// The same by the call of each assertion.
-fn masks_of_calls<W: WordClass>(
-    alloc: Global,
-    matcher: &LookMatcher<W>,
-    haystack: &[u8],
-) -> Result<String, CommandError> {
-    let mut parts = Parts::new(alloc, " ");
-    for at in 0..=haystack.len() {
-        parts.push(mask_of_calls(matcher, haystack, at));
-    }
-    parts.finish()
-}
-
-fn mask_of_calls<W: WordClass>(matcher: &LookMatcher<W>, haystack: &[u8], at: usize) -> u32
-    requires { at ≤ length haystack.now }
-{
-    let mut mask = 0;
-    for look in LookSet::full().iter() {
-        if named_call(matcher, look, haystack, at) {
+        let holds = if by_calls {
+            named_call(matcher, look, haystack, at)
+        } else {
+            matcher.matches(look, haystack, at)
+        };
+        if holds {
             mask |= look.as_repr();
         }
     }

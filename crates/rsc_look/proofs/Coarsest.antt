@@ -63,7 +63,7 @@ Keeps-from p looks t W has a = record {
 one_byte_haystack : (b : ℕ) → b < 256 → IsHaystack (b ∷ [])
 one_byte_haystack b h = All-cons (λ x. x < 256) b [] h (All-nil (λ x. x < 256))
 
-alike_alone : (q : ℕ → Bool) (b : ℕ) → b < 255 → q b ≡ false → AreInterchanged q (b ∷ []) ((b + 1) ∷ [])
+pub alike_alone : (q : ℕ → Bool) (b : ℕ) → b < 255 → q b ≡ false → AreInterchanged q (b ∷ []) ((b + 1) ∷ [])
 alike_alone q b h e = record {
   first = one_byte_haystack b (omega arith);
   second = one_byte_haystack (b + 1) (omega arith);

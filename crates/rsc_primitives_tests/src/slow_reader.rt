@@ -1,5 +1,19 @@
 //! A slow reader of UTF-8, which tries the definition itself: bytes are a character where they are its encoding, wholly.
 
+/// Lists that break off, run on, or go over a limit of the encoding.
+pub const BROKEN_LISTS: [&[u8]; 10] = [
+    b"\xED\xA0\x80",
+    b"\xF4\x90\x80\x80",
+    b"\xF0\x9D\x9B",
+    b"\x80\x80\x80\x80\x80",
+    b"\xFFabc\xFF",
+    b"\xF0\x9D\x9B\x83\xF0\x90\x86\x80",
+    b"\xE2\x82\xAC\x80\x80",
+    b"a\x80b",
+    b" \x80",
+    b"\xF0\x9D\x9B\x83\x80",
+];
+
 /// The character that begins the bytes: the first 1 to 4 of them are its encoding. `Err` of the first byte if there is none.
 pub fn first_character(bytes: &[u8]) -> Option<Result<char, u8>> {
     let first = *bytes.first()?;

@@ -1,6 +1,6 @@
 //! The six Unicode assertions against the slow reader, at every position of bytes of every kind.
 use rsc_look::{Look, LookMatcher, UnicodeWord, WordClass};
-use rsc_primitives_tests::slow_reader::{first_character, last_character};
+use rsc_primitives_tests::slow_reader::{BROKEN_LISTS, first_character, last_character};
 
 /// What is on one side of a position.
 #[derive(Clone, Copy, PartialEq, Eq)]
@@ -75,18 +75,7 @@ fn every_list_of_at_most_two_bytes(rt: HostRuntime) {
 #[test]
 fn lists_that_break_off_or_run_on(rt: HostRuntime) {
     let matcher = LookMatcher::default();
-    for bytes in [
-        b"\xED\xA0\x80".as_slice(),
-        b"\xF4\x90\x80\x80".as_slice(),
-        b"\xF0\x9D\x9B".as_slice(),
-        b"\x80\x80\x80\x80\x80".as_slice(),
-        b"\xFFabc\xFF".as_slice(),
-        b"\xF0\x9D\x9B\x83\xF0\x90\x86\x80".as_slice(),
-        b"\xE2\x82\xAC\x80\x80".as_slice(),
-        b"a\x80b".as_slice(),
-        b" \x80".as_slice(),
-        b"\xF0\x9D\x9B\x83\x80".as_slice(),
-    ] {
+    for bytes in BROKEN_LISTS {
         assert!(rt; agrees(&matcher, bytes));
     }
 }

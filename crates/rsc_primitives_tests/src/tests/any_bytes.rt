@@ -1,5 +1,5 @@
 //! `decode` and `decode_last` against the slow reader, on bytes of every kind.
-use crate::slow_reader::{first_character, last_character};
+use crate::slow_reader::{BROKEN_LISTS, first_character, last_character};
 use rsc_primitives::utf8::{decode, decode_last};
 
 /// Bytes on both sides of each limit in the encoding's table (RFC 3629, section 4), and two in the middle.
@@ -50,15 +50,7 @@ fn every_list_of_three_or_four_bytes_at_the_limits(rt: HostRuntime) {
 
 #[test]
 fn lists_that_break_off_or_run_on(rt: HostRuntime) {
-    for bytes in [
-        b"\xED\xA0\x80".as_slice(),
-        b"\xF4\x90\x80\x80".as_slice(),
-        b"\xF0\x9D\x9B".as_slice(),
-        b"\x80\x80\x80\x80\x80".as_slice(),
-        b"\xFFabc\xFF".as_slice(),
-        b"\xF0\x9D\x9B\x83\xF0\x90\x86\x80".as_slice(),
-        b"\xE2\x82\xAC\x80\x80".as_slice(),
-    ] {
+    for bytes in BROKEN_LISTS {
         assert!(rt; agrees_everywhere(bytes));
     }
 }

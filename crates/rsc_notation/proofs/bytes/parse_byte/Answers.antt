@@ -1,7 +1,7 @@
 use Rattle.std.proofs.Common.{◌≡◌, ◌∙◌, refl, sym, Ok, Err}
 use Rattle.hex.specs.Hex.{decode_sized}
 use Rattle.hex.proofs.HexLemmas.{IsOk-decode_sized}
-use Rattle.rsc_bench.proofs.tokens.parse_byte.Goals as goal
+use Rattle.rsc_notation.proofs.bytes.parse_byte.Goals as goal
 
 pub returns-in-Ok-clause-found : goal.returns-in-Ok-clause-found
 returns-in-Ok-clause-found c =

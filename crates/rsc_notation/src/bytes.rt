@@ -1,0 +1,70 @@
+//! Bytes and ranges of bytes as hexadecimal digits, and numbers as decimal ones.
+ghost use Rattle.std.specs.Prelude.{◌≡◌, ◌≤◌, ◌↔◌, ◌∷◌, [], length, IsSome, IfSome, Ok};
+ghost use Rattle.std.specs.List.{AllPass};
+ghost use Rattle.hex.specs.Hex.{decode_of, is_hex_digit};
+
+use hex::FromHex;
+use std::alloc::{AllocError, Allocator};
+
+/// The byte that two hexadecimal digits of either case write.
+pub fn parse_byte(digits: &[u8]) -> Option<u8>
+    ensures value { IfSome result (λ byte. decode_of digits.now ≡ Ok (byte ∷ [])) }
+    ensures found { IsSome result ↔ ((length digits.now ≡ 2) × AllPass is_hex_digit digits.now) }
+{
+    match <[u8; 1] as FromHex>::from_hex(digits) {
+        Ok(bytes) => Some(bytes[0]),
+        Err(_) => None,
+    }
+}
+
+/// The range that is written `XX-XX`, or `None` if nothing is written so or the first byte is above the second.
+pub fn parse_range(text: &[u8]) -> Option<(u8, u8)>
+    ensures { IfSome result (λ r. r.0 ≤ r.1) }
+{
+    let [first, second, b'-', third, fourth] = text else {
+        return None;
+    };
+    let start = parse_byte(&[*first, *second])?;
+    let end = parse_byte(&[*third, *fourth])?;
+    if start <= end {
+        Some((start, end))
+    } else {
+        None
+    }
+}
+
+/// The bytes that pairs of hexadecimal digits write, or `None` where one of the pairs is none.
+///
+/// # Errors
+///
+/// An `AllocError` is answered only where memory was refused.
+pub fn parse_bytes<A: Allocator + Copy + Drop>(
+    alloc: A,
+    digits: &[u8],
+) -> Result<Option<Vec<u8, A>>, AllocError> {
+    let mut bytes = Vec::new(alloc);
+    for pair in digits.chunks(2) {
+        match parse_byte(pair) {
+            Some(byte) => bytes.push(byte)?,
+            None => return Ok(None),
+        }
+    }
+    Ok(Some(bytes))
+}
+
+/// The number that one to ten decimal digits write.
+pub fn parse_number(digits: &[u8]) -> Option<usize> {
+    if digits.is_empty() || digits.len() > 10 {
+        return None;
+    }
+    let mut number = 0usize;
+    for digit in digits {
+        if !digit.is_ascii_digit() {
+            return None;
+        }
+        number = number
+            .checked_mul(10)?
+            .checked_add(usize::from(*digit - b'0'))?;
+    }
+    Some(number)
+}

@@ -1,0 +1,5 @@
+//! How the arguments of the programs write bytes, ranges of bytes, and groups of patterns.
+#![tactic(auto)]
+
+pub mod bytes;
+pub mod groups;
