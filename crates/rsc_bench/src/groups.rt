@@ -1,8 +1,8 @@
 //! The commands `groups` and `limited`: the slots of a list of groups, or why it is refused.
 ghost use Rattle.std.specs.Prelude.{◌≤◌, IfSome};
 
+use crate::tokens::parse_short_number;
 use rsc_captures::{GroupInfo, GroupInfoError, GroupInfoErrorKind};
-use rsc_notation::bytes::parse_number;
 use rsc_notation::groups::{parse_patterns, slices_of};
 use rsc_primitives::PatternID;
 use std::alloc::{AllocError, Allocator};
@@ -40,7 +40,7 @@ pub fn answer_limited<A: Allocator + Copy + Drop>(
 fn parse_limit(token: &[u8]) -> Option<usize>
     ensures { IfSome result (λ limit. limit ≤ 2147483646) }
 {
-    let limit = parse_number(token)?;
+    let limit = parse_short_number(token)?;
     if limit <= GREATEST_LIMIT {
         Some(limit)
     } else {

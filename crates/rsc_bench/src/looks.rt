@@ -1,9 +1,9 @@
 //! The commands `looks` and `look`: the classes of a list of assertions, and whether one holds at a position.
 
 use crate::classes::describe;
-use crate::tokens::parse_hay;
+use crate::tokens::{parse_hay, parse_short_number};
 use rsc_look::{Look, LookMatcher, UnicodeWord};
-use rsc_notation::bytes::{parse_byte, parse_number};
+use rsc_notation::bytes::parse_byte;
 use std::alloc::{AllocError, Allocator};
 
 /// The answer to the arguments of `looks`, or `None` where they aren't a terminator and names of assertions.
@@ -41,7 +41,7 @@ pub fn answer_at<A: Allocator + Copy + Drop>(
     let Some(terminator) = parse_byte(terminator) else {
         return Ok(None);
     };
-    let Some(at) = parse_number(at) else {
+    let Some(at) = parse_short_number(at) else {
         return Ok(None);
     };
     let Some(haystack) = parse_hay(alloc, hay)? else {

@@ -1,6 +1,6 @@
 //! The parts of a line: its tokens, and the haystack that one writes.
 
-use rsc_notation::bytes::parse_bytes;
+use rsc_notation::bytes::{parse_bytes, parse_number};
 use std::alloc::{AllocError, Allocator};
 
 /// The tokens of a line, which is split at each single space.
@@ -26,4 +26,12 @@ pub fn parse_hay<A: Allocator + Copy + Drop>(
         b"-" => Ok(Some(Vec::new(alloc))),
         _ => parse_bytes(alloc, token),
     }
+}
+
+/// The number that one to ten decimal digits write.
+pub fn parse_short_number(token: &[u8]) -> Option<usize> {
+    if token.len() > 10 {
+        return None;
+    }
+    parse_number(token)
 }

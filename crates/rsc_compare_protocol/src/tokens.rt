@@ -3,6 +3,7 @@ ghost use Rattle.std.specs.Prelude.{◌<◌, IfSome};
 
 use crate::error::CommandError;
 use crate::error::CommandError::BadCommand;
+use rsc_notation::bytes::parse_number;
 use rsc_primitives::PatternID;
 use std::alloc::{AllocError, Global};
 
@@ -59,23 +60,7 @@ pub fn letter(token: &[u8]) -> Result<(u8, &[u8]), CommandError> {
 
 /// The number that decimal digits write.
 pub fn number(token: &[u8]) -> Result<usize, CommandError> {
-    digits(token).ok_or(BadCommand)
-}
-
-fn digits(token: &[u8]) -> Option<usize> {
-    if token.is_empty() {
-        return None;
-    }
-    let mut number = 0usize;
-    for digit in token {
-        if !digit.is_ascii_digit() {
-            return None;
-        }
-        number = number
-            .checked_mul(10)?
-            .checked_add(usize::from(*digit - b'0'))?;
-    }
-    Some(number)
+    parse_number(token).ok_or(BadCommand)
 }
 
 /// A number of 32 bits.

@@ -52,9 +52,9 @@ pub fn parse_bytes<A: Allocator + Copy + Drop>(
     Ok(Some(bytes))
 }
 
-/// The number that one to ten decimal digits write.
+/// The number that decimal digits write; `None` where there are none, or it takes more than 64 bits.
 pub fn parse_number(digits: &[u8]) -> Option<usize> {
-    if digits.is_empty() || digits.len() > 10 {
+    if digits.is_empty() {
         return None;
     }
     let mut number = 0usize;
