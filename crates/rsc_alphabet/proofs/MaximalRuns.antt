@@ -68,20 +68,20 @@ runs_ordered s = All-weaker (λ r. is_ordered r ≡ true) (λ r. r.0 ≤ r.1) (�
 not_before : (s : Numbers) (low : ℕ) → parts_no_run s low ≡ true → sets.contains s low ≡ true → low < 256 → (b : ℕ) → b + 1 ≡ low → sets.contains s b ≡ false
 not_before s low clean is l b e =
     let at : low - 1 ≡ b = omega (arith, e) in
-    tests (sets.contains s low) (sets.contains s b) is (rw at at clean)
+    by_cases (sets.contains s low) (sets.contains s b) is (rw at at clean)
   where
-    tests : (x y : Bool) → x ≡ true → (nat_eq low 0 || (nat_lt 255 low || (not y || not x))) ≡ true → y ≡ false
-    tests true true is clean = grind (arith, nat_tests)
-    tests true false is clean = refl
-    tests false y is clean = cc
+    by_cases : (x y : Bool) → x ≡ true → (nat_eq low 0 || (nat_lt 255 low || (not y || not x))) ≡ true → y ≡ false
+    by_cases true true is clean = grind (arith, nat_tests)
+    by_cases true false is clean = refl
+    by_cases false y is clean = cc
 
 not_after : (s : Numbers) (e : ℕ) → ends_run s e ≡ true → e < 255 → sets.contains s (e + 1) ≡ false
-not_after s e last l = tests (sets.contains s e) (sets.contains s (e + 1)) last
+not_after s e last l = by_cases (sets.contains s e) (sets.contains s (e + 1)) last
   where
-    tests : (x y : Bool) → (x && (nat_eq e 255 || not y)) ≡ true → y ≡ false
-    tests true true is = grind (arith, nat_tests)
-    tests true false is = refl
-    tests false y is = cc
+    by_cases : (x y : Bool) → (x && (nat_eq e 255 || not y)) ≡ true → y ≡ false
+    by_cases true true is = grind (arith, nat_tests)
+    by_cases true false is = refl
+    by_cases false y is = cc
 
 maximal : (s : Numbers) (low e : ℕ) → low < 256 → parts_no_run s low ≡ true → EndsAt s low e → IsMaximalRun s (low, e)
 maximal s low e l clean run = record {

@@ -44,10 +44,10 @@ contains-edges_of s e q =
 
 -- the boundary before the first byte, and the one after the last
 pub contains-edges : (s e k : ℕ) → sets.contains (edges_of (s, e)) k ≡ (nat_eq (k + 1) s || (nat_eq k e && nat_lt e 255))
-contains-edges s e k = contains-edges_of s e k ∙ tests
+contains-edges s e k = contains-edges_of s e k ∙ by_cases
   where
-    tests : ((nat_lt 0 s && nat_eq (s - 1) k) || (nat_lt e 255 && nat_eq e k)) ≡ (nat_eq (k + 1) s || (nat_eq k e && nat_lt e 255))
-    tests = grind (arith, nat_tests)
+    by_cases : ((nat_lt 0 s && nat_eq (s - 1) k) || (nat_lt e 255 && nat_eq e k)) ≡ (nat_eq (k + 1) s || (nat_eq k e && nat_lt e 255))
+    by_cases = grind (arith, nat_tests)
 
 -- what is a boundary after those of a range were added
 pub c-range : (old : Numbers) (s e k : ℕ) → sets.contains (sets.union old (edges_of (s, e))) k ≡ (sets.contains old k || (nat_eq (k + 1) s || (nat_eq k e && nat_lt e 255)))
@@ -56,19 +56,19 @@ c-range old s e k = contains-joined old (edges_of (s, e)) k ∙ ap (λ b. sets.c
 -- what `set_range` leaves of the flags, above 0 and at 0
 pub edges_above : (ends : Numbers) (s e : ℕ) → 0 < s → s ≤ e → e < 256 → sets.remove (sets.insert (sets.insert ends (s - 1)) e) 255 ≡ sets.union (sets.remove ends 255) (edges_of (s, e))
 edges_above ends s e low order high = same_set nat_cmp_total nat_cmp-IsAntisymmetric _ _ (λ q.
-    rw (contains-removed, contains-inserted, contains-inserted, contains-joined, contains-removed, contains-edges_of) (tests (sets.contains ends q) q))
+    rw (contains-removed, contains-inserted, contains-inserted, contains-joined, contains-removed, contains-edges_of) (by_cases (sets.contains ends q) q))
   where
-    tests : (b : Bool) (q : ℕ) → (not (nat_eq q 255) && (nat_eq q e || (nat_eq q (s - 1) || b))) ≡ ((not (nat_eq q 255) && b) || ((nat_lt 0 s && nat_eq (s - 1) q) || (nat_lt e 255 && nat_eq e q)))
-    tests true q = grind (arith, nat_tests)
-    tests false q = grind (arith, nat_tests)
+    by_cases : (b : Bool) (q : ℕ) → (not (nat_eq q 255) && (nat_eq q e || (nat_eq q (s - 1) || b))) ≡ ((not (nat_eq q 255) && b) || ((nat_lt 0 s && nat_eq (s - 1) q) || (nat_lt e 255 && nat_eq e q)))
+    by_cases true q = grind (arith, nat_tests)
+    by_cases false q = grind (arith, nat_tests)
 
 pub edges_at_zero : (ends : Numbers) (s e : ℕ) → s ≤ 0 → e < 256 → sets.remove (sets.insert ends e) 255 ≡ sets.union (sets.remove ends 255) (edges_of (s, e))
 edges_at_zero ends s e low high = same_set nat_cmp_total nat_cmp-IsAntisymmetric _ _ (λ q.
-    rw (contains-removed, contains-inserted, contains-joined, contains-removed, contains-edges_of) (tests (sets.contains ends q) q))
+    rw (contains-removed, contains-inserted, contains-joined, contains-removed, contains-edges_of) (by_cases (sets.contains ends q) q))
   where
-    tests : (b : Bool) (q : ℕ) → (not (nat_eq q 255) && (nat_eq q e || b)) ≡ ((not (nat_eq q 255) && b) || ((nat_lt 0 s && nat_eq (s - 1) q) || (nat_lt e 255 && nat_eq e q)))
-    tests true q = grind (arith, nat_tests)
-    tests false q = grind (arith, nat_tests)
+    by_cases : (b : Bool) (q : ℕ) → (not (nat_eq q 255) && (nat_eq q e || b)) ≡ ((not (nat_eq q 255) && b) || ((nat_lt 0 s && nat_eq (s - 1) q) || (nat_lt e 255 && nat_eq e q)))
+    by_cases true q = grind (arith, nat_tests)
+    by_cases false q = grind (arith, nat_tests)
 
 -- ---- classes
 

@@ -139,10 +139,10 @@ same_class_is ranges classes b c is lb lc =
 
 pub contains-edges_of_range : (r : ℕ × ℕ) (k : ℕ) → r.0 ≤ r.1 → k < 255 → sets.contains (edges_of r) k ≡ not (treats_alike r k (k + 1))
 contains-edges_of_range (s, e) k order within =
-    contains-edges_of s e k ∙ tests ∙ sym (ap not (treats_alike_up (s, e) k (k + 1) (omega arith) ∙ pair (holds (s, e)) k))
+    contains-edges_of s e k ∙ by_cases ∙ sym (ap not (treats_alike_up (s, e) k (k + 1) (omega arith) ∙ pair (holds (s, e)) k))
   where
-    tests : ((nat_lt 0 s && nat_eq (s - 1) k) || (nat_lt e 255 && nat_eq e k)) ≡ not ((holds (s, e) k && holds (s, e) (k + 1)) || not (holds (s, e) k || holds (s, e) (k + 1)))
-    tests = grind (arith, nat_tests)
+    by_cases : ((nat_lt 0 s && nat_eq (s - 1) k) || (nat_lt e 255 && nat_eq e k)) ≡ not ((holds (s, e) k && holds (s, e) (k + 1)) || not (holds (s, e) k || holds (s, e) (k + 1)))
+    by_cases = grind (arith, nat_tests)
 
 pub separates_more : (ranges : List (ℕ × ℕ)) (i : ℕ) (d : ℕ × ℕ) (k : ℕ) → i < length ranges → separates (take (i + 1) ranges) k ≡ (separates (take i ranges) k || not (treats_alike (get_or ranges i d) k (k + 1)))
 separates_more ranges i d k l =

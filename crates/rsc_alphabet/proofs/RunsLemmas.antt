@@ -18,12 +18,12 @@ abbrev pub parts_no_run : Numbers → ℕ → Bool
 parts_no_run s low = nat_eq low 0 || (nat_lt 255 low || (not (sets.contains s (low - 1)) || not (sets.contains s low)))
 
 begins : (s : Numbers) (b : ℕ) → b ≤ 255 → parts_no_run s b ≡ true → sets.contains s b ≡ true → begins_run s b ≡ true
-begins s b l clean is = tests (sets.contains s b) (sets.contains s (b - 1)) is clean
+begins s b l clean is = by_cases (sets.contains s b) (sets.contains s (b - 1)) is clean
   where
-    tests : (x y : Bool) → x ≡ true → (nat_eq b 0 || (nat_lt 255 b || (not y || not x))) ≡ true → (x && (nat_eq b 0 || not y)) ≡ true
-    tests true true is clean = grind (arith, nat_tests)
-    tests true false is clean = grind (arith, nat_tests)
-    tests false y is clean = cc
+    by_cases : (x y : Bool) → x ≡ true → (nat_eq b 0 || (nat_lt 255 b || (not y || not x))) ≡ true → (x && (nat_eq b 0 || not y)) ≡ true
+    by_cases true true is clean = grind (arith, nat_tests)
+    by_cases true false is clean = grind (arith, nat_tests)
+    by_cases false y is clean = cc
 
 begins_none : (s : Numbers) (b : ℕ) → sets.contains s b ≡ false → begins_run s b ≡ false
 begins_none s b none = rw none refl
@@ -60,13 +60,13 @@ module _ (s : Numbers) (b e : ℕ) (from : b ≤ e) (fits : e < 256) (within : (
 
   -- past a run, no run is parted
   pub parts_no_run-after : parts_no_run s (e + 1) ≡ true
-  parts_no_run-after = tests (sets.contains s e) (sets.contains s (e + 1)) (sets.contains s (e + 1 - 1)) last
+  parts_no_run-after = by_cases (sets.contains s e) (sets.contains s (e + 1)) (sets.contains s (e + 1 - 1)) last
     where
-      tests : (x y z : Bool) → (x && (nat_eq e 255 || not y)) ≡ true → (nat_eq (e + 1) 0 || (nat_lt 255 (e + 1) || (not z || not y))) ≡ true
-      tests true true z is = grind (arith, nat_tests)
-      tests true false true is = grind (arith, nat_tests)
-      tests true false false is = grind (arith, nat_tests)
-      tests false y z is = cc
+      by_cases : (x y z : Bool) → (x && (nat_eq e 255 || not y)) ≡ true → (nat_eq (e + 1) 0 || (nat_lt 255 (e + 1) || (not z || not y))) ≡ true
+      by_cases true true z is = grind (arith, nat_tests)
+      by_cases true false true is = grind (arith, nat_tests)
+      by_cases true false false is = grind (arith, nat_tests)
+      by_cases false y z is = cc
 
 pub runs_from_skip : (s : Numbers) (b : ℕ) → b ≤ 255 → sets.contains s b ≡ false → runs_from s b ≡ runs_from s (b + 1)
 runs_from_skip s b l none =
