@@ -2,7 +2,8 @@ use Rattle.std.proofs.Common.{◌≡◌, ◌-◌, ℕ, ◌∷◌, Some, None, bi
 use Rattle.std.specs.FinSet as sets
 use Rattle.rsc_look.specs.LookSets.{members}
 use Rattle.rsc_look.specs.LookSetLayout.{looks_of}
-use Rattle.rsc_look.proofs.LookSetLemmas.{first_none, first_some, looks_of-remove}
+use Rattle.rsc_look.proofs.FirstMember.{first_none, first_some}
+use Rattle.rsc_look.proofs.LookSetLemmas.{looks_of-remove}
 use Rattle.rsc_look.proofs.look_set.LookSet.first_member_and_rest.Goals as goal
 
 pub returns-then-self-eq0 : goal.returns-then-self-eq0
