@@ -1,9 +1,10 @@
 //! Bytes and ranges of bytes as hexadecimal digits, and numbers as decimal ones.
-ghost use Rattle.std.specs.Prelude.{◌≡◌, ◌≤◌, ◌↔◌, ◌∷◌, [], length, IsSome, IfSome, Ok};
+ghost use Rattle.std.specs.Prelude.{◌≡◌, ◌<◌, ◌≤◌, ◌↔◌, ◌^◌, ◌∷◌, [], length, take, drop, IsSome, IfSome, IfOk, IsErr, MatchOption, Ok};
 ghost use Rattle.std.specs.List.{AllPass};
+ghost use Rattle.std.specs.Str.Parse.{IsNumeral, digits_value};
 ghost use Rattle.hex.specs.Hex.{decode_of, is_hex_digit};
 
-use hex::FromHex;
+use hex::{FromHex, FromHexError};
 use std::alloc::{AllocError, Allocator};
 
 /// The byte that two hexadecimal digits of either case write.
@@ -19,7 +20,9 @@ pub fn parse_byte(digits: &[u8]) -> Option<u8>
 
 /// The range that is written `XX-XX`, or `None` if nothing is written so or the first byte is above the second.
 pub fn parse_range(text: &[u8]) -> Option<(u8, u8)>
-    ensures { IfSome result (λ r. r.0 ≤ r.1) }
+    ensures ordered { IfSome result (λ r. r.0 ≤ r.1) }
+    ensures start { IfSome result (λ r. decode_of (take 2 text.now) ≡ Ok (r.0 ∷ [])) }
+    ensures end { IfSome result (λ r. decode_of (drop 3 text.now) ≡ Ok (r.1 ∷ [])) }
 {
     let [first, second, b'-', third, fourth] = text else {
         return None;
@@ -41,19 +44,21 @@ pub fn parse_range(text: &[u8]) -> Option<(u8, u8)>
 pub fn parse_bytes<A: Allocator + Copy + Drop>(
     alloc: A,
     digits: &[u8],
-) -> Result<Option<Vec<u8, A>>, AllocError> {
-    let mut bytes = Vec::new(alloc);
-    for pair in digits.chunks(2) {
-        match parse_byte(pair) {
-            Some(byte) => bytes.push(byte)?,
-            None => return Ok(None),
-        }
+) -> Result<Option<Vec<u8, A>>, AllocError>
+    ensures { IfOk result (λ o. MatchOption o (IsErr (decode_of digits.now)) (λ bytes. decode_of digits.now ≡ Ok bytes.items)) }
+{
+    match hex::decode(alloc, digits) {
+        Ok(bytes) => Ok(Some(bytes)),
+        Err(FromHexError::OutOfMemory) => Err(AllocError),
+        Err(_) => Ok(None),
     }
-    Ok(Some(bytes))
 }
 
 /// The number that decimal digits write; `None` where there are none, or it takes more than 64 bits.
-pub fn parse_number(digits: &[u8]) -> Option<usize> {
+pub fn parse_number(digits: &[u8]) -> Option<usize>
+    ensures value { IfSome result (λ n. n ≡ digits_value 10 digits.now) }
+    ensures found { IsSome result ↔ (IsNumeral 10 digits.now × (digits_value 10 digits.now < 2 ^ 64)) }
+{
     if digits.is_empty() {
         return None;
     }

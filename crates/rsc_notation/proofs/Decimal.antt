@@ -1,0 +1,46 @@
+-- Numbers as decimal digits, one digit after the other.
+use Rattle.std.proofs.Common.{◌≡◌, ◌↔◌, ℕ, suc, ◌+◌, ◌*◌, ◌<◌, ◌≤◌, List, [], ◌∷◌, length, drop, get_or, refl, sym, ap, ◌∙◌, subst, arith}
+use Rattle.std.specs.Char.{digit_value}
+use Rattle.std.specs.Str.Parse.{AllDigits, digits_value, digits_value_after}
+use Rattle.std.proofs.Math.Seq.{drop-cons, drop-length}
+
+-- after i digits, which write n
+pub record Reads (ds : List ℕ) (i n : ℕ) : Type 0 where
+  pub value : digits_value_after 10 n (drop i ds) ≡ digits_value 10 ds
+  pub digits : AllDigits 10 (drop i ds) ↔ AllDigits 10 ds
+
+pub Reads-none : (ds : List ℕ) → Reads ds 0 0
+Reads-none ds = record { value = refl; digits = ((λ h. h), (λ h. h)) }
+
+no_less : (n : ℕ) (ds : List ℕ) → n ≤ digits_value_after 10 n ds
+no_less n [] = omega arith
+no_less n (c ∷ cs) = let more = no_less (n * 10 + digit_value c) cs in omega (arith, more)
+
+next : (ds : List ℕ) (i : ℕ) → i < length ds → drop i ds ≡ get_or ds i 0 ∷ drop (i + 1) ds
+next ds i l = let e : suc i ≡ i + 1 = omega arith in drop-cons ds i 0 l ∙ ap (λ k. get_or ds i 0 ∷ drop k ds) e
+
+value_of_rest : (ds : List ℕ) (i n : ℕ) → i < length ds → Reads ds i n → digits_value_after 10 (n * 10 + digit_value (get_or ds i 0)) (drop (i + 1) ds) ≡ digits_value 10 ds
+value_of_rest ds i n l r = ap (digits_value_after 10 n) (sym (next ds i l)) ∙ r.value
+
+pub Reads-one : (ds : List ℕ) (i n : ℕ) → i < length ds → Reads ds i n → digit_value (get_or ds i 0) < 10 → Reads ds (i + 1) (n * 10 + digit_value (get_or ds i 0))
+Reads-one ds i n l r d = record {
+  value = value_of_rest ds i n l r;
+  digits = (
+    (λ h. r.digits.0 (subst (AllDigits 10) (sym (next ds i l)) (d, h))),
+    (λ h. (subst (AllDigits 10) (next ds i l) (r.digits.1 h)).1),
+  );
+}
+
+pub all_read : (ds : List ℕ) (n : ℕ) → Reads ds (length ds) n → (n ≡ digits_value 10 ds) × AllDigits 10 ds
+all_read ds n r =
+    let none : drop (length ds) ds ≡ [] = drop-length ds in
+    (ap (digits_value_after 10 n) (sym none) ∙ r.value, r.digits.0 (subst (AllDigits 10) (sym none) tt))
+
+pub no_digit : (ds : List ℕ) (i n : ℕ) → i < length ds → Reads ds i n → (digit_value (get_or ds i 0) < 10 → ⊥) → AllDigits 10 ds → ⊥
+no_digit ds i n l r other h = other (subst (AllDigits 10) (next ds i l) (r.digits.1 h)).0
+
+pub too_great : (ds : List ℕ) (i n k : ℕ) → i < length ds → Reads ds i n → k ≤ n * 10 + digit_value (get_or ds i 0) → k ≤ digits_value 10 ds
+too_great ds i n k l r h =
+    let more = no_less (n * 10 + digit_value (get_or ds i 0)) (drop (i + 1) ds) in
+    let same = value_of_rest ds i n l r in
+    omega (arith, more, same, h)

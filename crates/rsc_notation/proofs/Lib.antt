@@ -1,0 +1,1 @@
+pub mod Decimal  -- numbers as decimal digits, one digit after the other
