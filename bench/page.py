@@ -4,7 +4,7 @@
     bench/page.py [THEIRS OURS]     # two files of lines `name ns`, as bench.sh leaves them; without them the picture alone is drawn anew
 
 A workload that the page lacks comes behind the one that was measured before it; one whose time is a difference that came out at nothing is left
-out. The text around the tables is written by hand.
+out. The text around the tables is written by hand. A line of the tables of times that is no such row is a mistake, and stops the script.
 """
 import math
 import pathlib
@@ -65,6 +65,11 @@ def ratios(lines):
     return found
 
 
+def strays(lines):
+    """Returns the lines of the tables of times that hold no times."""
+    return [line for line in lines[lines.index("## The table"):] if line.startswith("| `") and not ROW.match(line)]
+
+
 def mean(values):
     return math.exp(sum(math.log(max(it, 0.005)) for it in values) / len(values))
 
@@ -107,6 +112,8 @@ def picture(found):
 def main():
     page = DOCS / "PERFORMANCE.md"
     lines = page.read_text(encoding="utf-8").split("\n")
+    if strays(lines):
+        sys.exit("page.py: no row of times: " + "; ".join(strays(lines)))
     if len(sys.argv) == 3:
         times = least(sys.argv[1]), least(sys.argv[2])
         lines = with_growth(with_times(lines, *times), *times)

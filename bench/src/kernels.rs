@@ -3,6 +3,7 @@
 use std::fmt::Write;
 use std::hint::black_box;
 
+use crate::engine;
 use crate::util::alphabet::{ByteClassSet, ByteClasses, ByteSet, Unit};
 use crate::util::captures::{Captures, GroupInfo};
 use crate::util::escape::{DebugByte, DebugHaystack};
@@ -34,12 +35,13 @@ pub unsafe extern "C" fn original(
         BYTE_CLASSES..=BYTESET_RANGES => alphabet(kernel, data, param, reps),
         LOOK_AT..=LOOKSET_ITER => look(kernel, data, param, reps),
         PSET_FILL..=PSET_ITER_BACK => pattern_set(kernel, data, param, reps),
-        _ => captures(kernel, data, reps),
+        GI_NEW..=CAPS_CLONE => captures(kernel, data, reps),
+        _ => engine::run(kernel, data, param, reps),
     }
 }
 
 /// The sum of what `step` answers, `reps` times.
-fn repeat(reps: u64, mut step: impl FnMut() -> u64) -> u64 {
+pub fn repeat(reps: u64, mut step: impl FnMut() -> u64) -> u64 {
     (0..reps).fold(0, |sum: u64, _| sum.wrapping_add(black_box(step())))
 }
 
@@ -112,7 +114,7 @@ fn seen(found: Result<char, u8>) -> (u64, usize) {
 }
 
 /// Ranges and what is behind them.
-fn ranges(data: &[u8]) -> (Vec<(u8, u8)>, &[u8]) {
+pub fn ranges(data: &[u8]) -> (Vec<(u8, u8)>, &[u8]) {
     let (pairs, rest) = data[1..].split_at(2 * usize::from(data[0]));
     (pairs.chunks_exact(2).map(|p| (p[0], p[1])).collect(), rest)
 }
@@ -180,12 +182,12 @@ fn classes_of(line_terminator: u8, looks: &[Look]) -> ByteClasses {
     set.byte_classes()
 }
 
-fn last(classes: &ByteClasses) -> u64 {
+pub fn last(classes: &ByteClasses) -> u64 {
     let classes = black_box(classes);
     u64::from(classes.get(b'a')) + u64::from(classes.get(255))
 }
 
-fn matcher(line_terminator: u8) -> LookMatcher {
+pub fn matcher(line_terminator: u8) -> LookMatcher {
     let mut matcher = LookMatcher::new();
     matcher.set_line_terminator(line_terminator);
     matcher
@@ -257,12 +259,15 @@ fn pattern_set(kernel: u32, data: &[u8], param: u64, reps: u64) -> u64 {
     }
 }
 
-fn captures(kernel: u32, data: &[u8], reps: u64) -> u64 {
+/// The groups of each pattern by their names.
+pub fn lists_of(data: &[u8]) -> Vec<Vec<Option<&str>>> {
     let text = std::str::from_utf8(data).unwrap();
-    let lists: Vec<Vec<Option<&str>>> = text
-        .split(';')
-        .map(|p| p.split(',').map(|g| if g == "-" { None } else { Some(g) }).collect())
-        .collect();
+    let name = |group| if group == "-" { None } else { Some(group) };
+    text.split(';').map(|pattern| pattern.split(',').map(name).collect()).collect()
+}
+
+fn captures(kernel: u32, data: &[u8], reps: u64) -> u64 {
+    let lists = lists_of(data);
     let try_make = |lists: &[Vec<Option<&str>>]| {
         GroupInfo::new(lists.iter().map(|groups| groups.iter().copied()))
     };

@@ -3,6 +3,9 @@
 extern crate alloc;
 
 #[cfg(not(ported))]
+mod engine;
+mod engine_workloads;
+#[cfg(not(ported))]
 mod kernels;
 mod measure;
 /// The original's modules under the paths that they ask for, and what they name beside.

@@ -3,6 +3,8 @@
 //! Nothing here names a library. Each side has one function of the type `Kernel`; `README.md` of
 //! the crate rsc_kernels says what a kernel does in a repetition, and what it adds to the sum.
 
+use crate::engine_workloads;
+
 /// Kernel number, input bytes and their length, a parameter, repetitions; answers a
 /// sum (wrapping, 64 bits) over all repetitions. What has to be made first is made
 /// once, before the repetitions.
@@ -53,6 +55,15 @@ pub const CAPS_EXTRACT: u32 = 64;
 pub const CAPS_EXTRACT_BYTES: u32 = 65;
 pub const CAPS_CLEAR: u32 = 66;
 pub const CAPS_CLONE: u32 = 67;
+pub const SCAN: u32 = 70;
+pub const STEPS: u32 = 71;
+pub const PATTERN_CLASSES: u32 = 72;
+pub const MATCH_CAPTURES: u32 = 73;
+pub const MATCH_SETS: u32 = 74;
+
+/// What the place of a transition is multiplied by to choose a state.
+#[allow(dead_code)]
+pub const SPREAD: u64 = 0x9E37_79B9_7F4A_7C15;
 
 pub struct Workload {
     pub name: String,
@@ -86,7 +97,7 @@ pub const LOOK_NAMES: [&str; 18] = [
     "word_end_half_unicode",
 ];
 
-const KIB: usize = 1024;
+pub const KIB: usize = 1024;
 
 /// A plain generator of numbers (splitmix64), the same everywhere.
 pub struct Numbers(pub u64);
@@ -177,7 +188,7 @@ fn invalid(len: usize) -> Vec<u8> {
     (0..len).map(|_| byte(&mut numbers)).collect()
 }
 
-fn binary(len: usize) -> Vec<u8> {
+pub fn binary(len: usize) -> Vec<u8> {
     let mut numbers = Numbers(5);
     (0..len).map(|_| numbers.next() as u8).collect()
 }
@@ -205,7 +216,7 @@ fn steps(data: &[u8]) -> u64 {
 
 // Byte ranges: a count, that many pairs of first and last byte, then a haystack.
 
-fn ranges(count: u8, haystack: &[u8]) -> Vec<u8> {
+pub fn ranges(count: u8, haystack: &[u8]) -> Vec<u8> {
     let mut numbers = Numbers(u64::from(count));
     let mut data = vec![count];
     for _ in 0..count {
@@ -227,7 +238,7 @@ fn singles(haystack: &[u8]) -> Vec<u8> {
 
 // Numbers of 32 bits, little-endian.
 
-fn words(numbers: impl IntoIterator<Item = u32>) -> Vec<u8> {
+pub fn words(numbers: impl IntoIterator<Item = u32>) -> Vec<u8> {
     numbers.into_iter().flat_map(u32::to_le_bytes).collect()
 }
 
@@ -247,7 +258,7 @@ const QUERIES: u64 = 4096;
 
 /// Group lists as rsc_bench reads them: patterns with `;` between, groups with `,`,
 /// `-` unnamed.
-fn group_lists(patterns: usize, named: usize) -> Vec<u8> {
+pub fn group_lists(patterns: usize, named: usize) -> Vec<u8> {
     let pattern = |p: usize| {
         let names: String = (0..named).map(|g| format!(",name_{}_{g}", p % 7)).collect();
         format!("-{names}")
@@ -443,5 +454,7 @@ pub fn all() -> Vec<Workload> {
     add("group_info_refused_1x20000_used_twice_and_x", &format!("{many},name_0_10000;x"));
     let very_many = one_pattern((0..200_000).map(name));
     add("group_info_refused_1x200000", &format!("{very_many};x"));
+
+    all.extend(engine_workloads::all());
     all
 }

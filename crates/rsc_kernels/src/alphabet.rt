@@ -33,7 +33,7 @@ pub fn run(
 }
 
 // The ranges whose first and last bytes are next to each other, or `None` where a last byte is below its first.
-fn ranges_of(alloc: Global, pairs: &[u8]) -> Result<Option<Vec<(u8, u8)>>, AllocError>
+pub fn ranges_of(alloc: Global, pairs: &[u8]) -> Result<Option<Vec<(u8, u8)>>, AllocError>
     ensures { IfOk result (λ found. IfSome found (λ ranges. All (λ r. r.0 ≤ r.1) ranges.items)) }
 {
     let mut ranges = Vec::new(alloc);

@@ -91,7 +91,7 @@ fn places_of(
 }
 
 // The name of each group that has one, with its pattern.
-fn names_of<'b>(
+pub fn names_of<'b>(
     alloc: Global,
     lists: &[&[Option<&'b str>]],
 ) -> Result<Vec<(PatternID, &'b str)>, AllocError> {

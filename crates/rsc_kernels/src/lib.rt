@@ -3,6 +3,7 @@
 
 mod alphabet;
 mod captures;
+mod engine;
 mod groups;
 mod look;
 mod primitives;
@@ -29,6 +30,7 @@ pub extern "C" fn rsc_kernel(
         30..=33 => look::run(alloc, kernel, data, param, reps),
         40..=45 => search::run(alloc, kernel, data, param, reps),
         50..=67 => captures::run(alloc, kernel, data, reps),
+        70..=74 => engine::run(alloc, kernel, data, param, reps),
         _ => Ok(0),
     };
     sum.unwrap_or(0)

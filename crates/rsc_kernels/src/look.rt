@@ -44,13 +44,13 @@ pub fn classes_of(alloc: Global, data: &[u8], param: u64, reps: u64) -> Result<u
     Ok(repeat(reps, |sum| classes_of_list(&looks, line_terminator, sum)))
 }
 
-fn matcher(line_terminator: u8) -> LookMatcher<UnicodeWord> {
+pub fn matcher(line_terminator: u8) -> LookMatcher<UnicodeWord> {
     let mut matcher = LookMatcher::new(UnicodeWord);
     matcher.set_line_terminator(line_terminator);
     matcher
 }
 
-fn looks_of(alloc: Global, data: &[u8]) -> Result<Vec<Look>, AllocError> {
+pub fn looks_of(alloc: Global, data: &[u8]) -> Result<Vec<Look>, AllocError> {
     let mut looks = Vec::new(alloc);
     for number in data {
         let repr = 1u32.checked_shl(u32::from(*number)).unwrap_or(0);

@@ -32,7 +32,7 @@ pub fn run(
 }
 
 // The first number of the input, which says how many of the others are members.
-fn count_of(data: &[u8]) -> Option<usize> {
+pub fn count_of(data: &[u8]) -> Option<usize> {
     match data {
         [a, b, c, d, ..] => Some(u32::from_le_bytes([*a, *b, *c, *d]) as usize),
         _ => None,
@@ -40,7 +40,7 @@ fn count_of(data: &[u8]) -> Option<usize> {
 }
 
 // All other numbers of the input.
-fn ids_of(alloc: Global, data: &[u8]) -> Result<Vec<PatternID>, AllocError> {
+pub fn ids_of(alloc: Global, data: &[u8]) -> Result<Vec<PatternID>, AllocError> {
     let mut ids = Vec::new(alloc);
     for bytes in data.chunks_exact(4).skip(1) {
         if let [a, b, c, d] = bytes {
