@@ -79,8 +79,8 @@ pub fn decode(bytes: &[u8]) -> Option<Result<char, u8>>
     if first < 0x80 {
         return Some(Ok(char::from(first)));
     }
-    match first_number(bytes) {
-        Some(number) => Some(Ok(char_of(number))),
+    match first_char(bytes) {
+        Some(c) => Some(Ok(c)),
         None => Some(Err(first)),
     }
 }
@@ -103,18 +103,26 @@ pub fn decode_last(bytes: &[u8]) -> Option<Result<char, u8>>
     if last < 0x80 {
         return Some(Ok(char::from(last)));
     }
-    match last_number(bytes) {
-        Some(number) => Some(Ok(char_of(number))),
+    match last_char(bytes) {
+        Some(c) => Some(Ok(c)),
         None => Some(Err(last)),
     }
 }
 
-// The character of a number that is some character's.
+// The character of a number that is some character's, between two bounds.
+//
+// Both are known, and tested only so that the compiler knows them too, and a caller who asks how many bytes the character takes
+// needs fewer tests.
 #[inline(always)]
-fn char_of(number: u32) -> char
-    requires { IsScalar number }
+fn char_between(number: u32, least: u32, greatest: u32) -> char
+    requires scalar { IsScalar number }
+    requires from { least ≤ number }
+    requires to { number ≤ greatest }
     ensures { result ≡ number }
 {
+    if number < least || greatest < number {
+        unreachable!();
+    }
     match char::from_u32(number) {
         Some(c) => c,
         None => unreachable!(),
@@ -128,9 +136,9 @@ fn is_tail(byte: u8) -> bool
     (0x80..=0xBF).contains(&byte)
 }
 
-// The number of the character past ASCII that begins the bytes. Most bytes that begin none are told by the first alone.
+// The character past ASCII that begins the bytes. Most bytes that begin none are told by the first alone.
 #[inline(always)]
-fn first_number(bytes: &[u8]) -> Option<u32>
+fn first_char(bytes: &[u8]) -> Option<char>
     requires some { 1 ≤ length bytes.now }
     requires past_ascii { 0x80 ≤ slice_index bytes.now 0 }
     ensures { MatchOption result ((n : ℕ) → IsFirstNumber bytes.now n → ⊥) (IsFirstNumber bytes.now) }
@@ -145,7 +153,7 @@ fn first_number(bytes: &[u8]) -> Option<u32>
         return None;
     }
     if a <= 0xDF {
-        return Some(number_of_two(a, b));
+        return Some(char_of_two(a, b));
     }
     if n < 3 || !is_tail(bytes[2]) {
         return None;
@@ -153,7 +161,7 @@ fn first_number(bytes: &[u8]) -> Option<u32>
     let c = bytes[2];
     if a <= 0xEF {
         return if opens_three(a, b) {
-            Some(number_of_three(a, b, c))
+            Some(char_of_three(a, b, c))
         } else {
             None
         };
@@ -162,15 +170,15 @@ fn first_number(bytes: &[u8]) -> Option<u32>
         return None;
     }
     if opens_four(a, b) {
-        Some(number_of_four(a, b, c, bytes[3]))
+        Some(char_of_four(a, b, c, bytes[3]))
     } else {
         None
     }
 }
 
-// The number of the character past ASCII that ends the bytes. It stops at the first byte from the back that can't be there.
+// The character past ASCII that ends the bytes. It stops at the first byte from the back that can't be there.
 #[inline(always)]
-fn last_number(bytes: &[u8]) -> Option<u32>
+fn last_char(bytes: &[u8]) -> Option<char>
     requires some { 1 ≤ length bytes.now }
     requires past_ascii { 0x80 ≤ slice_index bytes.now (length bytes.now - 1) }
     ensures { MatchOption result ((n : ℕ) → IsLastNumber bytes.now n → ⊥) (IsLastNumber bytes.now) }
@@ -182,57 +190,59 @@ fn last_number(bytes: &[u8]) -> Option<u32>
     }
     let c = bytes[n - 2];
     if 0xC2 <= c && c <= 0xDF {
-        return Some(number_of_two(c, d));
+        return Some(char_of_two(c, d));
     }
     if n < 3 || !is_tail(c) {
         return None;
     }
     let b = bytes[n - 3];
     if opens_three(b, c) {
-        return Some(number_of_three(b, c, d));
+        return Some(char_of_three(b, c, d));
     }
     if n < 4 {
         return None;
     }
     let a = bytes[n - 4];
     if opens_four(a, b) {
-        Some(number_of_four(a, b, c, d))
+        Some(char_of_four(a, b, c, d))
     } else {
         None
     }
 }
 
 #[inline(always)]
-fn number_of_two(a: u8, b: u8) -> u32
-    requires lead { 0xC0 ≤ a }
-    requires tail { 0x80 ≤ b }
+fn char_of_two(a: u8, b: u8) -> char
+    requires lead { 0xC2 ≤ a }
+    requires most { a ≤ 0xDF }
+    requires tail { IsTail b }
     ensures { result ≡ (a - 0xC0) * 64 + (b - 0x80) }
 {
-    (u32::from(a) - 0xC0) * 64 + (u32::from(b) - 0x80)
+    let number = (u32::from(a) - 0xC0) * 64 + (u32::from(b) - 0x80);
+    char_between(number, 0x80, 0x7FF)
 }
 
 #[inline(always)]
-fn number_of_three(a: u8, b: u8, c: u8) -> u32
-    requires lead { 0xE0 ≤ a }
-    requires second { 0x80 ≤ b }
-    requires tail { 0x80 ≤ c }
+fn char_of_three(a: u8, b: u8, c: u8) -> char
+    requires leads { OpensThree a b }
+    requires tail { IsTail c }
     ensures { result ≡ (a - 0xE0) * 4096 + (b - 0x80) * 64 + (c - 0x80) }
 {
-    (u32::from(a) - 0xE0) * 4096 + (u32::from(b) - 0x80) * 64 + (u32::from(c) - 0x80)
+    let number = (u32::from(a) - 0xE0) * 4096 + (u32::from(b) - 0x80) * 64 + (u32::from(c) - 0x80);
+    char_between(number, 0x800, 0xFFFF)
 }
 
 #[inline(always)]
-fn number_of_four(a: u8, b: u8, c: u8, d: u8) -> u32
-    requires lead { 0xF0 ≤ a }
-    requires second { 0x80 ≤ b }
-    requires third { 0x80 ≤ c }
-    requires tail { 0x80 ≤ d }
+fn char_of_four(a: u8, b: u8, c: u8, d: u8) -> char
+    requires leads { OpensFour a b }
+    requires third { IsTail c }
+    requires tail { IsTail d }
     ensures { result ≡ (a - 0xF0) * 262144 + (b - 0x80) * 4096 + (c - 0x80) * 64 + (d - 0x80) }
 {
-    (u32::from(a) - 0xF0) * 262144
+    let number = (u32::from(a) - 0xF0) * 262144
         + (u32::from(b) - 0x80) * 4096
         + (u32::from(c) - 0x80) * 64
-        + (u32::from(d) - 0x80)
+        + (u32::from(d) - 0x80);
+    char_between(number, 0x10000, 0x10FFFF)
 }
 
 // Whether an encoding of three bytes may begin with these two.

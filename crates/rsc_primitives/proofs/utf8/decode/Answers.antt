@@ -1,11 +1,10 @@
-use Rattle.std.proofs.Common.{sym, subst}
-use Rattle.rsc_primitives.specs.Utf8Layout.{IsFirstNumber}
+use Rattle.std.proofs.Common.{sym}
 use Rattle.rsc_primitives.proofs.Utf8Lemmas.{IsFirstNumber-from, BeginsAt-from, BeginsAt-fits}
 use Rattle.rsc_primitives.proofs.utf8.decode.Goals as goal
 
 pub returns-in-Some : goal.returns-in-Some
 returns-in-Some c =
-    let begins = BeginsAt-from _ _ (subst (IsFirstNumber c.args.bytes.now) (sym c.char_of.ensures) c.in-Some.ensures) in
+    let begins = BeginsAt-from _ _ c.in-Some.ensures in
     record { answer = begins; width = BeginsAt-fits _ _ begins }
 
 pub returns-in-None-clause-answer : goal.returns-in-None-clause-answer
