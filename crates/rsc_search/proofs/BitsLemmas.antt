@@ -1,11 +1,12 @@
 -- The bits of a word: its lowest and its highest set bit, and the word without either.
 use Rattle.std.proofs.Common.{◌≡◌, ◌≢◌, ℕ, zero, suc, ◌+◌, ◌-◌, ◌*◌, ◌/◌, ◌%◌, ◌^◌, ◌<◌, ◌≤◌, min, Bool, true, false, not, ◌&&◌, ◌||◌, refl, ap, sym, ◌∙◌, arith, w64, bit_and, add-one, eqb, ltb}
 use Rattle.std.specs.Int.{bit_at, bit_not, trailing_zeros}
+use Rattle.std.specs.Int.Bits.{bit_xor, xor_add_and}
 use Rattle.std.specs.Int.Count.{trailing_of_zero}
 use Rattle.std.specs.Int.RustNames.{bit_or}
 use Rattle.std.proofs.lemmas.Grind.{common_steps}
-use Rattle.std.proofs.lemmas.Nat.Bits.{bit_at_above, bit_at_clear_same, bit_at_clear_other, bit_at_lowest, bit_at-suc, bit_at-zero, bit_at_and, bit_at-trailing_zeros, bit_at_set_same, bit_at_set_other}
-use Rattle.std.proofs.lemmas.Nat.{leading_length, pow_pos}
+use Rattle.std.proofs.lemmas.Nat.Bits.{bit_at_above, bit_at_clear_same, bit_at_clear_other, bit_at_lowest, bit_at-suc, bit_at-zero, bit_at_and, bit_at-trailing_zeros, bit_at_set_same, bit_at_set_other, bit_at-lt, same_from_bits_below}
+use Rattle.std.proofs.lemmas.Nat.{leading_length, pow_pos, or_lt, and_mask}
 use native.Mathlib.Numerals.{unary_clauses}
 use Rattle.std.proofs.Math.Nat.{div-lt_iff_lt-mul}
 use Rattle.rsc_search.specs.WordLayout.{has_bit, bit_length}
@@ -89,6 +90,37 @@ bit_set n k within j =
       | false ↦ λ e. let ne : j ≢ k = grind (arith, common_steps) in rw (bit_at_set_other w64 n k within j ne) refl
     ] refl
 
+-- two bits are the same if they are both set or both clear
+pub one_bit : (a b : ℕ) → a < 2 → b < 2 → eqb a 1 ≡ eqb b 1 → a ≡ b
+one_bit a b a_lt b_lt e =
+    elim (eqb b 1) as (λ d. eqb b 1 ≡ d → a ≡ b) [
+      | true ↦ λ f. let one : b ≡ 1 = grind (arith, common_steps) in let other : eqb a 1 ≡ true = e ∙ f in let first : a ≡ 1 = grind (arith, common_steps) in omega arith
+      | false ↦ λ f. let none : b ≢ 1 = grind (arith, common_steps) in let other : eqb a 1 ≡ false = e ∙ f in let first : a ≢ 1 = grind (arith, common_steps) in omega (arith, none, first)
+    ] refl
+
+-- a word with one more bit is the same word exactly if it had the bit
+pub bit_stays : (n k : ℕ) → n < 2 ^ 64 → k < 64 → has_bit n k ≡ true → bit_or n (1 * 2 ^ k % 2 ^ 64) ≡ n
+bit_stays n k fits within one =
+    same_from_bits_below 64 (bit_or n (1 * 2 ^ k % 2 ^ 64)) n (or_lt 64 n (1 * 2 ^ k % 2 ^ 64) fits (omega arith)) fits
+    (λ j below. one_bit (bit_at (bit_or n (1 * 2 ^ k % 2 ^ 64)) j) (bit_at n j) (bit_at-lt (bit_or n (1 * 2 ^ k % 2 ^ 64)) j) (bit_at-lt n j) (bit_set n k within j ∙ had j))
+  where
+    had : (j : ℕ) → (eqb j k || has_bit n j) ≡ has_bit n j
+    had j =
+        elim (eqb j k) as (λ b. eqb j k ≡ b → (b || has_bit n j) ≡ has_bit n j) [
+          | true ↦ λ e. let eq : j ≡ k = grind (arith, common_steps) in sym (ap (has_bit n) eq ∙ one)
+          | false ↦ λ e. refl
+        ] refl
+
+pub set_if_same : (more word i : ℕ) → ((j : ℕ) → has_bit more j ≡ (eqb j i || has_bit word j)) → more ≡ word → has_bit word i ≡ true
+set_if_same more word i bits eq = ap (λ n. has_bit n i) (sym eq) ∙ bits i ∙ rw (same i i refl) refl
+
+pub clear_if_other : (more word i : ℕ) → (has_bit word i ≡ true → more ≡ word) → more ≢ word → has_bit word i ≡ false
+clear_if_other more word i stays ne =
+    elim (has_bit word i) as (λ b. has_bit word i ≡ b → has_bit word i ≡ false) [
+      | true ↦ λ e. absurd (ne (stays e))
+      | false ↦ λ e. e
+    ] refl
+
 -- ---- the highest set bit
 length_of : (n : ℕ) → n < 2 ^ 64 → (n < 2 ^ bit_length n) × (2 ^ bit_length n ≤ 2 * n + 1)
 length_of n fits =
@@ -125,6 +157,13 @@ highest_set n fits some = top (bit_length n - 1) (omega (arith, some)) (length_o
         let over : 0 < n / 2 ^ k = at_least_one n (2 ^ k) (pow_pos k) within in
         let one : n / 2 ^ k ≡ 1 = omega (arith, under, over) in
         rw one refl
+
+-- the highest place less a number of zeros, as `^`
+pub places_below : (zeros : ℕ) → zeros < 64 → bit_xor zeros 63 ≡ 63 - zeros
+places_below zeros within =
+    let sum : bit_xor zeros 63 + bit_and zeros 63 * 2 ≡ zeros + 63 = xor_add_and zeros 63 in
+    let low : bit_and zeros 63 ≡ zeros % 64 = and_mask zeros 6 in
+    omega (arith, sum, low, within)
 
 -- `n & !(1 << k)` has the bits of n but bit k
 pub bit_cleared : (n k : ℕ) → n < 2 ^ 64 → k < 64 → (j : ℕ) → has_bit (bit_and n (bit_not w64 (1 * 2 ^ k % 2 ^ 64))) j ≡ (not (eqb j k) && has_bit n j)

@@ -1,5 +1,5 @@
 -- Words in a list: what is left of one, and the next that isn't zero, from either end.
-use Rattle.std.proofs.Common.{◌≡◌, ◌≢◌, ℕ, ◌+◌, ◌-◌, ◌*◌, ◌/◌, ◌%◌, ◌^◌, ◌<◌, ◌≤◌, ◌↔◌, Bool, true, false, List, get_or, refl, ap, sym, ◌∙◌, arith, w64, eqb, ltb}
+use Rattle.std.proofs.Common.{◌≡◌, ℕ, ◌+◌, ◌-◌, ◌*◌, ◌/◌, ◌%◌, ◌^◌, ◌<◌, ◌≤◌, ◌↔◌, Bool, true, false, List, get_or, refl, ap, sym, ◌∙◌, arith, w64, ltb}
 use Rattle.std.specs.Int.{bit_at, leading_zeros, trailing_zeros, div_ceil}
 use Rattle.std.specs.Str.{bytes_eq}
 use Rattle.std.proofs.lemmas.Slice.Eq.{bytes_eq-Decides}
@@ -9,7 +9,7 @@ use Rattle.std.proofs.lemmas.List.{ext_get_or}
 use Rattle.std.proofs.lemmas.Nat.{trailing_le}
 use Rattle.std.proofs.lemmas.Grind.{common_steps}
 use Rattle.rsc_search.specs.WordLayout.{bit_length, has_bit, word_of, is_set, SameBits, rest_start, rest_end, IsRestFrom, IsRestTo}
-use Rattle.rsc_search.proofs.BitsLemmas.{none_under, none_above}
+use Rattle.rsc_search.proofs.BitsLemmas.{one_bit, none_under, none_above}
 
 -- a number's bit, by its word
 pub at_word : (words : List ℕ) (w i : ℕ) → i < 64 → is_set words (64 * w + i) ≡ has_bit (word_of words w) i
@@ -83,13 +83,6 @@ pub covers : (capacity n : ℕ) → n ≡ div_ceil capacity 64 → capacity ≤ 
 covers capacity n is = omega (arith, is)
 
 -- ---- lists of as many words with the same bits are the same
-one_bit : (a b : ℕ) → a < 2 → b < 2 → eqb a 1 ≡ eqb b 1 → a ≡ b
-one_bit a b a_lt b_lt e =
-    elim (eqb b 1) as (λ d. eqb b 1 ≡ d → a ≡ b) [
-      | true ↦ λ f. let one : b ≡ 1 = grind (arith, common_steps) in let other : eqb a 1 ≡ true = e ∙ f in let first : a ≡ 1 = grind (arith, common_steps) in omega arith
-      | false ↦ λ f. let none : b ≢ 1 = grind (arith, common_steps) in let other : eqb a 1 ≡ false = e ∙ f in let first : a ≢ 1 = grind (arith, common_steps) in omega (arith, none, first)
-    ] refl
-
 pub same_words : (xs ys : List ℕ) → ((i : ℕ) → get_or xs i 0 < 2 ^ 64) → ((i : ℕ) → get_or ys i 0 < 2 ^ 64) → SameBits xs ys → xs ≡ ys
 same_words xs ys xs_fit ys_fit bits =
     ext_get_or 0 xs ys bits.as_many (λ w lt. same_from_bits_below 64 (get_or xs w 0) (get_or ys w 0) (xs_fit w) (ys_fit w)

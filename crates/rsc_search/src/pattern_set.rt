@@ -92,10 +92,11 @@ impl<A: Allocator> PatternSet<A> {
     {
         let p = pid.as_usize();
         let word = self.words[p / BITS];
-        if has_bit(word, p % BITS) {
+        let more = with_bit(word, p % BITS);
+        if more == word {
             return false;
         }
-        self.words[p / BITS] = with_bit(word, p % BITS);
+        self.words[p / BITS] = more;
         self.count += 1;
         true
     }

@@ -1,5 +1,5 @@
 //! Words of 64 bits, and lists of them: bit `i` of word `w` is that of the number `64 * w + i`.
-ghost use Rattle.std.specs.Prelude.{◌≡◌, ℕ, ◌-◌, ◌<◌, ◌≤◌, ◌==◌, ◌||◌, ◌&&◌, ◌↔◌, not, IsTrue};
+ghost use Rattle.std.specs.Prelude.{◌≡◌, ℕ, ◌-◌, ◌<◌, ◌≤◌, ◌==◌, ◌||◌, ◌&&◌, ◌↔◌, not, true, IsTrue};
 ghost use Rattle.std.specs.Int.{leading_zeros, trailing_zeros, w64};
 ghost use Rattle.rsc_search.specs.WordLayout.{word_of, has_bit, SameBits, IsRestFrom, IsRestTo, IsWordFrom, IsWordTo};
 
@@ -15,11 +15,12 @@ pub(crate) fn has_bit(word: u64, i: usize) -> bool
     (word >> i) & 1 == 1
 }
 
-/// The word with bit `i` set.
+/// The word with bit `i` set: the same word where it was.
 #[inline(always)]
 pub(crate) fn with_bit(word: u64, i: usize) -> u64
     requires { i < 64 }
-    ensures { (j : ℕ) → has_bit result j ≡ (j == i || has_bit word j) }
+    ensures bits { (j : ℕ) → has_bit result j ≡ (j == i || has_bit word j) }
+    ensures same { has_bit word i ≡ true → result ≡ word }
 {
     word | (1 << i)
 }
@@ -33,13 +34,25 @@ pub(crate) fn without_lowest(word: u64) -> u64
     word & (word - 1)
 }
 
+/// The place of the highest set bit.
+///
+/// The difference is written as `^`: the processor finds that place, the compiler makes the zeros above it by `^ 63`, and two of
+/// these are nothing, where a difference stays.
+#[inline(always)]
+pub(crate) fn highest(word: u64) -> usize
+    requires { 0 < word }
+    ensures { result ≡ 63 - leading_zeros w64 word }
+{
+    word.leading_zeros() as usize ^ 63
+}
+
 /// The word without its highest set bit.
 #[inline(always)]
 pub(crate) fn without_highest(word: u64) -> u64
     requires { 0 < word }
     ensures { (j : ℕ) → has_bit result j ≡ (not (j == 63 - leading_zeros w64 word) && has_bit word j) }
 {
-    word & !(1 << (63 - word.leading_zeros()))
+    word & !(1 << highest(word))
 }
 
 /// A word of the list, or zero past its end.

@@ -4,4 +4,4 @@ use Rattle.rsc_search.proofs.BitsLemmas.{bit_cleared}
 use Rattle.rsc_search.proofs.words.without_highest.Goals as goal
 
 pub returns : goal.returns
-returns c = bit_cleared c.args.word (63 - leading_zeros w64 c.args.word) c.ranges.word.fits (omega arith)
+returns c = rw c.highest.ensures (bit_cleared c.args.word (63 - leading_zeros w64 c.args.word) c.ranges.word.fits (omega arith))
