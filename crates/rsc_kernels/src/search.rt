@@ -1,4 +1,5 @@
 //! Kernels over pattern sets.
+ghost use Rattle.std.specs.Prelude.{◌≡◌, ◌<◌, ◌≤◌, All, IfOk, IfSome};
 
 use rsc_primitives::PatternID;
 use rsc_search::PatternSet;
@@ -20,6 +21,41 @@ pub fn run(
         return Ok(0);
     }
     let (members, queries) = ids.as_slice().split_at(count);
+    match members_below(alloc, members, capacity)? {
+        Some(members) => over_set(alloc, kernel, &members, queries, capacity, reps),
+        None => Ok(0),
+    }
+}
+
+// The members, or `None` where one isn't below the capacity.
+fn members_below(
+    alloc: Global,
+    ids: &[PatternID],
+    capacity: usize,
+) -> Result<Option<Vec<PatternID>>, AllocError>
+    ensures { IfOk result (λ found. IfSome found (λ members. All (λ p. p < capacity) members.items)) }
+{
+    let mut members = Vec::new(alloc);
+    for id in ids {
+        if id.as_usize() >= capacity {
+            return Ok(None);
+        }
+        members.push(*id)?;
+    }
+    Ok(Some(members))
+}
+
+fn over_set(
+    alloc: Global,
+    kernel: u32,
+    members: &[PatternID],
+    queries: &[PatternID],
+    capacity: usize,
+    reps: u64,
+) -> Result<u64, AllocError>
+    requires limit { capacity ≤ PatternID.LIMIT }
+    requires below { All (λ p. p < capacity) members.now }
+{
     let mut set = PatternSet::new(alloc, capacity)?;
     if kernel != 40 && kernel != 41 {
         refused(&mut set, members, 0);
@@ -59,7 +95,10 @@ fn pass(
     members: &[PatternID],
     queries: &[PatternID],
     sum: u64,
-) -> u64 {
+) -> u64
+    requires { All (λ p. p < set.old.capacity) members.now }
+    ensures { set.new.capacity ≡ set.old.capacity }
+{
     match kernel {
         40 => fill(set, members, sum),
         41 => clear(set, members, sum),
@@ -72,10 +111,13 @@ fn pass(
 
 // How many are new when all are put in; the set is empty before and after.
 #[inline(never)]
-fn fill(set: &mut PatternSet, members: &[PatternID], sum: u64) -> u64 {
+fn fill(set: &mut PatternSet, members: &[PatternID], sum: u64) -> u64
+    requires { All (λ p. p < set.old.capacity) members.now }
+    ensures { set.new.capacity ≡ set.old.capacity }
+{
     let mut sum = sum;
     for id in members {
-        sum = sum.wrapping_add(u64::from(is_new(set, *id)));
+        sum = sum.wrapping_add(u64::from(set.insert(*id)));
     }
     set.clear();
     sum
@@ -83,10 +125,13 @@ fn fill(set: &mut PatternSet, members: &[PatternID], sum: u64) -> u64 {
 
 // The same of the first alone.
 #[inline(never)]
-fn clear(set: &mut PatternSet, members: &[PatternID], sum: u64) -> u64 {
+fn clear(set: &mut PatternSet, members: &[PatternID], sum: u64) -> u64
+    requires { All (λ p. p < set.old.capacity) members.now }
+    ensures { set.new.capacity ≡ set.old.capacity }
+{
     let mut sum = sum;
     if let Some(id) = members.first() {
-        sum = sum.wrapping_add(u64::from(is_new(set, *id)));
+        sum = sum.wrapping_add(u64::from(set.insert(*id)));
     }
     set.clear();
     sum
@@ -94,20 +139,15 @@ fn clear(set: &mut PatternSet, members: &[PatternID], sum: u64) -> u64 {
 
 // How many aren't new when all are put in.
 #[inline(never)]
-fn refused(set: &mut PatternSet, members: &[PatternID], sum: u64) -> u64 {
+fn refused(set: &mut PatternSet, members: &[PatternID], sum: u64) -> u64
+    requires { All (λ p. p < set.old.capacity) members.now }
+    ensures { set.new.capacity ≡ set.old.capacity }
+{
     let mut sum = sum;
     for id in members {
-        sum = sum.wrapping_add(u64::from(!is_new(set, *id)));
+        sum = sum.wrapping_add(u64::from(!set.insert(*id)));
     }
     sum
-}
-
-#[inline(always)]
-fn is_new(set: &mut PatternSet, id: PatternID) -> bool {
-    match set.try_insert(id) {
-        Ok(is_new) => is_new,
-        Err(_) => false,
-    }
 }
 
 // How many are members.
