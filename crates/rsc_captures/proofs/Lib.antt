@@ -8,7 +8,7 @@ pub mod Held  -- names in one text, as one more is added
 pub mod Clear  -- lists of which no place, or no place of the patterns before one, is at fault; and the first place at fault
 pub mod Checked  -- which lists have no fault, and whose first fault is a name that is used twice
 pub mod FaultsLemmas  -- the first fault of a list: there is at most one, and a list without a fault has none
-pub mod Starts  -- the starts of a layout, as one more is pushed
+pub mod Firsts  -- where the names of the patterns begin, as one more is pushed
 pub mod Owners  -- each slot is a slot of exactly one group
 pub mod SlotsWithin  -- the slots of a group are below the number of all slots
 pub mod Parts  -- where the names and the order of each pattern's groups stand in the lists of all groups
@@ -16,4 +16,5 @@ pub mod Spans  -- the steps of the iterator over the groups of the pattern that 
 pub mod Pieces  -- the pieces that the first groups cut, as a loop over the groups finds them
 pub mod Extracted  -- what `extract` and `extract_bytes` pass on for `H` and return, over the haystack's type as a field F, and that their result is lawful
 pub mod Alone  -- where there is one pattern, a group's slots are those of its place
+pub mod NamesLeft  -- the steps of the iterator over all groups
 pub mod NamesCounted  -- how many groups an iterator over all of them gives

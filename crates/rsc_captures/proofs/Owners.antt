@@ -8,7 +8,7 @@ use Rattle.rsc_captures.specs.Groups.{GroupLists, groups_of, group_count, explic
 use Rattle.rsc_captures.specs.Faults.{LIMIT_OF_IDS, IsFaultless}
 use Rattle.rsc_captures.proofs.Clear.{some_group}
 use Rattle.rsc_captures.specs.SlotOwners.{IsSlotOf, IsOwned}
-use Rattle.rsc_captures.proofs.Starts.{all_groups_are}
+use Rattle.rsc_captures.proofs.Firsts.{all_groups_are}
 
 pub slot_explicit : (lists : GroupLists) (p g : ℕ) → slot_number lists p (suc g) ≡ 2 * length lists + 2 * explicit_before lists p + 2 * g
 slot_explicit lists p g =
@@ -16,7 +16,7 @@ slot_explicit lists p g =
     let less : suc g - 1 ≡ g = omega arith in
     rw (explicit, less) refl
 
-slot_of-group : (lists : GroupLists) (p g : ℕ) → g < group_count lists p → slot_of lists p g ≡ Some (slot_number lists p g)
+pub slot_of-group : (lists : GroupLists) (p g : ℕ) → g < group_count lists p → slot_of lists p g ≡ Some (slot_number lists p g)
 slot_of-group lists p g h = rw (lt-ltb g (group_count lists p) h) refl
 
 -- what the slot of a group says

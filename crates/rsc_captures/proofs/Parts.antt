@@ -1,27 +1,23 @@
 -- Where the names and the order of each pattern's groups stand in the lists of all groups.
-use Rattle.std.proofs.Common.{◌≡◌, ℕ, zero, suc, ◌+◌, ◌-◌, ◌/◌, ◌<◌, ◌≤◌, ⊎_elim, List, [], ◌∷◌, length, take, drop, get_or, Option, None, ap, ap₂, sym, ◌∙◌, arith}
-use Rattle.std.specs.List.{flat_map}
+use Rattle.std.proofs.Common.{◌≡◌, ℕ, zero, suc, ◌+◌, ◌-◌, ◌<◌, ◌≤◌, min, ⊎_elim, List, [], ◌∷◌, length, take, drop, get_or, Option, None, refl, ap, ap₂, sym, ◌∙◌, arith}
+use Rattle.std.specs.List.{flat_map, slice_range}
 use Rattle.std.proofs.lemmas.Bool.{cases_lt}
-use Rattle.std.proofs.lemmas.List.{ext_get_or, get_or_default, get_or-drop, get_or-take, length-drop, drop-take, take-take, take_all}
+use Rattle.std.proofs.lemmas.List.{ext_get_or, get_or-drop, get_or-take, length-take, length-drop, drop-take, take-take, take_all}
 use Rattle.std.proofs.lemmas.List.FromFn.{length-map-range_with_len, get_or-map-range_with_len}
-use Rattle.std.proofs.lemmas.List.Sums.{sum_by_more, sum_by-cons}
+use Rattle.std.proofs.lemmas.List.Sums.{sum_by-cons}
 use Rattle.std.proofs.Math.Seq.{take-append_seam, drop-append-add}
-use Rattle.rsc_captures.specs.Groups.{Groups, GroupLists, groups_of, group_count, name_of, explicit_before, AreDistinctBelow}
+use Rattle.rsc_captures.specs.Groups.{Groups, GroupLists, groups_of, group_count, name_of, AreDistinctBelow}
 use Rattle.rsc_captures.specs.Faults.{LIMIT_OF_IDS, IsFaultless}
 use Rattle.rsc_captures.specs.Checks.{HasNoOtherFault}
 use Rattle.rsc_captures.specs.Names.{IsIndexed}
-use Rattle.rsc_captures.specs.Layout.{slots_start, groups_before, first_name, names_of, lists_held, AreStarts, IsLaidOut, AreOrdered, IsLayout}
+use Rattle.rsc_captures.specs.Layout.{groups_before, names_of, lists_held, AreFirsts, IsLaidOut, AreOrdered, IsLayout}
 use Rattle.rsc_captures.proofs.Checked.{clear_distinct, faultless_from}
-use Rattle.rsc_captures.proofs.Clear.{pattern_clear, some_group}
+use Rattle.rsc_captures.proofs.Clear.{some_group}
 use Rattle.rsc_captures.proofs.Owners.{pattern_in}
-use Rattle.rsc_captures.proofs.Starts.{groups_so_far}
+use Rattle.rsc_captures.proofs.Firsts.{groups_more}
 
 pub distinct_in : (lists : GroupLists) → IsFaultless LIMIT_OF_IDS lists → (p : ℕ) → AreDistinctBelow (groups_of lists p) (group_count lists p)
 distinct_in lists faultless p g lt = clear_distinct faultless p (pattern_in lists p g lt) g lt
-
--- the groups of one more pattern
-pub groups_more : (lists : GroupLists) (p : ℕ) → p < length lists → groups_before lists (p + 1) ≡ groups_before lists p + group_count lists p
-groups_more lists p lt = sum_by_more length lists p [] lt
 
 pub groups_rise : (lists : GroupLists) (p n : ℕ) → p + n ≤ length lists → groups_before lists p ≤ groups_before lists (p + n)
 groups_rise lists p zero le = let e : p + zero ≡ p = omega arith in rw e (omega arith)
@@ -36,23 +32,14 @@ groups_within lists p n lt le =
     let rises : groups_before lists (p + 1) ≤ groups_before lists n = rw e at (groups_rise lists (p + 1) (n - (p + 1)) (omega arith)) in
     omega (arith, rises, groups_more lists p (omega (arith, lt, le)))
 
-module _ (starts : List ℕ) (lists : GroupLists) (slots : AreStarts starts lists (length lists)) (nonempty : (p : ℕ) → p < length lists → 0 < group_count lists p) where
-  -- the starts tell where a pattern's names begin
-  pub first_is : (p : ℕ) → p ≤ length lists → first_name starts p ≡ groups_before lists p
-  first_is p le =
-      let here : get_or starts p 0 ≡ slots_start lists p = slots.each p (omega arith) in
-      let zeroth : get_or starts 0 0 ≡ slots_start lists 0 = slots.each 0 (omega arith) in
-      let so_far : groups_before lists p ≡ p + explicit_before lists p = groups_so_far lists p le nonempty in
-      omega (arith, here, zeroth, so_far)
+names_of-is : (firsts : List ℕ) (lists : GroupLists) → AreFirsts firsts lists (length lists) → (names : Groups) (p : ℕ) → p < length lists → names_of firsts names p ≡ take (group_count lists p) (drop (groups_before lists p) names)
+names_of-is firsts lists firsts_are names p lt =
+    let here : get_or firsts p 0 ≡ groups_before lists p = firsts_are.each p (omega arith) in
+    let next : get_or firsts (p + 1) 0 ≡ groups_before lists (p + 1) = firsts_are.each (p + 1) (omega arith) in
+    let count : get_or firsts (p + 1) 0 - get_or firsts p 0 ≡ group_count lists p = omega (arith, here, next, groups_more lists p lt) in
+    ap₂ (λ k from. take k (drop from names)) count here
 
-  names_of-is : (names : Groups) (p : ℕ) → p < length lists → names_of starts names p ≡ take (group_count lists p) (drop (groups_before lists p) names)
-  names_of-is names p lt =
-      let here : first_name starts p ≡ groups_before lists p = first_is p (omega arith) in
-      let next : first_name starts (p + 1) ≡ groups_before lists (p + 1) = first_is (p + 1) (omega arith) in
-      let count : first_name starts (p + 1) - first_name starts p ≡ group_count lists p = omega (arith, here, next, groups_more lists p lt) in
-      ap₂ (λ k from. take k (drop from names)) count here
-
-abbrev all : GroupLists → Groups
+abbrev pub all : GroupLists → Groups
 all lists = flat_map (λ (groups : Groups). groups) lists
 
 -- of all groups, those of one pattern
@@ -62,28 +49,25 @@ flat_part (groups ∷ lists) zero lt = take-append_seam groups (all lists)
 flat_part (groups ∷ lists) (suc p) lt =
     rw (sum_by-cons length groups (take p lists), drop-append-add groups (all lists) (groups_before lists p)) (flat_part lists p (omega arith))
 
--- the names of all groups, cut where the starts say, are the lists
-pub lists_are : (starts : List ℕ) (lists : GroupLists) → AreStarts starts lists (length lists) → ((p : ℕ) → p < length lists → 0 < group_count lists p) → lists_held starts (flat_map (λ (groups : Groups). groups) lists) ≡ lists
-lists_are starts lists slots nonempty = ext_get_or [] (lists_held starts (all lists)) lists same each
+-- the names of all groups, cut where those of each pattern begin, are the lists
+pub lists_are : (firsts : List ℕ) (lists : GroupLists) → AreFirsts firsts lists (length lists) → lists_held firsts (all lists) ≡ lists
+lists_are firsts lists firsts_are = ext_get_or [] (lists_held firsts (all lists)) lists same each
   where
-    same : length (lists_held starts (all lists)) ≡ length lists
-    same = length-map-range_with_len (names_of starts (all lists)) 0 (length starts - 1) ∙ omega (arith, slots.count)
+    same : length (lists_held firsts (all lists)) ≡ length lists
+    same = length-map-range_with_len (names_of firsts (all lists)) 0 (length firsts - 1) ∙ omega (arith, firsts_are.count)
 
-    each : (p : ℕ) → p < length (lists_held starts (all lists)) → get_or (lists_held starts (all lists)) p [] ≡ get_or lists p []
+    each : (p : ℕ) → p < length (lists_held firsts (all lists)) → get_or (lists_held firsts (all lists)) p [] ≡ get_or lists p []
     each p lt =
         let in_lists : p < length lists = rw same at lt in
-        get_or-map-range_with_len (names_of starts (all lists)) 0 (length starts - 1) p p [] (omega (arith, in_lists, slots.count)) (omega arith)
-        ∙ names_of-is starts lists slots nonempty (all lists) p in_lists ∙ flat_part lists p in_lists
+        get_or-map-range_with_len (names_of firsts (all lists)) 0 (length firsts - 1) p p [] (omega (arith, in_lists, firsts_are.count)) (omega arith)
+        ∙ names_of-is firsts lists firsts_are (all lists) p in_lists ∙ flat_part lists p in_lists
 
-module _ (starts : List ℕ) (names : Groups) (lists : GroupLists) (are : lists_held starts names ≡ lists) (laid_out : IsLaidOut starts lists) where
-  nonempty : (p : ℕ) → p < length lists → 0 < group_count lists p
-  nonempty = some_group LIMIT_OF_IDS lists laid_out.faultless
-
+module _ (firsts : List ℕ) (names : Groups) (lists : GroupLists) (are : lists_held firsts names ≡ lists) (laid_out : IsLaidOut firsts lists) where
   -- the names of a pattern's groups
   pub part_is : (p : ℕ) → p < length lists → groups_of lists p ≡ take (group_count lists p) (drop (groups_before lists p) names)
   part_is p lt =
-      ap (λ (lists : GroupLists). get_or lists p []) (sym are) ∙ get_or-map-range_with_len (names_of starts names) 0 (length starts - 1) p p [] (omega (arith, lt, laid_out.slots.count)) (omega arith)
-      ∙ names_of-is starts lists laid_out.slots nonempty names p lt
+      ap (λ (lists : GroupLists). get_or lists p []) (sym are) ∙ get_or-map-range_with_len (names_of firsts names) 0 (length firsts - 1) p p [] (omega (arith, lt, laid_out.firsts_are.count)) (omega arith)
+      ∙ names_of-is firsts lists laid_out.firsts_are names p lt
 
   pub name_in : (p g : ℕ) → g < group_count lists p → get_or names (groups_before lists p + g) None ≡ name_of lists p g
   name_in p g lt =
@@ -92,12 +76,20 @@ module _ (starts : List ℕ) (names : Groups) (lists : GroupLists) (are : lists_
   pub named_at : (p g first : ℕ) (held : Option (List ℕ)) → first ≡ groups_before lists p → g < group_count lists p → held ≡ get_or names (first + g) None → held ≡ name_of lists p g
   named_at p g first held is_first lt is = is ∙ ap (λ n. get_or names (n + g) None) is_first ∙ name_in p g lt
 
--- where a pattern's names begin, as it is computed
-pub first_at : (starts : List ℕ) (lists : GroupLists) (p here : ℕ) → IsLaidOut starts lists → p < length lists → here ≡ get_or starts p here → (length lists ≤ here / 2 + p) × (here / 2 + p - length lists ≡ groups_before lists p)
-first_at starts lists p here laid_out lt is_here =
-    let from : here ≡ slots_start lists p = is_here ∙ get_or_default starts p here 0 (omega (arith, laid_out.slots.count)) ∙ laid_out.slots.each p (omega arith) in
-    let so_far : groups_before lists p ≡ p + explicit_before lists p = groups_so_far lists p (omega arith) (some_group LIMIT_OF_IDS lists laid_out.faultless) in
-    (omega (arith, from), omega (arith, from, so_far))
+  -- each group has a place in the list of all names
+  pub within_names : (p g first : ℕ) → first ≡ groups_before lists p → g < group_count lists p → first + g < length names
+  within_names p g first is_first lt =
+      let count : group_count lists p ≡ length (take (group_count lists p) (drop (groups_before lists p) names)) = ap length (part_is p (pattern_in lists p g lt)) in
+      let cut : group_count lists p ≡ min (group_count lists p) (length names - groups_before lists p) = rw (length-take, length-drop) at count in
+      omega (arith, cut, is_first, lt)
+
+  -- the names of a pattern, up to those of the next
+  pub range_is : (p first end : ℕ) → p < length lists → first ≡ groups_before lists p → end ≡ groups_before lists (p + 1) → (end ≤ length names) × (slice_range names first end ≡ groups_of lists p)
+  range_is p first end lt is_first is_end =
+      let count : end - first ≡ group_count lists p = omega (arith, is_first, is_end, groups_more lists p lt) in
+      let some : 0 < group_count lists p = some_group LIMIT_OF_IDS lists laid_out.faultless p lt in
+      let last : (groups_before lists p) + (group_count lists p - 1) < length names = within_names p (group_count lists p - 1) (groups_before lists p) refl (omega arith) in
+      (omega (arith, last, some, is_end, groups_more lists p lt), ap₂ (λ k from. take k (drop from names)) count is_first ∙ sym (part_is p lt))
 
 -- the part of a pattern's groups, as it is cut
 pub part_indexed : (order lent : List ℕ) (lists : GroupLists) (p first len : ℕ) → AreOrdered order lists (length lists) → p < length lists → lent ≡ order → first ≡ groups_before lists p → len ≡ group_count lists p
@@ -133,12 +125,12 @@ ordered_more order more lists p lt ordered kept count indexed = record {
         rw (← ordered.count, take_all (group_count lists p) (drop (length order) more) left) indexed
 
 -- what the three lists of a group info, as they are built, hold
-module _ (starts order : List ℕ) (names : Groups) (lists : GroupLists) (n : ℕ) (no_other : HasNoOtherFault LIMIT_OF_IDS lists) (all_patterns : length lists ≡ n) (slots : AreStarts starts lists n) (are : names ≡ flat_map (λ (groups : Groups). groups) lists) where
-  pub held_are : lists_held starts names ≡ lists
-  held_are = rw are (lists_are starts lists (rw all_patterns slots) (λ p lt. (pattern_clear lists p (no_other.patterns p lt)).1))
+module _ (firsts order : List ℕ) (names : Groups) (lists : GroupLists) (n : ℕ) (all_patterns : length lists ≡ n) (firsts_are : AreFirsts firsts lists n) (are : names ≡ all lists) where
+  pub held_are : lists_held firsts names ≡ lists
+  held_are = rw are (lists_are firsts lists (rw all_patterns firsts_are))
 
-  pub layout_is : AreOrdered order lists n → IsLayout starts order (lists_held starts names)
-  layout_is ordered = rw held_are (record {
-    laid_out = record { faultless = faultless_from no_other (λ p lt. (ordered.each p (rw all_patterns at lt)).distinct); slots = rw all_patterns slots };
+  pub layout_is : HasNoOtherFault LIMIT_OF_IDS lists → AreOrdered order lists n → IsLayout firsts order (lists_held firsts names)
+  layout_is no_other ordered = rw held_are (record {
+    laid_out = record { faultless = faultless_from no_other (λ p lt. (ordered.each p (rw all_patterns at lt)).distinct); firsts_are = rw all_patterns firsts_are };
     ordered = rw all_patterns ordered;
   })

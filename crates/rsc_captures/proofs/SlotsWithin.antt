@@ -1,10 +1,14 @@
 -- The slots of a group are below the number of all slots.
-use Rattle.std.proofs.Common.{◌≡◌, ℕ, zero, suc, ◌+◌, ◌-◌, ◌*◌, ◌<◌, ◌≤◌, length, Some, refl, ⊎_elim, arith}
+use Rattle.std.proofs.Common.{◌≡◌, ℕ, zero, suc, ◌+◌, ◌-◌, ◌*◌, ◌<◌, ◌≤◌, length, false, nat_eq, Some, None, refl, sym, ap, ◌∙◌, ⊎_elim, arith}
+use Rattle.std.specs.Prelude.{IfSome}
 use Rattle.std.proofs.lemmas.Bool.{cases_lt}
+use Rattle.std.proofs.lemmas.Bool.Decides.{nat_tests}
 use Rattle.rsc_captures.specs.Groups.{GroupLists, group_count, explicit_before, all_groups, slot_number, slot_of}
 use Rattle.rsc_captures.specs.Faults.{LIMIT_OF_IDS, IsFaultless}
-use Rattle.rsc_captures.proofs.Owners.{slot_explicit, slot_facts, pattern_in, before_more, before_rises}
-use Rattle.rsc_captures.proofs.Starts.{all_groups_are}
+use Rattle.rsc_captures.proofs.Owners.{slot_explicit, slot_of-group, slot_facts, pattern_in, before_more, before_rises}
+use Rattle.rsc_captures.specs.Layout.{groups_before}
+use Rattle.rsc_captures.proofs.Clear.{some_group}
+use Rattle.rsc_captures.proofs.Firsts.{groups_so_far, all_groups_are}
 
 pub number_within : (lists : GroupLists) → IsFaultless LIMIT_OF_IDS lists → (p g : ℕ) → g < group_count lists p → slot_number lists p g + 1 < 2 * all_groups lists
 number_within lists checked p zero lt = let pattern : p < length lists = pattern_in lists p 0 lt in omega (arith, all_groups_are lists checked)
@@ -29,3 +33,25 @@ slots_within_limit lists checked =
     let empty : explicit_before lists (length lists) ≡ 0 = let e : length lists ≡ 0 = omega arith in rw e refl in
     omega (arith, all_groups_are lists checked, empty))
     (cases_lt 0 (length lists))
+
+pub slot_of-within : (lists : GroupLists) → IsFaultless LIMIT_OF_IDS lists → (p g : ℕ) → IfSome (slot_of lists p g) (λ slot. slot + 1 < 2 * all_groups lists)
+slot_of-within lists faultless p g =
+    elim (slot_of lists p g) as (λ o. slot_of lists p g ≡ o → IfSome o (λ slot. slot + 1 < 2 * all_groups lists)) [
+      | None ↦ λ _. tt
+      | Some slot ↦ λ is. slot_within lists faultless p g slot is
+    ] refl
+
+-- the slot of an explicit group: each pattern before has a first group, whose slots are counted apart
+pub explicit_slot : (lists : GroupLists) (p g first : ℕ) → IsFaultless LIMIT_OF_IDS lists → g < group_count lists p → 0 < g → first ≡ groups_before lists p
+    → (Some (2 * ((((length lists - p) + first) + g) - 1)) ≡ slot_of lists p g) × (2 * ((((length lists - p) + first) + g) - 1) < 2147483646)
+explicit_slot lists p g first faultless group explicit is = (slot, omega (arith, slot_within lists faultless p g (2 * ((((length lists - p) + first) + g) - 1)) (sym slot), slots_within_limit lists faultless))
+  where
+    number : 2 * ((((length lists - p) + first) + g) - 1) ≡ 2 * length lists + 2 * explicit_before lists p + 2 * (g - 1)
+    number =
+        let pattern : p < length lists = pattern_in lists p g group in
+        omega (arith, groups_so_far lists p (omega arith) (some_group LIMIT_OF_IDS lists faultless), is)
+
+    slot : Some (2 * ((((length lists - p) + first) + g) - 1)) ≡ slot_of lists p g
+    slot =
+        let later : nat_eq g 0 ≡ false = grind (arith, nat_tests) in
+        sym (slot_of-group lists p g group ∙ ap Some (rw later (sym number)))

@@ -8,12 +8,12 @@ ghost use Rattle.rsc_captures.specs.NameIterators.{all_names_of};
 ghost use Rattle.rsc_captures.specs.SlotOwners.{IsSlotOf, IsOwned};
 ghost use Rattle.rsc_captures.specs.Found.{fault_found};
 ghost use Rattle.rsc_captures.specs.Names.{IsIndexed};
-ghost use Rattle.rsc_captures.specs.Layout.{AreStarts, AreOrdered};
+ghost use Rattle.rsc_captures.specs.Layout.{AreOrdered};
 ghost use Rattle.rsc_captures.specs.Repeats.{IsDuplicateOf, IsFirstDuplicate};
 
 use crate::error::{GroupInfoError, GroupInfoErrorKind};
 use crate::faults::{Fault, check, has_other_fault};
-use crate::layout::{SharedLists, proposals_of};
+use crate::layout::{SharedLists, firsts_of, proposals_of};
 use crate::name_iterators::{GroupInfoAllNames, GroupInfoPatternNames};
 use crate::names::{NameList, room_for};
 use crate::order::{add_order, name_at, repeat_in};
@@ -120,21 +120,6 @@ fn order_of<A: Allocator + Clone + Drop>(
     Ok(order)
 }
 
-// Where the slots of each pattern's explicit groups begin; last comes how many slots there are.
-fn starts_of<A: Allocator>(alloc: A, lists: &[&[Option<&str>]]) -> Result<Vec<usize, A>, AllocError>
-    requires { HasNoOtherFault LIMIT_OF_IDS (lists_in lists.now) }
-    ensures { IfOk result (λ starts. AreStarts starts.items (lists_in lists.now) (length lists.now)) }
-{
-    let mut starts: Vec<usize, A> = Vec::with_capacity(alloc, lists.len() + 1)?;
-    let mut start = 2 * lists.len();
-    starts.push(start)?;
-    for groups in lists {
-        start += 2 * (groups.len() - 1);
-        starts.push(start)?;
-    }
-    Ok(starts)
-}
-
 // Holds the groups of a list that has no fault besides names that are used twice.
 fn build<A: Allocator + Clone + Drop>(
     alloc: A,
@@ -149,7 +134,7 @@ fn build<A: Allocator + Clone + Drop>(
     let inner = SharedLists {
         names: NameList::new(alloc.clone()?, lists)?,
         order,
-        starts: starts_of(alloc.clone()?, lists)?,
+        firsts: firsts_of(alloc.clone()?, lists)?,
         proposals: proposals_of(alloc.clone()?, lists)?,
     };
     Ok(GroupInfo {
@@ -244,7 +229,8 @@ impl<A: Allocator + Clone + Drop> GroupInfo<A> {
     pub fn pattern_names(&self, pid: PatternID) -> GroupInfoPatternNames<'_, A>
         ensures { result ≡ groups_of self.now pid }
     {
-        GroupInfoPatternNames::new(self, pid)
+        let inner: &SharedLists<A> = &self.inner;
+        GroupInfoPatternNames::new(inner, pid.as_usize())
     }
 
     /// All groups by pattern and then by group, each with its pattern, its number and its name, if it has one.
@@ -253,7 +239,8 @@ impl<A: Allocator + Clone + Drop> GroupInfo<A> {
         ensures groups { result ≡ all_names_of self.now }
         ensures count { length result ≡ all_groups self.now }
     {
-        GroupInfoAllNames::new(self)
+        let inner: &SharedLists<A> = &self.inner;
+        GroupInfoAllNames::new(inner)
     }
 
     /// A clone, which shares the memory with its source.
@@ -316,14 +303,7 @@ impl<A: Allocator + Clone + Drop> GroupInfo<A> {
         ensures within { IfSome result (λ slot. slot + 1 < 2 * all_groups self.now) }
     {
         let inner: &SharedLists<A> = &self.inner;
-        let p = pid.as_usize();
-        if group_index >= self.group_len(pid) {
-            None
-        } else if group_index == 0 {
-            Some(2 * p)
-        } else {
-            Some(inner.starts[p] + 2 * (group_index - 1))
-        }
+        inner.slot(pid.as_usize(), group_index)
     }
 
     /// The slots of a group's start and of its end, or `None` where there is no such group.
@@ -345,7 +325,7 @@ impl<A: Allocator + Clone + Drop> GroupInfo<A> {
         ensures once { (s p g q h : ℕ) → IsSlotOf self.now p g s → IsSlotOf self.now q h s → (p ≡ q) × (g ≡ h) }
     {
         let inner: &SharedLists<A> = &self.inner;
-        inner.starts[inner.len()]
+        2 * inner.all_group_len()
     }
 
     /// How many groups all patterns have.
@@ -353,7 +333,8 @@ impl<A: Allocator + Clone + Drop> GroupInfo<A> {
     pub fn all_group_len(&self) -> usize
         ensures { result ≡ all_groups self.now }
     {
-        self.slot_len() / 2
+        let inner: &SharedLists<A> = &self.inner;
+        inner.all_group_len()
     }
 
     /// How many slots the first groups have: two for each pattern. They come before all others.
@@ -372,6 +353,6 @@ impl<A: Allocator + Clone + Drop> GroupInfo<A> {
         ensures { result ≡ 2 * all_groups self.now - 2 * length self.now }
     {
         let inner: &SharedLists<A> = &self.inner;
-        inner.starts[inner.len()] - 2 * inner.len()
+        2 * (inner.all_group_len() - inner.len())
     }
 }

@@ -1,13 +1,14 @@
-//! The groups of all patterns, as they are held: their names in one list, and where each pattern's groups begin.
+//! The groups of all patterns, as they are held: their names in one list, and where each pattern's begin there.
 //!
 //! A name is looked for among few groups one by one. Else its hash names a few cells of a table, and each of these proposes a
 //! group: where that group has the name, it is the one. Nothing depends on what the table proposes, so no contract speaks of it.
 //! Where none has the name, the pattern's groups in the order of their names decide, by halving.
 ghost use Rattle.std.specs.Prelude.{◌≡◌, ◌<◌, ◌≤◌, length, IfOk, IfSome, Some};
 ghost use Rattle.std.specs.Option.{option_copied};
-ghost use Rattle.rsc_captures.specs.Groups.{groups_of, group_count, name_of, index_of};
+ghost use Rattle.rsc_captures.specs.Groups.{lists_in, groups_of, group_count, name_of, index_of, slot_of, all_groups};
 ghost use Rattle.rsc_captures.specs.Faults.{LIMIT_OF_IDS, IsFaultless};
-ghost use Rattle.rsc_captures.specs.Layout.{groups_before};
+ghost use Rattle.rsc_captures.specs.Checks.{HasNoOtherFault};
+ghost use Rattle.rsc_captures.specs.Layout.{groups_before, AreFirsts};
 ghost use Rattle.rsc_captures.specs.Names.{name_cmp};
 
 use crate::faults::has_name;
@@ -21,14 +22,14 @@ use std::marker::Model;
 // How many cells of the table a name has.
 const CELLS_OF_A_NAME: usize = 4;
 
-/// The names of all groups by pattern and then by group; for each pattern its groups in the order of their names; where the
-/// slots of each pattern's explicit groups begin, and last how many slots there are; and a table that proposes groups by name.
+/// The names of all groups by pattern and then by group; for each pattern its groups in the order of their names; where each
+/// pattern's names begin, and last how many there are; and a table that proposes groups by name.
 #[derive(Drop)]
 #[derive_where(Debug)]
 pub(crate) struct SharedLists<A: Allocator> {
     pub(crate) names: NameList<A>,
     pub(crate) order: Vec<u32, A>,
-    pub(crate) starts: Vec<usize, A>,
+    pub(crate) firsts: Vec<usize, A>,
     pub(crate) proposals: Vec<u32, A>,
 }
 
@@ -38,9 +39,9 @@ impl<A: Allocator> Model for SharedLists<A> {
 
     ghost Value = { GroupLists };
 
-    ghost view = { λ a. lists_held a.starts.items a.names };
+    ghost view = { λ a. lists_held a.firsts.items a.names };
 
-    ghost invariant = { λ a. IsLayout a.starts.items a.order.items (lists_held a.starts.items a.names) };
+    ghost invariant = { λ a. IsLayout a.firsts.items a.order.items (lists_held a.firsts.items a.names) };
 }
 
 // The cell of the table where a name's cells begin, before it is cut to the table's length.
@@ -111,6 +112,24 @@ pub(crate) fn proposals_of<A: Allocator>(
     Ok(proposals)
 }
 
+/// Where each pattern's names begin in the list of all names; last comes how many there are.
+pub(crate) fn firsts_of<A: Allocator>(
+    alloc: A,
+    lists: &[&[Option<&str>]],
+) -> Result<Vec<usize, A>, AllocError>
+    requires { HasNoOtherFault LIMIT_OF_IDS (lists_in lists.now) }
+    ensures { IfOk result (λ firsts. AreFirsts firsts.items (lists_in lists.now) (length lists.now)) }
+{
+    let mut firsts: Vec<usize, A> = Vec::with_capacity(alloc, lists.len() + 1)?;
+    let mut first = 0;
+    firsts.push(first)?;
+    for groups in lists {
+        first += groups.len();
+        firsts.push(first)?;
+    }
+    Ok(firsts)
+}
+
 impl<A: Allocator + Clone + Drop> SharedLists<A> {
     /// How many patterns there are.
     #[inline]
@@ -118,7 +137,26 @@ impl<A: Allocator + Clone + Drop> SharedLists<A> {
         ensures value { result ≡ length self.now }
         ensures faultless { IsFaultless LIMIT_OF_IDS self.now }
     {
-        self.starts.len() - 1
+        self.firsts.len() - 1
+    }
+
+    /// Where the names of a pattern's groups begin, and behind the last pattern how many names there are.
+    #[inline]
+    pub(crate) fn first(&self, p: usize) -> usize
+        requires { p ≤ length self.now }
+        ensures value { result ≡ groups_before self.now p }
+        ensures faultless { IsFaultless LIMIT_OF_IDS self.now }
+    {
+        self.firsts[p]
+    }
+
+    /// How many groups all patterns have.
+    #[inline]
+    pub(crate) fn all_group_len(&self) -> usize
+        ensures value { result ≡ all_groups self.now }
+        ensures faultless { IsFaultless LIMIT_OF_IDS self.now }
+    {
+        self.first(self.len())
     }
 
     /// How many groups a pattern has: none where there is no such pattern.
@@ -130,16 +168,31 @@ impl<A: Allocator + Clone + Drop> SharedLists<A> {
         if p >= self.len() {
             return 0;
         }
-        (self.starts[p + 1] - self.starts[p]) / 2 + 1
+        self.first(p + 1) - self.first(p)
     }
 
-    // Where the names of a pattern's groups begin.
+    /// The slot of a group's start, or `None` where there is no such group.
     #[inline]
-    fn first(&self, p: usize) -> usize
-        requires { p < length self.now }
-        ensures { result ≡ groups_before self.now p }
+    pub(crate) fn slot(&self, p: usize, group: usize) -> Option<usize>
+        ensures value { result ≡ slot_of self.now p group }
+        ensures faultless { IsFaultless LIMIT_OF_IDS self.now }
     {
-        self.starts[p] / 2 + p - self.len()
+        if group >= self.group_len(p) {
+            None
+        } else if group == 0 {
+            Some(2 * p)
+        } else {
+            Some(2 * (self.len() - p + self.first(p) + group - 1))
+        }
+    }
+
+    // The name of a group that the pattern has, if the group has one.
+    #[inline]
+    fn name_within(&self, p: usize, group: usize) -> Option<&str>
+        requires { group < group_count self.now p }
+        ensures { option_copied result ≡ name_of self.now p group }
+    {
+        self.names.get(self.first(p) + group)
     }
 
     /// The name of a group of a pattern, if there is such a group and it has one.
@@ -150,7 +203,7 @@ impl<A: Allocator + Clone + Drop> SharedLists<A> {
         if group >= self.group_len(p) {
             return None;
         }
-        self.names.get(self.first(p) + group)
+        self.name_within(p, group)
     }
 
     // The group that the name's cells propose, if it has the name.
@@ -161,11 +214,10 @@ impl<A: Allocator + Clone + Drop> SharedLists<A> {
     {
         let mask = self.proposals.len().wrapping_sub(1);
         let cell = first_cell(p, name);
-        let first = self.first(p);
         let count = self.group_len(p);
         for i in 0..CELLS_OF_A_NAME {
             let group = *self.proposals.get(cell.wrapping_add(i) & mask)? as usize;
-            if group < count && has_name(self.names.get(first + group), name) {
+            if group < count && has_name(self.name_within(p, group), name) {
                 return Some(group);
             }
         }
@@ -189,9 +241,8 @@ impl<A: Allocator + Clone + Drop> SharedLists<A> {
         requires { p < length self.now }
         ensures { result ≡ index_of (groups_of self.now p) name.now }
     {
-        let first = self.first(p);
         for group in 0..self.group_len(p) {
-            if has_name(self.names.get(first + group), name) {
+            if has_name(self.name_within(p, group), name) {
                 return Some(group);
             }
         }

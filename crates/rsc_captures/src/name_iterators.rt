@@ -6,42 +6,49 @@ ghost use Rattle.std.specs.Iterator.SizeHint.{IsWithinCount};
 ghost use Rattle.rsc_captures.specs.Groups.{groups_of};
 ghost use Rattle.rsc_captures.specs.NameIterators.{named_group, all_names_of};
 
-use crate::group_info::GroupInfo;
+use crate::layout::SharedLists;
+use crate::names::NameList;
 use rsc_primitives::PatternID;
 use std::alloc::{Allocator, Global};
 use std::marker::Model;
 
-/// The iterator over the names of a pattern's groups, made by [`GroupInfo::pattern_names`].
+/// The iterator over the names of a pattern's groups, made by [`GroupInfo::pattern_names`](crate::GroupInfo::pattern_names).
 /// A contract sees it as the list of those that are left.
 #[derive(Drop)]
 #[derive_where(Clone, Debug)]
 pub struct GroupInfoPatternNames<'a, A: Allocator = Global> {
-    group_info: &'a GroupInfo<A>,
-    pattern: PatternID,
-    next_group: usize,
+    names: &'a NameList<A>,
+    next: usize,
+    end: usize,
 }
 
 impl<'a, A: Allocator> Model for GroupInfoPatternNames<'a, A> {
-    ghost use Rattle.std.specs.Prelude.{drop};
-    ghost use Rattle.rsc_captures.specs.Groups.{Groups, groups_of};
+    ghost use Rattle.std.specs.Prelude.{◌≤◌, length, slice_range};
+    ghost use Rattle.rsc_captures.specs.Groups.{Groups};
 
     ghost Value = { Groups };
 
-    ghost view = { λ it. drop it.next_group (groups_of it.group_info.now it.pattern) };
+    ghost view = { λ it. slice_range it.names.now it.next it.end };
+
+    ghost invariant = { λ it. it.end ≤ length it.names.now };
 }
 
 impl<'a, A: Allocator + Clone + Drop> GroupInfoPatternNames<'a, A> {
     #[inline]
-    pub(crate) fn new(
-        group_info: &'a GroupInfo<A>,
-        pattern: PatternID,
-    ) -> GroupInfoPatternNames<'a, A>
-        ensures { result ≡ groups_of group_info.now pattern }
+    pub(crate) fn new(lists: &'a SharedLists<A>, p: usize) -> GroupInfoPatternNames<'a, A>
+        ensures { result ≡ groups_of lists.now p }
     {
+        if p >= lists.len() {
+            return GroupInfoPatternNames {
+                names: &lists.names,
+                next: 0,
+                end: 0,
+            };
+        }
         GroupInfoPatternNames {
-            group_info,
-            pattern,
-            next_group: 0,
+            names: &lists.names,
+            next: lists.first(p),
+            end: lists.first(p + 1),
         }
     }
 
@@ -50,9 +57,7 @@ impl<'a, A: Allocator + Clone + Drop> GroupInfoPatternNames<'a, A> {
     pub fn len(&self) -> usize
         ensures { result ≡ length self.now }
     {
-        self.group_info
-            .group_len(self.pattern)
-            .saturating_sub(self.next_group)
+        self.end.saturating_sub(self.next)
     }
 }
 
@@ -65,12 +70,12 @@ impl<'a, A: Allocator + Clone + Drop> Iterator for GroupInfoPatternNames<'a, A> 
 
     #[inline]
     fn next(&mut self) -> Option<Option<&'a str>> {
-        let group = self.next_group;
-        if group >= self.group_info.group_len(self.pattern) {
+        if self.next >= self.end {
             return None;
         }
-        self.next_group += 1;
-        Some(self.group_info.to_name(self.pattern, group))
+        let name = self.names.get(self.next);
+        self.next += 1;
+        Some(name)
     }
 
     fn size_hint(&self) -> (usize, Option<usize>)
@@ -83,34 +88,42 @@ impl<'a, A: Allocator + Clone + Drop> Iterator for GroupInfoPatternNames<'a, A> 
     }
 }
 
-/// The iterator over all groups of all patterns, made by [`GroupInfo::all_names`]. A contract sees it as the list of those
-/// that are left.
+/// The iterator over all groups of all patterns, made by
+/// [`GroupInfo::all_names`](crate::GroupInfo::all_names). A contract sees it as the list of those that are left.
 #[derive(Drop)]
 #[derive_where(Debug)]
 pub struct GroupInfoAllNames<'a, A: Allocator = Global> {
-    group_info: &'a GroupInfo<A>,
-    next_pattern: usize,
-    next_group: usize,
+    lists: &'a SharedLists<A>,
+    pattern: usize,
+    group: usize,
+    // The group's place in the list of all names, and where the pattern's end there.
+    next: usize,
+    end: usize,
 }
 
 impl<'a, A: Allocator> Model for GroupInfoAllNames<'a, A> {
     ghost use Rattle.std.specs.Prelude.{List};
     ghost use Rattle.rsc_captures.specs.NameIterators.{NamedGroup, names_left};
+    ghost use Rattle.rsc_captures.specs.Layout.{IsAt};
 
     ghost Value = { List NamedGroup };
 
-    ghost view = { λ it. names_left it.group_info.now it.next_pattern it.next_group };
+    ghost view = { λ it. names_left it.lists.now it.pattern it.group };
+
+    ghost invariant = { λ it. IsAt it.lists.now it.pattern it.group it.next it.end };
 }
 
 impl<'a, A: Allocator + Clone + Drop> GroupInfoAllNames<'a, A> {
     #[inline]
-    pub(crate) fn new(group_info: &'a GroupInfo<A>) -> GroupInfoAllNames<'a, A>
-        ensures { result ≡ all_names_of group_info.now }
+    pub(crate) fn new(lists: &'a SharedLists<A>) -> GroupInfoAllNames<'a, A>
+        ensures { result ≡ all_names_of lists.now }
     {
         GroupInfoAllNames {
-            group_info,
-            next_pattern: 0,
-            next_group: 0,
+            lists,
+            pattern: 0,
+            group: 0,
+            next: 0,
+            end: lists.group_len(0),
         }
     }
 }
@@ -124,16 +137,21 @@ impl<'a, A: Allocator + Clone + Drop> Iterator for GroupInfoAllNames<'a, A> {
 
     #[inline]
     fn next(&mut self) -> Option<(PatternID, usize, Option<&'a str>)> {
-        while self.next_pattern < self.group_info.pattern_len() {
-            let pattern = PatternID::must(self.next_pattern);
-            let group = self.next_group;
-            if group < self.group_info.group_len(pattern) {
-                self.next_group += 1;
-                return Some((pattern, group, self.group_info.to_name(pattern, group)));
+        let lists = self.lists;
+        let count = lists.len();
+        if self.next == self.end {
+            if self.pattern + 1 >= count {
+                return None;
             }
-            self.next_pattern += 1;
-            self.next_group = 0;
+            // Each pattern has a group.
+            self.pattern += 1;
+            self.group = 0;
+            self.end = lists.first(self.pattern + 1);
         }
-        None
+        let name = lists.names.get(self.next);
+        let item = (PatternID::must(self.pattern), self.group, name);
+        self.group += 1;
+        self.next += 1;
+        Some(item)
     }
 }

@@ -1,5 +1,5 @@
 //! A list of optional names, which stand one after another in one text.
-ghost use Rattle.std.specs.Prelude.{◌≡◌, [], ◌++◌, IfOk, OnOk, slice_index_or, None};
+ghost use Rattle.std.specs.Prelude.{◌≡◌, ◌<◌, [], ◌++◌, length, IfOk, OnOk, slice_index_or, None};
 ghost use Rattle.std.specs.List.{flat_map};
 ghost use Rattle.std.specs.Option.{option_copied, unwrap_or};
 ghost use Rattle.std.specs.Str.{IsUtf8};
@@ -10,11 +10,11 @@ ghost use Rattle.rsc_captures.specs.Names.{names_held, place_held, AreCut, AreHe
 use std::alloc::{AllocError, Allocator};
 use std::marker::Model;
 
-// Where a name stands in the text: its first byte, and how many it has.
+// Where a name is in the text, from its first byte to the one behind its last; a place that ends before it begins is no name's.
 #[derive(Clone, Copy, Debug)]
 struct Place {
     start: usize,
-    len: usize,
+    end: usize,
 }
 
 /// Optional names in order. A contract sees them as their list.
@@ -22,7 +22,7 @@ struct Place {
 #[derive_where(Debug)]
 pub(crate) struct NameList<A: Allocator> {
     text: String<A>,
-    places: Vec<Option<Place>, A>,
+    places: Vec<Place, A>,
 }
 
 impl<A: Allocator> Model for NameList<A> {
@@ -59,30 +59,27 @@ pub(crate) fn room_for(lists: &[&[Option<&str>]]) -> (usize, usize) {
     (len, bytes)
 }
 
-// Adds the name of a group to the text, and says where it stands there.
-fn hold_name<A: Allocator>(
-    text: &mut String<A>,
-    group: Option<&str>,
-) -> Result<Option<Place>, AllocError>
+// Adds the name of a group to the text, and says where it is there.
+fn hold_name<A: Allocator>(text: &mut String<A>, group: Option<&str>) -> Result<Place, AllocError>
     ensures text { OnOk result (string_bytes text.new ≡ string_bytes text.old ++ unwrap_or (option_copied group.entry) []) }
     ensures place { IfOk result (λ place. place ≡ place_held (string_bytes text.old) (option_copied group.entry)) }
     ensures utf8 { IsUtf8 (unwrap_or (option_copied group.entry) []) }
 {
     let Some(name) = group else {
-        return Ok(None);
+        return Ok(Place { start: 1, end: 0 });
     };
-    let place = Place {
-        start: text.len(),
-        len: name.len(),
-    };
+    let start = text.len();
     text.push_str(name)?;
-    Ok(Some(place))
+    Ok(Place {
+        start,
+        end: text.len(),
+    })
 }
 
-// Adds the names of these groups, and where each of them stands.
+// Adds the names of these groups, and where each of them is.
 fn hold_names<A: Allocator>(
     text: &mut String<A>,
-    places: &mut Vec<Option<Place>, A>,
+    places: &mut Vec<Place, A>,
     groups: &[Option<&str>],
 ) -> Result<(), AllocError>
     requires { AreCut (string_bytes text.old) places.old.items }
@@ -102,21 +99,23 @@ impl<A: Allocator + Clone + Drop> NameList<A> {
     {
         let (len, bytes) = room_for(lists);
         let mut text = String::with_capacity(alloc.clone()?, bytes)?;
-        let mut places: Vec<Option<Place>, A> = Vec::with_capacity(alloc, len)?;
+        let mut places: Vec<Place, A> = Vec::with_capacity(alloc, len)?;
         for groups in lists {
             hold_names(&mut text, &mut places, groups)?;
         }
         Ok(NameList { text, places })
     }
 
-    /// The name at a place, if there is such a place and a name there.
+    /// The group's name in the list, if it has one.
     #[inline]
     pub(crate) fn get(&self, i: usize) -> Option<&str>
+        requires { i < length self.now }
         ensures { option_copied result ≡ slice_index_or self.now i None }
     {
-        match self.places.get(i) {
-            Some(Some(place)) => Some(&self.text.as_str()[place.start..place.start + place.len]),
-            _ => None,
+        let place = self.places[i];
+        if place.end < place.start {
+            return None;
         }
+        Some(&self.text.as_str()[place.start..place.end])
     }
 }

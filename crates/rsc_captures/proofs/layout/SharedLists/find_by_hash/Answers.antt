@@ -1,16 +1,12 @@
-use Rattle.std.proofs.Common.{◌≡◌, ◌<◌, arith, true, ap, sym, ◌∙◌}
-use Rattle.std.specs.Option.{option_copied}
+use Rattle.std.proofs.Common.{◌≡◌, true, ap, sym, ◌∙◌}
 use Rattle.rsc_captures.specs.Groups.{groups_of, group_count, name_of, has_name, AreDistinctBelow}
 use Rattle.rsc_captures.proofs.Indexed.{index_of-is, has_name-is}
-use Rattle.rsc_captures.proofs.Parts.{distinct_in, named_at}
+use Rattle.rsc_captures.proofs.Parts.{distinct_in}
 use Rattle.rsc_captures.proofs.layout.SharedLists.find_by_hash.Goals as goal
 
 -- no name is used twice, so a group that has the name is the first that has it
 pub returns-then-has_name : goal.returns-then-has_name
 returns-then-has_name g c =
-    let distinct : AreDistinctBelow (groups_of c.args.self.now c.args.p) (group_count c.args.self.now c.args.p) = distinct_in c.args.self.now (rw c.self.view_is at c.self.invariant.laid_out.faultless) c.args.p in
-    let lt : c.in_ok-group.field-0.now < group_count c.args.self.now c.args.p = omega (arith, c.group_len-count.ensures.value) in
-    let is : option_copied c.get-then-group-count.result ≡ name_of c.args.self.now c.args.p c.in_ok-group.field-0.now =
-    named_at c.self.inside.starts.items c.self.inside.names c.args.self.now c.self.view_is (rw c.self.view_is at c.self.invariant.laid_out) c.args.p c.in_ok-group.field-0.now c.first-first.result (option_copied c.get-then-group-count.result) c.first-first.ensures lt c.get-then-group-count.ensures in
-    let named : has_name c.args.name.now (name_of c.args.self.now c.args.p c.in_ok-group.field-0.now) ≡ true = ap (has_name c.args.name.now) (sym is) ∙ sym c.if-has_name.ensures in
+    let distinct : AreDistinctBelow (groups_of c.args.self.now c.args.p) (group_count c.args.self.now c.args.p) = distinct_in c.args.self.now c.group_len-count.ensures.faultless c.args.p in
+    let named : has_name c.args.name.now (name_of c.args.self.now c.args.p c.in_ok-group.field-0.now) ≡ true = ap (has_name c.args.name.now) (sym c.name_within.ensures) ∙ sym c.if-has_name.ensures in
     (index_of-is (groups_of c.args.self.now c.args.p) c.args.name.now distinct _).1 (has_name-is c.args.name.now _ named)
