@@ -2,13 +2,12 @@
 ghost use Rattle.std.specs.Prelude.{◌≡◌, ℕ, List, Option, ◌+◌, ◌*◌, ◌<◌, ◌≤◌, ◌∷◌, [], map, length, replicate, Some, None, IfOk, IfSome, is_some, option_and_then};
 ghost use Rattle.std.specs.Option.{option_map, ForSome};
 ghost use Rattle.std.specs.Borrow.{sem};
-ghost use Rattle.std.specs.Iterator.{YieldsFirst, UpTo, item_count};
-ghost use Rattle.std.specs.Iterator.SizeHint.{IsWithinCount};
 ghost use Rattle.rsc_search.specs.declared.span.Span.{Span};
 ghost use Rattle.rsc_captures.specs.Groups.{all_groups, slots_of};
 ghost use Rattle.rsc_captures.specs.Captured.{Captured, no_offsets, span_at, group_span, matched_groups, matched_spans, named_span, match_of};
 
 use crate::group_info::GroupInfo;
+use crate::span_iterator::CapturesPatternIter;
 use rsc_primitives::{NonMaxUsize, PatternID};
 use rsc_search::{Match, Span};
 use std::alloc::{AllocError, Allocator, Global};
@@ -269,10 +268,7 @@ impl<A: Allocator + Clone + Drop> Captures<A> {
         ensures spans { result ≡ matched_spans self.now }
         ensures count { length result ≡ matched_groups self.now }
     {
-        CapturesPatternIter {
-            captures: self,
-            next_group: 0,
-        }
+        CapturesPatternIter::new(self)
     }
 }
 
@@ -296,68 +292,5 @@ impl<A: Allocator + Clone + Drop> fmt::Debug for Captures<A> {
             }
         }
         f.write_str("} }")
-    }
-}
-
-/// The iterator over the groups of the pattern that matched, made by [`Captures::iter`]. A contract sees it as the list of the
-/// spans that are left.
-#[derive(Drop)]
-#[derive_where(Clone)]
-pub struct CapturesPatternIter<'a, A: Allocator = Global> {
-    captures: &'a Captures<A>,
-    next_group: usize,
-}
-
-impl<'a, A: Allocator> Model for CapturesPatternIter<'a, A> {
-    ghost use Rattle.std.specs.Prelude.{List, Option};
-    ghost use Rattle.rsc_search.specs.declared.span.Span.{Span};
-    ghost use Rattle.rsc_captures.specs.CapturedLayout.{spans_from};
-
-    ghost Value = { List (Option Span) };
-
-    ghost view = { λ it. spans_from it.captures.now it.next_group };
-}
-
-impl<'a, A: Allocator + Clone + Drop> CapturesPatternIter<'a, A> {
-    /// How many groups are left.
-    #[inline]
-    pub fn len(&self) -> usize
-        ensures { result ≡ length self.now }
-    {
-        self.captures.group_len().saturating_sub(self.next_group)
-    }
-}
-
-impl<'a, A: Allocator + Clone + Drop> Iterator for CapturesPatternIter<'a, A> {
-    type Item = Option<Span>;
-
-    ghost next_gives = { YieldsFirst (λ rest. rest) };
-
-    ghost remaining = { item_count (λ rest. rest) };
-
-    #[inline]
-    fn next(&mut self) -> Option<Option<Span>> {
-        let group = self.next_group;
-        if group >= self.captures.group_len() {
-            return None;
-        }
-        self.next_group += 1;
-        Some(self.captures.get_group(group))
-    }
-
-    fn size_hint(&self) -> (usize, Option<usize>)
-        ensures lower { IsWithinCount result.0 (item_count (λ rest. rest) self.now) }
-        ensures upper { IfSome result.1 (UpTo (item_count (λ rest. rest) self.now)) }
-        ensures exact { result ≡ (length self.now, Some (length self.now)) }
-    {
-        let left = self.len();
-        (left, Some(left))
-    }
-}
-
-impl<'a, A: Allocator + Clone + Drop> fmt::Debug for CapturesPatternIter<'a, A> {
-    fn fmt<W: fmt::Write>(&self, f: &mut fmt::Formatter<W>) -> fmt::Result {
-        let left = self.len();
-        write!(f, "CapturesPatternIter({left})")
     }
 }

@@ -1,8 +1,11 @@
 //! Why a group list is refused.
-ghost use Rattle.std.specs.Prelude.{◌≡◌, None, Some};
+ghost use Rattle.std.specs.Prelude.{◌≡◌, None, Some, MatchOption};
 ghost use Rattle.std.specs.Fmt.{DisplaysOnOk};
 ghost use Rattle.rsc_captures.specs.Kinds.{refusal_text};
+ghost use Rattle.rsc_captures.specs.Checks.{IsDuplicate};
+ghost use Rattle.rsc_captures.specs.Found.{fault_found};
 
+use crate::faults::Fault;
 use rsc_primitives::{PatternID, PatternIDError};
 use std::alloc::{AllocError, AllocFailed, Allocator, Global};
 use std::error::Error;
@@ -157,6 +160,8 @@ impl<A: Allocator> fmt::Display for GroupInfoErrorKind<A> {
 
 impl<A: Allocator> fmt::Display for GroupInfoError<A> {
     ghost use Rattle.rsc_captures.specs.Kinds.{refusal_text};
+    ghost use Rattle.rsc_captures.specs.Checks.{IsDuplicate};
+    ghost use Rattle.rsc_captures.specs.Found.{fault_found};
 
     ghost output = { λ fault. Some (refusal_text fault) };
 
@@ -166,3 +171,27 @@ impl<A: Allocator> fmt::Display for GroupInfoError<A> {
 }
 
 impl<A: Allocator> Error for GroupInfoError<A> {}
+
+/// The error for a fault. Only a name that is used twice takes memory.
+pub(crate) fn refusal<A: Allocator + Clone + Drop>(alloc: A, fault: Fault<'_>) -> GroupInfoError<A>
+    ensures { MatchOption result (IsDuplicate (fault_found fault.entry)) (λ found. found ≡ fault_found fault.entry) }
+{
+    match fault {
+        Fault::TooManyPatterns(err) => {
+            GroupInfoError::new(GroupInfoErrorKind::TooManyPatterns { err })
+        }
+        Fault::TooManyGroups(pattern, minimum) => {
+            GroupInfoError::new(GroupInfoErrorKind::TooManyGroups { pattern, minimum })
+        }
+        Fault::MissingGroups(pattern) => {
+            GroupInfoError::new(GroupInfoErrorKind::MissingGroups { pattern })
+        }
+        Fault::FirstMustBeUnnamed(pattern) => {
+            GroupInfoError::new(GroupInfoErrorKind::FirstMustBeUnnamed { pattern })
+        }
+        Fault::Duplicate(pattern, name) => match String::from_str(alloc, name) {
+            Ok(name) => GroupInfoError::new(GroupInfoErrorKind::Duplicate { pattern, name }),
+            Err(_) => GroupInfoError::new(GroupInfoErrorKind::OutOfMemory),
+        },
+    }
+}

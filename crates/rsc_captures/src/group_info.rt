@@ -3,15 +3,14 @@ ghost use Rattle.std.specs.Prelude.{◌≡◌, ℕ, ◌+◌, ◌-◌, ◌*◌, �
 ghost use Rattle.std.specs.Option.{option_copied};
 ghost use Rattle.rsc_captures.specs.Groups.{lists_in, groups_of, group_count, name_of, index_of, slot_of, slots_of, all_groups, AreDistinctBelow};
 ghost use Rattle.rsc_captures.specs.Faults.{GREATEST_PATTERN, LIMIT_OF_IDS, IsFaultless, RefusesFor};
-ghost use Rattle.rsc_captures.specs.Checks.{HasNoOtherFault, IsDuplicate};
+ghost use Rattle.rsc_captures.specs.Checks.{HasNoOtherFault};
 ghost use Rattle.rsc_captures.specs.NameIterators.{all_names_of};
 ghost use Rattle.rsc_captures.specs.SlotOwners.{IsSlotOf, IsOwned};
-ghost use Rattle.rsc_captures.specs.Found.{fault_found};
 ghost use Rattle.rsc_captures.specs.Names.{IsIndexed};
 ghost use Rattle.rsc_captures.specs.Layout.{AreOrdered};
 ghost use Rattle.rsc_captures.specs.Repeats.{IsDuplicateOf, IsFirstDuplicate};
 
-use crate::error::{GroupInfoError, GroupInfoErrorKind};
+use crate::error::{GroupInfoError, refusal};
 use crate::faults::{Fault, check, has_other_fault};
 use crate::layout::{SharedLists, firsts_of, proposals_of};
 use crate::name_iterators::{GroupInfoAllNames, GroupInfoPatternNames};
@@ -21,6 +20,9 @@ use rsc_primitives::PatternID;
 use std::alloc::{AllocError, Allocator, Global};
 use std::marker::Model;
 use std::rc::Rc;
+
+// How many slots there may be at most: the greatest index is no number of a slot.
+const SLOT_LIMIT: usize = PatternID::LIMIT - 1;
 
 /// Which capturing groups the patterns of a search have, with their names, and which slots hold a group's offsets.
 ///
@@ -52,30 +54,6 @@ impl<A: Allocator> Model for GroupInfo<A> {
     ghost Value = { GroupLists };
 
     ghost view = { λ a. a.inner.value };
-}
-
-// The error for a fault. Only a name that is used twice takes memory.
-fn refusal<A: Allocator + Clone + Drop>(alloc: A, fault: Fault<'_>) -> GroupInfoError<A>
-    ensures { MatchOption result (IsDuplicate (fault_found fault.entry)) (λ found. found ≡ fault_found fault.entry) }
-{
-    match fault {
-        Fault::TooManyPatterns(err) => {
-            GroupInfoError::new(GroupInfoErrorKind::TooManyPatterns { err })
-        }
-        Fault::TooManyGroups(pattern, minimum) => {
-            GroupInfoError::new(GroupInfoErrorKind::TooManyGroups { pattern, minimum })
-        }
-        Fault::MissingGroups(pattern) => {
-            GroupInfoError::new(GroupInfoErrorKind::MissingGroups { pattern })
-        }
-        Fault::FirstMustBeUnnamed(pattern) => {
-            GroupInfoError::new(GroupInfoErrorKind::FirstMustBeUnnamed { pattern })
-        }
-        Fault::Duplicate(pattern, name) => match String::from_str(alloc, name) {
-            Ok(name) => GroupInfoError::new(GroupInfoErrorKind::Duplicate { pattern, name }),
-            Err(_) => GroupInfoError::new(GroupInfoErrorKind::OutOfMemory),
-        },
-    }
 }
 
 // Adds the groups of pattern `p` to the order, and looks for a name that is used twice.
@@ -150,7 +128,7 @@ impl<A: Allocator + Clone + Drop> GroupInfo<A> {
     /// The first fault of the lists, which are read by pattern and then by group: too many patterns, a pattern without
     /// groups, a first group with a name, too many groups, a name that is used twice in its pattern. Last comes a pattern
     /// whose groups, after the first groups of all patterns, have no slots left. Where memory is refused the kind is
-    /// [`GroupInfoErrorKind::OutOfMemory`]; a list with any fault but a name that is used twice takes none.
+    /// [`OutOfMemory`](crate::GroupInfoErrorKind::OutOfMemory); a list with any fault but a name that is used twice takes none.
     ///
     /// # Cost
     ///
@@ -162,7 +140,7 @@ impl<A: Allocator + Clone + Drop> GroupInfo<A> {
         ensures faultless { OnOk result (IsFaultless LIMIT_OF_IDS (lists_in lists.now)) }
         ensures refused { IfErr result (RefusesFor LIMIT_OF_IDS (lists_in lists.now)) }
     {
-        GroupInfo::new_limited(alloc, 2147483646, lists)
+        GroupInfo::new_limited(alloc, SLOT_LIMIT, lists)
     }
 
     /// The groups of these lists, as by [`GroupInfo::new`], where at most `limit` slots are allowed in place of 2147483646; the limit itself

@@ -11,8 +11,9 @@ mod layout;
 mod name_iterators;
 mod names;
 mod order;
+mod span_iterator;
 
-pub use captures::{Captures, CapturesPatternIter};
+pub use captures::Captures;
 pub use error::{GroupInfoError, GroupInfoErrorKind};
 pub use extract::{
     Haystack, extract_bytes_pair, extract_bytes_single, extract_bytes_triple, extract_bytes_whole,
@@ -20,3 +21,4 @@ pub use extract::{
 };
 pub use group_info::GroupInfo;
 pub use name_iterators::{GroupInfoAllNames, GroupInfoPatternNames};
+pub use span_iterator::CapturesPatternIter;

@@ -1,7 +1,7 @@
 use Rattle.std.proofs.Common.{refl}
 use Rattle.rsc_captures.specs.Faults.{Duplicate}
 use Rattle.rsc_captures.specs.Checks.{IsDuplicate}
-use Rattle.rsc_captures.proofs.group_info.refusal.Goals as goal
+use Rattle.rsc_captures.proofs.error.refusal.Goals as goal
 
 pub returns-in-Err : goal.returns-in-Err
 returns-in-Err g c =

@@ -2,7 +2,7 @@ use Rattle.std.proofs.Common.{◌≡◌, ◌<◌, ◌+◌, ◌∷◌, arith, rul
 use Rattle.rsc_captures.specs.Captured.{matched_groups}
 use Rattle.rsc_captures.specs.CapturedLayout.{spans_from}
 use Rattle.rsc_captures.proofs.Spans.{spans_from_first}
-use Rattle.rsc_captures.proofs.captures.CapturesPatternIterIterator.next.Goals as goal
+use Rattle.rsc_captures.proofs.span_iterator.CapturesPatternIterIterator.next.Goals as goal
 
 pub returns-clause-steps : goal.returns-clause-steps
 returns-clause-steps g c =
