@@ -19,9 +19,6 @@ module _ (lists : GroupLists) (p : ℕ) where
   left_next : (g : ℕ) → group_count lists p ≤ g → p + 1 < length lists → names_left lists p g ≡ names_left lists (p + 1) 0
   left_next g le lt = left_after g le ∙ ap (patterns_from (p + 1)) (drop_more lists (p + 1) [] lt)
 
-  pub left_none : (g : ℕ) → group_count lists p ≤ g → length lists ≤ p + 1 → names_left lists p g ≡ []
-  left_none g le last = left_after g le ∙ ap (patterns_from (p + 1)) (drop_all (p + 1) lists last)
-
 -- group g of pattern p is the next of those that are left
 pub record IsNext (lists : GroupLists) (old_p old_g p g next end : ℕ) : Type 0 where
   pub at : IsAt lists p g next end

@@ -2,27 +2,24 @@ use mathlib.Core.Path.{refl}
 use mathlib.Core.List.{List, [], ◌∷◌}
 use Prim.Native.Nat.{◌<◌, ◌^◌}
 use lib.Dec.{lit<}
-use seplogic.Ra.Ura.{Ura}
 use mir.Syntax.{named}
 use mir.Val.{Val}
 use base.Fml.{ftrue, flft}
 use base.Fraction.{full_share}
-use base.Logic.{ent, sep, emp, via, id⊢}
+use base.Logic.{id⊢}
 use types.Kit.{‵, raw, ◌⊛◌, some, later, ◌$◌, ◌∵◌, !, qed, done, move, keep, drop, use1, use2, split, join, pick, await, suffices, group}
 use types.Run.{enter, no_more, and_then, returns}
 use types.ByLocal.{alloc_all, pass_all, free_all, look_at, get, lands_as}
 use types.Tokens.{lft_new}
 use contract.BorrowLft.{◌⊑◌, ⊑_static}
 use contract.Lifetimes.{Lfts}
-use contract.Monad.{fact}
 use contract.Running.{tables}
-use denote.Builtin.{RefOf, SliceRefOf, u8}
 use denote.Exit.{yes}
 use denote.Laws.{shows}
 use denote.Param.{number}
 use denote.RattleType.{RattleType, owns}
-use denote.Ref.{shr_vals, shr_Tells, NamedLft}
-use denote.Signature.{Slot, plain, types_at}
+use denote.Ref.{shr_vals, shr_Tells}
+use denote.Signature.{types_at}
 use denote.Slice.{shr_slice_vals}
 use denote.Steps.{nothing, peeks, heard}
 use denote.Struct.Field.{Field}
@@ -37,27 +34,16 @@ use Rattle.rsc_captures.proofs.extract.extract_bytes_single.Statement.{statement
 use Rattle.rsc_captures.proofs.extract.extract_bytes_single.Code as code
 use Rattle.rsc_captures.specs.contracts.extract.Captures.extract_bytes as g
 use Rattle.rsc_captures.proofs.extract.Captures.extract_bytes.Met.{met}
-use Rattle.rsc_captures.proofs.Extracted.{captures_row, bytes-field, bytes-laws, bytes_laws, Result, Result-lawful, beside}
-
-abbrev self_slot : Slot 2
-self_slot = RefOf (0 ∷ []) tt (plain (λ κs. captures_row)) (λ κs. tt)
-
-abbrev haystack_slot : Slot 2
-haystack_slot = SliceRefOf (1 ∷ []) tt (plain (λ κs. u8)) (λ κs. tt)
+use Rattle.rsc_captures.proofs.Extracted.{captures_row, bytes-field, bytes-laws, bytes_laws, Result, Result-lawful}
+use Rattle.rsc_captures.proofs.Bridges.{self_slot, bytes_slot, second, two_facts}
 
 abbrev stayed : Stays f.ended.signature.params f.ended.kept
-stayed = (stay_dropped self_slot yes, (stay_dropped haystack_slot yes, tt))
-
-abbrev second : Lfts 2 → NamedLft
-second κs = record { mir = named 1; lft = κs.1.0 }
-
-two_facts : {M : Type 1} (𝓤 : Ura M) (φ ψ : Type 0) → φ → ψ → ent 𝓤 (emp 𝓤) (sep 𝓤 (fact 𝓤 φ) (sep 𝓤 (fact 𝓤 ψ) (emp 𝓤)))
-two_facts 𝓤 φ ψ x y = via 𝓤 (sep 𝓤 (fact 𝓤 ψ) (emp 𝓤)) (beside 𝓤 ψ (emp 𝓤) y) (beside 𝓤 φ (sep 𝓤 (fact 𝓤 ψ) (emp 𝓤)) x)
+stayed = (stay_dropped self_slot yes, (stay_dropped bytes_slot yes, tt))
 
 pub extract_bytes_single_spec : {M : Type 1} → statement M
 extract_bytes_single_spec 𝓤 𝓛 𝓜 𝓡 wired =
     let c = f.clauses 𝓛 𝓜.mem 𝓡.returns in let N : RattleType = number 1 in
-    proved 𝓛 f.ended stayed c 𝓜 𝓡 (Goes-dropped 𝓛 2 self_slot yes (λ κs x w. refl), (Goes-dropped 𝓛 2 haystack_slot yes (λ κs x w. refl), tt))
+    proved 𝓛 f.ended stayed c 𝓜 𝓡 (Goes-dropped 𝓛 2 self_slot yes (λ κs x w. refl), (Goes-dropped 𝓛 2 bytes_slot yes (λ κs x w. refl), tt))
     f.Key.name code.function (code.unfolded 𝓤 𝓛.H 𝓜 𝓡 wired)
     (λ κs. (shr_vals, (shr_slice_vals, tt))) (λ κs. (shr_Tells (named 0) κs.0 captures_row, ((bytes-laws (second κs)).tells, tt))) (λ κs qs bounds a _ are.
     let F : Field = bytes-field (second κs) in let R : RattleType = Result F 1 in let vs : List Val × (List Val × Unit {0}) = (shr_vals a.0, (shr_slice_vals a.1.0, tt)) in
