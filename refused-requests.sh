@@ -3,11 +3,61 @@
 # fails, for N from 1 up: it must end with status 1, the text of want of memory on standard error, and nothing but answers of
 # earlier lines on standard output, until a run meets no refusal and gives both answers. It is outside the gate, since each
 # N takes a build, of some 20 seconds: `rt try` has no other way to choose the request.
+#
+# Before that it counts the requests of group infos in the same way: that of one pattern must take six, and that of a thousand too.
 set -u
-cd "$(dirname "$0")/crates/rsc_bench"
+cd "$(dirname "$0")"
 folder=$(mktemp -d)
 trap 'rm -rf "$folder"' EXIT
 mkdir "$folder/cases"
+
+# Where the Nth request fails, the status of this program says which of its two group infos was refused memory, 0 that neither
+# was. The lists themselves take none. It is a crate of a copy of the repository.
+mkdir "$folder/repository"
+tar --exclude=out -cf - crates crates.txt HANDLES | tar -xf - -C "$folder/repository"
+echo 'requests: rsc_captures' >> "$folder/repository/crates.txt"
+mkdir -p "$folder/repository/crates/requests/src"
+cat > "$folder/repository/crates/requests/src/main.rt" << 'PROGRAM'
+//! Makes the group info of one pattern, and that of a thousand.
+#![tactic(auto)]
+
+use rsc_captures::GroupInfo;
+use std::alloc::Global;
+use std::process::ExitCode;
+
+fn is_made(alloc: Global, count: usize) -> bool {
+    let mut groups: [Option<&str>; 12] = [None; 12];
+    let names = ["a", "b", "c", "d", "e", "f", "g", "h", "i", "j", "k", "l"];
+    for g in 1..12usize {
+        groups[g] = Some(names[g]);
+    }
+    let patterns: [&[Option<&str>]; 1000] = [&groups; 1000];
+    match patterns.get(..count) {
+        Some(lists) => GroupInfo::new(alloc, lists).is_ok(),
+        None => false,
+    }
+}
+
+fn main(rt: HostRuntime) -> ExitCode {
+    if !is_made(rt.alloc(), 1) {
+        return ExitCode::from(1);
+    }
+    if !is_made(rt.alloc(), 1000) {
+        return ExitCode::from(2);
+    }
+    ExitCode::SUCCESS
+}
+PROGRAM
+miscounted=0
+for wanted in '6 1' '7 2' '12 2' '13 0'; do
+  request=${wanted% *}
+  (cd "$folder/repository/crates/requests" && rt try --steps 0 --fail-alloc "$request") > "$folder/out" 2> "$folder/err"
+  status=$?
+  echo "group infos of 1 and of 1000 patterns, request $request: status $status, wanted ${wanted#* }"
+  [ "$status" = "${wanted#* }" ] || miscounted=$((miscounted + 1))
+done
+
+cd crates/rsc_bench
 
 first='alphabet 2: 00'
 want='rsc_bench: out of memory'
@@ -79,4 +129,4 @@ for ((request = 1; request <= 200 && ${#answers[@]} > 0; request++)); do
 done
 failed=$((failed + ${#answers[@]}))
 echo "refused-requests: $refused refused, $failed failed"
-[ "$failed" -eq 0 ] && [ "$refused" -gt 0 ]
+[ "$failed" -eq 0 ] && [ "$refused" -gt 0 ] && [ "$miscounted" -eq 0 ]

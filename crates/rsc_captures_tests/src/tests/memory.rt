@@ -296,12 +296,12 @@ fn bytes_of(heap: &LocalHeap, count: usize) -> usize {
 
 #[test]
 fn no_pattern_takes_a_request_of_its_own(rt: HostRuntime) -> Result<(), Fail> {
-    // A pattern takes 8 bytes, a group 28, and a name its own. A request takes 16 or more, so one for each pattern would show.
+    // A pattern takes 8 bytes, a group 20, and a name its own. A request takes 16 or more, so one for each pattern would show.
     for count in [1usize, 30, 300] {
         let heap = LocalHeap::new(rt.alloc(), 64 * 1024)?;
         let bytes = bytes_of(&heap, count);
         assert!(rt;
-            68 * count <= bytes && bytes <= 68 * count + 256,
+            52 * count <= bytes && bytes <= 52 * count + 256,
             "{count} patterns take {bytes} bytes"
         );
     }
