@@ -1,26 +1,11 @@
 //! Explains positions of a haystack, classes of bytes and lists of groups on standard output.
 #![tactic(auto)]
 
-mod arguments;
-mod classes;
-mod color;
-mod error;
-mod groups;
-mod help;
-mod input;
-mod looks;
-mod names;
-mod picture;
-mod run;
-mod sides;
 #[cfg(test)]
 mod tests;
-mod text;
-mod witness;
-mod words;
 
-use error::ShowError;
-use run::run;
+use rsc_show_answers::error::ShowError;
+use rsc_show_answers::run::run;
 use std::alloc::Global;
 use std::env::VarError;
 use std::io::IsTerminal;

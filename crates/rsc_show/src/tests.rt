@@ -1,6 +1,6 @@
 //! The answers as texts, and what comes where an argument, reading or writing fails.
-use crate::error::ShowError;
-use crate::run::run;
+use rsc_show_answers::error::ShowError;
+use rsc_show_answers::run::run;
 use std::alloc::Global;
 use std::fmt::Write;
 use std::io;

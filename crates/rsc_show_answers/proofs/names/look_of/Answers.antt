@@ -1,0 +1,13 @@
+use Rattle.std.proofs.Common.{arith, subst, sym, ap, ◌∙◌, length}
+use Rattle.rsc_look.specs.Looks.{every_look}
+use Rattle.rsc_show_answers.specs.Names.{look_name}
+use Rattle.rsc_show_answers.proofs.LookNames.{eighteen, is_listed}
+use Rattle.rsc_show_answers.proofs.names.look_of.Goals as goal
+
+pub returns : goal.returns
+returns c = λ look. (
+  λ e. cc,
+  λ same.
+      let at = is_listed look in
+      absurd (c.loop-look.invariant at.0 (omega (arith, at.1, eighteen, ap length c.every_look-look-items.ensures, c.loop-look-test.false)) (same ∙ ap look_name (sym at.2))),
+)

@@ -1,0 +1,16 @@
+use Rattle.std.proofs.Common.{inl, inr, ⊎_elim}
+use Rattle.rsc_look.specs.Keeping.{IsNeeded}
+use Rattle.rsc_show_answers.specs.Chosen.{chosen_words}
+use Rattle.rsc_show_answers.specs.Ranges.{HasEdge}
+use Rattle.rsc_show_answers.proofs.Parting.{classes_differ_for}
+use Rattle.rsc_show_answers.proofs.witness.witnesses.Goals as goal
+
+pub returns-clause-boundary : goal.returns-clause-boundary
+returns-clause-boundary c = λ m coarsest differs.
+    let ranges = c.args.ranges.now in
+    let looks = c.args.looks.now in
+    let t = c.args.matcher.now.0 in
+    let W = chosen_words c.args.matcher.now.1 in
+    ⊎_elim (λ (told : IsNeeded c.args.byte looks t W). inl (c.witness.ensures.needed.1 told))
+    (λ (edge : HasEdge c.args.byte ranges). inr (c.edge_at.ensures.found edge.range edge.listed edge.edge))
+    (classes_differ_for m c.args.byte ranges looks t W c.one_class_is_together.ensures c.requires coarsest differs)

@@ -1,0 +1,6 @@
+pub mod Chosen  -- what the choices of the arguments are
+pub mod Marks  -- marks that say which assertions hold
+pub mod Names  -- the names that arguments write
+pub mod RangeTexts  -- what `--range` takes
+pub mod Ranges  -- partitions that keep assertions and part ranges of bytes
+pub mod Sides  -- what is beside a position of a haystack

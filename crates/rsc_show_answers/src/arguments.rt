@@ -1,0 +1,165 @@
+//! The arguments of `looks` and `classes`.
+ghost use Rattle.std.specs.Prelude.{◌≡◌, All, IfOk, ◌≤◌, ◌<◌, IfSome};
+
+use crate::color::{Color, color_of};
+use crate::error::{ShowError, refused};
+use crate::hexadecimal::{byte_of, bytes_of, range_of};
+use crate::names::{look_of, nearest};
+use crate::words::{Words, words_of};
+use rsc_look::{Look, LookMatcher};
+use std::alloc::Global;
+
+const EXPECTED_BYTE: &str = "two hexadecimal digits";
+
+const EXPECTED_RANGE: &str = "a range of bytes as 61-7a, its first byte at most its last";
+
+const EXPECTED_WORDS: &str = "ascii or unicode";
+
+const EXPECTED_COLOR: &str = "auto, always or never";
+
+/// Where a haystack comes from.
+#[derive(Drop)]
+pub enum Haystack {
+    /// No argument gives one.
+    Missing,
+    /// The bytes of an argument.
+    Given(Vec<u8>),
+    /// Standard input.
+    Standard,
+}
+
+/// What the arguments ask for.
+#[derive(Drop)]
+pub struct Request {
+    /// The line terminator.
+    pub terminator: u8,
+    /// The word characters.
+    pub words: Words,
+    /// The ranges of bytes.
+    pub ranges: Vec<(u8, u8)>,
+    /// The assertions, in the order of the arguments.
+    pub looks: Vec<Look>,
+    /// When to use colour.
+    pub color: Color,
+    /// The haystack.
+    pub haystack: Haystack,
+}
+
+// What the next argument is.
+#[derive(Clone, Copy, Drop)]
+enum Next {
+    Plain,
+    Terminator,
+    Words,
+    Range,
+    Color,
+    Hex,
+    Text,
+    Nothing,
+}
+
+impl Request {
+    /// The matcher that it asks for.
+    pub fn matcher(&self) -> LookMatcher<Words>
+        ensures { result ≡ (self.now.terminator, self.now.words) }
+    {
+        let mut matcher = LookMatcher::new(self.words);
+        let _ = matcher.set_line_terminator(self.terminator);
+        matcher
+    }
+}
+
+/// What the arguments after the command ask for.
+///
+/// # Errors
+///
+/// [`ShowError::Usage`] at the first argument that is not what was expected.
+pub fn parse(alloc: Global, arguments: &[String]) -> Result<Request, ShowError>
+    ensures { IfOk result (λ request. All (λ r. r.0 ≤ r.1) request.ranges.items) }
+{
+    let mut request = Request {
+        terminator: b'\n',
+        words: Words::Unicode,
+        ranges: Vec::new(alloc),
+        looks: Vec::new(alloc),
+        color: Color::Auto,
+        haystack: Haystack::Missing,
+    };
+    let mut next = Next::Plain;
+    for argument in arguments {
+        next = take(alloc, &mut request, next, argument.as_str())?;
+    }
+    match next {
+        Next::Plain | Next::Nothing => Ok(request),
+        Next::Terminator => Err(refused(alloc, "--terminator", EXPECTED_BYTE)),
+        Next::Words => Err(refused(alloc, "--words", EXPECTED_WORDS)),
+        Next::Range => Err(refused(alloc, "--range", EXPECTED_RANGE)),
+        Next::Color => Err(refused(alloc, "--color", EXPECTED_COLOR)),
+        Next::Hex => Err(refused(alloc, "--hex", EXPECTED_BYTE)),
+        Next::Text => Err(refused(alloc, "--", "one text")),
+    }
+}
+
+// Takes an argument, and says what the next one is.
+fn take(alloc: Global, request: &mut Request, next: Next, argument: &str) -> Result<Next, ShowError>
+    ensures { All (λ r. r.0 ≤ r.1) request.old.ranges.items → All (λ r. r.0 ≤ r.1) request.new.ranges.items }
+{
+    match next {
+        Next::Plain => take_plain(alloc, request, argument),
+        Next::Terminator => {
+            let byte = byte_of(argument.as_bytes());
+            request.terminator = byte.ok_or(refused(alloc, argument, EXPECTED_BYTE))?;
+            Ok(Next::Plain)
+        }
+        Next::Words => {
+            request.words = words_of(argument).ok_or(refused(alloc, argument, EXPECTED_WORDS))?;
+            Ok(Next::Plain)
+        }
+        Next::Range => {
+            let range = range_of(argument.as_bytes());
+            request
+                .ranges
+                .push(range.ok_or(refused(alloc, argument, EXPECTED_RANGE))?)?;
+            Ok(Next::Plain)
+        }
+        Next::Color => {
+            request.color = color_of(argument).ok_or(refused(alloc, argument, EXPECTED_COLOR))?;
+            Ok(Next::Plain)
+        }
+        Next::Hex => {
+            request.haystack = Haystack::Given(bytes_of(alloc, argument)?);
+            Ok(Next::Nothing)
+        }
+        Next::Text => {
+            request.haystack = Haystack::Given(Vec::from_slice(alloc, argument.as_bytes())?);
+            Ok(Next::Nothing)
+        }
+        Next::Nothing => Err(refused(alloc, argument, "nothing after the haystack")),
+    }
+}
+
+// Takes an option's name, or an assertion.
+fn take_plain(alloc: Global, request: &mut Request, argument: &str) -> Result<Next, ShowError>
+    ensures { request.new.ranges.items ≡ request.old.ranges.items }
+{
+    match argument.as_bytes() {
+        b"--terminator" => Ok(Next::Terminator),
+        b"--words" => Ok(Next::Words),
+        b"--range" => Ok(Next::Range),
+        b"--color" => Ok(Next::Color),
+        b"--hex" => Ok(Next::Hex),
+        b"--" => Ok(Next::Text),
+        b"-" => {
+            request.haystack = Haystack::Standard;
+            Ok(Next::Nothing)
+        }
+        _ => {
+            let Some(look) = look_of(argument) else {
+                let expected = nearest(alloc, argument)?;
+                return Err(refused(alloc, argument, expected.as_str()));
+            };
+            request.looks.push(look)?;
+            Ok(Next::Plain)
+        }
+    }
+}
