@@ -1,3 +1,4 @@
+mod ListedLemmas  -- what the first argument lists
 mod LookNames  -- the names of the assertions are different, and each assertion is in the list of all
 mod MarksLemmas  -- marks of one more assertion
 mod Parting  -- partitions that keep assertions and part ranges: what one more range adds, and why no coarser one does

@@ -1,4 +1,6 @@
 pub mod Chosen  -- what the choices of the arguments are
+pub mod Listed  -- what the arguments of `looks` and `classes` list
+pub mod ListedLayout  -- what is left to be listed while arguments are taken one by one
 pub mod Marks  -- marks that say which assertions hold
 pub mod Names  -- the names that arguments write
 pub mod RangeTexts  -- what `--range` takes

@@ -1,5 +1,8 @@
 //! The arguments of `looks` and `classes`.
-ghost use Rattle.std.specs.Prelude.{◌≡◌, All, IfOk, ◌≤◌, ◌<◌, IfSome};
+ghost use Rattle.std.specs.Prelude.{◌≡◌, ◌≤◌, ◌∷◌, ◌++◌, ℕ, List, All, IfOk, IfSome, false, map};
+ghost use Rattle.std.specs.String.{string_bytes};
+ghost use Rattle.rsc_show_answers.specs.Listed.{listed};
+ghost use Rattle.rsc_show_answers.specs.ListedLayout.{left_of};
 
 use crate::color::{Color, color_of};
 use crate::error::{ShowError, refused};
@@ -75,7 +78,8 @@ impl Request {
 ///
 /// [`ShowError::Usage`] at the first argument that is not what was expected.
 pub fn parse(alloc: Global, arguments: &[String]) -> Result<Request, ShowError>
-    ensures { IfOk result (λ request. All (λ r. r.0 ≤ r.1) request.ranges.items) }
+    ensures ranges { IfOk result (λ request. All (λ r. r.0 ≤ r.1) request.ranges.items) }
+    ensures looks { IfOk result (λ request. request.looks.items ≡ listed false (map (λ a. string_bytes a) arguments.now)) }
 {
     let mut request = Request {
         terminator: b'\n',
@@ -102,7 +106,9 @@ pub fn parse(alloc: Global, arguments: &[String]) -> Result<Request, ShowError>
 
 // Takes an argument, and says what the next one is.
 fn take(alloc: Global, request: &mut Request, next: Next, argument: &str) -> Result<Next, ShowError>
-    ensures { All (λ r. r.0 ≤ r.1) request.old.ranges.items → All (λ r. r.0 ≤ r.1) request.new.ranges.items }
+    ensures ranges { All (λ r. r.0 ≤ r.1) request.old.ranges.items → All (λ r. r.0 ≤ r.1) request.new.ranges.items }
+    ensures looks { IfOk result (λ after. (rest : List (List ℕ)) →
+        request.new.looks.items ++ left_of after rest ≡ request.old.looks.items ++ left_of next (argument.now ∷ rest)) }
 {
     match next {
         Next::Plain => take_plain(alloc, request, argument),
@@ -140,26 +146,42 @@ fn take(alloc: Global, request: &mut Request, next: Next, argument: &str) -> Res
 
 // Takes an option's name, or an assertion.
 fn take_plain(alloc: Global, request: &mut Request, argument: &str) -> Result<Next, ShowError>
-    ensures { request.new.ranges.items ≡ request.old.ranges.items }
+    ensures ranges { request.new.ranges.items ≡ request.old.ranges.items }
+    ensures looks { IfOk result (λ after. (rest : List (List ℕ)) →
+        request.new.looks.items ++ left_of after rest ≡ request.old.looks.items ++ listed false (argument.now ∷ rest)) }
 {
-    match argument.as_bytes() {
-        b"--terminator" => Ok(Next::Terminator),
-        b"--words" => Ok(Next::Words),
-        b"--range" => Ok(Next::Range),
-        b"--color" => Ok(Next::Color),
-        b"--hex" => Ok(Next::Hex),
-        b"--" => Ok(Next::Text),
-        b"-" => {
-            request.haystack = Haystack::Standard;
-            Ok(Next::Nothing)
-        }
-        _ => {
-            let Some(look) = look_of(argument) else {
-                let expected = nearest(alloc, argument)?;
-                return Err(refused(alloc, argument, expected.as_str()));
-            };
-            request.looks.push(look)?;
-            Ok(Next::Plain)
-        }
+    if argument == "-" {
+        request.haystack = Haystack::Standard;
+        return Ok(Next::Nothing);
+    }
+    if let Some(next) = after_option(argument) {
+        return Ok(next);
+    }
+    let Some(look) = look_of(argument) else {
+        let expected = nearest(alloc, argument)?;
+        return Err(refused(alloc, argument, expected.as_str()));
+    };
+    request.looks.push(look)?;
+    Ok(Next::Plain)
+}
+
+// What comes after an option.
+fn after_option(argument: &str) -> Option<Next>
+    ensures { IfSome result (λ after. (rest : List (List ℕ)) → left_of after rest ≡ listed false (argument.now ∷ rest)) }
+{
+    if argument == "--terminator" {
+        Some(Next::Terminator)
+    } else if argument == "--words" {
+        Some(Next::Words)
+    } else if argument == "--range" {
+        Some(Next::Range)
+    } else if argument == "--color" {
+        Some(Next::Color)
+    } else if argument == "--hex" {
+        Some(Next::Hex)
+    } else if argument == "--" {
+        Some(Next::Text)
+    } else {
+        None
     }
 }
