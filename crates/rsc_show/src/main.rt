@@ -2,23 +2,32 @@
 #![tactic(auto)]
 
 #[cfg(test)]
+mod failures;
+#[cfg(test)]
 mod tests;
 
 use rsc_show_answers::error::ShowError;
 use rsc_show_answers::run::run;
 use std::alloc::Global;
 use std::env::VarError;
-use std::io::IsTerminal;
+use std::io::{ErrorKind, IsTerminal};
 use std::process::ExitCode;
 use std::{env, io};
 
+const NOT_UTF8: &str =
+    "rsc_show: an argument is not UTF-8: expected a haystack of any bytes as --hex BYTES or -";
+
 fn main(rt: HostRuntime) -> ExitCode {
-    let Ok(arguments) = env::args(&rt) else {
-        return ExitCode::FAILURE;
+    let arguments = match env::args(&rt) {
+        Ok(arguments) => arguments,
+        Err(error) => return refused_arguments(&rt, &error),
     };
     let words: Vec<String> = match arguments.skip(1).collect(rt.alloc()) {
         Ok(words) => words,
-        Err(_) => return ExitCode::FAILURE,
+        Err(_) => {
+            let _ = rt.eprintln(ShowError::OutOfMemory);
+            return ExitCode::FAILURE;
+        }
     };
     match run(
         rt.alloc(),
@@ -34,6 +43,20 @@ fn main(rt: HostRuntime) -> ExitCode {
         }
         Err(error) => {
             let _ = rt.eprintln(error);
+            ExitCode::FAILURE
+        }
+    }
+}
+
+// Says why the arguments can't be had.
+fn refused_arguments(rt: &HostRuntime, error: &io::Error) -> ExitCode {
+    match error.kind() {
+        ErrorKind::InvalidData => {
+            let _ = rt.eprintln(NOT_UTF8);
+            ExitCode::from(2)
+        }
+        _ => {
+            let _ = rt.eprintln(ShowError::OutOfMemory);
             ExitCode::FAILURE
         }
     }

@@ -1,9 +1,8 @@
-//! The answers as texts, and what comes where an argument, reading or writing fails.
-use rsc_show_answers::error::ShowError;
+//! The answers as texts, and what comes where an argument is not what was expected.
+
 use rsc_show_answers::run::run;
 use std::alloc::Global;
 use std::fmt::Write;
-use std::io;
 use std::test::Fail;
 
 const LOOKS: &str = "    at before          after           ^ b 𝛃
@@ -16,6 +15,19 @@ const LOOKS: &str = "    at before          after           ^ b 𝛃
 ^ StartLF              the start, or the line terminator is before
 b WordAscii            a word byte on exactly one side
 𝛃 WordUnicode          a word character on exactly one side
+";
+
+// Two assertions' characters take two columns each, and so does the character before the end.
+const WIDE: &str = "    at before          after           < 〈〉>
+     0 start           e4 U+4E2D 中    . x . .
+     1 e4 inside       b8 inside       . . . .
+     2 b8 inside       ad inside       . . . .
+     3 ad U+4E2D 中    end             . . x .
+
+< WordStartAscii       a word byte after, and none before
+〈 WordStartUnicode    a word character after, and none before
+〉 WordEndUnicode      a word character before, and none after
+> WordEndAscii         a word byte before, and none after
 ";
 
 const BAD_BYTES: &str = "    at before          after           $ 𝛃
@@ -63,6 +75,10 @@ fn answers_looks(rt: HostRuntime) -> Result<(), Fail> {
             LOOKS,
         ),
         ("looks EndLF WordUnicode --hex ff", BAD_BYTES),
+        (
+            "looks WordStartAscii WordStartUnicode WordEndUnicode WordEndAscii -- 中",
+            WIDE,
+        ),
     ];
     for (line, want) in rows {
         let answer = answer_to(rt.alloc(), line, b"a\xC3\xA9\n")?;
@@ -103,8 +119,35 @@ fn names_each_boundary_with_its_witness(rt: HostRuntime) -> Result<(), Fail> {
             "between 0d and 0e: StartCRLF at 1 holds on 0d and not on 0e\nbetween 60 and 61: 61-7a begins\nbetween 7a and 7b: 61-7a ends\n",
         ),
         (
+            "classes WordAscii --range 61-6a",
+            "between 60 and 61: WordAscii at 0 holds on 61 and not on 60\n                   61-6a begins\nbetween 6a and 6b: 61-6a ends\n",
+        ),
+        (
             "classes --words ascii WordUnicode",
             "between 7a and 7b: WordUnicode at 0 holds on 7a and not on 7b\n\n",
+        ),
+    ];
+    for (line, want) in rows {
+        let answer = answer_to(rt.alloc(), line, b"")?;
+        assert!(rt; answer.as_str().contains(want), "at {line:?}");
+    }
+    Ok(())
+}
+
+#[test]
+fn shows_representatives_in_lines_of_80_columns(rt: HostRuntime) -> Result<(), Fail> {
+    let rows = [
+        (
+            "classes WordAscii --range 01-01 --range 03-03 --range 05-05 --range 07-07 --range 09-09",
+            "\nrepresentatives 00 01 02 03 04 05 06 07 08 09 0a 30 3a 41 5b 5f 60 61 7b\nalphabet_len 20,",
+        ),
+        (
+            "classes WordAscii --range 01-01 --range 03-03 --range 05-05 --range 07-07 --range 09-09 --range 0b-0c",
+            "\nrepresentatives 00 01 02 03 04 05 06 07 08 09 0a 0b 0d 30 3a 41 5b 5f 60 61 7b\nalphabet_len 22,",
+        ),
+        (
+            "classes WordAscii --range 01-01 --range 03-03 --range 05-05 --range 07-07 --range 09-09 --range 0b-0c --range ff-ff",
+            " 61 7b\n                ff\nalphabet_len 23,",
         ),
     ];
     for (line, want) in rows {
@@ -139,12 +182,8 @@ fn adds_colour_to_the_letters(rt: HostRuntime) -> Result<(), Fail> {
 }
 
 #[test]
-fn refuses_what_is_not_expected(rt: HostRuntime) -> Result<(), Fail> {
+fn refuses_what_is_not_expected_of_looks(rt: HostRuntime) -> Result<(), Fail> {
     let rows = [
-        (
-            "",
-            "rsc_show: ``: expected looks, classes, groups or --help",
-        ),
         (
             "looks startlf -- a",
             "rsc_show: `startlf`: expected an assertion, as StartLF",
@@ -166,9 +205,24 @@ fn refuses_what_is_not_expected(rt: HostRuntime) -> Result<(), Fail> {
             "rsc_show: `6`: expected pairs of hexadecimal digits",
         ),
         (
-            "looks --range 61-7a -- a",
-            "rsc_show: `--range`: expected an argument of classes",
+            "looks --color always -- a",
+            "rsc_show: `--color`: expected an argument of classes",
         ),
+        (
+            "looks StartL\x1B[2JF -- a",
+            "rsc_show: `StartL\\x1B[2JF`: expected an assertion, as StartLF",
+        ),
+    ];
+    for (line, want) in rows {
+        let answer = answer_to(rt.alloc(), line, b"")?;
+        assert_eq!(rt; answer.as_str(), want, "at {line:?}");
+    }
+    Ok(())
+}
+
+#[test]
+fn refuses_what_is_not_expected_of_classes(rt: HostRuntime) -> Result<(), Fail> {
+    let rows = [
         (
             "classes --terminator",
             "rsc_show: `--terminator`: expected two hexadecimal digits",
@@ -186,22 +240,10 @@ fn refuses_what_is_not_expected(rt: HostRuntime) -> Result<(), Fail> {
             "rsc_show: `blue`: expected auto, always or never",
         ),
         (
-            "looks --color always -- a",
-            "rsc_show: `--color`: expected an argument of classes",
-        ),
-        (
             "classes --range 7a-61",
             "rsc_show: `7a-61`: expected a range of bytes as 61-7a, its first byte at most its last",
         ),
         ("classes -- a", "rsc_show: `classes`: expected no haystack"),
-        (
-            "groups",
-            "rsc_show: `groups`: expected one list of groups, as -,x;-,-,x",
-        ),
-        (
-            "groups a!",
-            "rsc_show: `a!`: expected groups between `,` and `;`, each - or a name of word bytes",
-        ),
     ];
     for (line, want) in rows {
         let answer = answer_to(rt.alloc(), line, b"")?;
@@ -210,68 +252,33 @@ fn refuses_what_is_not_expected(rt: HostRuntime) -> Result<(), Fail> {
     Ok(())
 }
 
-#[derive(Drop)]
-struct FailingWriter {
-    kind: io::ErrorKind,
-}
-
-impl io::Write for FailingWriter {
-    fn write(&mut self, _buf: &[u8]) -> io::Result<usize> {
-        Err(io::Error::from(self.kind))
-    }
-
-    fn flush(&mut self) -> io::Result<()> {
-        Ok(())
-    }
-}
-
-#[derive(Drop)]
-struct FailingReader;
-
-impl io::Read for FailingReader {
-    fn read(&mut self, _buf: &mut [u8]) -> io::Result<usize> {
-        Err(io::Error::from(io::ErrorKind::Other))
-    }
-}
-
 #[test]
-fn tells_a_closed_pipe_from_a_failed_write(rt: HostRuntime) -> Result<(), Fail> {
-    let words = [String::from_str(rt.alloc(), "--help")?];
-    let mut closed = FailingWriter {
-        kind: io::ErrorKind::BrokenPipe,
-    };
-    let mut reader: &[u8] = b"";
-    assert!(rt;
-        matches!(
-            &run(rt.alloc(), &words, false, &mut reader, &mut closed),
-            Err(ShowError::Closed)
-        )
-    );
-    let mut full = FailingWriter {
-        kind: io::ErrorKind::StorageFull,
-    };
-    assert!(rt;
-        matches!(
-            &run(rt.alloc(), &words, false, &mut reader, &mut full),
-            Err(ShowError::Write)
-        )
-    );
-    Ok(())
-}
-
-#[test]
-fn stops_where_reading_fails(rt: HostRuntime) -> Result<(), Fail> {
-    let words = [
-        String::from_str(rt.alloc(), "looks")?,
-        String::from_str(rt.alloc(), "-")?,
+fn refuses_what_is_not_expected_in_other_arguments(rt: HostRuntime) -> Result<(), Fail> {
+    let rows = [
+        (
+            "looks --range 61-7a -- a",
+            "rsc_show: `--range`: expected an argument of classes",
+        ),
+        (
+            "",
+            "rsc_show: ``: expected looks, classes, groups or --help",
+        ),
+        (
+            "groups",
+            "rsc_show: `groups`: expected one list of groups, as -,x;-,-,x",
+        ),
+        (
+            "groups a!",
+            "rsc_show: `a!`: expected groups between `,` and `;`, each - or a name of word bytes",
+        ),
+        (
+            "\u{9B}2J",
+            "rsc_show: `\\x9B2J`: expected looks, classes, groups or --help",
+        ),
     ];
-    let mut writer = Vec::new(rt.alloc());
-    assert!(rt;
-        matches!(
-            &run(rt.alloc(), &words, false, &mut FailingReader, &mut writer),
-            Err(ShowError::Read)
-        )
-    );
-    assert!(rt; writer.is_empty());
+    for (line, want) in rows {
+        let answer = answer_to(rt.alloc(), line, b"")?;
+        assert_eq!(rt; answer.as_str(), want, "at {line:?}");
+    }
     Ok(())
 }

@@ -1,5 +1,5 @@
 -- The names of the assertions are different, and each assertion is in the list of all.
-use Rattle.std.proofs.Common.{◌≡◌, ℕ, ◌<◌, ◌==◌, List, refl, sym, ap, ◌∙◌, cond, get_or, arith, Option, Some, sum, length}
+use Rattle.std.proofs.Common.{◌≡◌, ℕ, ◌<◌, ◌==◌, refl, sym, ap, ◌∙◌, get_or, arith, sum, length}
 use Rattle.std.specs.Prelude.{if◌then◌else◌}
 use Rattle.rsc_look.specs.declared.assertion.Look.{Look}
 use Rattle.rsc_look.specs.declared.assertion.Look.TheVariants.{Start, End, StartLF, EndLF, StartCRLF, EndCRLF, WordAscii, WordAsciiNegate, WordUnicode, WordUnicodeNegate, WordStartAscii, WordEndAscii, WordStartUnicode, WordEndUnicode, WordStartHalfAscii, WordEndHalfAscii, WordStartHalfUnicode, WordEndHalfUnicode}

@@ -1,8 +1,10 @@
 //! The arguments of `looks` and `classes`.
 ghost use Rattle.std.specs.Prelude.{◌≡◌, ◌≤◌, ◌∷◌, ◌++◌, ℕ, List, All, IfOk, IfSome, false, map};
 ghost use Rattle.std.specs.String.{string_bytes};
-ghost use Rattle.rsc_show_answers.specs.Listed.{listed};
-ghost use Rattle.rsc_show_answers.specs.ListedLayout.{left_of};
+ghost use Rattle.rsc_show_answers.specs.declared.arguments.Haystack.{Haystack};
+ghost use Rattle.rsc_show_answers.specs.declared.arguments.Next.{Next};
+ghost use Rattle.rsc_show_answers.specs.Listed.{haystack_arguments, IsHaystack, listed};
+ghost use Rattle.rsc_show_answers.specs.ListedLayout.{left_of, SoFar};
 
 use crate::color::{Color, color_of};
 use crate::error::{ShowError, refused};
@@ -80,6 +82,7 @@ impl Request {
 pub fn parse(alloc: Global, arguments: &[String]) -> Result<Request, ShowError>
     ensures ranges { IfOk result (λ request. All (λ r. r.0 ≤ r.1) request.ranges.items) }
     ensures looks { IfOk result (λ request. request.looks.items ≡ listed false (map (λ a. string_bytes a) arguments.now)) }
+    ensures haystack { IfOk result (λ request. IsHaystack (haystack_arguments false (map (λ a. string_bytes a) arguments.now)) request.haystack) }
 {
     let mut request = Request {
         terminator: b'\n',
@@ -109,6 +112,8 @@ fn take(alloc: Global, request: &mut Request, next: Next, argument: &str) -> Res
     ensures ranges { All (λ r. r.0 ≤ r.1) request.old.ranges.items → All (λ r. r.0 ≤ r.1) request.new.ranges.items }
     ensures looks { IfOk result (λ after. (rest : List (List ℕ)) →
         request.new.looks.items ++ left_of after rest ≡ request.old.looks.items ++ left_of next (argument.now ∷ rest)) }
+    ensures haystack { (h rest : List (List ℕ)) → SoFar next h (argument.now ∷ rest) request.old.haystack →
+        IfOk result (λ after. SoFar after h rest request.new.haystack) }
 {
     match next {
         Next::Plain => take_plain(alloc, request, argument),
@@ -149,6 +154,8 @@ fn take_plain(alloc: Global, request: &mut Request, argument: &str) -> Result<Ne
     ensures ranges { request.new.ranges.items ≡ request.old.ranges.items }
     ensures looks { IfOk result (λ after. (rest : List (List ℕ)) →
         request.new.looks.items ++ left_of after rest ≡ request.old.looks.items ++ listed false (argument.now ∷ rest)) }
+    ensures haystack { (h rest : List (List ℕ)) → SoFar Next.Plain h (argument.now ∷ rest) request.old.haystack →
+        IfOk result (λ after. SoFar after h rest request.new.haystack) }
 {
     if argument == "-" {
         request.haystack = Haystack::Standard;
@@ -167,7 +174,9 @@ fn take_plain(alloc: Global, request: &mut Request, argument: &str) -> Result<Ne
 
 // What comes after an option.
 fn after_option(argument: &str) -> Option<Next>
-    ensures { IfSome result (λ after. (rest : List (List ℕ)) → left_of after rest ≡ listed false (argument.now ∷ rest)) }
+    ensures looks { IfSome result (λ after. (rest : List (List ℕ)) → left_of after rest ≡ listed false (argument.now ∷ rest)) }
+    ensures haystack { IfSome result (λ after. (h rest : List (List ℕ)) (so_far : Haystack) →
+        SoFar Next.Plain h (argument.now ∷ rest) so_far → SoFar after h rest so_far) }
 {
     if argument == "--terminator" {
         Some(Next::Terminator)

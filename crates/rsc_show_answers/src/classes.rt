@@ -22,6 +22,9 @@ const REPRESENTATIVES_A_LINE: usize = 21;
 
 const REPRESENTATIVES: &str = "representatives";
 
+// The width of `between 60 and 61:`. What follows it, an assertion or a range, has at most 52 columns.
+const BETWEEN_WIDTH: usize = 18;
+
 /// The answer to the arguments of `classes`, for an output that wants colour or not.
 pub fn answer(alloc: Global, arguments: &[String], wants_color: bool) -> Result<String, ShowError> {
     let request = parse(alloc, arguments)?;
@@ -161,6 +164,10 @@ fn push_boundary(
         }
     }
     if let Some((start, end)) = edge {
+        if told.is_some() {
+            text.push('\n')?;
+            push_spaces(text, BETWEEN_WIDTH)?;
+        }
         push_edge(text, start, end, start == next)?;
     }
     text.push('\n')?;

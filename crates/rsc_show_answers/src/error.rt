@@ -2,6 +2,7 @@
 
 use std::alloc::{AllocError, AllocFailed, Global};
 use std::fmt;
+use std::fmt::Write;
 use thiserror::Error;
 
 /// Why [`crate::run::run`] gave up. Nothing was written then, but by a failed write itself.
@@ -46,14 +47,27 @@ impl From<fmt::Error> for ShowError {
 pub fn refused(alloc: Global, argument: &str, expected: &str) -> ShowError {
     match refusal(alloc, argument, expected) {
         Ok(text) => ShowError::Usage(text),
-        Err(_) => ShowError::OutOfMemory,
+        Err(error) => error,
     }
 }
 
-fn refusal(alloc: Global, argument: &str, expected: &str) -> Result<String, AllocError> {
+fn refusal(alloc: Global, argument: &str, expected: &str) -> Result<String, ShowError> {
     let mut text = String::from_str(alloc, "rsc_show: `")?;
-    text.push_str(argument)?;
+    push_shown(&mut text, argument)?;
     text.push_str("`: expected ")?;
     text.push_str(expected)?;
     Ok(text)
+}
+
+// A text, in which control characters are shown by their numbers, lest they move the terminal's cursor.
+fn push_shown(text: &mut String, shown: &str) -> Result<(), ShowError> {
+    for c in shown.chars() {
+        if c.is_control() {
+            let number = c as u32;
+            write!(text, "\\x{number:02X}")?;
+        } else {
+            text.push(c)?;
+        }
+    }
+    Ok(())
 }

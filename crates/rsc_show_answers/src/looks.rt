@@ -55,27 +55,33 @@ fn table(alloc: Global, request: &Request, haystack: &[u8]) -> Result<String, Sh
         request.looks.as_slice()
     };
     let mut text = String::new(alloc);
-    push_head(&mut text, looks)?;
+    push_head(alloc, &mut text, looks)?;
     for at in 0..=haystack.len() {
         push_row(alloc, &mut text, &matcher, looks, haystack, at)?;
     }
     text.push('\n')?;
     for look in looks {
-        push_meaning(&mut text, *look)?;
+        push_meaning(alloc, &mut text, *look)?;
     }
     Ok(text)
 }
 
 // The names of the columns: an assertion's is its character.
-fn push_head(text: &mut String, looks: &[Look]) -> Result<(), ShowError> {
+fn push_head(alloc: Global, text: &mut String, looks: &[Look]) -> Result<(), ShowError> {
     push_right(text, "at", 6)?;
     push_cell(text, "before", SIDE_WIDTH)?;
     push_cell(text, "after", SIDE_WIDTH)?;
     for look in looks {
-        text.push(look.as_char())?;
-        text.push(' ')?;
+        push_mark(alloc, text, *look)?;
     }
     Ok(end_line(text)?)
+}
+
+// The character of an assertion, two of which take two columns each, in a column of two.
+fn push_mark(alloc: Global, text: &mut String, look: Look) -> Result<(), ShowError> {
+    let mut mark = String::new(alloc);
+    mark.push(look.as_char())?;
+    Ok(push_cell(text, mark.as_str(), 1)?)
 }
 
 // A position, what is on its sides, and a mark for each assertion that holds there.
@@ -114,10 +120,12 @@ fn push_sides(alloc: Global, text: &mut String, haystack: &[u8], at: usize) -> R
 }
 
 // An assertion's character, its name, and what it asks.
-fn push_meaning(text: &mut String, look: Look) -> Result<(), ShowError> {
-    text.push(look.as_char())?;
-    text.push(' ')?;
-    push_cell(text, name_of(look), 20)?;
+fn push_meaning(alloc: Global, text: &mut String, look: Look) -> Result<(), ShowError> {
+    let mut label = String::new(alloc);
+    label.push(look.as_char())?;
+    label.push(' ')?;
+    label.push_str(name_of(look))?;
+    push_cell(text, label.as_str(), 22)?;
     text.push_str(meaning_of(look))?;
     text.push('\n')?;
     Ok(())

@@ -1,8 +1,12 @@
-use Rattle.std.proofs.Common.{refl}
-use Rattle.rsc_show_answers.proofs.ListedLemmas.{listed_push}
+use Rattle.std.proofs.Common.{◌∙◌, refl}
+use Rattle.rsc_show_answers.proofs.ListedLemmas.{haystack_behind_name, listed_push}
 use Rattle.rsc_show_answers.proofs.arguments.take_plain.Goals as goal
 
 pub returns-clause-looks : goal.returns-clause-looks
 returns-clause-looks c = λ rest.
     rw c.in_ok-push.ensures.items
     (listed_push c.args.request.now.looks.items c.in-Some-look_of.look c.args.argument.now rest ((c.in-Some-look_of.ensures c.in-Some-look_of.look).0 refl))
+
+pub returns-clause-haystack : goal.returns-clause-haystack
+returns-clause-haystack c = λ h rest before.
+    (before.0, before.1 ∙ haystack_behind_name c.in-Some-look_of.look c.args.argument.now rest ((c.in-Some-look_of.ensures c.in-Some-look_of.look).0 refl))

@@ -1,4 +1,4 @@
-use Rattle.std.proofs.Common.{get_or, subst, sym, take}
+use Rattle.std.proofs.Common.{get_or, take}
 use Rattle.std.proofs.lemmas.List.{take_more}
 use Rattle.rsc_look.specs.declared.assertion.Look.TheVariants.{Start}
 use Rattle.rsc_look.specs.Holds.{Holds}

@@ -1,5 +1,4 @@
-use Rattle.std.proofs.Common.{arith, subst, sym, ap, ◌∙◌, length}
-use Rattle.rsc_look.specs.Looks.{every_look}
+use Rattle.std.proofs.Common.{arith, sym, ap, ◌∙◌, length}
 use Rattle.rsc_show_answers.specs.Names.{look_name}
 use Rattle.rsc_show_answers.proofs.LookNames.{eighteen, is_listed}
 use Rattle.rsc_show_answers.proofs.names.look_of.Goals as goal

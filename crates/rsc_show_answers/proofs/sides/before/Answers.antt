@@ -1,4 +1,3 @@
-use Rattle.std.proofs.Common.{true≢false, sym}
 use Rattle.rsc_primitives.proofs.Utf8Lemmas.{DecodesLastTo-ok, DecodesLastTo-err, EndsAt-from_take}
 use Rattle.rsc_show_answers.proofs.Reaching.{refuted}
 use Rattle.rsc_show_answers.proofs.sides.before.Goals as goal

@@ -1,4 +1,4 @@
-use Rattle.std.proofs.Common.{◌<◌, ◌≤◌, arith}
+use Rattle.std.proofs.Common.{arith}
 use Rattle.rsc_show_answers.proofs.Reaching.{not_inside}
 use Rattle.rsc_show_answers.proofs.sides.is_inside.Goals as goal
 
