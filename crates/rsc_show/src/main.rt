@@ -22,16 +22,18 @@ fn main(rt: HostRuntime) -> ExitCode {
         Ok(arguments) => arguments,
         Err(error) => return refused_arguments(&rt, &error),
     };
-    let words: Vec<String> = match arguments.skip(1).collect(rt.alloc()) {
+    let words: Vec<String> = match arguments.collect(rt.alloc()) {
         Ok(words) => words,
         Err(_) => {
             let _ = rt.eprintln(ShowError::OutOfMemory);
             return ExitCode::FAILURE;
         }
     };
+    // The first word is the program's name.
+    let arguments = words.as_slice().get(1..).unwrap_or(&[]);
     match run(
         rt.alloc(),
-        words.as_slice(),
+        arguments,
         wants_color(&rt),
         &mut rt.reader(),
         &mut io::writer(&rt),

@@ -2,9 +2,9 @@
 use Rattle.std.proofs.Common.{◌≡◌, ◌≢◌, ◌↔◌, ◌<◌, ◌≤◌, ◌+◌, ◌∷◌, ◌++◌, ◌||◌, [], ℕ, Bool, true, false, List, refl, sym, subst, ap, ◌∙◌, arith, ◌⊎◌, inl, inr, ⊎_elim, true≢false, slice_index}
 use Rattle.std.specs.List.{Contains}
 use Rattle.std.specs.FinSet as sets
-use Rattle.std.proofs.lemmas.Bool.{cases_Bool}
+use Rattle.std.proofs.lemmas.Bool.{or_cases}
 use Rattle.std.proofs.lemmas.List.Elements.{Contains-append_left, Contains-push, Contains-push_cases}
-use Rattle.rsc_alphabet.specs.Partitions.{Together, class_map}
+use Rattle.rsc_alphabet.specs.Partitions.{class_map}
 use Rattle.rsc_look.specs.declared.assertion.Look.{Look}
 use Rattle.rsc_look.specs.Boundaries.{boundaries_of}
 use Rattle.rsc_look.specs.Keeping.{IsCoarsestMap, IsExactFor, IsNeeded, Keeps}
@@ -17,10 +17,6 @@ or_left false y e = absurd (true≢false (sym e))
 pub or_right : (x y : Bool) → y ≡ true → (x || y) ≡ true
 or_right true y e = refl
 or_right false y e = e
-
-pub or_cases : (x y : Bool) → (x || y) ≡ true → (x ≡ true) ⊎ (y ≡ true)
-or_cases true y e = inl refl
-or_cases false y e = inr e
 
 -- one more range parts, if its edges are added and no boundary is lost
 pub parts_more : (p q : ℕ → Bool) (ranges : List (ℕ × ℕ)) (r : ℕ × ℕ) → ((b : ℕ) → p b ≡ true → q b ≡ true)
@@ -95,22 +91,7 @@ without_ranges m looks t W c = record {
       (c.needed b lt e);
 }
 
--- between two classes of the map there is a boundary, which has a witness
-pub classes_differ_for : (m : List ℕ) (b : ℕ) (ranges : List (ℕ × ℕ)) (looks : List Look) (t : ℕ) (W : ℕ → Bool)
-    → ((p : ℕ → Bool) (b c : ℕ) → b < 256 → c < 256 → (slice_index (class_map p) b ≡ slice_index (class_map p) c) ↔ Together p b c)
-    → b < 255 → IsCoarsestParting m ranges looks t W → slice_index m b ≢ slice_index m (b + 1) → IsNeeded b looks t W ⊎ HasEdge b ranges
-classes_differ_for m b ranges looks t W law small coarsest differs =
-    ⊎_elim (λ (e : coarsest.boundaries b ≡ true). coarsest.needed b small e)
-    (λ e. absurd (differs (subst (λ n. slice_index n b ≡ slice_index n (b + 1)) (sym coarsest.classes)
-    ((law coarsest.boundaries b (b + 1) (omega (arith, small)) (omega (arith, small))).1 (alone coarsest.boundaries e)))))
-    (cases_Bool (coarsest.boundaries b))
-  where
-    alone : (p : ℕ → Bool) → p b ≡ false → Together p b (b + 1)
-    alone p e k low high there =
-        let same : k ≡ b = omega (arith, low, high) in
-        true≢false (sym there ∙ ap p same ∙ e)
-
--- the same of the ranges of a list that is empty
+-- the same without ranges
 pub coarsest_map : (p : ℕ → Bool) (ranges : List (ℕ × ℕ)) (looks : List Look) (t : ℕ) (W : ℕ → Bool)
     → ((l : Look) → IsExactFor (sets.contains (boundaries_of l t)) l t W) → Keeps p looks t W → Parts p ranges
     → ((b : ℕ) → b < 255 → p b ≡ true → HasEdge b ranges ⊎ IsOfLook b looks t) → ranges ≡ [] → IsCoarsestMap (class_map p) looks t W

@@ -6,7 +6,7 @@ use Rattle.std.proofs.lemmas.Bool.{cases_lt, cases_Bool}
 use Rattle.std.proofs.lemmas.List.{get_or_default}
 use Rattle.rsc_alphabet.specs.Partitions.{Together, class_map}
 use Rattle.rsc_look.specs.declared.assertion.Look.{Look}
-use Rattle.rsc_look.specs.Keeping.{IsNeeded, IsCoarsestMap, Tells}
+use Rattle.rsc_look.specs.Keeping.{IsNeeded, Tells}
 
 -- two tests differ exactly if one of what they decide holds and the other does not
 pub differ_if : (x y : Bool) (P Q : Type 0) → (IsTrue x ↔ P) → (IsTrue y ↔ Q) → IsTrue (not (beq x y)) ↔ ((P × ¬ Q) ⊎ (¬ P × Q))
@@ -36,17 +36,17 @@ not_needed b n looks t W all none = λ needed.
     none at.0 needed.look (omega (arith, all, inside)) inside needed.position needed.at_an_end
     (subst (λ l. Tells l t W (b ∷ []) ((b + 1) ∷ []) needed.position) (sym at.2) needed.tells)
 
--- between two classes of the coarsest map there is a boundary, which is needed
-pub classes_differ : (m : List ℕ) (b : ℕ) (looks : List Look) (t : ℕ) (W : ℕ → Bool)
+-- between two classes of the map of a partition there is a boundary
+pub boundary_between : (m : List ℕ) (p : ℕ → Bool) (b : ℕ)
     → ((p : ℕ → Bool) (b c : ℕ) → b < 256 → c < 256 → (slice_index (class_map p) b ≡ slice_index (class_map p) c) ↔ Together p b c)
-    → b < 255 → IsCoarsestMap m looks t W → slice_index m b ≢ slice_index m (b + 1) → IsNeeded b looks t W
-classes_differ m b looks t W law small coarsest differs =
-    ⊎_elim (λ (e : coarsest.boundaries b ≡ true). coarsest.needed b small e)
-    (λ e. absurd (differs (subst (λ n. slice_index n b ≡ slice_index n (b + 1)) (sym coarsest.classes)
-    ((law coarsest.boundaries b (b + 1) (omega (arith, small)) (omega (arith, small))).1 (alone coarsest.boundaries e)))))
-    (cases_Bool (coarsest.boundaries b))
+    → b < 255 → m ≡ class_map p → slice_index m b ≢ slice_index m (b + 1) → p b ≡ true
+boundary_between m p b law small is differs =
+    ⊎_elim (λ (e : p b ≡ true). e)
+    (λ e. absurd (differs (subst (λ n. slice_index n b ≡ slice_index n (b + 1)) (sym is)
+    ((law p b (b + 1) (omega (arith, small)) (omega (arith, small))).1 (alone e)))))
+    (cases_Bool (p b))
   where
-    alone : (p : ℕ → Bool) → p b ≡ false → Together p b (b + 1)
-    alone p e k low high there =
+    alone : p b ≡ false → Together p b (b + 1)
+    alone e k low high there =
         let same : k ≡ b = omega (arith, low, high) in
         true≢false (sym there ∙ ap p same ∙ e)

@@ -1,6 +1,7 @@
 //! The command `groups`: the slots of each group, or why the list is refused.
 
 use crate::error::{ShowError, refused};
+use crate::places::{place_of, second_of};
 use crate::text::{push_cell, push_right, push_spaces};
 use rsc_captures::{GroupInfo, GroupInfoError, GroupInfoErrorKind};
 use rsc_primitives::PatternID;
@@ -86,7 +87,7 @@ fn refusal(
         GroupInfoErrorKind::Duplicate { pattern, name } => {
             (
                 pattern.as_usize(),
-                second_of(patterns, pattern.as_usize(), name.as_str()),
+                repeat_of(patterns, pattern.as_usize(), name.as_str()),
             )
         }
     };
@@ -98,54 +99,11 @@ fn refusal(
 }
 
 // The group of a pattern that has the name a second time.
-fn second_of(patterns: &[&[Option<&str>]], pattern: usize, name: &str) -> usize {
+fn repeat_of(patterns: &[&[Option<&str>]], pattern: usize, name: &str) -> usize {
     match patterns.get(pattern) {
-        Some(groups) => second_in(*groups, name),
+        Some(groups) => second_of(*groups, name).unwrap_or(0),
         None => 0,
     }
-}
-
-// The second group that has the name.
-fn second_in(groups: &[Option<&str>], name: &str) -> usize {
-    let mut seen = false;
-    let mut place = 0usize;
-    for group in groups {
-        if has_name(*group, name) {
-            if seen {
-                return place;
-            }
-            seen = true;
-        }
-        place = place.wrapping_add(1);
-    }
-    0
-}
-
-fn has_name(group: Option<&str>, name: &str) -> bool {
-    match group {
-        Some(own) => own.as_bytes() == name.as_bytes(),
-        None => false,
-    }
-}
-
-// Where a group of a pattern begins in the text of the lists.
-fn place_of(lists: &[u8], pattern: usize, group: usize) -> usize {
-    let mut patterns = 0usize;
-    let mut groups = 0usize;
-    let mut place = 0usize;
-    for byte in lists {
-        if patterns == pattern && groups == group {
-            return place;
-        }
-        if *byte == b';' {
-            patterns = patterns.wrapping_add(1);
-            groups = 0;
-        } else if *byte == b',' {
-            groups = groups.wrapping_add(1);
-        }
-        place = place.wrapping_add(1);
-    }
-    place
 }
 
 // The groups of each pattern, lent as slices.
@@ -195,18 +153,15 @@ fn parse_groups<'a>(
 
 // The optional name of a group, or `None` where it isn't written rightly.
 fn parse_group(group: &[u8]) -> Option<Option<&str>> {
-    match group {
-        [] => None,
-        b"-" => Some(None),
-        _ => {
-            if !all_word_bytes(group) {
-                return None;
-            }
-            match std::str::from_utf8(group) {
-                Ok(name) => Some(Some(name)),
-                Err(_) => None,
-            }
-        }
+    if group == b"-".as_slice() {
+        return Some(None);
+    }
+    if group.is_empty() || !all_word_bytes(group) {
+        return None;
+    }
+    match std::str::from_utf8(group) {
+        Ok(name) => Some(Some(name)),
+        Err(_) => None,
     }
 }
 

@@ -14,6 +14,7 @@ mod looks;
 mod marks;
 mod names;
 mod picture;
+mod places;
 pub mod run;
 mod side_text;
 mod sides;

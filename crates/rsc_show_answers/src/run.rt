@@ -39,11 +39,16 @@ fn answer<R: Read>(
     let [command, rest @ ..] = arguments else {
         return Err(refused(alloc, "", EXPECTED_COMMAND));
     };
-    match command.as_bytes() {
-        b"looks" => looks::answer(alloc, rest, input),
-        b"classes" => classes::answer(alloc, rest, wants_color),
-        b"groups" => groups::answer(alloc, rest),
-        b"--help" => Ok(String::from_str(alloc, HELP)?),
-        _ => Err(refused(alloc, command.as_str(), EXPECTED_COMMAND)),
+    let command = command.as_str();
+    if command == "looks" {
+        looks::answer(alloc, rest, input)
+    } else if command == "classes" {
+        classes::answer(alloc, rest, wants_color)
+    } else if command == "groups" {
+        groups::answer(alloc, rest)
+    } else if command == "--help" {
+        Ok(String::from_str(alloc, HELP)?)
+    } else {
+        Err(refused(alloc, command, EXPECTED_COMMAND))
     }
 }

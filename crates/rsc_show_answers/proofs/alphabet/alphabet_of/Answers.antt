@@ -6,7 +6,8 @@ use Rattle.rsc_look.specs.declared.assertion.Look.TheVariants.{Start}
 use Rattle.rsc_look.specs.Boundaries.{boundaries_of}
 use Rattle.rsc_look.specs.Keeping.{Keeps}
 use Rattle.rsc_show_answers.specs.Chosen.{chosen_words}
-use Rattle.rsc_show_answers.proofs.Parting.{or_cases, or_left}
+use Rattle.std.proofs.lemmas.Bool.{or_cases}
+use Rattle.rsc_show_answers.proofs.Parting.{or_left}
 use Rattle.rsc_show_answers.proofs.alphabet.alphabet_of.Goals as goal
 
 pub loop-look-preserved : goal.loop-look-preserved

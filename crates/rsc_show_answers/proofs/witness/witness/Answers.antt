@@ -2,7 +2,7 @@ use Rattle.std.proofs.Common.{arith, refl, get_or, true≢false, sym}
 use Rattle.std.proofs.lemmas.List.Elements.{Contains-get_or}
 use Rattle.rsc_look.specs.declared.assertion.Look.TheVariants.{Start}
 use Rattle.rsc_show_answers.specs.Chosen.{chosen_words}
-use Rattle.rsc_show_answers.proofs.Telling.{none_tells_more, not_needed, classes_differ}
+use Rattle.rsc_show_answers.proofs.Telling.{none_tells_more, not_needed, boundary_between}
 use Rattle.rsc_show_answers.proofs.witness.witness.Goals as goal
 
 pub loop-look-init : goal.loop-look-init
@@ -43,5 +43,5 @@ pub returns-clause-boundary : goal.returns-clause-boundary
 returns-clause-boundary c = λ m coarsest differs.
     absurd (not_needed c.args.byte c.loop-look.look-index c.args.looks.now c.args.matcher.now.0 (chosen_words c.args.matcher.now.1)
     (omega (arith, c.loop-look-test.false)) c.loop-look.invariant
-    (classes_differ m c.args.byte c.args.looks.now c.args.matcher.now.0 (chosen_words c.args.matcher.now.1)
-    c.one_class_is_together.ensures c.requires coarsest differs))
+    (coarsest.needed c.args.byte c.requires
+    (boundary_between m coarsest.boundaries c.args.byte c.one_class_is_together.ensures c.requires coarsest.classes differs)))

@@ -2,7 +2,7 @@ use Rattle.std.proofs.Common.{inl, inr, ⊎_elim}
 use Rattle.rsc_look.specs.Keeping.{IsNeeded}
 use Rattle.rsc_show_answers.specs.Chosen.{chosen_words}
 use Rattle.rsc_show_answers.specs.Ranges.{HasEdge}
-use Rattle.rsc_show_answers.proofs.Parting.{classes_differ_for}
+use Rattle.rsc_show_answers.proofs.Telling.{boundary_between}
 use Rattle.rsc_show_answers.proofs.witness.witnesses.Goals as goal
 
 pub returns-clause-boundary : goal.returns-clause-boundary
@@ -13,4 +13,5 @@ returns-clause-boundary c = λ m coarsest differs.
     let W = chosen_words c.args.matcher.now.1 in
     ⊎_elim (λ (told : IsNeeded c.args.byte looks t W). inl (c.witness.ensures.needed.1 told))
     (λ (edge : HasEdge c.args.byte ranges). inr (c.edge_at.ensures.found edge.range edge.listed edge.edge))
-    (classes_differ_for m c.args.byte ranges looks t W c.one_class_is_together.ensures c.requires coarsest differs)
+    (coarsest.needed c.args.byte c.requires
+    (boundary_between m coarsest.boundaries c.args.byte c.one_class_is_together.ensures c.requires coarsest.classes differs))
