@@ -1,10 +1,7 @@
 -- The group that a text reaches with one more byte.
-use Rattle.std.proofs.Common.{◌≡◌, ◌<◌, ◌≤◌, ◌+◌, ◌==◌, ℕ, Bool, true, false, true≢false, List, [], ◌∷◌, ◌++◌, length, refl, sym, ap, ◌∙◌, arith, subst, ⊎_elim, slice_index_or, None}
+use Rattle.std.proofs.Common.{◌≡◌, ◌≤◌, ◌+◌, ◌==◌, ℕ, Bool, true, false, List, [], ◌∷◌, ◌++◌, refl, arith}
 use Rattle.std.specs.Prelude.{if◌then◌else◌}
-use Rattle.std.proofs.lemmas.Bool.{cases_lt}
-use Rattle.rsc_captures.specs.Groups.{Groups, has_name}
-use Rattle.rsc_show_answers.specs.Pointers.{behind, IsSecond, reached}
-use Rattle.rsc_show_answers.specs.PointersLayout.{IsFirstNamed}
+use Rattle.rsc_show_answers.specs.Pointers.{behind, reached}
 
 -- one more byte
 pub reached_more : (at : ℕ × ℕ) (bytes : List ℕ) (b : ℕ) → reached at (bytes ++ b ∷ []) ≡ behind (reached at bytes) b
