@@ -14,8 +14,7 @@ use std::io::{ErrorKind, IsTerminal};
 use std::process::ExitCode;
 use std::{env, io};
 
-const NOT_UTF8: &str =
-    "rsc_show: an argument is not UTF-8: expected a haystack of any bytes as --hex BYTES or -";
+const NOT_UTF8: &str = "rsc_show: an argument is not UTF-8: expected any bytes as --hex BYTES or -";
 
 fn main(rt: HostRuntime) -> ExitCode {
     let arguments = match env::args(&rt) {

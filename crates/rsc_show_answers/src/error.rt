@@ -59,7 +59,7 @@ fn refusal(alloc: Global, argument: &str, expected: &str) -> Result<String, Show
     Ok(text)
 }
 
-// A text, in which control characters are shown by their numbers, lest they move the terminal's cursor.
+// A text, in which control characters are shown by their numbers, so that they can't move the terminal's cursor.
 fn push_shown(text: &mut String, shown: &str) -> Result<(), ShowError> {
     for c in shown.chars() {
         if c.is_control() {

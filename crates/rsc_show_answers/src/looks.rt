@@ -59,11 +59,17 @@ fn table(alloc: Global, request: &Request, haystack: &[u8]) -> Result<String, Sh
     for at in 0..=haystack.len() {
         push_row(alloc, &mut text, &matcher, looks, haystack, at)?;
     }
+    push_legend(alloc, &mut text, looks)?;
+    Ok(text)
+}
+
+// A line for each of the assertions.
+fn push_legend(alloc: Global, text: &mut String, looks: &[Look]) -> Result<(), ShowError> {
     text.push('\n')?;
     for look in looks {
-        push_meaning(alloc, &mut text, *look)?;
+        push_meaning(alloc, text, *look)?;
     }
-    Ok(text)
+    Ok(())
 }
 
 // The names of the columns: an assertion's is its character.
