@@ -1,8 +1,9 @@
 //! Bytes and ranges of bytes as hexadecimal digits, and numbers as decimal ones.
-ghost use Rattle.std.specs.Prelude.{◌≡◌, ◌<◌, ◌≤◌, ◌↔◌, ◌^◌, ◌∷◌, [], length, take, drop, IsSome, IfSome, IfOk, IsErr, MatchOption, Ok};
+ghost use Rattle.std.specs.Prelude.{◌≡◌, ◌<◌, ◌≤◌, ◌↔◌, ◌^◌, ◌∷◌, [], ◌++◌, length, IsSome, IfSome, IfOk, IsErr, MatchOption, Ok};
 ghost use Rattle.std.specs.List.{AllPass};
 ghost use Rattle.std.specs.Str.Parse.{IsNumeral, digits_value};
 ghost use Rattle.hex.specs.Hex.{decode_of, is_hex_digit};
+ghost use Rattle.rsc_notation.specs.RangeTexts.{IsRangeText};
 
 use hex::{FromHex, FromHexError};
 use std::alloc::{AllocError, Allocator};
@@ -21,8 +22,7 @@ pub fn parse_byte(digits: &[u8]) -> Option<u8>
 /// The range that is written `XX-XX`, or `None` if nothing is written so or the first byte is above the second.
 pub fn parse_range(text: &[u8]) -> Option<(u8, u8)>
     ensures ordered { IfSome result (λ r. r.0 ≤ r.1) }
-    ensures start { IfSome result (λ r. decode_of (take 2 text.now) ≡ Ok (r.0 ∷ [])) }
-    ensures end { IfSome result (λ r. decode_of (drop 3 text.now) ≡ Ok (r.1 ∷ [])) }
+    ensures value { IfSome result (λ r. IsRangeText text.now r.0 r.1) }
 {
     let [first, second, b'-', third, fourth] = text else {
         return None;

@@ -5,6 +5,5 @@ pub mod Marks  -- marks that say which assertions hold
 pub mod Names  -- the names that arguments write
 pub mod Pointers  -- where the group at fault is, and where it is written
 pub mod PointersLayout  -- what the search for a name from one group on answers
-pub mod RangeTexts  -- what `--range` takes
 pub mod Ranges  -- partitions that keep assertions and part ranges of bytes
 pub mod Sides  -- what is beside a position of a haystack

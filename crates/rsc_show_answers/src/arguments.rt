@@ -1,6 +1,7 @@
 //! The arguments of `looks` and `classes`.
-ghost use Rattle.std.specs.Prelude.{◌≡◌, ◌≤◌, ◌∷◌, ◌++◌, ℕ, List, All, IfOk, IfSome, false, map};
+ghost use Rattle.std.specs.Prelude.{◌≡◌, ◌≤◌, ◌∷◌, ◌++◌, ℕ, List, All, IfOk, IfSome, Ok, false, map};
 ghost use Rattle.std.specs.String.{string_bytes};
+ghost use Rattle.hex.specs.Hex.{decode_of};
 ghost use Rattle.rsc_show_answers.specs.declared.arguments.Haystack.{Haystack};
 ghost use Rattle.rsc_show_answers.specs.declared.arguments.Next.{Next};
 ghost use Rattle.rsc_show_answers.specs.Listed.{haystack_arguments, IsHaystack, listed};
@@ -8,10 +9,10 @@ ghost use Rattle.rsc_show_answers.specs.ListedLayout.{left_of, SoFar};
 
 use crate::color::{Color, color_of};
 use crate::error::{ShowError, refused};
-use crate::hexadecimal::{byte_of, bytes_of, range_of};
 use crate::names::{look_of, nearest};
 use crate::words::{Words, words_of};
 use rsc_look::{Look, LookMatcher};
+use rsc_notation::bytes::{parse_byte, parse_bytes, parse_range};
 use std::alloc::Global;
 
 const EXPECTED_BYTE: &str = "two hexadecimal digits";
@@ -118,7 +119,7 @@ fn take(alloc: Global, request: &mut Request, next: Next, argument: &str) -> Res
     match next {
         Next::Plain => take_plain(alloc, request, argument),
         Next::Terminator => {
-            let byte = byte_of(argument.as_bytes());
+            let byte = parse_byte(argument.as_bytes());
             request.terminator = byte.ok_or(refused(alloc, argument, EXPECTED_BYTE))?;
             Ok(Next::Plain)
         }
@@ -127,7 +128,7 @@ fn take(alloc: Global, request: &mut Request, next: Next, argument: &str) -> Res
             Ok(Next::Plain)
         }
         Next::Range => {
-            let range = range_of(argument.as_bytes());
+            let range = parse_range(argument.as_bytes());
             request
                 .ranges
                 .push(range.ok_or(refused(alloc, argument, EXPECTED_RANGE))?)?;
@@ -192,5 +193,15 @@ fn after_option(argument: &str) -> Option<Next>
         Some(Next::Text)
     } else {
         None
+    }
+}
+
+// The bytes that pairs of hexadecimal digits write.
+fn bytes_of(alloc: Global, argument: &str) -> Result<Vec<u8>, ShowError>
+    ensures { IfOk result (λ bytes. decode_of argument.now ≡ Ok bytes.items) }
+{
+    match parse_bytes(alloc, argument.as_bytes())? {
+        Some(bytes) => Ok(bytes),
+        None => Err(refused(alloc, argument, "pairs of hexadecimal digits")),
     }
 }

@@ -4,9 +4,9 @@ use crate::error::{ShowError, refused};
 use crate::places::{place_of, second_of};
 use crate::text::{push_cell, push_right, push_spaces};
 use rsc_captures::{GroupInfo, GroupInfoError, GroupInfoErrorKind};
+use rsc_notation::groups::{parse_patterns, slices_of};
 use rsc_primitives::PatternID;
-use rsc_primitives::utf8::is_word_byte;
-use std::alloc::{AllocError, Global};
+use std::alloc::Global;
 use std::fmt::Write;
 
 const EXPECTED_LISTS: &str = "one list of groups, as -,x;-,-,x";
@@ -104,72 +104,4 @@ fn repeat_of(patterns: &[&[Option<&str>]], pattern: usize, name: &str) -> usize 
         Some(groups) => second_of(*groups, name).unwrap_or(0),
         None => 0,
     }
-}
-
-// The groups of each pattern, lent as slices.
-fn slices_of<'a, 'b>(
-    alloc: Global,
-    patterns: &'a [Vec<Option<&'b str>>],
-) -> Result<Vec<&'a [Option<&'b str>]>, AllocError> {
-    let mut slices = Vec::new(alloc);
-    for groups in patterns {
-        slices.push(groups.as_slice())?;
-    }
-    Ok(slices)
-}
-
-// The patterns that a text writes, or `None` where one of its groups isn't written rightly.
-fn parse_patterns<'a>(
-    alloc: Global,
-    lists: &'a [u8],
-) -> Result<Option<Vec<Vec<Option<&'a str>>>>, AllocError> {
-    let mut patterns = Vec::new(alloc);
-    for pattern in lists.split(|byte| *byte == b';') {
-        match parse_groups(alloc, pattern)? {
-            Some(groups) => patterns.push(groups)?,
-            None => return Ok(None),
-        }
-    }
-    Ok(Some(patterns))
-}
-
-// The groups of a pattern; an empty one has none.
-fn parse_groups<'a>(
-    alloc: Global,
-    pattern: &'a [u8],
-) -> Result<Option<Vec<Option<&'a str>>>, AllocError> {
-    let mut groups = Vec::new(alloc);
-    if pattern.is_empty() {
-        return Ok(Some(groups));
-    }
-    for group in pattern.split(|byte| *byte == b',') {
-        match parse_group(group) {
-            Some(name) => groups.push(name)?,
-            None => return Ok(None),
-        }
-    }
-    Ok(Some(groups))
-}
-
-// The optional name of a group, or `None` where it isn't written rightly.
-fn parse_group(group: &[u8]) -> Option<Option<&str>> {
-    if group == b"-".as_slice() {
-        return Some(None);
-    }
-    if group.is_empty() || !all_word_bytes(group) {
-        return None;
-    }
-    match std::str::from_utf8(group) {
-        Ok(name) => Some(Some(name)),
-        Err(_) => None,
-    }
-}
-
-fn all_word_bytes(name: &[u8]) -> bool {
-    for byte in name {
-        if !is_word_byte(*byte) {
-            return false;
-        }
-    }
-    true
 }

@@ -8,7 +8,6 @@ mod color;
 pub mod error;
 mod groups;
 mod help;
-mod hexadecimal;
 mod input;
 mod looks;
 mod marks;

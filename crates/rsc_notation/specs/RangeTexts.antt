@@ -1,4 +1,4 @@
--- What `--range` takes.
+-- The text of a range of bytes.
 use Rattle.std.specs.Prelude.{◌≡◌, ℕ, List, [], ◌∷◌, ◌++◌, Ok}
 use Rattle.hex.specs.Hex.{decode_of}
 

@@ -1,0 +1,1 @@
+pub mod RangeTexts  -- the text of a range of bytes
