@@ -3,10 +3,11 @@
 
     bench/page.py [THEIRS OURS]     # two files of lines `name ns`, as bench.sh leaves them; without them the picture alone is drawn anew
 
-A workload that the page lacks comes behind the one that was measured before it; one whose time is a difference that came out at nothing is left
+A workload that the page lacks comes beside the one that was measured before or after it, whose name is more like its own; one whose time is a difference that came out at nothing is left
 out. The text around the tables is written by hand. A line of the tables of times that is no such row is a mistake, and stops the script.
 """
 import math
+import os
 import pathlib
 import re
 import sys
@@ -22,21 +23,29 @@ def shown(number):
     return f"{number:,.0f}" if number >= 1000 else f"{number:.1f}" if number >= 100 else f"{number:.2f}"
 
 
+def alike(one, other):
+    """Returns how many bytes both names begin with."""
+    return len(os.path.commonprefix([one, other]))
+
+
 def with_times(lines, theirs, ours):
     """Returns the page's lines with the times of both sides in the rows of the workloads."""
     at = {found[1]: number for number, line in enumerate(lines) if (found := ROW.match(line))}
-    rows, before = {}, None
-    for name, ns in ours.items():
+    rows, ahead, before, names = {}, {}, None, list(ours)
+    for place, name in enumerate(names):
+        ns, number = ours[name], at.get(name)
         if min(ns, theirs[name]) < 0.01:
-            rows.update({at[name]: []} if name in at else {})
+            rows.update({number: []} if number else {})
             continue
-        ratio = ns / theirs[name]
-        row = f"| `{name}` | {shown(theirs[name])} | {shown(ns)} | {ratio:.2f} |"
-        if name in at:
-            before = at[name]
-            rows[before] = [row]
+        row = f"| `{name}` | {shown(theirs[name])} | {shown(ns)} | {ns / theirs[name]:.2f} |"
+        after = next((it for it in names[place + 1 :] if it in at), None)
+        if number:
+            before = name
+            rows[number] = ahead.pop(name, []) + [row]
+        elif after and (not before or alike(name, after) > alike(name, before)):
+            ahead.setdefault(after, []).append(row)
         else:
-            rows[before].append(row)
+            rows[at[before]].append(row)
     return [it for number, line in enumerate(lines) for it in rows.get(number, [line])]
 
 
