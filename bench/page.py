@@ -3,8 +3,9 @@
 
     bench/page.py [THEIRS OURS]     # two files of lines `name ns`, as bench.sh leaves them; without them the picture alone is drawn anew
 
-A workload that the page lacks comes beside the one that was measured before or after it, whose name is more like its own; one whose time is a difference that came out at nothing is left
-out. The text around the tables is written by hand. A line of the tables of times that is no such row is a mistake, and stops the script.
+A workload that the page lacks comes beside the one that was measured before or after it, whose name is more like its own; one whose time is a
+difference that came out at nothing is left out. The text around the tables is written by hand. A line of the tables of times that is no such row is
+a mistake, and stops the script.
 """
 import math
 import os
