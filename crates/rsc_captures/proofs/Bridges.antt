@@ -1,5 +1,7 @@
 -- What the functions at a count, which call `extract` or `extract_bytes`, share: the slots of their arguments, and two facts that are had
--- of nothing.
+-- of nothing. Their proofs are one but for the count, text or bytes. What they have in hand is, after the first line that sorts it, the token
+-- of the haystack's lifetime, that of `captures`, and what the arguments own; after the call, the tokens, the result, the callee's clause
+-- and the locals; at the end, both tokens and the result. `N` has a lifetime in the callee's signature, for which a new one is taken.
 use mathlib.Core.List.{[], ◌∷◌}
 use seplogic.Ra.Ura.{Ura}
 use mir.Syntax.{named}

@@ -52,9 +52,7 @@ extract_triple_spec 𝓤 𝓛 𝓜 𝓡 wired =
     let T : Ended = g.ended N in let G = triple_of 𝓛 T.signature (g.spec N 𝓛 𝓜.mem 𝓡.returns) in
     qed 𝓛 (((‵ (flft κs.0 qs.0) ⊛ (‵ (flft κs.1.0 qs.1.0) ⊛ ‵ ftrue)) ⊛ ‵ (owns (types_at f.ended.signature.params κs) a vs)) ∷ ‵ ftrue ∷ []) ∵
     split ! $ split ! $ move ! (1 ∷ []) $ split ! $ keep ! (0 ∷ 2 ∷ 3 ∷ []) $
-    -- [the token of the haystack's lifetime; that of `captures`; what the arguments own]
     enter ! _ _ _ _ _ $ alloc_all ! (λ l. pass_all ! refl ((tt, tt), ((((str-laws (second κs)).lawful 𝓛).typed a.1.0 _ are.1.0).0, tt)) $
-    -- `N` has a lifetime in the callee's signature: a new one stands for it
     lft_new ! tt (λ α.
     let κs' : Lfts 3 = (κs.0, (κs.1.0, (α ∷ [], tt))) in
     let d = g.clauses N 𝓛 𝓜.mem 𝓡.returns κs' a in
@@ -67,13 +65,11 @@ extract_triple_spec 𝓤 𝓛 𝓜 𝓡 wired =
     use1 𝓛 (later (some (λ (r : R.Denot). ((‵ (flft κs.0 qs.0) ⊛ (‵ (flft κs.1.0 qs.1.0) ⊛ (‵ (flft (α ∷ []) full_share) ⊛ ‵ ftrue))) ⊛ ‵ (R.own_val r (v ∷ []))) ⊛
     some (λ (ws : Unit {0} × (Unit {0} × Unit {0})). ‵ (lasts T κs' a ws) ⊛ raw (d.ensures tt r (at_exit T κs' a ws)))))) (id⊢ 𝓤 _) $
     await ! tt $ pick ! (λ r. split ! $ split ! $
-    -- [the tokens; the result; the callee's clause; the locals]
     move ! (1 ∷ []) $ peeks ! R _ (shows 𝓛 R) r (v ∷ []) (λ is.
     lands_as ! refl refl (((Result-lawful F 3 (str_laws (second κs)) 𝓛).typed r (v ∷ []) is).0) $
     move ! (2 ∷ []) $ pick ! (λ ws. split ! $ drop ! $ heard ! _ (λ cuts.
     returns ! (look_at ! 0 refl) $ free_all ! refl $
     move ! (1 ∷ []) $ split ! $ move ! (1 ∷ []) $ split ! $ keep ! (0 ∷ 2 ∷ 3 ∷ []) $
-    -- [the token of the haystack's lifetime; that of `captures`; the result]
     suffices ! _ (ends_at 𝓛 f.ended stayed c ((κs, qs, bounds, a, vs), tt) v r (tt, (tt, tt)) (tt, (tt, tt))) $ says ! cuts $
     nothing ! $ move ! (1 ∷ 0 ∷ []) $ join ! $ move ! (1 ∷ 0 ∷ []) $ join ! $
     nothing ! $ nothing ! $ join ! $ nothing ! $ join ! $ move ! (1 ∷ 0 ∷ []) $ group ! 3 $ done !))))))))
