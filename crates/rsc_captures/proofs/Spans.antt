@@ -15,6 +15,9 @@ spans_from_first c i lt = let e : matched_groups c - i ≡ suc (matched_groups c
 none_before : (c : Captured) → matched_groups c ≡ matched_groups c - 0
 none_before c = omega arith
 
+pub all_spans : (c : Captured) → matched_spans c ≡ spans_from c 0
+all_spans c = ap (λ n. map (group_span c) (range_with_len 0 n)) (none_before c)
+
 pub all_participating : (c : Captured) → participating c ≡ participating_from c 0
 all_participating c = ap (λ n. filter_map (group_span c) (range_with_len 0 n)) (none_before c)
 

@@ -268,7 +268,10 @@ impl<A: Allocator + Clone + Drop> Captures<A> {
         ensures spans { result ≡ matched_spans self.now }
         ensures count { length result ≡ matched_groups self.now }
     {
-        CapturesPatternIter::new(self)
+        CapturesPatternIter {
+            captures: self,
+            next_group: 0,
+        }
     }
 }
 

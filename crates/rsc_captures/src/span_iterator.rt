@@ -2,7 +2,6 @@
 ghost use Rattle.std.specs.Prelude.{◌≡◌, length, Some, IfSome};
 ghost use Rattle.std.specs.Iterator.{YieldsFirst, UpTo, item_count};
 ghost use Rattle.std.specs.Iterator.SizeHint.{IsWithinCount};
-ghost use Rattle.rsc_captures.specs.Captured.{matched_spans};
 
 use crate::captures::Captures;
 use rsc_search::Span;
@@ -15,8 +14,8 @@ use std::marker::Model;
 #[derive(Drop)]
 #[derive_where(Clone)]
 pub struct CapturesPatternIter<'a, A: Allocator = Global> {
-    captures: &'a Captures<A>,
-    next_group: usize,
+    pub(crate) captures: &'a Captures<A>,
+    pub(crate) next_group: usize,
 }
 
 impl<'a, A: Allocator> Model for CapturesPatternIter<'a, A> {
@@ -30,16 +29,6 @@ impl<'a, A: Allocator> Model for CapturesPatternIter<'a, A> {
 }
 
 impl<'a, A: Allocator + Clone + Drop> CapturesPatternIter<'a, A> {
-    #[inline]
-    pub(crate) fn new(captures: &'a Captures<A>) -> CapturesPatternIter<'a, A>
-        ensures { result ≡ matched_spans captures.now }
-    {
-        CapturesPatternIter {
-            captures,
-            next_group: 0,
-        }
-    }
-
     /// How many groups are left.
     #[inline]
     pub fn len(&self) -> usize
