@@ -1,5 +1,6 @@
 //! The commands `groups` and `limited`: the slots of a list of groups, or why it is refused.
 ghost use Rattle.std.specs.Prelude.{◌≤◌, IfSome};
+ghost use Rattle.rsc_captures.specs.Faults.{LIMIT_OF_IDS};
 
 use crate::tokens::parse_short_number;
 use rsc_captures::{GroupInfo, GroupInfoError, GroupInfoErrorKind};
@@ -9,7 +10,7 @@ use std::alloc::{AllocError, Allocator};
 use std::fmt::Write;
 
 // The limit of `groups`, and the greatest that `limited` takes.
-const GREATEST_LIMIT: usize = 2147483646;
+const GREATEST_LIMIT: usize = PatternID::LIMIT - 1;
 
 /// The answer to the arguments of `groups`, or `None` where they aren't lists of groups.
 ///
@@ -38,7 +39,7 @@ pub fn answer_limited<A: Allocator + Copy + Drop>(
 
 // The limit that one to ten decimal digits write, or `None` where it is above the greatest.
 fn parse_limit(token: &[u8]) -> Option<usize>
-    ensures { IfSome result (λ limit. limit ≤ 2147483646) }
+    ensures { IfSome result (λ limit. limit ≤ LIMIT_OF_IDS) }
 {
     let limit = parse_short_number(token)?;
     if limit <= GREATEST_LIMIT {
@@ -54,7 +55,7 @@ fn answer_within<A: Allocator + Copy + Drop>(
     limit: usize,
     arguments: &[&[u8]],
 ) -> Result<Option<String<A>>, AllocError>
-    requires { limit ≤ 2147483646 }
+    requires { limit ≤ LIMIT_OF_IDS }
 {
     match arguments {
         [] => Ok(Some(answer_lists(alloc, limit, &[])?)),
@@ -71,7 +72,7 @@ fn answer_patterns<A: Allocator + Copy + Drop>(
     limit: usize,
     patterns: &[Vec<Option<&str>, A>],
 ) -> Result<String<A>, AllocError>
-    requires { limit ≤ 2147483646 }
+    requires { limit ≤ LIMIT_OF_IDS }
 {
     let lists = slices_of(alloc, patterns)?;
     answer_lists(alloc, limit, lists.as_slice())
@@ -83,7 +84,7 @@ fn answer_lists<A: Allocator + Copy + Drop>(
     limit: usize,
     lists: &[&[Option<&str>]],
 ) -> Result<String<A>, AllocError>
-    requires { limit ≤ 2147483646 }
+    requires { limit ≤ LIMIT_OF_IDS }
 {
     match GroupInfo::new_limited(alloc, limit, lists) {
         Ok(info) => describe(alloc, &info),

@@ -1,11 +1,13 @@
 //! Group lists: patterns with `;` between, a pattern's groups with `,` between.
 
 ghost use Rattle.std.specs.Prelude.{◌≤◌, IfOk};
+ghost use Rattle.rsc_captures.specs.Faults.{LIMIT_OF_IDS};
 
 use rsc_captures::{GroupInfo, GroupInfoError, GroupInfoErrorKind};
 use rsc_compare_protocol::error::CommandError;
 use rsc_compare_protocol::error::CommandError::BadCommand;
 use rsc_compare_protocol::tokens::{hexadecimal, list_of, number, parts_of, text_of};
+use rsc_primitives::PatternID;
 use std::alloc::Global;
 
 // The names of a pattern's groups.
@@ -15,11 +17,11 @@ type Names = Vec<Option<String>>;
 pub type Built = Result<GroupInfo, GroupInfoError>;
 
 /// The limit on slots that no caller chose, and the greatest that one may choose.
-pub const GREATEST_LIMIT: usize = 2147483646;
+pub const GREATEST_LIMIT: usize = PatternID::LIMIT - 1;
 
 /// The limit on slots that a token writes.
 pub fn limit(token: &[u8]) -> Result<usize, CommandError>
-    ensures { IfOk result (λ limit. limit ≤ 2147483646) }
+    ensures { IfOk result (λ limit. limit ≤ LIMIT_OF_IDS) }
 {
     let limit = number(token)?;
     if limit <= GREATEST_LIMIT {
@@ -31,7 +33,7 @@ pub fn limit(token: &[u8]) -> Result<usize, CommandError>
 
 /// The group info of a token's lists where no more slots than the limit are allowed, or its refusal.
 pub fn group_info(alloc: Global, limit: usize, token: &[u8]) -> Result<Built, CommandError>
-    requires { limit ≤ 2147483646 }
+    requires { limit ≤ LIMIT_OF_IDS }
 {
     let patterns = read_patterns(alloc, token)?;
     let names = lend_patterns(alloc, patterns.as_slice())?;
