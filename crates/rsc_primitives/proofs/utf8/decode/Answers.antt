@@ -1,5 +1,6 @@
 use Rattle.std.proofs.Common.{sym}
-use Rattle.rsc_primitives.proofs.Utf8Lemmas.{IsFirstNumber-from, BeginsAt-from, BeginsAt-fits}
+use Rattle.rsc_primitives.proofs.PartsLemmas.{BeginsAt-fits}
+use Rattle.rsc_primitives.proofs.Utf8Lemmas.{IsFirstNumber-from, BeginsAt-from}
 use Rattle.rsc_primitives.proofs.utf8.decode.Goals as goal
 
 pub returns-in-Some : goal.returns-in-Some

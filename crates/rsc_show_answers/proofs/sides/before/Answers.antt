@@ -1,4 +1,4 @@
-use Rattle.rsc_primitives.proofs.Utf8Lemmas.{DecodesLastTo-ok, DecodesLastTo-err, EndsAt-from_take}
+use Rattle.rsc_primitives.proofs.PartsLemmas.{DecodesLastTo-ok, DecodesLastTo-err, EndsAt-from_take}
 use Rattle.rsc_show_answers.proofs.Reaching.{refuted}
 use Rattle.rsc_show_answers.proofs.sides.before.Goals as goal
 
