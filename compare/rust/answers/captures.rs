@@ -84,7 +84,7 @@ fn group_info_script(mut info: GroupInfo, ops: &[&str]) -> Read<String> {
             "g" => answers.push(info.group_len(pattern(rest)?).to_string()),
             "P" => {
                 let names = info.pattern_names(pattern(rest)?);
-                let (names, hints) = hinted_iterated(names, ",", show_name);
+                let (names, hints) = iterated_with_hints(names, ",", show_name);
                 answers.push(format!("{names}/{hints}"));
             }
             "A" => answers.push(iterated(info.all_names(), ",", |(pid, g, name)| {
@@ -185,7 +185,7 @@ fn captures_script(
             "n" => answers.push(show_span(caps.get_group_by_name(&text(rest)?))),
             "l" => answers.push(caps.group_len().to_string()),
             "i" => {
-                let (spans, hints) = hinted_iterated(caps.iter(), ",", show_span);
+                let (spans, hints) = iterated_with_hints(caps.iter(), ",", show_span);
                 answers.push(format!("{spans}/{hints}"));
             }
             "M" => {

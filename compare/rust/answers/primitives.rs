@@ -101,7 +101,9 @@ fn show_decoded(decoded: Option<Result<char, u8>>) -> String {
 
 pub fn answer(name: &str, port: bool, args: &[&str]) -> Read<String> {
     match (name, port, args) {
-        ("idx_iter", _, [kind, len, take]) => iterated_index(kind, number(len)?, number(take)?, port),
+        ("idx_iter", _, [kind, len, take]) => {
+            iterated_index(kind, number(len)?, number(take)?, port)
+        }
         (_, false, ["small", rest @ ..]) => small(name, rest),
         (_, false, ["pattern", rest @ ..]) => pattern_id(name, rest),
         (_, false, ["state", rest @ ..]) => state(name, rest),
