@@ -116,11 +116,11 @@ module _ (groups : Groups) where
           list_any_at (has_name name) (take h groups) g None in_taken (ap (has_name name) (get_or-take h groups g None lt) ∙ named)
 
   module _ (order : List ℕ) (sorted : IsSortedByName order groups) where
-    -- what stands behind doesn't come before
+    -- what is behind doesn't come before
     not_before : (i j : ℕ) → i ≤ j → j < length order → is_lt (named_cmp (named_group groups (get_or order j 0)) (named_group groups (get_or order i 0))) ≡ false
     not_before i j le lt = sorted_far _ (ranks_by named_total (named_group groups)) order sorted i j 0 le lt
 
-    -- of two places with groups of one name, the lesser group stands first
+    -- of two places with groups of one name, the lesser group is first
     groups_rise : (i j : ℕ) → i ≤ j → j < length order → name_at groups (get_or order j 0) ≡ name_at groups (get_or order i 0) → get_or order i 0 ≤ get_or order j 0
     groups_rise i j le lt same =
         let tied : name_cmp (name_at groups (get_or order j 0)) (name_at groups (get_or order i 0)) ≡ Equal = rw same (tied_itself name_total (name_at groups (get_or order i 0))) in
@@ -132,7 +132,7 @@ module _ (groups : Groups) where
         let up : is_lt (name_cmp (name_at groups (get_or order k 0)) (name_at groups (get_or order i 0))) ≡ false = not_less _ _ (not_before i k from (omega (arith, to, lt))) in
         same_from_both (name_at groups (get_or order k 0)) (name_at groups (get_or order j 0)) (rw same at up) (not_less _ _ (not_before k j to lt))
 
-    -- a group whose name stands at a lesser one has a neighbour with that name
+    -- a group whose name a lesser one has has a neighbour with that name
     neighbour : (i j : ℕ) (name : List ℕ) → i < j → j < length order → name_at groups (get_or order i 0) ≡ Some name → name_at groups (get_or order j 0) ≡ Some name → get_or order i 0 < get_or order j 0
         → (k : ℕ) × (k + 1 < length order) × (get_or order (k + 1) 0 ≡ get_or order j 0) × (has_name_of groups (get_or order k 0) (get_or order (k + 1) 0) ≡ true)
     neighbour i zero name before lt at_i at_j less = absurd (omega arith)
@@ -151,7 +151,7 @@ module _ (groups : Groups) where
         at_k : name_at groups (get_or order k 0) ≡ Some name
         at_k = name_between i k (suc k) (omega arith) (omega arith) lt (at_i ∙ sym at_j) ∙ at_j
 
-    -- a group whose name stands at a lesser one stands behind a group that has its name
+    -- a group whose name a lesser one has is behind a group that has its name
     repeat_place : HasGroups order (length groups) → (g : ℕ) → g < length groups → is_repeat groups g ≡ true
         → (k : ℕ) × (k + 1 < length order) × (get_or order (k + 1) 0 ≡ g) × (has_name_of groups (get_or order k 0) (get_or order (k + 1) 0) ≡ true)
     repeat_place complete g lt repeats = by_name (name_at groups g) refl repeats
@@ -185,7 +185,7 @@ module _ (groups : Groups) where
         (λ (here : i ≤ k + 1). let next : k + 1 ≡ i = omega (arith, lt, here) in let this : k ≡ i - 1 = omega (arith, next) in rw next (last (rw (next, this) at found)))
         (cases_lt (k + 1) i)
 
-    -- where no group below a bound stands behind one that has its name, none repeats a name
+    -- where no group below a bound is behind one that has its name, none repeats a name
     pub distinct_from_order : HasGroups order (length groups) → (n : ℕ) → n ≤ length groups
         → ((k : ℕ) → k + 1 < length order → has_name_of groups (get_or order k 0) (get_or order (k + 1) 0) ≡ true → n ≤ get_or order (k + 1) 0) → AreDistinctBelow groups n
     distinct_from_order complete n le above g lt =

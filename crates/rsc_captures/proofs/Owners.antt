@@ -43,7 +43,7 @@ before_rises lists p (suc n) le =
     let e : p + suc n ≡ p + n + 1 = omega arith in
     rw e (omega (arith, before_rises lists p n (omega arith), before_more lists (p + n) (omega arith)))
 
--- the pattern among whose explicit groups the r-th of all stands
+-- the pattern among whose explicit groups the r-th of all is
 record HasExplicit (lists : GroupLists) (n r p : ℕ) : Type 0 where
   pattern : p < n
   from : explicit_before lists p ≤ r

@@ -36,7 +36,7 @@ fn span_at(slots: &[Option<NonMaxUsize>], slot: usize) -> Option<Span>
 
 /// The offsets of the groups of a match, if there is a match.
 ///
-/// A search fills the slots and sets the pattern. Nothing is asked of what stands in the slots, and no call here fails on
+/// A search fills the slots and sets the pattern. Nothing is asked of what is in the slots, and no call here fails on
 /// it. A contract sees captures as the groups, the pattern and the offset of each slot, if it is set. How many slots
 /// there are never changes.
 ///

@@ -89,7 +89,7 @@ fn proposed_len(lists: &[&[Option<&str>]]) -> usize {
     len
 }
 
-/// A table in which most names find their group: its length is a power of two, 0 stands for no proposal. There is none where all
+/// A table in which most names find their group: its length is a power of two, 0 is no proposal. There is none where all
 /// patterns have few groups.
 pub(crate) fn proposals_of<A: Allocator>(
     alloc: A,
@@ -224,7 +224,7 @@ impl<A: Allocator + Clone + Drop> SharedLists<A> {
         None
     }
 
-    // How the group's name stands to a name. A group without one comes before all names.
+    // How the group's name compares with a name. A group without one comes before all names.
     #[inline]
     fn name_cmp(&self, p: usize, group: usize, name: &str) -> Ordering
         ensures { result ≡ name_cmp (name_of self.now p group) (Some name.now) }

@@ -71,7 +71,7 @@ fn has_name_of(groups: &[Option<&str>], g: u32, h: u32) -> bool
 }
 
 // The least group whose name is used at a lesser one, or the number of groups where there is none: in the order of the names such a
-// group stands right behind one that has its name.
+// group is right behind one that has its name.
 fn least_repeat(groups: &[Option<&str>], order: &[u32]) -> usize
     requires complete { HasGroups order.now (length groups.now) }
     requires sorted { IsSortedByName order.now (groups_in groups.now) }

@@ -3,7 +3,7 @@ use Rattle.rsc_captures.specs.Groups.{groups_in, is_repeat}
 use Rattle.rsc_captures.specs.Names.{has_name_of}
 use Rattle.rsc_captures.proofs.order.least_repeat.Given as goal
 
--- no lesser group so far stands behind one that has its name
+-- no lesser group so far is behind one that has its name
 abbrev pub invariant-loop-i : goal.invariant-loop-i
 invariant-loop-i l = record {
   some : 0 < l.i;

@@ -12,7 +12,7 @@ slice_bounds-order-end g c =
     let pattern : c.args.p < length c.args.self.now = pattern_in c.args.self.now c.args.p 0 (omega (arith, c.requires)) in
     (part_indexed c.self.inside.order.items c.deref.result.now c.args.self.now c.args.p c.first-first.result c.group_len.result (rw c.self.view_is at c.self.invariant.ordered) pattern c.deref.ensures.value c.first-first.ensures.value c.group_len.ensures.value).0
 
--- the closure answers how a group's name stands to the name
+-- the closure answers how a group's name compares with the name
 pub returns-in-Ok : goal.returns-in-Ok
 returns-in-Ok g c =
     let pattern : c.args.p < length c.args.self.now = pattern_in c.args.self.now c.args.p 0 (omega (arith, c.requires)) in
