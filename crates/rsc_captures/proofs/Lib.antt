@@ -11,7 +11,7 @@ pub mod FaultsLemmas  -- the first fault of a list: there is at most one, and a 
 pub mod Firsts  -- where the names of the patterns begin, as one more is pushed
 pub mod Owners  -- each slot is a slot of exactly one group
 pub mod SlotsWithin  -- the slots of a group are below the number of all slots
-pub mod Parts  -- where the names and the order of each pattern's groups stand in the lists of all groups
+pub mod Parts  -- where the names and the order of each pattern's groups are in the lists of all groups
 pub mod Spans  -- the steps of the iterator over the groups of the pattern that matched
 pub mod Pieces  -- the pieces that the first groups cut, as a loop over the groups finds them
 pub mod Extracted  -- what `extract` and `extract_bytes` pass on for `H` and return, over the haystack's type as a field F, and that their result is lawful

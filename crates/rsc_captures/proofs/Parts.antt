@@ -1,4 +1,4 @@
--- Where the names and the order of each pattern's groups stand in the lists of all groups.
+-- Where the names and the order of each pattern's groups are in the lists of all groups.
 use Rattle.std.proofs.Common.{◌≡◌, ℕ, zero, suc, ◌+◌, ◌-◌, ◌<◌, ◌≤◌, min, ⊎_elim, List, [], ◌∷◌, length, take, drop, get_or, Option, None, refl, ap, ap₂, sym, ◌∙◌, arith}
 use Rattle.std.specs.List.{flat_map, slice_range}
 use Rattle.std.proofs.lemmas.Bool.{cases_lt}
@@ -25,7 +25,7 @@ groups_rise lists p (suc n) le =
     let e : p + suc n ≡ p + n + 1 = omega arith in
     rw e (omega (arith, groups_rise lists p n (omega arith), groups_more lists (p + n) (omega arith)))
 
--- a pattern's groups stand before those of the patterns after it
+-- a pattern's groups are before those of the patterns after it
 pub groups_within : (lists : GroupLists) (p n : ℕ) → p < n → n ≤ length lists → groups_before lists p + group_count lists p ≤ groups_before lists n
 groups_within lists p n lt le =
     let e : p + 1 + (n - (p + 1)) ≡ n = omega arith in

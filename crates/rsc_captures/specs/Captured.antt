@@ -11,7 +11,7 @@ pub record Captured : Type 0 where
   pub pattern : Option ℕ
   pub offsets : List (Option ℕ)
 
--- the span whose offsets stand in a slot and the next, if both are there and set
+-- the span whose offsets are in a slot and the next, if both are there and set
 abbrev pub span_at : List (Option ℕ) → ℕ → Option Span
 span_at offsets slot =
     option_and_then (λ from. option_map (λ to. record { start = from; end = to }) (slice_index_or offsets (slot + 1) None))

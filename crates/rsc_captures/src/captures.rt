@@ -14,7 +14,7 @@ use std::alloc::{AllocError, Allocator, Global};
 use std::fmt;
 use std::marker::Model;
 
-// The span whose offsets stand in a slot and the next.
+// The span whose offsets are in a slot and the next.
 #[inline]
 fn span_at(slots: &[Option<NonMaxUsize>], slot: usize) -> Option<Span>
     ensures { result ≡ span_at slots.now slot }

@@ -27,7 +27,7 @@ const SLOT_LIMIT: usize = PatternID::LIMIT - 1;
 /// Which capturing groups the patterns of a search have, with their names, and which slots hold a group's offsets.
 ///
 /// The first group of each pattern stands for its whole match, and has no name; the slots of the first groups come before
-/// all others. A group's offsets stand in a slot and the next. A contract sees a group info as the list of its patterns,
+/// all others. A group's offsets are in a slot and the next. A contract sees a group info as the list of its patterns,
 /// each the list of its groups' names. A clone shares its memory.
 ///
 /// # Examples
