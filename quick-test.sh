@@ -10,6 +10,9 @@ run() {
   local name=$1 crate=$2 kind=$3
   if [ "$kind" = tests ]; then
     (cd "$crate" && rt try --test) > "$results/$name" 2>&1
+  elif [ "$kind" = runs ]; then
+    ./stored-runs.py --cases "$(basename "$crate")" "$results/$name.cases"
+    (cd "$crate" && rt try --steps 0 --cases "$results/$name.cases") > "$results/$name" 2>&1
   else
     mkdir "$results/$name.cases"
     cp "$crate/stdin" "$results/$name.cases/stored"
@@ -26,6 +29,7 @@ for crate in crates/*/; do
   name=$(basename "$crate")
   if grep -rq '#\[test\]' "$crate/src"; then jobs+=("$name-tests $crate tests"); fi
   if [ -f "$crate/stdout" ]; then jobs+=("$name-run $crate run"); fi
+  if [ -d "$crate/runs" ]; then jobs+=("$name-runs $crate runs"); fi
 done
 export -f run
 export results

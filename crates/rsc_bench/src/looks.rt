@@ -4,6 +4,7 @@ use crate::classes::describe;
 use crate::tokens::{parse_hay, parse_short_number};
 use rsc_look::{Look, LookMatcher, UnicodeWord};
 use rsc_notation::bytes::parse_byte;
+use rsc_notation::looks::look_of;
 use std::alloc::{AllocError, Allocator};
 
 /// The answer to the arguments of `looks`, or `None` where they aren't a terminator and names of assertions.
@@ -74,59 +75,4 @@ fn looks_of<A: Allocator + Copy + Drop>(
         }
     }
     Ok(Some(looks))
-}
-
-// The assertion of that name. The names are told apart by their first letters, a few in each function.
-fn look_of(name: &[u8]) -> Option<Look> {
-    match name {
-        [b'W', b'o', b'r', b'd', kind @ ..] => word_look_of(kind),
-        _ => anchor_of(name),
-    }
-}
-
-fn anchor_of(name: &[u8]) -> Option<Look> {
-    match name {
-        b"Start" => Some(Look::Start),
-        b"End" => Some(Look::End),
-        b"StartLF" => Some(Look::StartLF),
-        b"EndLF" => Some(Look::EndLF),
-        b"StartCRLF" => Some(Look::StartCRLF),
-        b"EndCRLF" => Some(Look::EndCRLF),
-        _ => None,
-    }
-}
-
-// What comes after `Word`.
-fn word_look_of(kind: &[u8]) -> Option<Look> {
-    match kind {
-        b"Ascii" => Some(Look::WordAscii),
-        b"AsciiNegate" => Some(Look::WordAsciiNegate),
-        b"Unicode" => Some(Look::WordUnicode),
-        b"UnicodeNegate" => Some(Look::WordUnicodeNegate),
-        [b'S', b't', b'a', b'r', b't', characters @ ..] => word_start_of(characters),
-        [b'E', b'n', b'd', characters @ ..] => word_end_of(characters),
-        _ => None,
-    }
-}
-
-// What comes after `WordStart`.
-fn word_start_of(characters: &[u8]) -> Option<Look> {
-    match characters {
-        b"Ascii" => Some(Look::WordStartAscii),
-        b"Unicode" => Some(Look::WordStartUnicode),
-        b"HalfAscii" => Some(Look::WordStartHalfAscii),
-        b"HalfUnicode" => Some(Look::WordStartHalfUnicode),
-        _ => None,
-    }
-}
-
-// What comes after `WordEnd`.
-fn word_end_of(characters: &[u8]) -> Option<Look> {
-    match characters {
-        b"Ascii" => Some(Look::WordEndAscii),
-        b"Unicode" => Some(Look::WordEndUnicode),
-        b"HalfAscii" => Some(Look::WordEndHalfAscii),
-        b"HalfUnicode" => Some(Look::WordEndHalfUnicode),
-        _ => None,
-    }
 }

@@ -1,1 +1,2 @@
+pub mod LookNames  -- the names of the assertions
 pub mod RangeTexts  -- the text of a range of bytes

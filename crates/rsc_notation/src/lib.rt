@@ -1,5 +1,6 @@
-//! How the arguments of the programs write bytes, ranges of bytes, and groups of patterns.
+//! How the arguments of the programs write bytes, ranges of bytes, assertions, and groups of patterns.
 #![tactic(auto)]
 
 pub mod bytes;
 pub mod groups;
+pub mod looks;

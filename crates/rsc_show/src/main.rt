@@ -1,32 +1,34 @@
 //! Explains positions of a haystack, classes of bytes and lists of groups on standard output.
 #![tactic(auto)]
 
-#[cfg(test)]
-mod failures;
-#[cfg(test)]
-mod tests;
+mod alphabet;
+mod arguments;
+mod choices;
+mod classes;
+mod error;
+mod groups;
+mod looks;
+mod positions;
+mod run;
+mod text;
+mod witness;
 
-use rsc_show_answers::error::ShowError;
-use rsc_show_answers::run::run;
+use crate::error::ShowError;
+use crate::run::run;
 use std::alloc::Global;
 use std::env::VarError;
 use std::io::{ErrorKind, IsTerminal};
 use std::process::ExitCode;
 use std::{env, io};
 
-const NOT_UTF8: &str = "rsc_show: an argument is not UTF-8: expected any bytes as --hex BYTES or -";
-
 fn main(rt: HostRuntime) -> ExitCode {
     let arguments = match env::args(&rt) {
         Ok(arguments) => arguments,
-        Err(error) => return refused_arguments(&rt, &error),
+        Err(error) => return failure(&rt, &error_of(&error)),
     };
     let words: Vec<String> = match arguments.collect(rt.alloc()) {
         Ok(words) => words,
-        Err(_) => {
-            let _ = rt.eprintln(ShowError::OutOfMemory);
-            return ExitCode::FAILURE;
-        }
+        Err(_) => return failure(&rt, &ShowError::OutOfMemory),
     };
     // The first word is the program's name.
     let arguments = words.as_slice().get(1..).unwrap_or(&[]);
@@ -38,28 +40,21 @@ fn main(rt: HostRuntime) -> ExitCode {
         &mut io::writer(&rt),
     ) {
         Ok(()) | Err(ShowError::Closed) => ExitCode::SUCCESS,
-        Err(ShowError::Usage(message)) => {
-            let _ = rt.eprintln(message);
-            ExitCode::from(2)
-        }
-        Err(error) => {
-            let _ = rt.eprintln(error);
-            ExitCode::FAILURE
-        }
+        Err(error) => failure(&rt, &error),
     }
 }
 
-// Says why the arguments can't be had.
-fn refused_arguments(rt: &HostRuntime, error: &io::Error) -> ExitCode {
+// Says what stopped the program.
+fn failure(rt: &HostRuntime, error: &ShowError) -> ExitCode {
+    let _ = rt.eprintln(error.message());
+    ExitCode::from(error.status())
+}
+
+// Why the arguments can't be had.
+fn error_of(error: &io::Error) -> ShowError {
     match error.kind() {
-        ErrorKind::InvalidData => {
-            let _ = rt.eprintln(NOT_UTF8);
-            ExitCode::from(2)
-        }
-        _ => {
-            let _ = rt.eprintln(ShowError::OutOfMemory);
-            ExitCode::FAILURE
-        }
+        ErrorKind::InvalidData => ShowError::NotUtf8,
+        _ => ShowError::OutOfMemory,
     }
 }
 

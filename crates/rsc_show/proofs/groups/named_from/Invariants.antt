@@ -1,0 +1,7 @@
+use Rattle.std.proofs.Common.{◌≡◌, ◌<◌, ◌≤◌, ℕ, false, slice_index_or, None}
+use Rattle.rsc_captures.specs.Groups.{groups_in, has_name}
+use Rattle.rsc_show.proofs.groups.named_from.Given as goal
+
+-- no group so far has the name
+abbrev pub invariant-loop-place : goal.invariant-loop-place
+invariant-loop-place l = (l.from ≤ l.place) × ((k : ℕ) → l.from ≤ k → k < l.place → has_name l.name (slice_index_or (groups_in l.groups) k None) ≡ false)

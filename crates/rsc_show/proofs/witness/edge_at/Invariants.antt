@@ -1,0 +1,8 @@
+use Rattle.std.proofs.Common.{ℕ, take}
+use Rattle.std.specs.List.{Contains}
+use Rattle.rsc_show.specs.Ranges.{IsEdge}
+use Rattle.rsc_show.proofs.witness.edge_at.Given as goal
+
+-- no range so far has an edge there
+abbrev pub invariant-loop-start : goal.invariant-loop-start
+invariant-loop-start l = (r : ℕ × ℕ) → Contains (take l.start-index l.ranges) r → ¬ (IsEdge l.byte r)

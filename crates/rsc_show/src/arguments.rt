@@ -1,0 +1,228 @@
+//! The arguments of `looks` and `classes`.
+ghost use Rattle.std.specs.Prelude.{◌≡◌, ◌≤◌, ◌∷◌, ◌++◌, ℕ, List, All, IfOk, IfSome, Ok, false, map};
+ghost use Rattle.std.specs.String.{string_bytes};
+ghost use Rattle.hex.specs.Hex.{decode_of};
+ghost use Rattle.rsc_show.specs.declared.arguments.Haystack.{Haystack};
+ghost use Rattle.rsc_show.specs.declared.arguments.Next.{Next};
+ghost use Rattle.rsc_show.specs.Listed.{haystack_arguments, IsHaystack, listed};
+ghost use Rattle.rsc_show.specs.ListedLayout.{left_of, SoFar};
+
+use crate::choices::{Color, Words, color_of, words_of};
+use crate::error::{ShowError, refused};
+use rsc_look::{Look, LookMatcher};
+use rsc_notation::bytes::{parse_byte, parse_bytes, parse_range};
+use rsc_notation::looks::{every_look, look_of, name_of};
+use std::alloc::{AllocError, Global};
+use strsim::levenshtein;
+
+const EXPECTED_BYTE: &str = "two hexadecimal digits";
+
+const EXPECTED_RANGE: &str = "a range of bytes as 61-7a, its first byte at most its last";
+
+const EXPECTED_WORDS: &str = "ascii or unicode";
+
+const EXPECTED_COLOR: &str = "auto, always or never";
+
+/// Where a haystack comes from.
+#[derive(Drop)]
+pub enum Haystack {
+    /// No argument gives one.
+    Missing,
+    /// The bytes of an argument.
+    Given(Vec<u8>),
+    /// Standard input.
+    Standard,
+}
+
+/// What the arguments ask for.
+#[derive(Drop)]
+pub struct Request {
+    /// The line terminator.
+    pub terminator: u8,
+    /// The word characters.
+    pub words: Words,
+    /// The ranges of bytes.
+    pub ranges: Vec<(u8, u8)>,
+    /// The assertions, in the order of the arguments.
+    pub looks: Vec<Look>,
+    /// When to use colour.
+    pub color: Color,
+    /// The haystack.
+    pub haystack: Haystack,
+}
+
+// What the next argument is.
+#[derive(Clone, Copy, Drop)]
+enum Next {
+    Plain,
+    Terminator,
+    Words,
+    Range,
+    Color,
+    Hex,
+    Text,
+    Nothing,
+}
+
+impl Request {
+    /// The matcher that it asks for.
+    pub fn matcher(&self) -> LookMatcher<Words>
+        ensures { result ≡ (self.now.terminator, self.now.words) }
+    {
+        let mut matcher = LookMatcher::new(self.words);
+        let _ = matcher.set_line_terminator(self.terminator);
+        matcher
+    }
+}
+
+/// What the arguments after the command ask for.
+///
+/// # Errors
+///
+/// [`ShowError::Usage`] at the first argument that is not what was expected.
+pub fn parse(alloc: Global, arguments: &[String]) -> Result<Request, ShowError>
+    ensures ranges { IfOk result (λ request. All (λ r. r.0 ≤ r.1) request.ranges.items) }
+    ensures looks { IfOk result (λ request. request.looks.items ≡ listed false (map (λ a. string_bytes a) arguments.now)) }
+    ensures haystack { IfOk result (λ request. IsHaystack (haystack_arguments false (map (λ a. string_bytes a) arguments.now)) request.haystack) }
+{
+    let mut request = Request {
+        terminator: b'\n',
+        words: Words::Unicode,
+        ranges: Vec::new(alloc),
+        looks: Vec::new(alloc),
+        color: Color::Auto,
+        haystack: Haystack::Missing,
+    };
+    let mut next = Next::Plain;
+    for argument in arguments {
+        next = take(alloc, &mut request, next, argument.as_str())?;
+    }
+    match next {
+        Next::Plain | Next::Nothing => Ok(request),
+        Next::Terminator => Err(refused(alloc, "--terminator", EXPECTED_BYTE)),
+        Next::Words => Err(refused(alloc, "--words", EXPECTED_WORDS)),
+        Next::Range => Err(refused(alloc, "--range", EXPECTED_RANGE)),
+        Next::Color => Err(refused(alloc, "--color", EXPECTED_COLOR)),
+        Next::Hex => Err(refused(alloc, "--hex", EXPECTED_BYTE)),
+        Next::Text => Err(refused(alloc, "--", "one text")),
+    }
+}
+
+// Takes an argument, and says what the next one is.
+fn take(alloc: Global, request: &mut Request, next: Next, argument: &str) -> Result<Next, ShowError>
+    ensures ranges { All (λ r. r.0 ≤ r.1) request.old.ranges.items → All (λ r. r.0 ≤ r.1) request.new.ranges.items }
+    ensures looks { IfOk result (λ after. (rest : List (List ℕ)) →
+        request.new.looks.items ++ left_of after rest ≡ request.old.looks.items ++ left_of next (argument.now ∷ rest)) }
+    ensures haystack { (h rest : List (List ℕ)) → SoFar next h (argument.now ∷ rest) request.old.haystack →
+        IfOk result (λ after. SoFar after h rest request.new.haystack) }
+{
+    match next {
+        Next::Plain => take_plain(alloc, request, argument),
+        Next::Terminator => {
+            let byte = parse_byte(argument.as_bytes());
+            request.terminator = byte.ok_or(refused(alloc, argument, EXPECTED_BYTE))?;
+            Ok(Next::Plain)
+        }
+        Next::Words => {
+            request.words = words_of(argument).ok_or(refused(alloc, argument, EXPECTED_WORDS))?;
+            Ok(Next::Plain)
+        }
+        Next::Range => {
+            let range = parse_range(argument.as_bytes());
+            request
+                .ranges
+                .push(range.ok_or(refused(alloc, argument, EXPECTED_RANGE))?)?;
+            Ok(Next::Plain)
+        }
+        Next::Color => {
+            request.color = color_of(argument).ok_or(refused(alloc, argument, EXPECTED_COLOR))?;
+            Ok(Next::Plain)
+        }
+        Next::Hex => {
+            request.haystack = Haystack::Given(bytes_of(alloc, argument)?);
+            Ok(Next::Nothing)
+        }
+        Next::Text => {
+            request.haystack = Haystack::Given(Vec::from_slice(alloc, argument.as_bytes())?);
+            Ok(Next::Nothing)
+        }
+        Next::Nothing => Err(refused(alloc, argument, "nothing after the haystack")),
+    }
+}
+
+// Takes an option's name, or an assertion.
+fn take_plain(alloc: Global, request: &mut Request, argument: &str) -> Result<Next, ShowError>
+    ensures ranges { request.new.ranges.items ≡ request.old.ranges.items }
+    ensures looks { IfOk result (λ after. (rest : List (List ℕ)) →
+        request.new.looks.items ++ left_of after rest ≡ request.old.looks.items ++ listed false (argument.now ∷ rest)) }
+    ensures haystack { (h rest : List (List ℕ)) → SoFar Next.Plain h (argument.now ∷ rest) request.old.haystack →
+        IfOk result (λ after. SoFar after h rest request.new.haystack) }
+{
+    if argument == "-" {
+        request.haystack = Haystack::Standard;
+        return Ok(Next::Nothing);
+    }
+    if let Some(next) = after_option(argument) {
+        return Ok(next);
+    }
+    let Some(look) = look_of(argument.as_bytes()) else {
+        let expected = nearest(alloc, argument)?;
+        return Err(refused(alloc, argument, expected.as_str()));
+    };
+    request.looks.push(look)?;
+    Ok(Next::Plain)
+}
+
+// What comes after an option.
+fn after_option(argument: &str) -> Option<Next>
+    ensures looks { IfSome result (λ after. (rest : List (List ℕ)) → left_of after rest ≡ listed false (argument.now ∷ rest)) }
+    ensures haystack { IfSome result (λ after. (h rest : List (List ℕ)) (so_far : Haystack) →
+        SoFar Next.Plain h (argument.now ∷ rest) so_far → SoFar after h rest so_far) }
+{
+    if argument == "--terminator" {
+        Some(Next::Terminator)
+    } else if argument == "--words" {
+        Some(Next::Words)
+    } else if argument == "--range" {
+        Some(Next::Range)
+    } else if argument == "--color" {
+        Some(Next::Color)
+    } else if argument == "--hex" {
+        Some(Next::Hex)
+    } else if argument == "--" {
+        Some(Next::Text)
+    } else {
+        None
+    }
+}
+
+// The bytes that pairs of hexadecimal digits write.
+fn bytes_of(alloc: Global, argument: &str) -> Result<Vec<u8>, ShowError>
+    ensures { IfOk result (λ bytes. decode_of argument.now ≡ Ok bytes.items) }
+{
+    match parse_bytes(alloc, argument.as_bytes())? {
+        Some(bytes) => Ok(bytes),
+        None => Err(refused(alloc, argument, "pairs of hexadecimal digits")),
+    }
+}
+
+// What was expected in place of a name that no assertion has: the names that the fewest edits make of it.
+fn nearest(alloc: Global, name: &str) -> Result<String, AllocError> {
+    let least = least_distance(alloc, name)?;
+    let mut text = String::from_str(alloc, "an assertion, as")?;
+    for look in every_look() {
+        if levenshtein(alloc, name_of(*look), name)? == least {
+            text.push(' ')?;
+            text.push_str(name_of(*look))?;
+        }
+    }
+    Ok(text)
+}
+
+fn least_distance(alloc: Global, name: &str) -> Result<usize, AllocError> {
+    let mut least = usize::MAX;
+    for look in every_look() {
+        least = least.min(levenshtein(alloc, name_of(*look), name)?);
+    }
+    Ok(least)
+}

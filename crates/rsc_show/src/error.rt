@@ -1,0 +1,93 @@
+//! What stops the program.
+
+use std::alloc::{AllocError, AllocFailed, Global};
+use std::fmt;
+use std::fmt::Write;
+
+/// Why [`crate::run::run`] gave up. Nothing was written then, but by a failed write itself.
+#[derive(Drop)]
+pub enum ShowError {
+    /// An argument is not what was expected; the text says which, and what was.
+    Usage(String),
+    /// An argument is not UTF-8.
+    NotUtf8,
+    /// Reading standard input failed, or it did not end within the reads that are allowed.
+    Read,
+    /// Writing failed.
+    Write,
+    /// The reader of the output went away.
+    Closed,
+    /// A request for memory was refused.
+    OutOfMemory,
+}
+
+impl ShowError {
+    /// The line that says it on standard error.
+    pub fn message(&self) -> &str {
+        match self {
+            ShowError::Usage(message) => message.as_str(),
+            ShowError::NotUtf8 => {
+                "rsc_show: an argument is not UTF-8: expected any bytes as --hex BYTES or -"
+            }
+            ShowError::Read => "rsc_show: read failed",
+            ShowError::Write => "rsc_show: write failed",
+            ShowError::Closed => "rsc_show: output closed",
+            ShowError::OutOfMemory => "rsc_show: out of memory",
+        }
+    }
+
+    /// The status with which the program ends: 2 for arguments, and 1 for what failed.
+    pub fn status(&self) -> u8 {
+        match self {
+            ShowError::Usage(_) | ShowError::NotUtf8 => 2,
+            ShowError::Read | ShowError::Write | ShowError::Closed | ShowError::OutOfMemory => 1,
+        }
+    }
+}
+
+impl From<AllocError> for ShowError {
+    fn from(_error: AllocError) -> ShowError {
+        ShowError::OutOfMemory
+    }
+}
+
+impl<T: Drop> From<AllocFailed<T>> for ShowError {
+    fn from(_error: AllocFailed<T>) -> ShowError {
+        ShowError::OutOfMemory
+    }
+}
+
+impl From<fmt::Error> for ShowError {
+    fn from(_error: fmt::Error) -> ShowError {
+        ShowError::OutOfMemory
+    }
+}
+
+/// The refusal of an argument: which, and what was expected.
+pub fn refused(alloc: Global, argument: &str, expected: &str) -> ShowError {
+    match refusal(alloc, argument, expected) {
+        Ok(text) => ShowError::Usage(text),
+        Err(error) => error,
+    }
+}
+
+fn refusal(alloc: Global, argument: &str, expected: &str) -> Result<String, ShowError> {
+    let mut text = String::from_str(alloc, "rsc_show: `")?;
+    push_shown(&mut text, argument)?;
+    text.push_str("`: expected ")?;
+    text.push_str(expected)?;
+    Ok(text)
+}
+
+// A text, in which control characters are shown by their numbers, so that they can't move the terminal's cursor.
+fn push_shown(text: &mut String, shown: &str) -> Result<(), ShowError> {
+    for c in shown.chars() {
+        if c.is_control() {
+            let number = c as u32;
+            write!(text, "\\x{number:02X}")?;
+        } else {
+            text.push(c)?;
+        }
+    }
+    Ok(())
+}

@@ -1,0 +1,180 @@
+//! The command `groups`: the slots of each group, or why the list is refused, and where the group at fault is written.
+ghost use Rattle.std.specs.Prelude.{◌≡◌, ◌≢◌, ◌≤◌, ◌<◌, ◌+◌, ◌↔◌, ℕ, false, IsTrue, length, take, slice_index_or, IfSome, IsNone, None};
+ghost use Rattle.std.specs.Option.{option_copied};
+ghost use Rattle.rsc_captures.specs.Groups.{groups_in, has_name};
+ghost use Rattle.rsc_show.specs.Pointers.{behind, IsSecond, reached};
+ghost use Rattle.rsc_show.specs.PointersLayout.{IsFirstNamed};
+
+use crate::error::{ShowError, refused};
+use crate::text::{push_cell, push_right, push_spaces};
+use rsc_captures::{GroupInfo, GroupInfoError, GroupInfoErrorKind};
+use rsc_notation::groups::{parse_patterns, slices_of};
+use rsc_primitives::PatternID;
+use std::alloc::Global;
+use std::fmt::Write;
+
+const EXPECTED_LISTS: &str = "one list of groups, as -,x;-,-,x";
+
+const EXPECTED_GROUP: &str = "groups between `,` and `;`, each - or a name of word bytes";
+
+/// The answer to the arguments of `groups`.
+pub fn answer(alloc: Global, arguments: &[String]) -> Result<String, ShowError> {
+    let [lists] = arguments else {
+        return Err(refused(alloc, "groups", EXPECTED_LISTS));
+    };
+    let Some(patterns) = parse_patterns(alloc, lists.as_bytes())? else {
+        return Err(refused(alloc, lists.as_str(), EXPECTED_GROUP));
+    };
+    let slices = slices_of(alloc, patterns.as_slice())?;
+    match GroupInfo::new(alloc, slices.as_slice()) {
+        Ok(info) => table(alloc, &info),
+        Err(error) => refusal(alloc, lists.as_str(), slices.as_slice(), &error),
+    }
+}
+
+// A line for each group: its pattern, its number, its name and its slots.
+fn table(alloc: Global, info: &GroupInfo) -> Result<String, ShowError> {
+    let mut text = String::from_str(alloc, "pattern group slots name\n")?;
+    for (pattern, group, name) in info.all_names() {
+        push_group(alloc, &mut text, info, pattern, group, name)?;
+    }
+    let slots = info.slot_len();
+    let patterns = info.pattern_len();
+    write!(text, "\n{slots} slots, {patterns} patterns\n")?;
+    Ok(text)
+}
+
+fn push_group(
+    alloc: Global,
+    text: &mut String,
+    info: &GroupInfo,
+    pattern: PatternID,
+    group: usize,
+    name: Option<&str>,
+) -> Result<(), ShowError> {
+    push_number(alloc, text, pattern.as_usize(), 7)?;
+    push_number(alloc, text, group, 5)?;
+    if let Some((start, end)) = info.slots(pattern, group) {
+        let mut slots = String::new(alloc);
+        write!(slots, "{start} {end}")?;
+        push_right(text, slots.as_str(), 5)?;
+    }
+    text.push_str(name.unwrap_or("-"))?;
+    text.push('\n')?;
+    Ok(())
+}
+
+fn push_number(
+    alloc: Global,
+    text: &mut String,
+    number: usize,
+    width: usize,
+) -> Result<(), ShowError> {
+    let mut digits = String::new(alloc);
+    write!(digits, "{number}")?;
+    Ok(push_right(text, digits.as_str(), width)?)
+}
+
+// The lists, a pointer at the group at fault, and the displayed refusal; want of memory stops the program.
+fn refusal(
+    alloc: Global,
+    lists: &str,
+    patterns: &[&[Option<&str>]],
+    error: &GroupInfoError,
+) -> Result<String, ShowError> {
+    let (pattern, group) = match error.kind() {
+        GroupInfoErrorKind::OutOfMemory => return Err(ShowError::OutOfMemory),
+        GroupInfoErrorKind::TooManyPatterns { .. } => (0, 0),
+        GroupInfoErrorKind::TooManyGroups { pattern, .. } => (pattern.as_usize(), 0),
+        GroupInfoErrorKind::MissingGroups { pattern } => (pattern.as_usize(), 0),
+        GroupInfoErrorKind::FirstMustBeUnnamed { pattern } => (pattern.as_usize(), 0),
+        GroupInfoErrorKind::Duplicate { pattern, name } => {
+            (
+                pattern.as_usize(),
+                repeat_of(patterns, pattern.as_usize(), name.as_str()),
+            )
+        }
+    };
+    let mut text = String::from_str(alloc, lists)?;
+    text.push('\n')?;
+    push_spaces(&mut text, place_of(lists.as_bytes(), pattern, group))?;
+    write!(text, "^\nrefused: {error}\n")?;
+    Ok(text)
+}
+
+// The group of a pattern that has the name a second time.
+fn repeat_of(patterns: &[&[Option<&str>]], pattern: usize, name: &str) -> usize {
+    match patterns.get(pattern) {
+        Some(groups) => second_of(*groups, name).unwrap_or(0),
+        None => 0,
+    }
+}
+
+/// The second group that has a name, where one has.
+pub fn second_of(groups: &[Option<&str>], name: &str) -> Option<usize>
+    ensures some { IfSome result (λ g. IsSecond (groups_in groups.now) name.now g) }
+    ensures none { IsNone result → (g : ℕ) → ¬ (IsSecond (groups_in groups.now) name.now g) }
+{
+    let first = named_from(groups, name, 0)?;
+    named_from(groups, name, first + 1)
+}
+
+// The first group from one on that has a name.
+fn named_from(groups: &[Option<&str>], name: &str, from: usize) -> Option<usize>
+    ensures some { IfSome result (λ g. IsFirstNamed (groups_in groups.now) name.now from g) }
+    ensures none { IsNone result → (g : ℕ) → from ≤ g → g < length groups.now →
+        has_name name.now (slice_index_or (groups_in groups.now) g None) ≡ false }
+{
+    for place in from..groups.len() {
+        let group = groups[place];
+        if has_name(group, name) {
+            return Some(place);
+        }
+    }
+    None
+}
+
+// Whether a group has a name.
+fn has_name(group: Option<&str>, name: &str) -> bool
+    ensures { result ≡ has_name name.now (option_copied group.entry) }
+{
+    match group {
+        Some(own) => name == own,
+        None => false,
+    }
+}
+
+/// Where a group of a pattern begins in the text of the lists, or the text's length where it has no such group.
+pub fn place_of(lists: &[u8], pattern: usize, group: usize) -> usize
+    ensures within { result ≤ length lists.now }
+    ensures reached { result < length lists.now → reached (0, 0) (take result lists.now) ≡ (pattern, group) }
+    ensures first { (k : ℕ) → k < result → reached (0, 0) (take k lists.now) ≢ (pattern, group) }
+{
+    let mut at = (0, 0);
+    for place in 0..lists.len() {
+        if is_at(at, pattern, group) {
+            return place;
+        }
+        at = behind(at, lists[place]);
+    }
+    lists.len()
+}
+
+// Whether a text has reached a group of a pattern.
+fn is_at(at: (usize, usize), pattern: usize, group: usize) -> bool
+    ensures { IsTrue result ↔ (at ≡ (pattern, group)) }
+{
+    at.0 == pattern && at.1 == group
+}
+
+// What a text reaches with one more byte.
+fn behind(at: (usize, usize), byte: u8) -> (usize, usize)
+    requires { at.0 + at.1 < usize.MAX }
+    ensures { result ≡ behind at byte }
+{
+    match byte {
+        b';' => (at.0 + 1, 0),
+        b',' => (at.0, at.1 + 1),
+        _ => at,
+    }
+}

@@ -1,7 +1,0 @@
-use Rattle.std.proofs.Common.{refl}
-use Rattle.rsc_look.specs.Looks.{every_look}
-use Rattle.rsc_show_answers.proofs.names.every_look.Goals as goal
-
-pub returns : goal.returns
-unfolding every_look
-returns c = refl

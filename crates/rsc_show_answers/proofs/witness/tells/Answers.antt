@@ -1,5 +1,0 @@
-use Rattle.rsc_show_answers.proofs.Telling.{differ_if}
-use Rattle.rsc_show_answers.proofs.witness.tells.Goals as goal
-
-pub returns : goal.returns
-returns c = differ_if c.matches.result c.matches-2.result _ _ c.matches.ensures.holds c.matches-2.ensures.holds
