@@ -1,5 +1,5 @@
 //! Bytes and ranges of bytes as hexadecimal digits, and numbers as decimal ones.
-ghost use Rattle.std.specs.Prelude.{◌≡◌, ◌<◌, ◌≤◌, ◌↔◌, ◌^◌, ◌∷◌, [], ◌++◌, length, IsSome, IfSome, IfOk, IsErr, MatchOption, Ok};
+ghost use Rattle.std.specs.Prelude.{◌≡◌, ℕ, ◌<◌, ◌≤◌, ◌↔◌, ◌^◌, ◌∷◌, [], ◌++◌, length, IsSome, IfSome, IfOk, IsErr, MatchOption, Ok};
 ghost use Rattle.std.specs.List.{AllPass};
 ghost use Rattle.std.specs.Str.Parse.{IsNumeral, digits_value};
 ghost use Rattle.hex.specs.Hex.{decode_of, is_hex_digit};
@@ -23,10 +23,14 @@ pub fn parse_byte(digits: &[u8]) -> Option<u8>
 pub fn parse_range(text: &[u8]) -> Option<(u8, u8)>
     ensures ordered { IfSome result (λ r. r.0 ≤ r.1) }
     ensures value { IfSome result (λ r. IsRangeText text.now r.0 r.1) }
+    ensures found { (first last : ℕ) → IsRangeText text.now first last → first ≤ last → IsSome result }
 {
-    let [first, second, b'-', third, fourth] = text else {
+    let [first, second, dash, third, fourth] = text else {
         return None;
     };
+    if *dash != b'-' {
+        return None;
+    }
     let start = parse_byte(&[*first, *second])?;
     let end = parse_byte(&[*third, *fourth])?;
     if start <= end {
