@@ -62,7 +62,7 @@ def part_of(process):
     if "/wrong-bodies-" in folder:
         return crate, "wrong bodies", ""
     if "/repository/crates/" in folder:
-        return "must-not-compile.sh", "", folder
+        return "snippets.sh", "", folder
     return crate, "tests" if "--test" in words else "proof", ""
 
 

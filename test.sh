@@ -1,7 +1,8 @@
 #!/usr/bin/env bash
 # The gate, which says what it does as it goes. `./test.sh` proves every crate and its tests from nothing and runs tests and
-# programs (`rt ci`), and then tries what `rt ci` can't: the wrong bodies, many at a time, what must not compile, and what the
-# documents say, and programs as people run them. `./test.sh quick` proves nothing: it runs all tests and programs, in about a minute.
+# programs (`rt ci`), and then tries what `rt ci` can't: the wrong bodies, many at a time, what must not compile, what is run
+# without a proof, programs as people run them, and what the documents say. `./test.sh quick` proves nothing: it runs all tests
+# and programs, in about a minute.
 set -eu
 cd "$(dirname "$0")"
 
@@ -18,8 +19,8 @@ case ${1:-all} in
     rt ci
     step 2/5 "wrong bodies: each must be refused by the function that it changes"
     ./wrong-bodies.py
-    step 3/5 "what must not compile"
-    ./must-not-compile.sh
+    step 3/5 "snippets: misuse that must not compile, and tests that are run without a proof"
+    ./snippets.sh
     step 4/5 "programs with arguments, on a terminal, without UTF-8, where reading or writing fails"
     ./stored-runs.py
     step 5/5 "documents: every name that a public contract cites is in docs/DEFINITIONS.md, what pages quote is as the sources are, and each lemma is named somewhere"

@@ -101,17 +101,24 @@ def batches_of(edits, folder):
     return batches
 
 
-def refusals(crate, said):
-    """Returns the goals at which each function is refused, from what the checker said."""
+def word_at(path, line, column):
+    """Returns the word of a file at a place, both counted from 1."""
+    with open(path, encoding="utf-8") as file:
+        return re.match(r"\w*", file.read().splitlines()[line - 1][column - 1 :])[0]
+
+
+def refusals(crate, folder, said):
+    """Returns the goals at which each function is refused, from what the checker said; of a proof by hand the word that is refused."""
     found = collections.defaultdict(set)
     for line in said.splitlines():
         at_function = re.match(rf"fn {crate}::(\S+): (?:no proof|not proved)(.*)", line)
         if at_function:
             unproved = re.search(r"`search` did not prove ((?:`[^`]+`(?:, )?)+)", at_function[2])
             found[at_function[1]].update(re.findall(r"`([^`]+)`", unproved[1]) if unproved else [])
-        in_file = re.match(r"(?:\./)?proofs/(.+)/(Answers|Proof)\.antt:\d+:\d+: error: `([^`]+)`: (.*)", line)
-        if in_file and not re.search(r"has no field|is not in scope|has no `|was not admitted|no module", in_file[4]):
-            found[in_file[1].replace("/", "::")].add("by hand" if in_file[2] == "Proof" else in_file[3])
+        in_file = re.match(r"(?:\./)?(proofs/(.+)/(Answers|Proof)\.antt):(\d+):(\d+): error: `([^`]+)`: (.*)", line)
+        if in_file and not re.search(r"has no field|is not in scope|has no `|was not admitted|no module", in_file[7]):
+            by_hand = in_file[3] == "Proof" and f"by hand at {word_at(f'{folder}/{in_file[1]}', int(in_file[4]), int(in_file[5]))}"
+            found[in_file[2].replace("/", "::")].add(by_hand or in_file[6])
     return found
 
 
@@ -134,7 +141,7 @@ def judge(crate, folder, batch, texts):
     for path, text in kept.items():
         with open(f"{folder}/{path}", "w", encoding="utf-8") as file:
             file.write(text)
-    found, results = refusals(crate, said), []
+    found, results = refusals(crate, folder, said), []
     for it in batch:
         goals = sorted(found.get(it.function, ()))
         if status == 1 and any(goal.startswith(it.goal) for goal in goals):
@@ -198,7 +205,7 @@ def main():
     needed = set().union(*(below(it, known) - {it} for it in wanted)) if wanted else set()
     passed = failed = 0
     with tempfile.TemporaryDirectory(prefix="wrong-bodies-") as room:
-        left_out = ["must-not-compile", "wrong-bodies"] + ([] if os.environ.get("KEEP_OUT") else ["out"])
+        left_out = ["must-not-compile", "must-run", "wrong-bodies"] + ([] if os.environ.get("KEEP_OUT") else ["out"])
         shutil.copytree(f"{ROOT}/crates", f"{room}/proved/crates", ignore=shutil.ignore_patterns(*left_out))
         for name in ("crates.txt", "HANDLES"):
             shutil.copy(f"{ROOT}/{name}", f"{room}/proved")

@@ -15,7 +15,6 @@ pub mod Parts  -- where the names and the order of each pattern's groups are in 
 pub mod Spans  -- the steps of the iterator over the groups of the pattern that matched
 pub mod Pieces  -- the pieces that the first groups cut, as a loop over the groups finds them
 pub mod Extracted  -- what `extract` and `extract_bytes` pass on for `H` and return, over the haystack's type as a field F, and that their result is lawful
-pub mod Bridges  -- what the functions at a count, which call `extract` or `extract_bytes`, share
 pub mod Alone  -- where there is one pattern, a group's slots are those of its place
 pub mod NamesLeft  -- the steps of the iterator over all groups
 pub mod NamesCounted  -- how many groups an iterator over all of them gives

@@ -15,10 +15,7 @@ mod span_iterator;
 
 pub use captures::Captures;
 pub use error::{GroupInfoError, GroupInfoErrorKind};
-pub use extract::{
-    Haystack, extract_bytes_pair, extract_bytes_single, extract_bytes_triple, extract_bytes_whole,
-    extract_pair, extract_single, extract_triple, extract_whole,
-};
+pub use extract::Haystack;
 pub use group_info::GroupInfo;
 pub use name_iterators::{GroupInfoAllNames, GroupInfoPatternNames};
 pub use span_iterator::CapturesPatternIter;

@@ -1,7 +1,4 @@
-use rsc_captures::{
-    Captures, GroupInfo, extract_bytes_pair, extract_bytes_single, extract_bytes_triple,
-    extract_bytes_whole, extract_pair, extract_single, extract_triple, extract_whole,
-};
+use rsc_captures::{Captures, GroupInfo};
 use rsc_primitives::{NonMaxUsize, PatternID};
 use rsc_search::{Match, Span};
 use std::alloc::Global;
@@ -157,13 +154,12 @@ fn extracts_the_groups_that_take_part(rt: HostRuntime) -> Result<(), Fail> {
         rt.alloc(),
         &[Some(0), Some(3), None, None, Some(1), Some(2)],
     )?;
+    assert!(rt; captures.extract_from::<&str, 0>("abc") == Some(("abc", [])));
     assert!(rt; captures.extract_from::<&str, 1>("abc") == Some(("abc", ["b"])));
-    assert!(rt; extract_whole(&captures, "abc") == Some(("abc", [])));
-    assert!(rt; extract_single(&captures, "abc") == Some(("abc", ["b"])));
-    assert!(rt; extract_pair(&captures, "abc") == None);
+    assert!(rt; captures.extract_from::<&str, 2>("abc") == None);
     assert!(rt; captures.extract_from::<&str, 1>("é") == None);
     let reversed = filled(rt.alloc(), &[&[None]], 0, &[Some(5), Some(3)])?;
-    assert!(rt; extract_whole(&reversed, "abcdef") == None);
+    assert!(rt; reversed.extract_from::<&str, 0>("abcdef") == None);
     Ok(())
 }
 
@@ -173,10 +169,10 @@ fn extracts_text_by_count(rt: HostRuntime) -> Result<(), Fail> {
         rt.alloc(),
         &[Some(0), Some(3), Some(0), Some(1), Some(1), Some(2)],
     )?;
-    assert!(rt; extract_whole(&captures, "abc") == Some(("abc", [])));
-    assert!(rt; extract_single(&captures, "abc") == Some(("abc", ["a"])));
-    assert!(rt; extract_pair(&captures, "abc") == Some(("abc", ["a", "b"])));
-    assert!(rt; extract_triple(&captures, "abc") == None);
+    assert!(rt; captures.extract_from::<&str, 0>("abc") == Some(("abc", [])));
+    assert!(rt; captures.extract_from::<&str, 1>("abc") == Some(("abc", ["a"])));
+    assert!(rt; captures.extract_from::<&str, 2>("abc") == Some(("abc", ["a", "b"])));
+    assert!(rt; captures.extract_from::<&str, 3>("abc") == None);
     Ok(())
 }
 
@@ -187,10 +183,10 @@ fn extracts_bytes_by_count(rt: HostRuntime) -> Result<(), Fail> {
         &[Some(0), Some(3), Some(0), Some(1), Some(1), Some(2)],
     )?;
     let (abc, a, b): (&[u8], &[u8], &[u8]) = (b"abc", b"a", b"b");
-    assert!(rt; extract_bytes_whole(&captures, abc) == Some((abc, [])));
-    assert!(rt; extract_bytes_single(&captures, abc) == Some((abc, [a])));
-    assert!(rt; extract_bytes_pair(&captures, abc) == Some((abc, [a, b])));
-    assert!(rt; extract_bytes_triple(&captures, abc) == None);
+    assert!(rt; captures.extract_from::<&[u8], 0>(abc) == Some((abc, [])));
+    assert!(rt; captures.extract_from::<&[u8], 1>(abc) == Some((abc, [a])));
+    assert!(rt; captures.extract_from::<&[u8], 2>(abc) == Some((abc, [a, b])));
+    assert!(rt; captures.extract_from::<&[u8], 3>(abc) == None);
     Ok(())
 }
 
