@@ -15,10 +15,14 @@ class_at classes (end_of_input n) = n
 abbrev pub end_of : List ℕ → Symbol
 end_of classes = end_of_input (slice_index classes 255 + 1)
 
+-- how many symbols there are: the classes from 0 to that of the last byte, and the end of the input
+abbrev pub symbol_count : List ℕ → ℕ
+symbol_count classes = slice_index classes 255 + 2
+
 -- the exponent of the least power of two that is at least the number of symbols: as many as there are lesser powers of two.
 -- A class is below 256, so the exponent is at most 9.
 abbrev pub stride2_of : List ℕ → ℕ
-stride2_of classes = count_by (λ k. nat_lt (2 ^ k) (slice_index classes 255 + 2)) (from_to 0 9)
+stride2_of classes = count_by (λ k. nat_lt (2 ^ k) (symbol_count classes)) (from_to 0 9)
 
 -- the symbols 0 to the class of the last byte, and then the end of the input
 abbrev pub symbols : List ℕ → List Symbol

@@ -3,7 +3,7 @@ ghost use Rattle.std.specs.Prelude.{◌≡◌, ◌↔◌, ℕ, ◌+◌, ◌^◌,
 ghost use Rattle.std.specs.Range.Bound.{end_index};
 ghost use Rattle.rsc_alphabet.specs.Bytes.{bytes};
 ghost use Rattle.rsc_alphabet.specs.Symbols.{byte_of, number_of};
-ghost use Rattle.rsc_alphabet.specs.Iterators.{class_at, end_of, stride2_of, symbols, elements_of, representatives_of};
+ghost use Rattle.rsc_alphabet.specs.Iterators.{class_at, end_of, symbol_count, stride2_of, symbols, elements_of, representatives_of};
 
 mod iter;
 
@@ -109,7 +109,7 @@ impl ByteClasses {
     /// ```
     #[inline]
     pub fn alphabet_len(&self) -> usize
-        ensures value { result ≡ slice_index self.now 255 + 2 }
+        ensures value { result ≡ symbol_count self.now }
         ensures most { result ≤ 257 }
         ensures entries { length self.now ≡ 256 }
     {
@@ -146,8 +146,8 @@ impl ByteClasses {
     #[inline]
     pub fn stride2(&self) -> usize
         ensures value { result ≡ stride2_of self.now }
-        ensures enough { slice_index self.now 255 + 2 ≤ 2 ^ result }
-        ensures least { (k : ℕ) → slice_index self.now 255 + 2 ≤ 2 ^ k → result ≤ k }
+        ensures enough { symbol_count self.now ≤ 2 ^ result }
+        ensures least { (k : ℕ) → symbol_count self.now ≤ 2 ^ k → result ≤ k }
         ensures most { result ≤ 9 }
     {
         (self.alphabet_len() - 1).ilog2() as usize + 1
@@ -165,7 +165,7 @@ impl ByteClasses {
     #[inline]
     pub fn iter(&self) -> ByteClassIter<'_>
         ensures list { result ≡ symbols self.now }
-        ensures within { All (λ u. number_of u < slice_index self.now 255 + 2) result }
+        ensures within { All (λ u. number_of u < symbol_count self.now) result }
     {
         ByteClassIter {
             classes: self,
@@ -224,7 +224,7 @@ impl ByteClasses {
     pub fn representatives(&self, start: Bound<u8>, end: Bound<u8>) -> ByteClassRepresentatives<'_>
         ensures list { result ≡ representatives_of self.now start end }
         ensures within { ((b : ℕ) → b < 256 → slice_index self.now b ≤ slice_index self.now 255) →
-            All (λ u. class_at self.now u < slice_index self.now 255 + 2) result }
+            All (λ u. class_at self.now u < symbol_count self.now) result }
     {
         self.representatives_between(start, end)
     }
