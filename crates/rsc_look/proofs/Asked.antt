@@ -5,6 +5,7 @@ use Rattle.std.specs.Cmp.{unsigned_tied}
 use Rattle.std.specs.FinSet as sets
 use Rattle.std.specs.FinSet.{contains-empty, contains-insert}
 use Rattle.std.proofs.lemmas.Bool.{cases_eq, eq-eqb, ne_eqb}
+use Rattle.std.proofs.Math.Bool.{or-true}
 use Rattle.rsc_look.specs.declared.assertion.Look.{Look}
 use Rattle.rsc_look.specs.Looks.{repr_of}
 use Rattle.rsc_look.specs.LookSets.{look_cmp, Looks, members}
@@ -41,12 +42,8 @@ HasAsked-more s x all rest P a e p = record {
       (cases_eq (repr_of l) (repr_of x)))
       (λ (q : P l). inr q)
       (a.asked l h);
-  left = λ l h. a.left l (ap (λ (r : List Look). sets.contains (sets.from_list {R = look_cmp} r) l) e ∙ with_first x rest l ∙ ap (λ b. nat_eq (repr_of l) (repr_of x) || b) h ∙ or_true (nat_eq (repr_of l) (repr_of x)));
+  left = λ l h. a.left l (ap (λ (r : List Look). sets.contains (sets.from_list {R = look_cmp} r) l) e ∙ with_first x rest l ∙ ap (λ b. nat_eq (repr_of l) (repr_of x) || b) h ∙ or-true (nat_eq (repr_of l) (repr_of x)));
 }
-  where
-    or_true : (b : Bool) → (b || true) ≡ true
-    or_true true = refl
-    or_true false = refl
 
 pub HasAsked-all : (s : Looks) (rest : List Look) (P : Look → Type 0) → HasAsked s rest P → rest ≡ [] → (l : Look) → sets.contains s l ≡ true → P l
 HasAsked-all s rest P a e l h = ⊎_elim

@@ -1,8 +1,9 @@
 -- The twelve assertions on bytes are kept by a partition that has their boundaries.
-use Rattle.std.proofs.Common.{◌≡◌, ℕ, zero, suc, ◌-◌, ◌<◌, ◌≤◌, min, max, Bool, true, false, not, ◌&&◌, ◌||◌, eqb, leb, List, length, Option, Some, None, refl, sym, ◌∙◌, arith, is_none, ◌⊎◌, ⊎_elim}
+use Rattle.std.proofs.Common.{◌≡◌, ℕ, zero, suc, ◌-◌, ◌<◌, ◌≤◌, min, max, Bool, true, not, ◌&&◌, ◌||◌, eqb, leb, List, length, Option, Some, None, refl, sym, ◌∙◌, arith, is_none, ⊎_elim}
 use Rattle.std.specs.Prelude.{slice_get}
 use Rattle.std.proofs.lemmas.Bool.Decides.{nat_tests}
 use Rattle.std.proofs.lemmas.Option.{slice_get-get_or, slice_get_past}
+use Rattle.std.proofs.lemmas.Bool.{or_left, or_right, cases_lt}
 use Rattle.rsc_primitives.specs.Utf8.{is_word_byte}
 use Rattle.rsc_look.specs.declared.assertion.Look.{Look}
 use Rattle.rsc_look.specs.declared.assertion.Look.TheVariants.{Start, End, StartLF, EndLF, StartCRLF, EndCRLF, WordAscii, WordAsciiNegate, WordStartAscii, WordEndAscii, WordStartHalfAscii, WordEndHalfAscii}
@@ -88,10 +89,7 @@ TogetherAt-slice_get p h k i s =
     let a = slice_get_past h i l in
     let b = slice_get_past k i (omega arith) in
     rw (a, b) tt)
-    (side i (length h))
-  where
-    side : (m n : ℕ) → (m < n) ⊎ (n ≤ m)
-    side m n = grind arith
+    (cases_lt i (length h))
 
 pub TogetherAt-before : (p : ℕ → Bool) (h k : List ℕ) (i : ℕ) → AreInterchanged p h k → TogetherAt p (byte_before h i) (byte_before k i)
 TogetherAt-before p h k zero s = tt
@@ -114,13 +112,6 @@ same_word p None None s h = refl
 same_word p (Some a) (Some b) s h = Together-is_word_byte p a b s h.2
 same_word p None (Some b) s h = absurd h
 same_word p (Some a) None s h = absurd h
-
-or_left : (x y : Bool) → x ≡ true → (x || y) ≡ true
-or_left x y e = rw e
-
-or_right : (x y : Bool) → y ≡ true → (x || y) ≡ true
-or_right true y e = refl
-or_right false y e = e
 
 crlf_cr : (p : ℕ → Bool) → HasMarks p (λ b. is_edge 13 b || is_edge 10 b) → HasMarks p (is_edge 13)
 crlf_cr p s b l e = s b l (or_left (is_edge 13 b) (is_edge 10 b) e)

@@ -7,14 +7,15 @@ use Rattle.std.specs.FinSet.{contains-empty, contains-remove}
 use Rattle.std.proofs.lemmas.Bool.{cases_eq, cases_lt, eq-eqb, ne_eqb}
 use Rattle.std.proofs.lemmas.List.Elements.{filter-append}
 use Rattle.std.proofs.lemmas.Nat.Bits.{bit_at_above, bit_at-trailing_zeros}
+use Rattle.std.proofs.Math.Bool.{and-false}
 use Rattle.rsc_alphabet.specs.Bytes.{from_to}
 use Rattle.rsc_alphabet.specs.BytesLaws.{from_to_parts, filter_none, filter_first, filter_same}
 use Rattle.rsc_look.specs.declared.assertion.Look.{Look}
 use Rattle.rsc_look.specs.Looks.{repr_of}
 use Rattle.rsc_look.specs.LookSets.{look_cmp, Looks, members}
 use Rattle.rsc_look.specs.LookSetLayout.{place_of, looks_of, look_at}
-use Rattle.rsc_look.specs.LookSetLaws.{look_cmp_total, repr_of-injective, repr_of-look_at, place_of-look_at, every_look-is, contains-looks_of}
-use Rattle.rsc_look.proofs.LookSetLemmas.{tied, looks_of-none, repr_of-lt}
+use Rattle.rsc_look.specs.LookSetLaws.{look_cmp_total, repr_of-injective, repr_of-look_at, place_of-look_at, every_look-is, contains-looks_of, tied}
+use Rattle.rsc_look.proofs.LookSetLemmas.{looks_of-none, repr_of-lt}
 
 filter-map : (p : Look → Bool) (ks : List ℕ) → filter p (map look_at ks) ≡ map look_at (filter (λ k. p (look_at k)) ks)
 filter-map p [] = refl
@@ -46,17 +47,13 @@ first_member s k l is none =
     q : ℕ → Bool
     q j = sets.contains (sets.remove s (look_at k)) (look_at j)
 
-    and_none : (b : Bool) → (b && false) ≡ false
-    and_none true = refl
-    and_none false = refl
-
     without : (j : ℕ) → sets.contains (sets.remove s (look_at k)) (look_at j) ≡ (not (nat_eq (repr_of (look_at j)) (repr_of (look_at k))) && sets.contains s (look_at j))
     without j = contains-remove look_cmp_total s (look_at k) (look_at j) ∙ ap (λ b. not b && sets.contains s (look_at j)) (tied (look_at j) (look_at k))
 
     gone : (j : ℕ) → j < k + 1 → q j ≡ false
     gone j h = without j ∙ ⊎_elim
         (λ (e : j ≡ k). ap (λ b. not b && p j) (eq-eqb (repr_of (look_at j)) (repr_of (look_at k)) (ap (λ i. repr_of (look_at i)) e)))
-        (λ (ne : j ≢ k). ap (λ b. not (nat_eq (repr_of (look_at j)) (repr_of (look_at k))) && b) (none j (omega arith)) ∙ and_none (not (nat_eq (repr_of (look_at j)) (repr_of (look_at k)))))
+        (λ (ne : j ≢ k). ap (λ b. not (nat_eq (repr_of (look_at j)) (repr_of (look_at k))) && b) (none j (omega arith)) ∙ and-false (not (nat_eq (repr_of (look_at j)) (repr_of (look_at k)))))
         (cases_eq j k)
 
     kept : (j : ℕ) → k + 1 ≤ j → j < 18 → q j ≡ p j

@@ -1,17 +1,13 @@
 -- The members of sets of assertions that are made of others.
-use Rattle.std.proofs.Common.{◌≡◌, ◌↔◌, ◌||◌, ◌&&◌, ◌⊎◌, true, false, not, refl, sym, ap, ◌∙◌, nat_eq, inl, inr, ⊎_elim, ◌≢◌}
+use Rattle.std.proofs.Common.{◌≡◌, ◌↔◌, ◌||◌, ◌&&◌, ◌⊎◌, true, false, not, refl, sym, ap, ◌∙◌, inl, inr, ⊎_elim, ◌≢◌}
 use Rattle.std.specs.FinSet as sets
 use Rattle.std.specs.FinSet.{contains-insert, contains-remove}
 use Rattle.std.specs.Ordering.{eq_by_cmp}
-use Rattle.std.specs.Cmp.{unsigned_tied}
 use Rattle.std.proofs.lemmas.Bool.{cases_eq, eq-eqb, ne_eqb}
 use Rattle.rsc_look.specs.declared.assertion.Look.{Look}
 use Rattle.rsc_look.specs.Looks.{repr_of}
 use Rattle.rsc_look.specs.LookSets.{look_cmp, Looks}
-use Rattle.rsc_look.specs.LookSetLaws.{look_cmp_total, repr_of-injective}
-
-tied : (l m : Look) → eq_by_cmp look_cmp l m ≡ nat_eq (repr_of l) (repr_of m)
-tied l m = unsigned_tied (repr_of l) (repr_of m)
+use Rattle.rsc_look.specs.LookSetLaws.{look_cmp_total, repr_of-injective, tied}
 
 itself : (l : Look) → eq_by_cmp look_cmp l l ≡ true
 itself l = tied l l ∙ eq-eqb (repr_of l) (repr_of l) refl

@@ -1,5 +1,6 @@
 -- No assertion on characters holds inside an encoded character.
 use Rattle.std.proofs.Common.{◌≡◌, ◌↔◌, ℕ, Bool, true, false, List, refl, sym, ◌∙◌, arith, true≢false}
+use Rattle.std.proofs.lemmas.Bool.{false_from_ne_true}
 use Rattle.std.specs.Prelude.{IsTrue}
 use Rattle.rsc_primitives.specs.Utf8.{IsInside}
 use Rattle.rsc_primitives.proofs.Utf8Lemmas.{IsInside-begins, IsInside-ends}
@@ -40,9 +41,5 @@ Holds-inside l t W h i u s p =
     let e : holds_at_sides l Bad Bad ≡ true = rw (a, b) at q.holds in
     true≢false (sym e ∙ neither l)
 
-false_from : (r : Bool) → (r ≡ true → ⊥) → r ≡ false
-false_from true f = absurd (f refl)
-false_from false f = refl
-
 pub matches_inside : (l : Look) (t : ℕ) (W : ℕ → Bool) (h : List ℕ) (i : ℕ) (r : Bool) → IsTrue r ↔ Holds l t W h i → is_unicode l ≡ true → IsInside h i → r ≡ false
-matches_inside l t W h i r e u s = false_from r (λ x. Holds-inside l t W h i u s (e.0 x))
+matches_inside l t W h i r e u s = false_from_ne_true r (λ x. Holds-inside l t W h i u s (e.0 x))

@@ -3,8 +3,6 @@ use Rattle.std.proofs.Common.{◌≡◌, ◌≢◌, ◌↔◌, ℕ, zero, suc, �
 use Rattle.std.specs.Prelude.{count_ones, IsTrue}
 use Rattle.std.specs.List.{list_any}
 use Rattle.std.specs.Int.{bit_at}
-use Rattle.std.specs.Ordering.{eq_by_cmp}
-use Rattle.std.specs.Cmp.{unsigned_tied}
 use Rattle.std.specs.FinSet as sets
 use Rattle.std.specs.FinSet.{contains-empty, contains-from_list, contains-insert, contains-remove, contains-union, contains-intersection, contains-difference}
 use Rattle.std.proofs.lemmas.Bool.{cases_eq, eq-eqb, ne_eqb}
@@ -14,19 +12,17 @@ use Rattle.std.proofs.lemmas.List.Sums.{length-filter}
 use Rattle.std.proofs.lemmas.Nat.{or_lt}
 use Rattle.std.proofs.lemmas.Nat.Bits.{and_pow, bit_at_and, bit_at_or, bit_at_not, bit_at-zero, bit_at-lt, bit_at-pow_same, bit_at-pow_other, same_from_bits_below}
 use Rattle.std.proofs.lemmas.Simd.{mask_l-lt, bit_mask_l, ones-mask_l}
+use Rattle.std.proofs.Math.Bool.{or_comm, and_comm}
 use lib.Lanes.{mask_l}
 use Rattle.rsc_look.specs.declared.assertion.Look.{Look}
-use Rattle.rsc_look.specs.declared.assertion.Look.TheVariants.{Start, End, StartLF, EndLF, StartCRLF, EndCRLF, WordAscii, WordAsciiNegate, WordUnicode, WordUnicodeNegate, WordStartAscii, WordEndAscii, WordStartUnicode, WordEndUnicode, WordStartHalfAscii, WordEndHalfAscii, WordStartHalfUnicode, WordEndHalfUnicode}
+use Rattle.rsc_look.specs.declared.assertion.Look.TheVariants.{Start}
 use Rattle.rsc_look.specs.Looks.{repr_of, every_look}
 use Rattle.rsc_look.specs.LookSets.{look_cmp, Looks, members, bits_of}
 use Rattle.rsc_look.specs.LookSetLayout.{place_of, has_bit, looks_of, look_at, look_at-place_of}
-use Rattle.rsc_look.specs.LookSetLaws.{look_cmp_total, look_cmp-IsAntisymmetric, same_looks, repr_of-injective, repr_of-pow, place_of-look_at, place_of-lt, contains-looks_of, bits_of-looks_of, looks_of-bits_of, bits_of-lt, every_look_has}
+use Rattle.rsc_look.specs.LookSetLaws.{look_cmp_total, look_cmp-IsAntisymmetric, same_looks, repr_of-injective, repr_of-pow, place_of-look_at, place_of-lt, contains-looks_of, bits_of-looks_of, looks_of-bits_of, bits_of-lt, every_look_has, tied}
 use Rattle.rsc_alphabet.specs.SameMembers.{same_members, same_bools, same_from, same_to}
 
 -- ---- single assertions
-
-pub tied : (l m : Look) → eq_by_cmp look_cmp l m ≡ nat_eq (repr_of l) (repr_of m)
-tied l m = unsigned_tied (repr_of l) (repr_of m)
 
 place_of-injective : (l m : Look) → place_of l ≡ place_of m → l ≡ m
 place_of-injective l m e = sym (look_at-place_of l) ∙ ap look_at e ∙ look_at-place_of m
@@ -45,43 +41,11 @@ single_bit l m = ⊎_elim
 
 pub repr_of-lt : (l : Look) → repr_of l < 2 ^ 18
 repr_of-lt Start = omega arith
-repr_of-lt End = omega arith
-repr_of-lt StartLF = omega arith
-repr_of-lt EndLF = omega arith
-repr_of-lt StartCRLF = omega arith
-repr_of-lt EndCRLF = omega arith
-repr_of-lt WordAscii = omega arith
-repr_of-lt WordAsciiNegate = omega arith
-repr_of-lt WordUnicode = omega arith
-repr_of-lt WordUnicodeNegate = omega arith
-repr_of-lt WordStartAscii = omega arith
-repr_of-lt WordEndAscii = omega arith
-repr_of-lt WordStartUnicode = omega arith
-repr_of-lt WordEndUnicode = omega arith
-repr_of-lt WordStartHalfAscii = omega arith
-repr_of-lt WordEndHalfAscii = omega arith
-repr_of-lt WordStartHalfUnicode = omega arith
-repr_of-lt WordEndHalfUnicode = omega arith
+repr_of-lt _ = omega arith
 
 repr_of-nonzero : (l : Look) → nat_eq (repr_of l) 0 ≡ false
 repr_of-nonzero Start = refl
-repr_of-nonzero End = refl
-repr_of-nonzero StartLF = refl
-repr_of-nonzero EndLF = refl
-repr_of-nonzero StartCRLF = refl
-repr_of-nonzero EndCRLF = refl
-repr_of-nonzero WordAscii = refl
-repr_of-nonzero WordAsciiNegate = refl
-repr_of-nonzero WordUnicode = refl
-repr_of-nonzero WordUnicodeNegate = refl
-repr_of-nonzero WordStartAscii = refl
-repr_of-nonzero WordEndAscii = refl
-repr_of-nonzero WordStartUnicode = refl
-repr_of-nonzero WordEndUnicode = refl
-repr_of-nonzero WordStartHalfAscii = refl
-repr_of-nonzero WordEndHalfAscii = refl
-repr_of-nonzero WordStartHalfUnicode = refl
-repr_of-nonzero WordEndHalfUnicode = refl
+repr_of-nonzero _ = refl
 
 -- ---- bits as tests
 
@@ -111,23 +75,7 @@ looks_of-none = same_looks (looks_of 0) sets.empty (λ l. contains-looks_of 0 l 
 
 all_bits : (l : Look) → has_bit 262143 l ≡ true
 all_bits Start = refl
-all_bits End = refl
-all_bits StartLF = refl
-all_bits EndLF = refl
-all_bits StartCRLF = refl
-all_bits EndCRLF = refl
-all_bits WordAscii = refl
-all_bits WordAsciiNegate = refl
-all_bits WordUnicode = refl
-all_bits WordUnicodeNegate = refl
-all_bits WordStartAscii = refl
-all_bits WordEndAscii = refl
-all_bits WordStartUnicode = refl
-all_bits WordEndUnicode = refl
-all_bits WordStartHalfAscii = refl
-all_bits WordEndHalfAscii = refl
-all_bits WordStartHalfUnicode = refl
-all_bits WordEndHalfUnicode = refl
+all_bits _ = refl
 
 pub contains-looks_of-all : (l : Look) → sets.contains (looks_of 262143) l ≡ true
 contains-looks_of-all l = contains-looks_of 262143 l ∙ all_bits l
@@ -141,12 +89,6 @@ pub looks_of-insert : (n : ℕ) (l : Look) → looks_of (bit_or n (repr_of l)) �
 looks_of-insert n l = same_looks (looks_of (bit_or n (repr_of l))) (sets.insert (looks_of n) l) (λ m.
     contains-looks_of (bit_or n (repr_of l)) m ∙ has_bit-or n (repr_of l) m ∙ or_comm (has_bit n m) (has_bit (repr_of l) m)
     ∙ sym (contains-insert look_cmp_total (looks_of n) l m ∙ ap₂ (λ x y. x || y) (tied m l ∙ sym (single_bit l m)) (contains-looks_of n m)))
-  where
-    or_comm : (x y : Bool) → (x || y) ≡ (y || x)
-    or_comm true true = refl
-    or_comm true false = refl
-    or_comm false true = refl
-    or_comm false false = refl
 
 pub insert_fits : (n : ℕ) (l : Look) → n < 2 ^ 18 → bit_or n (repr_of l) < 2 ^ 18
 insert_fits n l h = or_lt 18 n (repr_of l) h (repr_of-lt l)
@@ -158,12 +100,6 @@ looks_of-remove n l = same_looks (looks_of (bit_and n (4294967295 - repr_of l)))
     ∙ ap (λ b. has_bit n m && b) (has_bit-not (repr_of l) m (omega arith) ∙ ap not (single_bit l m))
     ∙ and_comm (has_bit n m) (not (nat_eq (repr_of m) (repr_of l)))
     ∙ sym (contains-remove look_cmp_total (looks_of n) l m ∙ ap₂ (λ x y. not x && y) (tied m l) (contains-looks_of n m)))
-  where
-    and_comm : (x y : Bool) → (x && y) ≡ (y && x)
-    and_comm true true = refl
-    and_comm true false = refl
-    and_comm false true = refl
-    and_comm false false = refl
 
 pub looks_of-union : (a b : ℕ) → looks_of (bit_or a b) ≡ sets.union (looks_of a) (looks_of b)
 looks_of-union a b = same_looks (looks_of (bit_or a b)) (sets.union (looks_of a) (looks_of b)) (λ m.

@@ -1,5 +1,5 @@
 -- The boundaries of an assertion as tests that compute.
-use Rattle.std.proofs.Common.{◌≡◌, ℕ, ◌-◌, Bool, true, false, ◌&&◌, ◌||◌, List, [], ◌∷◌, nat_eq, nat_lt, ◌+◌, ◌<◌, ◌≤◌, length, take, get_or, refl, sym, ap, ap₂, ◌∙◌}
+use Rattle.std.proofs.Common.{◌≡◌, ℕ, ◌-◌, Bool, false, ◌&&◌, ◌||◌, List, [], ◌∷◌, nat_eq, nat_lt, ◌+◌, ◌<◌, ◌≤◌, length, take, get_or, sym, ap, ap₂, ◌∙◌}
 use Rattle.std.specs.List.{list_any}
 use Rattle.std.specs.Ordering.{nat_cmp}
 use Rattle.std.specs.Cmp.{nat_cmp_total}
@@ -7,6 +7,7 @@ use Rattle.std.specs.FinSet as sets
 use Rattle.std.specs.FinSet.{contains-empty, contains-from_list_nat, same_set, nat_cmp-IsAntisymmetric}
 use Rattle.std.proofs.lemmas.List.{take_all, take_more}
 use Rattle.std.proofs.lemmas.List.Folds.{list_any-append}
+use Rattle.std.proofs.Math.Bool.{or-false, or_assoc}
 use Rattle.rsc_alphabet.specs.ByteSets.{Numbers}
 use Rattle.rsc_alphabet.specs.Partitions.{edges_of, class_map}
 use Rattle.rsc_alphabet.proofs.PartitionsLemmas.{contains-joined, contains-edges_of, class_map_same}
@@ -69,12 +70,8 @@ pub HasBoundaries-more : (s new : Numbers) (looks : List Look) (i : ℕ) (d : Lo
     → new ≡ sets.union s (boundaries_of (get_or looks i d) t) → HasBoundaries new (take (i + 1) looks) t
 HasBoundaries-more s new looks i d t h has e b =
     let l = get_or looks i d in
-    ap (λ u. sets.contains u b) e ∙ contains-joined s (boundaries_of l t) b ∙ ap₂ (λ x y. x || y) (has b) (contains-boundaries_of l t b ∙ or_false (is_mark l t b))
+    ap (λ u. sets.contains u b) e ∙ contains-joined s (boundaries_of l t) b ∙ ap₂ (λ x y. x || y) (has b) (contains-boundaries_of l t b ∙ sym (or-false (is_mark l t b)))
     ∙ sym (ap (λ (x : List Look). marks_of x t b) (take_more looks i d h) ∙ list_any-append (λ x. is_mark x t b) (take i looks) (l ∷ []))
-  where
-    or_false : (x : Bool) → x ≡ (x || false)
-    or_false true = refl
-    or_false false = refl
 
 -- after the loop over the whole list
 pub classes_whole : (looks : List Look) (t n : ℕ) (s : Numbers) (m : List ℕ) → length looks ≤ n → HasBoundaries s (take n looks) t → m ≡ class_map (sets.contains s) → m ≡ class_map (sets.contains (boundaries_of_each looks t))
@@ -86,18 +83,10 @@ classes_whole looks t n s m l has is =
 
 pub adds_none : (s : Numbers) → s ≡ sets.union s sets.empty
 adds_none s = same_set nat_cmp_total nat_cmp-IsAntisymmetric s (sets.union s sets.empty) (λ b.
-    or_false (sets.contains s b) ∙ ap (λ x. sets.contains s b || x) (sym (contains-empty nat_cmp b)) ∙ sym (contains-joined s sets.empty b))
-  where
-    or_false : (x : Bool) → x ≡ (x || false)
-    or_false true = refl
-    or_false false = refl
+    sym (or-false (sets.contains s b)) ∙ ap (λ x. sets.contains s b || x) (sym (contains-empty nat_cmp b)) ∙ sym (contains-joined s sets.empty b))
 
 pub adds_both : (s u v : Numbers) → sets.union (sets.union s u) v ≡ sets.union s (sets.union u v)
 adds_both s u v = same_set nat_cmp_total nat_cmp-IsAntisymmetric _ _ (λ b.
     contains-joined (sets.union s u) v b ∙ ap (λ x. x || sets.contains v b) (contains-joined s u b)
     ∙ or_assoc (sets.contains s b) (sets.contains u b) (sets.contains v b)
     ∙ sym (contains-joined s (sets.union u v) b ∙ ap (λ x. sets.contains s b || x) (contains-joined u v b)))
-  where
-    or_assoc : (x y z : Bool) → ((x || y) || z) ≡ (x || (y || z))
-    or_assoc true y z = refl
-    or_assoc false y z = refl

@@ -1,5 +1,5 @@
 -- An assertion at a place is the reversed one at the same place of the mirror.
-use Rattle.std.proofs.Common.{◌≡◌, ◌↔◌, ℕ, zero, suc, ◌+◌, ◌-◌, ◌<◌, ◌≤◌, ◌⊎◌, Bool, true, false, not, ◌&&◌, cond, eqb, List, [], ◌∷◌, length, take, get_or, map, reverse, Option, Some, None, is_none, refl, sym, ap, ◌∙◌, arith, ⊎_elim, true≢false}
+use Rattle.std.proofs.Common.{◌≡◌, ◌↔◌, ℕ, zero, suc, ◌+◌, ◌-◌, ◌<◌, ◌≤◌, Bool, true, false, not, ◌&&◌, cond, eqb, List, [], ◌∷◌, length, take, get_or, map, reverse, Option, Some, None, is_none, refl, sym, ap, ◌∙◌, arith, ⊎_elim, true≢false}
 use Rattle.std.specs.Prelude.{slice_get, IsTrue}
 use mathlib.Core.List.{reverse_aux}
 use lib.Utf8.{scalar}
@@ -8,10 +8,12 @@ use Rattle.std.specs.Str.{encode_utf8_all, all_scalars}
 use Rattle.std.proofs.lemmas.Bool.Decides.{nat_tests}
 use Rattle.std.proofs.lemmas.List.{get_or-reverse, length-reverse, take_all}
 use Rattle.std.proofs.lemmas.Option.{slice_get-get_or, slice_get_past, slice_get-map}
+use Rattle.std.proofs.Math.Bool.{and_comm}
+use Rattle.std.proofs.lemmas.Bool.{and_parts, cases_lt}
 use Rattle.rsc_primitives.proofs.EncodingsLemmas.{EncodesAll-std}
 use Rattle.rsc_primitives.proofs.Texts.{place, BeginsAt-place, EndsAt-place}
 use Rattle.rsc_look.specs.declared.assertion.Look.{Look}
-use Rattle.rsc_look.specs.declared.assertion.Look.TheVariants.{Start, End, StartLF, EndLF, StartCRLF, EndCRLF, WordAscii, WordAsciiNegate, WordUnicode, WordUnicodeNegate, WordStartAscii, WordEndAscii, WordStartUnicode, WordEndUnicode, WordStartHalfAscii, WordEndHalfAscii, WordStartHalfUnicode, WordEndHalfUnicode}
+use Rattle.rsc_look.specs.declared.assertion.Look.TheVariants.{Start, StartCRLF, EndCRLF, WordAscii, WordAsciiNegate, WordUnicode, WordUnicodeNegate}
 use Rattle.rsc_look.specs.declared.side.Side.{Side}
 use Rattle.rsc_look.specs.declared.side.Side.TheVariants.{Absent, Word, Other}
 use Rattle.rsc_look.specs.Holds.{byte_before, byte_after, is_byte, is_word_at, exactly_one, holds_at_bytes, holds_at_sides, is_bad, is_word_side, IsBefore, IsAfter, Holds}
@@ -20,9 +22,6 @@ use Rattle.rsc_look.specs.Mirrors.{is_crlf, exchanged, mirror, EndsFirst, IsText
 use Rattle.rsc_look.proofs.Sides.{Holds-bytes, Holds-sides, HoldsAtSides-is, HoldsAtSides-from}
 
 -- ---- neighbours in a list read from the other end
-
-side : (m n : ℕ) → (m < n) ⊎ (n ≤ m)
-side m n = grind arith
 
 slice_get-reverse : (h : List ℕ) (k j : ℕ) → k + j + 1 ≡ length h → slice_get (reverse h) k ≡ slice_get h j
 slice_get-reverse h k j e =
@@ -72,54 +71,20 @@ is_lf-map None = refl
 is_lf-map (Some x) = lf_is_cr x
 
 bytes_reversed : (l : Look) (t : ℕ) (p n : Option ℕ) → is_crlf l ≡ false → holds_at_bytes (reversed l) t n p ≡ holds_at_bytes l t p n
-bytes_reversed Start t p n e = refl
-bytes_reversed End t p n e = refl
-bytes_reversed StartLF t p n e = refl
-bytes_reversed EndLF t p n e = refl
 bytes_reversed StartCRLF t p n e = absurd (true≢false e)
 bytes_reversed EndCRLF t p n e = absurd (true≢false e)
 bytes_reversed WordAscii t p n e = exactly_one_comm (is_word_at n) (is_word_at p)
 bytes_reversed WordAsciiNegate t p n e = ap not (exactly_one_comm (is_word_at n) (is_word_at p))
-bytes_reversed WordStartAscii t p n e = refl
-bytes_reversed WordEndAscii t p n e = refl
-bytes_reversed WordStartHalfAscii t p n e = refl
-bytes_reversed WordEndHalfAscii t p n e = refl
 bytes_reversed _ t p n e = refl
 
 crlf_reversed : (l : Look) (t : ℕ) (p n : Option ℕ) → is_crlf l ≡ true → holds_at_bytes (reversed l) t (option_map exchanged n) (option_map exchanged p) ≡ holds_at_bytes l t p n
 crlf_reversed StartCRLF t p n e = let a = is_none-map p in let b = is_cr-map p in let d = is_lf-map p in let f = is_cr-map n in rw (a, b, d, f)
 crlf_reversed EndCRLF t p n e = let a = is_none-map n in let b = is_cr-map n in let d = is_lf-map n in let f = is_lf-map p in rw (a, b, d, f)
-crlf_reversed Start t p n e = absurd (true≢false (sym e))
-crlf_reversed End t p n e = absurd (true≢false (sym e))
-crlf_reversed StartLF t p n e = absurd (true≢false (sym e))
-crlf_reversed EndLF t p n e = absurd (true≢false (sym e))
 crlf_reversed _ t p n e = absurd (true≢false (sym e))
 
 is_unicode-reversed : (l : Look) → is_unicode (reversed l) ≡ is_unicode l
-is_unicode-reversed WordUnicode = refl
-is_unicode-reversed WordUnicodeNegate = refl
-is_unicode-reversed WordStartUnicode = refl
-is_unicode-reversed WordEndUnicode = refl
-is_unicode-reversed WordStartHalfUnicode = refl
-is_unicode-reversed WordEndHalfUnicode = refl
 is_unicode-reversed Start = refl
-is_unicode-reversed End = refl
-is_unicode-reversed StartLF = refl
-is_unicode-reversed EndLF = refl
-is_unicode-reversed StartCRLF = refl
-is_unicode-reversed EndCRLF = refl
-is_unicode-reversed WordAscii = refl
-is_unicode-reversed WordAsciiNegate = refl
-is_unicode-reversed WordStartAscii = refl
-is_unicode-reversed WordEndAscii = refl
-is_unicode-reversed WordStartHalfAscii = refl
-is_unicode-reversed WordEndHalfAscii = refl
-
-and_comm : (x y : Bool) → (x && y) ≡ (y && x)
-and_comm true true = refl
-and_comm true false = refl
-and_comm false true = refl
-and_comm false false = refl
+is_unicode-reversed _ = refl
 
 negate_comm : (x y u v : Bool) → (not x && not y && not (exactly_one u v)) ≡ (not y && not x && not (exactly_one v u))
 negate_comm x y u v = let e = and_comm (not x) (not y) in let f = exactly_one_comm u v in rw (e, f)
@@ -127,22 +92,7 @@ negate_comm x y u v = let e = and_comm (not x) (not y) in let f = exactly_one_co
 sides_reversed : (l : Look) (a b : Side) → holds_at_sides (reversed l) b a ≡ holds_at_sides l a b
 sides_reversed WordUnicode a b = exactly_one_comm (is_word_side b) (is_word_side a)
 sides_reversed WordUnicodeNegate a b = negate_comm (is_bad b) (is_bad a) (is_word_side b) (is_word_side a)
-sides_reversed WordStartUnicode a b = refl
-sides_reversed WordEndUnicode a b = refl
-sides_reversed WordStartHalfUnicode a b = refl
-sides_reversed WordEndHalfUnicode a b = refl
-sides_reversed Start a b = refl
-sides_reversed End a b = refl
-sides_reversed StartLF a b = refl
-sides_reversed EndLF a b = refl
-sides_reversed StartCRLF a b = refl
-sides_reversed EndCRLF a b = refl
-sides_reversed WordAscii a b = refl
-sides_reversed WordAsciiNegate a b = refl
-sides_reversed WordStartAscii a b = refl
-sides_reversed WordEndAscii a b = refl
-sides_reversed WordStartHalfAscii a b = refl
-sides_reversed WordEndHalfAscii a b = refl
+sides_reversed _ a b = refl
 
 -- ---- the assertions on bytes
 
@@ -189,7 +139,7 @@ after_place W cs k s l =
     ⊎_elim
     (λ (i : k < length cs). let g = slice_get-get_or cs k 0 i in rw g (go i (W (get_or cs k 0)) refl))
     (λ (i : length cs ≤ k). let g = slice_get_past cs k i in rw g (ap (λ (x : List ℕ). length (encode_utf8_all x)) (take_all k cs i)))
-    (side k (length cs))
+    (cases_lt k (length cs))
   where
     go : k < length cs → (x : Bool) → W (get_or cs k 0) ≡ x → IsAfter W (encode_utf8_all cs) (place cs k) (cond x Word Other)
     go i true e = (get_or cs k 0, BeginsAt-place cs k s i, e)
@@ -202,13 +152,9 @@ Holds-place l t W cs k u s o =
     let q = after_place W cs k s o in
     ((λ x. HoldsAtSides-is l W (encode_utf8_all cs) (place cs k) _ _ p q (h.0 x)), (λ x. h.1 (HoldsAtSides-from l W (encode_utf8_all cs) (place cs k) _ _ p q x)))
 
-both : (x y : Bool) → (x && y) ≡ true → (x ≡ true) × (y ≡ true)
-both true y e = (refl, e)
-both false y e = absurd (true≢false (sym e))
-
 scalars_reversed : (xs ys : List ℕ) → all_scalars xs ≡ true → all_scalars ys ≡ true → all_scalars (reverse_aux xs ys) ≡ true
 scalars_reversed [] ys p q = q
-scalars_reversed (x ∷ xs) ys p q = let b = both (scalar x) (all_scalars xs) p in let e = b.0 in scalars_reversed xs (x ∷ ys) b.1 (rw (e, q))
+scalars_reversed (x ∷ xs) ys p q = let b = and_parts (scalar x) (all_scalars xs) p in let e = b.0 in scalars_reversed xs (x ∷ ys) b.1 (rw (e, q))
 
 -- the answer of `matches`, and the mirrors
 pub matches_mirror : (l : Look) (t : ℕ) (W : ℕ → Bool) (h : List ℕ) (i : ℕ) (r : Bool) → i ≤ length h → IsTrue r ↔ Holds l t W h i → is_unicode l ≡ false → IsTrue r ↔ Holds (reversed l) t W (mirror l h) (length h - i)

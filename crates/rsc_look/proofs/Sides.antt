@@ -2,7 +2,7 @@
 use Rattle.std.specs.Bool.{beq}
 use Rattle.std.proofs.Common.{not, ◌&&◌, ap₂, ◌≡◌, ◌↔◌, ℕ, ◌-◌, ◌<◌, ◌≤◌, Bool, true, false, List, length, get_or, refl, sym, ap, ◌∙◌, subst, arith, ◌⊎◌, inl, inr, ⊎_elim, true≢false}
 use Rattle.std.specs.Prelude.{IsTrue}
-use Rattle.std.proofs.lemmas.Bool.{cases_eq}
+use Rattle.std.proofs.lemmas.Bool.{cases_eq, cases_Bool}
 use Rattle.rsc_primitives.specs.Utf8.{is_word_byte, BeginsAt, EndsAt, EncodedFrom}
 use Rattle.rsc_primitives.proofs.Utf8Lemmas.{AgreePastAscii, EncodedFrom-agree, BeginsAt-same, EndsAt-same}
 use Rattle.rsc_look.specs.declared.assertion.Look.{Look}
@@ -160,13 +160,6 @@ Holds-decided l t W h i a b r u p q e = let s = sides_decide l W h i a b r p q e
 
 -- ---- each place has a side before it and one after it
 
-by_word : (W : ℕ → Bool) (c : ℕ) → (W c ≡ true) ⊎ (W c ≡ false)
-by_word W c = go (W c) refl
-  where
-    go : (x : Bool) → W c ≡ x → (W c ≡ true) ⊎ (W c ≡ false)
-    go true e = inl e
-    go false e = inr e
-
 order : (i n : ℕ) → i ≤ n → (i ≡ n) ⊎ (i < n)
 order i n l = grind arith
 
@@ -176,13 +169,13 @@ zero_or i = grind arith
 pub has_before : (W : ℕ → Bool) (h : List ℕ) (i : ℕ) → (a : Side) × IsBefore W h i a
 has_before W h i =
     ⊎_elim (λ e. (Absent, e))
-    (λ l. ⊎_elim (λ p. ⊎_elim (λ w. (Word, (p.0, p.1, w))) (λ w. (Other, (p.0, p.1, w))) (by_word W p.0)) (λ n. (Bad, (l, n))) (EndsAt-decided h i))
+    (λ l. ⊎_elim (λ p. ⊎_elim (λ w. (Word, (p.0, p.1, w))) (λ w. (Other, (p.0, p.1, w))) (cases_Bool (W p.0))) (λ n. (Bad, (l, n))) (EndsAt-decided h i))
     (zero_or i)
 
 pub has_after : (W : ℕ → Bool) (h : List ℕ) (i : ℕ) → i ≤ length h → (a : Side) × IsAfter W h i a
 has_after W h i o =
     ⊎_elim (λ e. (Absent, e))
-    (λ l. ⊎_elim (λ p. ⊎_elim (λ w. (Word, (p.0, p.1, w))) (λ w. (Other, (p.0, p.1, w))) (by_word W p.0)) (λ n. (Bad, (l, n))) (BeginsAt-decided h i))
+    (λ l. ⊎_elim (λ p. ⊎_elim (λ w. (Word, (p.0, p.1, w))) (λ w. (Other, (p.0, p.1, w))) (cases_Bool (W p.0))) (λ n. (Bad, (l, n))) (BeginsAt-decided h i))
     (order i (length h) o)
 
 pub half_before : (t : ℕ) (W : ℕ → Bool) (h : List ℕ) (i : ℕ) (a : Side) (r : Bool) → i ≤ length h → IsBefore W h i a → r ≡ is_absent_or_other a → IsTrue r ↔ Holds WordStartHalfUnicode t W h i
@@ -217,9 +210,7 @@ ends_nowhere t W h i a r o p e f = Holds-before WordEndUnicode t W h i a r o ref
 -- `==` of the program on two tests, as `exactly_one`
 not_exactly_one : (x y : Bool) → beq x y ≡ not (exactly_one x y)
 not_exactly_one true true = refl
-not_exactly_one true false = refl
-not_exactly_one false true = refl
-not_exactly_one false false = refl
+not_exactly_one _ _ = refl
 
 exactly_one-ne : (x y : Bool) → not (beq x y) ≡ exactly_one x y
 exactly_one-ne true true = refl

@@ -1,5 +1,6 @@
 -- One assertion and its boundaries.
-use Rattle.std.proofs.Common.{◌≡◌, ◌↔◌, ℕ, zero, suc, Bool, true, false, ◌||◌, [], ◌∷◌, refl, sym, ap, ◌∙◌, subst, arith}
+use Rattle.std.proofs.Common.{◌≡◌, ◌↔◌, ℕ, zero, suc, Bool, true, false, ◌||◌, [], ◌∷◌, sym, ap, ◌∙◌, subst, arith}
+use Rattle.std.proofs.lemmas.Bool.{or_right}
 use Rattle.std.specs.List.{Contains}
 use Rattle.rsc_alphabet.proofs.MaximalRuns.{Contains-first}
 use Rattle.rsc_look.specs.declared.assertion.Look.{Look}
@@ -22,14 +23,10 @@ only : (l m : Look) → Contains (l ∷ []) m → l ≡ m
 only l m (zero, p, e) = e
 only l m (suc k, p, e) = absurd (omega arith)
 
-or_is_true : (x y : Bool) → y ≡ true → (x || y) ≡ true
-or_is_true true y e = refl
-or_is_true false y e = e
-
 -- a set that got the boundaries of an assertion has them
 has_marks : (old new : Numbers) (l : Look) (t : ℕ) → new ≡ sets.union old (boundaries_of l t) → HasMarks (sets.contains new) (is_mark l t)
 has_marks old new l t e b lt m =
-    ap (λ s. sets.contains s b) e ∙ contains-joined old (boundaries_of l t) b ∙ or_is_true (sets.contains old b) (sets.contains (boundaries_of l t) b) (contains-boundaries_of l t b ∙ m)
+    ap (λ s. sets.contains s b) e ∙ contains-joined old (boundaries_of l t) b ∙ or_right (sets.contains old b) (sets.contains (boundaries_of l t) b) (contains-boundaries_of l t b ∙ m)
 
 pub IsExactFor-from : (old new : Numbers) (l : Look) (t : ℕ) (W : ℕ → Bool) → new ≡ sets.union old (boundaries_of l t) → (is_unicode l ≡ true → AgreesWithAscii W) → IsExactFor (sets.contains new) l t W
 IsExactFor-from old new l t W e a = record {

@@ -1,7 +1,8 @@
 -- The boundaries of the word bytes are where two neighbouring bytes differ: computed for all 255 of them.
-use Rattle.std.proofs.Common.{◌≡◌, ◌<◌, ℕ, zero, suc, ◌+◌, Bool, true, false, not, ◌&&◌, ◌||◌, ltb, nat_lt, nat_le, ◌≤◌, refl, sym, ap, ◌∙◌, arith, true≢false, ⊎_elim, ◌⊎◌}
+use Rattle.std.proofs.Common.{◌≡◌, ◌<◌, ℕ, ◌+◌, Bool, true, false, not, ◌&&◌, ◌||◌, ltb, nat_lt, nat_le, ◌≤◌, refl, sym, ap, ◌∙◌, arith}
 use Rattle.std.specs.Int.{is_in_range}
 use Rattle.std.proofs.lemmas.Bool.Decides.{nat_tests}
+use Rattle.std.proofs.lemmas.Bool.{agree_below_at}
 use Rattle.rsc_primitives.specs.Utf8.{is_word_byte}
 use Rattle.std.specs.Cmp.{nat_cmp_total}
 use Rattle.std.specs.FinSet as sets
@@ -18,38 +19,8 @@ use Rattle.rsc_look.proofs.Needed.{below_127}
 abbrev pub changes : ℕ → Bool
 changes b = exactly_one (is_word_byte b) (is_word_byte (b + 1))
 
-agrees : ℕ → Bool
-agrees b = not (exactly_one (changes b) (is_word_mark b))
-
-all_agree : ℕ → Bool
-all_agree zero = true
-all_agree (suc n) = agrees n && all_agree n
-
-all_agree_255 : all_agree 255 ≡ true
-unfolding all_agree agrees
-all_agree_255 = refl
-
-both : (x y : Bool) → (x && y) ≡ true → (x ≡ true) × (y ≡ true)
-both true y e = (refl, e)
-both false y e = absurd (true≢false (sym e))
-
-agrees_below : (n : ℕ) → all_agree n ≡ true → (b : ℕ) → b < n → agrees b ≡ true
-unfolding all_agree
-agrees_below zero h b l = absurd (omega arith)
-agrees_below (suc n) h b l = let p = both (agrees n) (all_agree n) h in ⊎_elim (λ (e : b ≡ n). ap agrees e ∙ p.0) (λ (s : b < n). agrees_below n p.1 b s) (cases b n l)
-  where
-    cases : (b n : ℕ) → b < suc n → (b ≡ n) ⊎ (b < n)
-    cases b n l = grind arith
-
-same_unless_one : (x y : Bool) → not (exactly_one x y) ≡ true → x ≡ y
-same_unless_one true true e = refl
-same_unless_one false false e = refl
-same_unless_one true false e = absurd (true≢false (sym e))
-same_unless_one false true e = absurd (true≢false (sym e))
-
 within : (b : ℕ) → b < 255 → changes b ≡ is_word_mark b
-unfolding agrees
-within b l = same_unless_one (changes b) (is_word_mark b) (agrees_below 255 all_agree_255 b l)
+within b l = agree_below_at changes is_word_mark 255 b refl l
 
 -- below 255 a change is a boundary, and there is no boundary above
 pub changes-is_word_mark : (b : ℕ) → (ltb b 255 && changes b) ≡ is_word_mark b
@@ -68,9 +39,7 @@ changes_at-is words same b = rw (same b, same (b + 1)) (ap (λ x. ltb b 255 && x
   where
     by_cases : (x y : Bool) → ((x && not y) || (not x && y)) ≡ exactly_one x y
     by_cases true true = refl
-    by_cases true false = refl
-    by_cases false true = refl
-    by_cases false false = refl
+    by_cases _ _ = refl
 
 -- what `add_set` of the word bytes leaves of a set of boundaries
 pub word_boundaries-added : (old new words : Numbers) → ((b : ℕ) → sets.contains words b ≡ is_word_byte b) → ((b : ℕ) → sets.contains new b ≡ (sets.contains old b || changes_at words b)) → new ≡ sets.union old word_boundaries

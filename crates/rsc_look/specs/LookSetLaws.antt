@@ -1,21 +1,22 @@
 -- A set of assertions and its eighteen bits: each gives the other back.
-use Rattle.std.proofs.Common.{◌≡◌, ◌≢◌, ℕ, zero, suc, ◌+◌, ◌-◌, ◌*◌, ◌^◌, ◌<◌, ◌≤◌, Bool, true, false, ◌&&◌, ◌||◌, cond, List, [], ◌∷◌, ◌++◌, get_or, map, filter, refl, sym, ap, ap₂, ◌∙◌, arith, nat_eq, ⊎_elim, true≢false}
+use Rattle.std.proofs.Common.{◌≡◌, ◌≢◌, ℕ, zero, suc, ◌+◌, ◌-◌, ◌*◌, ◌^◌, ◌<◌, ◌≤◌, Bool, true, false, ◌&&◌, ◌||◌, cond, List, [], ◌∷◌, ◌++◌, get_or, map, filter, refl, sym, ap, ap₂, ◌∙◌, arith, nat_eq, ⊎_elim}
 use Rattle.std.specs.List.{list_any, sum_by}
 use Rattle.std.specs.Int.{bit_at}
 use Rattle.std.specs.Ordering.{eq_by_cmp}
 use Rattle.std.specs.Cmp.{IsTotalOrder, nat_cmp_total, on_total, unsigned_tied}
 use Rattle.std.specs.FinSet as sets
 use Rattle.std.specs.FinSet.{IsAntisymmetric, nat_cmp-IsAntisymmetric, contains-from_list, same_set}
-use Rattle.std.proofs.lemmas.Bool.{cases_eq}
+use Rattle.std.proofs.lemmas.Bool.{cases_eq, agree_below, agree_below_at}
 use Rattle.std.proofs.lemmas.Bool.Decides.{nat_tests}
 use Rattle.std.proofs.lemmas.List.{map-append}
 use Rattle.std.proofs.lemmas.List.Elements.{filter-append}
 use Rattle.std.proofs.lemmas.List.Sums.{sum_by-cons, sum_by-append}
 use Rattle.std.proofs.lemmas.Nat.Bits.{bit_at_cat_low, bit_at_cat_high, bit_at-lt, same_from_bits_below}
+use Rattle.std.proofs.Math.Bool.{and-true, and-false}
 use Rattle.rsc_alphabet.specs.Bytes.{from_to}
 use Rattle.rsc_alphabet.specs.BytesLaws.{from_to_none, from_to_first, from_to_parts}
 use Rattle.rsc_look.specs.declared.assertion.Look.{Look}
-use Rattle.rsc_look.specs.declared.assertion.Look.TheVariants.{Start, End, StartLF, EndLF, StartCRLF, EndCRLF, WordAscii, WordAsciiNegate, WordUnicode, WordUnicodeNegate, WordStartAscii, WordEndAscii, WordStartUnicode, WordEndUnicode, WordStartHalfAscii, WordEndHalfAscii, WordStartHalfUnicode, WordEndHalfUnicode}
+use Rattle.rsc_look.specs.declared.assertion.Look.TheVariants.{Start}
 use Rattle.rsc_look.specs.Looks.{repr_of, every_look}
 use Rattle.rsc_look.specs.LookSets.{look_cmp, Looks, bits_of}
 use Rattle.rsc_look.specs.LookSetLayout.{place_of, has_bit, looks_of, look_at, look_at-place_of}
@@ -30,23 +31,7 @@ look_of n = get_or (filter (λ l. nat_eq (repr_of l) n) every_look) 0 Start
 look_of-repr_of : (l : Look) → look_of (repr_of l) ≡ l
 unfolding look_of
 look_of-repr_of Start = refl
-look_of-repr_of End = refl
-look_of-repr_of StartLF = refl
-look_of-repr_of EndLF = refl
-look_of-repr_of StartCRLF = refl
-look_of-repr_of EndCRLF = refl
-look_of-repr_of WordAscii = refl
-look_of-repr_of WordAsciiNegate = refl
-look_of-repr_of WordUnicode = refl
-look_of-repr_of WordUnicodeNegate = refl
-look_of-repr_of WordStartAscii = refl
-look_of-repr_of WordEndAscii = refl
-look_of-repr_of WordStartUnicode = refl
-look_of-repr_of WordEndUnicode = refl
-look_of-repr_of WordStartHalfAscii = refl
-look_of-repr_of WordEndHalfAscii = refl
-look_of-repr_of WordStartHalfUnicode = refl
-look_of-repr_of WordEndHalfUnicode = refl
+look_of-repr_of _ = refl
 
 pub repr_of-injective : (l m : Look) → repr_of l ≡ repr_of m → l ≡ m
 repr_of-injective l m e = sym (look_of-repr_of l) ∙ ap look_of e ∙ look_of-repr_of m
@@ -60,80 +45,35 @@ look_cmp-IsAntisymmetric l m e = repr_of-injective l m (nat_cmp-IsAntisymmetric 
 pub same_looks : (s t : Looks) → ((l : Look) → sets.contains s l ≡ sets.contains t l) → s ≡ t
 same_looks = same_set look_cmp_total look_cmp-IsAntisymmetric
 
-tied : (l m : Look) → eq_by_cmp look_cmp l m ≡ nat_eq (repr_of l) (repr_of m)
+pub tied : (l m : Look) → eq_by_cmp look_cmp l m ≡ nat_eq (repr_of l) (repr_of m)
 tied l m = unsigned_tied (repr_of l) (repr_of m)
 
 -- ---- the assertion of a bit
 
-passes : (ℕ → Bool) → ℕ → Bool
-passes test zero = true
-passes test (suc n) = test n && passes test n
-
-passes_at : (test : ℕ → Bool) (n k : ℕ) → passes test n ≡ true → k < n → test k ≡ true
-unfolding passes
-passes_at test zero k h l = absurd (omega arith)
-passes_at test (suc n) k h l = step (test n) refl h (λ more. passes_at test n k more)
-  where
-    step : (v : Bool) → test n ≡ v → (v && passes test n) ≡ true → (passes test n ≡ true → k < n → test k ≡ true) → test k ≡ true
-    step true e h below = ⊎_elim (λ (q : k ≡ n). ap test q ∙ e) (λ (q : k ≢ n). below h (omega arith)) (cases_eq k n)
-    step false e h below = absurd (true≢false (sym h))
-
-places : passes (λ k. nat_eq (place_of (look_at k)) k) 18 ≡ true
-unfolding passes look_at
+places : agree_below (λ k. nat_eq (place_of (look_at k)) k) (λ k. true) 18 ≡ true
+unfolding look_at
 places = refl
 
-numbers : passes (λ k. nat_eq (repr_of (look_at k)) (2 ^ k)) 18 ≡ true
-unfolding passes look_at
+numbers : agree_below (λ k. nat_eq (repr_of (look_at k)) (2 ^ k)) (λ k. true) 18 ≡ true
+unfolding look_at
 numbers = refl
 
 from_test : (a b : ℕ) → nat_eq a b ≡ true → a ≡ b
 from_test a b e = grind (arith, nat_tests)
 
 pub place_of-look_at : (k : ℕ) → k < 18 → place_of (look_at k) ≡ k
-place_of-look_at k l = from_test _ _ (passes_at (λ j. nat_eq (place_of (look_at j)) j) 18 k places l)
+place_of-look_at k l = from_test _ _ (agree_below_at (λ j. nat_eq (place_of (look_at j)) j) (λ j. true) 18 k places l)
 
 pub repr_of-look_at : (k : ℕ) → k < 18 → repr_of (look_at k) ≡ 2 ^ k
-repr_of-look_at k l = from_test _ _ (passes_at (λ j. nat_eq (repr_of (look_at j)) (2 ^ j)) 18 k numbers l)
+repr_of-look_at k l = from_test _ _ (agree_below_at (λ j. nat_eq (repr_of (look_at j)) (2 ^ j)) (λ j. true) 18 k numbers l)
 
 pub place_of-lt : (l : Look) → place_of l < 18
 place_of-lt Start = omega arith
-place_of-lt End = omega arith
-place_of-lt StartLF = omega arith
-place_of-lt EndLF = omega arith
-place_of-lt StartCRLF = omega arith
-place_of-lt EndCRLF = omega arith
-place_of-lt WordAscii = omega arith
-place_of-lt WordAsciiNegate = omega arith
-place_of-lt WordUnicode = omega arith
-place_of-lt WordUnicodeNegate = omega arith
-place_of-lt WordStartAscii = omega arith
-place_of-lt WordEndAscii = omega arith
-place_of-lt WordStartUnicode = omega arith
-place_of-lt WordEndUnicode = omega arith
-place_of-lt WordStartHalfAscii = omega arith
-place_of-lt WordEndHalfAscii = omega arith
-place_of-lt WordStartHalfUnicode = omega arith
-place_of-lt WordEndHalfUnicode = omega arith
+place_of-lt _ = omega arith
 
 pub repr_of-pow : (l : Look) → repr_of l ≡ 2 ^ place_of l
 repr_of-pow Start = refl
-repr_of-pow End = refl
-repr_of-pow StartLF = refl
-repr_of-pow EndLF = refl
-repr_of-pow StartCRLF = refl
-repr_of-pow EndCRLF = refl
-repr_of-pow WordAscii = refl
-repr_of-pow WordAsciiNegate = refl
-repr_of-pow WordUnicode = refl
-repr_of-pow WordUnicodeNegate = refl
-repr_of-pow WordStartAscii = refl
-repr_of-pow WordEndAscii = refl
-repr_of-pow WordStartUnicode = refl
-repr_of-pow WordEndUnicode = refl
-repr_of-pow WordStartHalfAscii = refl
-repr_of-pow WordEndHalfAscii = refl
-repr_of-pow WordStartHalfUnicode = refl
-repr_of-pow WordEndHalfUnicode = refl
+repr_of-pow _ = refl
 
 pub every_look-is : every_look ≡ map look_at (from_to 0 18)
 unfolding look_at from_to
@@ -156,23 +96,7 @@ any-and false t (x ∷ xs) = any-and false t xs
 pub every_look_has : (l : Look) → list_any (λ m. nat_eq (repr_of l) (repr_of m)) every_look ≡ true
 unfolding every_look
 every_look_has Start = refl
-every_look_has End = refl
-every_look_has StartLF = refl
-every_look_has EndLF = refl
-every_look_has StartCRLF = refl
-every_look_has EndCRLF = refl
-every_look_has WordAscii = refl
-every_look_has WordAsciiNegate = refl
-every_look_has WordUnicode = refl
-every_look_has WordUnicodeNegate = refl
-every_look_has WordStartAscii = refl
-every_look_has WordEndAscii = refl
-every_look_has WordStartUnicode = refl
-every_look_has WordEndUnicode = refl
-every_look_has WordStartHalfAscii = refl
-every_look_has WordEndHalfAscii = refl
-every_look_has WordStartHalfUnicode = refl
-every_look_has WordEndHalfUnicode = refl
+every_look_has _ = refl
 
 pub contains-filtered : (p : Look → Bool) (l : Look) → sets.contains (sets.from_list {R = look_cmp} (filter p every_look)) l ≡ p l
 contains-filtered p l =
@@ -180,19 +104,11 @@ contains-filtered p l =
     ∙ any-filter (eq_by_cmp look_cmp l) p every_look
     ∙ ap (λ (t : Look → Bool). list_any t every_look) (λ i m. alike m i)
     ∙ any-and (p l) (λ m. nat_eq (repr_of l) (repr_of m)) every_look
-    ∙ ap (λ b. p l && b) (every_look_has l) ∙ and_true (p l)
+    ∙ ap (λ b. p l && b) (every_look_has l) ∙ and-true (p l)
   where
-    and_true : (b : Bool) → (b && true) ≡ b
-    and_true true = refl
-    and_true false = refl
-
-    and_none : (b : Bool) → (b && false) ≡ false
-    and_none true = refl
-    and_none false = refl
-
     at_tie : (m : Look) (v : Bool) → nat_eq (repr_of l) (repr_of m) ≡ v → (p m && v) ≡ (p l && v)
     at_tie m true e = ap (λ x. p x && true) (sym (repr_of-injective l m (from_test _ _ e)))
-    at_tie m false e = and_none (p m) ∙ sym (and_none (p l))
+    at_tie m false e = and-false (p m) ∙ sym (and-false (p l))
 
     alike : (m : Look) → (p m && eq_by_cmp look_cmp l m) ≡ (p l && nat_eq (repr_of l) (repr_of m))
     alike m = ap (λ v. p m && v) (tied l m) ∙ at_tie m (nat_eq (repr_of l) (repr_of m)) refl

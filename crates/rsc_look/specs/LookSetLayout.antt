@@ -44,23 +44,7 @@ look_at k = slice_index_or every_look k Start
 pub look_at-place_of : (l : Look) → look_at (place_of l) ≡ l
 unfolding look_at
 look_at-place_of Start = refl
-look_at-place_of End = refl
-look_at-place_of StartLF = refl
-look_at-place_of EndLF = refl
-look_at-place_of StartCRLF = refl
-look_at-place_of EndCRLF = refl
-look_at-place_of WordAscii = refl
-look_at-place_of WordAsciiNegate = refl
-look_at-place_of WordUnicode = refl
-look_at-place_of WordUnicodeNegate = refl
-look_at-place_of WordStartAscii = refl
-look_at-place_of WordEndAscii = refl
-look_at-place_of WordStartUnicode = refl
-look_at-place_of WordEndUnicode = refl
-look_at-place_of WordStartHalfAscii = refl
-look_at-place_of WordEndHalfAscii = refl
-look_at-place_of WordStartHalfUnicode = refl
-look_at-place_of WordEndHalfUnicode = refl
+look_at-place_of _ = refl
 
 -- an assertion is stored as its bit
 abbrev pub look_code : Coded Look
