@@ -7,6 +7,7 @@ use Rattle.std.specs.Ordering.{nat_cmp}
 use Rattle.std.specs.FinSet.{contains-empty, same_set, nat_cmp-IsAntisymmetric}
 use Rattle.std.proofs.lemmas.Bool.{cases_lt, cases_Bool, cases_eq, eq-eqb, ne_eqb, le-leb, true≢false, leb-true, and_parts}
 use Rattle.std.proofs.lemmas.Bool.Decides.{nat_tests}
+use Rattle.std.proofs.Math.Bool.{or-false, or_assoc}
 use Rattle.rsc_alphabet.specs.ByteSets.{Numbers, ends_run, runs}
 use Rattle.rsc_alphabet.specs.Partitions.{edges_of, edges_of_each, changes_at}
 use Rattle.rsc_alphabet.proofs.PartitionsLemmas.{contains-edges_of, contains-joined}
@@ -168,10 +169,6 @@ ordered_runs s = ordered_from s 256 0 (omega arith) (rw (eq-eqb 0 0 refl) refl)
 pub edges_step : (s : Numbers) (r : ℕ × ℕ) (rest all : List (ℕ × ℕ)) (k : ℕ) → all ≡ r ∷ rest →
     (sets.contains (sets.union s (edges_of r)) k || list_any (is_edge k) rest) ≡ (sets.contains s k || list_any (is_edge k) all)
 edges_step s r rest all k is = rw (contains-joined s (edges_of r) k, is) (or_assoc (sets.contains s k) (is_edge k r) (list_any (is_edge k) rest))
-  where
-    or_assoc : (x y z : Bool) → ((x || y) || z) ≡ (x || (y || z))
-    or_assoc true y z = refl
-    or_assoc false y z = refl
 
 pub first_ordered : (s e : ℕ) (rest all : List (ℕ × ℕ)) → all ≡ (s, e) ∷ rest → list_all is_ordered all ≡ true → s ≤ e
 first_ordered s e rest all is ordered = leb-true s e (and_parts (nat_le s e) (list_all is_ordered rest) (rw is at ordered)).0
@@ -183,13 +180,9 @@ pub edges_done : (s old new : Numbers) (rest : List (ℕ × ℕ)) → rest ≡ [
     new ≡ sets.union old (edges_of_each (runs s))
 edges_done s old new rest none each =
     same_set nat_cmp_total nat_cmp-IsAntisymmetric _ _ (λ k.
-    sym (or_false (sets.contains new k)) ∙ (rw none at (each k))
+    sym (or-false (sets.contains new k)) ∙ (rw none at (each k))
     ∙ ap (λ b. sets.contains old k || b) (sym (contains-edges_of_each (runs s) k))
     ∙ sym (contains-joined old (edges_of_each (runs s)) k))
-  where
-    or_false : (x : Bool) → (x || false) ≡ x
-    or_false true = refl
-    or_false false = refl
 
 -- what is a boundary after those of a set's runs were added
 pub c-runs : (old s : Numbers) (k : ℕ) → sets.contains (sets.union old (edges_of_each (runs s))) k ≡ (sets.contains old k || changes_at s k)

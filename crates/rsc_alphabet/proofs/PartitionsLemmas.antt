@@ -9,8 +9,9 @@ use Rattle.std.proofs.lemmas.Bool.{ne_eqb, cases_lt, false_from_ne_true}
 use Rattle.std.proofs.lemmas.Bool.Decides.{nat_tests}
 use Rattle.std.proofs.lemmas.List.Sums.{count_by-le-length, sum_by-append}
 use Rattle.std.proofs.lemmas.List.FromFn.{fill_by_all, length-map-range_with_len, get_or-map-range_with_len}
+use Rattle.std.proofs.Math.Bool.{or-false, or_assoc}
 use Rattle.rsc_alphabet.specs.Bytes.{from_to}
-use Rattle.rsc_alphabet.specs.BytesLaws.{from_to_none, from_to_first, from_to_parts, length-from_to}
+use Rattle.rsc_alphabet.specs.BytesLaws.{from_to_none, from_to_last, length-from_to}
 use Rattle.rsc_alphabet.specs.ByteSets.{Numbers}
 use Rattle.rsc_alphabet.specs.ByteSetLayout.{is_one}
 use Rattle.rsc_alphabet.specs.Partitions.{Together, class_of, class_map, edges_of}
@@ -26,20 +27,26 @@ contains-removed s k q = contains-remove nat_cmp_total s k q ∙ ap (λ b. not b
 pub contains-joined : (s t : Numbers) (q : ℕ) → sets.contains (sets.union s t) q ≡ (sets.contains s q || sets.contains t q)
 contains-joined s t q = contains-union nat_cmp_total s t q
 
--- ---- the boundaries of a range
+pub union_none : (s : Numbers) → sets.union s sets.empty ≡ s
+union_none s = same_set nat_cmp_total nat_cmp-IsAntisymmetric _ _ (λ q.
+    contains-joined s sets.empty q ∙ ap (λ b. sets.contains s q || b) (contains-empty nat_cmp q) ∙ or-false (sets.contains s q))
 
-or_false : (b : Bool) → (b || false) ≡ b
-or_false true = refl
-or_false false = refl
+pub union_assoc : (s t u : Numbers) → sets.union (sets.union s t) u ≡ sets.union s (sets.union t u)
+union_assoc s t u = same_set nat_cmp_total nat_cmp-IsAntisymmetric _ _ (λ q.
+    contains-joined (sets.union s t) u q ∙ ap (λ b. b || sets.contains u q) (contains-joined s t q)
+    ∙ or_assoc (sets.contains s q) (sets.contains t q) (sets.contains u q)
+    ∙ sym (contains-joined s (sets.union t u) q ∙ ap (λ b. sets.contains s q || b) (contains-joined t u q)))
+
+-- ---- the boundaries of a range
 
 pub contains-edges_of : (s e q : ℕ) → sets.contains (edges_of (s, e)) q ≡ ((nat_lt 0 s && nat_eq (s - 1) q) || (nat_lt e 255 && nat_eq e q))
 contains-edges_of s e q =
     contains-from_list_nat _ q ∙ by_cases (nat_lt 0 s) (nat_lt e 255)
   where
     by_cases : (u v : Bool) → list_any (λ y. nat_eq y q) (cond u ((s - 1) ∷ []) [] ++ cond v (e ∷ []) []) ≡ ((u && nat_eq (s - 1) q) || (v && nat_eq e q))
-    by_cases true true = ap (λ b. nat_eq (s - 1) q || b) (or_false (nat_eq e q))
+    by_cases true true = ap (λ b. nat_eq (s - 1) q || b) (or-false (nat_eq e q))
     by_cases true false = refl
-    by_cases false true = or_false (nat_eq e q)
+    by_cases false true = or-false (nat_eq e q)
     by_cases false false = refl
 
 -- the boundary before the first byte, and the one after the last
@@ -74,7 +81,7 @@ edges_at_zero ends s e low high = same_set nat_cmp_total nat_cmp-IsAntisymmetric
 
 pub class_of_more : (p : ℕ → Bool) (b : ℕ) → class_of p (b + 1) ≡ class_of p b + cond (p b) 1 0
 class_of_more p b =
-    ap (count_by p) (from_to_parts 0 b (b + 1) (omega arith) (omega arith) ∙ ap (λ t. from_to 0 b ++ t) (from_to_first b (b + 1) (omega arith) ∙ ap (λ t. b ∷ t) (from_to_none (b + 1) (b + 1) (omega arith))))
+    ap (count_by p) (from_to_last 0 b (omega arith))
     ∙ sum_by-append _ (from_to 0 b) (b ∷ []) ∙ ap (λ x. class_of p b + x) one
   where
     one : count_by p (b ∷ []) ≡ cond (p b) 1 0

@@ -6,30 +6,18 @@ use Rattle.std.proofs.lemmas.Bool.{cases_lt, eq-eqb, eqb-true}
 use Rattle.std.proofs.lemmas.Bool.Decides.{nat_tests}
 use Rattle.std.proofs.lemmas.List.{take_more}
 use Rattle.std.proofs.lemmas.List.Folds.{list_all-append, list_any-append}
+use Rattle.std.proofs.Math.Bool.{and-true, or-false}
 use Rattle.rsc_alphabet.specs.Bytes.{from_to}
-use Rattle.rsc_alphabet.specs.BytesLaws.{from_to_none, from_to_first, from_to_parts}
+use Rattle.rsc_alphabet.specs.BytesLaws.{from_to_none, from_to_last}
 use Rattle.rsc_alphabet.specs.Partitions.{class_of, class_map, edges_of}
 use Rattle.rsc_alphabet.specs.Ranges.{holds, treats_alike, are_alike, separates}
 use Rattle.rsc_alphabet.proofs.PartitionsLemmas.{class_of_more, class_of-rises, contains-edges_of, slice_index-class_map}
 
-from_to_last : (low high : ℕ) → low ≤ high → from_to low (high + 1) ≡ from_to low high ++ high ∷ []
-from_to_last low high h =
-    from_to_parts low high (high + 1) h (omega arith)
-    ∙ ap (λ t. from_to low high ++ t) (from_to_first high (high + 1) (omega arith) ∙ ap (λ t. high ∷ t) (from_to_none (high + 1) (high + 1) (omega arith)))
-
-and_true : (b : Bool) → (b && true) ≡ b
-and_true true = refl
-and_true false = refl
-
-or_false : (b : Bool) → (b || false) ≡ b
-or_false true = refl
-or_false false = refl
-
 all_last : (h : ℕ → Bool) (low high : ℕ) → low ≤ high → list_all h (from_to low (high + 1)) ≡ (list_all h (from_to low high) && h high)
-all_last h low high l = ap (list_all h) (from_to_last low high l) ∙ list_all-append h (from_to low high) (high ∷ []) ∙ ap (λ b. list_all h (from_to low high) && b) (and_true (h high))
+all_last h low high l = ap (list_all h) (from_to_last low high l) ∙ list_all-append h (from_to low high) (high ∷ []) ∙ ap (λ b. list_all h (from_to low high) && b) (and-true (h high))
 
 any_last : (h : ℕ → Bool) (low high : ℕ) → low ≤ high → list_any h (from_to low (high + 1)) ≡ (list_any h (from_to low high) || h high)
-any_last h low high l = ap (list_any h) (from_to_last low high l) ∙ list_any-append h (from_to low high) (high ∷ []) ∙ ap (λ b. list_any h (from_to low high) || b) (or_false (h high))
+any_last h low high l = ap (list_any h) (from_to_last low high l) ∙ list_any-append h (from_to low high) (high ∷ []) ∙ ap (λ b. list_any h (from_to low high) || b) (or-false (h high))
 
 -- what `treats_alike` says of two bytes in order
 alike_up : (ℕ → Bool) → ℕ → ℕ → Bool
@@ -114,7 +102,7 @@ are_alike_up ranges b (suc n) =
     ∙ step (class_of (separates ranges) (b + n)) (class_of (separates ranges) b) (are_alike ranges (b + n) (b + n + 1)) (class_of-rises (separates ranges) b n))
   where
     step : (x y : ℕ) (t : Bool) → y ≤ x → (nat_eq x y && t) ≡ nat_eq (x + cond (not t) 1 0) y
-    step x y true l = let e : x + 0 ≡ x = omega arith in rw e (and_true (nat_eq x y))
+    step x y true l = let e : x + 0 ≡ x = omega arith in rw e (and-true (nat_eq x y))
     step x y false l = grind (arith, nat_tests)
 
 -- bytes are alike if they have one class

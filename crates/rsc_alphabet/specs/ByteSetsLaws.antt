@@ -5,32 +5,23 @@ use Rattle.std.specs.List.{list_any}
 use Rattle.std.specs.Cmp.{nat_cmp_total}
 use Rattle.std.specs.FinSet as sets
 use Rattle.std.specs.FinSet.{contains-from_list_nat, same_set, nat_cmp-IsAntisymmetric}
-use Rattle.std.proofs.lemmas.Bool.{cases_lt, cases_eq, cases_Bool, eq-eqb, ne_eqb, lt-ltb, le-ltb, both_ways}
+use Rattle.std.proofs.lemmas.Bool.{cases_lt, cases_eq, cases_Bool, eq-eqb, ne_eqb, lt-ltb, le-ltb, both_ways, eqb-true}
 use Rattle.std.proofs.lemmas.Nat.Bits.{bit_at-lt, bit_at_above, bit_at_cat_low, bit_at_cat_high, same_from_bits_below}
 use Rattle.std.proofs.Math.Nat.{pow-suc}
+use Rattle.std.proofs.Math.Bool.{and-true}
+use Rattle.std.proofs.lemmas.Map.Views.{any-filter_same}
 use Rattle.rsc_alphabet.specs.Bytes.{from_to, bytes}
 use Rattle.rsc_alphabet.specs.ByteSets.{Numbers}
 use Rattle.rsc_alphabet.specs.ByteSetLayout.{is_one, is_masked, masked, mask_of}
 use Rattle.rsc_alphabet.specs.BytesLaws.{any_from_to, none_from_to}
 
-any-filter : {X : Type 0} (t p : X → Bool) (xs : List X) → list_any t (filter p xs) ≡ list_any (λ y. p y && t y) xs
-any-filter t p [] = refl
-any-filter {X} t p (x ∷ xs) =
-    let P : Bool → Type 0 = λ v. list_any t (cond v (x ∷ filter p xs) (filter p xs)) ≡ ((v && t x) || list_any (λ y. p y && t y) xs) in
-    elim (p x) as P [ true ↦ ap (λ b. t x || b) (any-filter t p xs) | false ↦ any-filter t p xs ]
-
 -- the numbers of a range at which p gives true have q among them exactly if p gives true at q
 pub any_kept : (p : ℕ → Bool) (high q : ℕ) → (high ≤ q → p q ≡ false) → list_any (λ y. nat_eq y q) (filter p (from_to 0 high)) ≡ p q
 any_kept p high q past =
-    any-filter (λ y. nat_eq y q) p (from_to 0 high) ∙ ⊎_elim
-    (λ (yes : p q ≡ true). let inside : q < high = ⊎_elim (λ (h : q < high). h) (λ (h : high ≤ q). absurd (both_ways _ (past h) yes)) (cases_lt q high) in
-    any_from_to (λ y. p y && nat_eq y q) 0 high q (omega arith) inside (rw (yes, eq-eqb q q refl)) ∙ sym yes)
-    (λ (no : p q ≡ false). none_from_to (λ y. p y && nat_eq y q) 0 high (λ k l h. ⊎_elim (λ (e : k ≡ q). rw (e, no)) (λ (ne : k ≢ q). rw (ne_eqb k q ne) (both_false (p k))) (cases_eq k q)) ∙ sym no)
-    (cases_Bool (p q))
-  where
-    both_false : (b : Bool) → (b && false) ≡ false
-    both_false true = refl
-    both_false false = refl
+    any-filter_same (λ y. nat_eq y q) p (p q) (λ y same. ap p (eqb-true y q same)) (from_to 0 high) ∙ ⊎_elim
+    (λ (inside : q < high). ap (λ b. p q && b) (any_from_to (λ y. nat_eq y q) 0 high q (omega arith) inside (eq-eqb q q refl)) ∙ and-true (p q))
+    (λ (h : high ≤ q). rw (past h) refl)
+    (cases_lt q high)
 
 -- ---- the bytes whose bit is 1
 
@@ -53,7 +44,7 @@ masked_is low high fits s same = same_set nat_cmp_total nat_cmp-IsAntisymmetric 
 
 -- ---- from a set back to its numbers
 
-mask_of-lt : (p : ℕ → Bool) (n : ℕ) → mask_of p n < 2 ^ n
+pub mask_of-lt : (p : ℕ → Bool) (n : ℕ) → mask_of p n < 2 ^ n
 unfolding mask_of
 mask_of-lt p zero = omega arith
 mask_of-lt p (suc n) = rw (pow-suc 2 n) (fits (cond (p n) 1 0) (2 ^ n) (mask_of p n) (digit-lt (p n)) (mask_of-lt p n))
@@ -67,7 +58,7 @@ mask_of-lt p (suc n) = rw (pow-suc 2 n) (fits (cond (p n) 1 0) (2 ^ n) (mask_of 
     fits (suc zero) w r l h = omega arith
     fits (suc (suc d)) w r l h = absurd (omega arith)
 
-is_one-mask_of : (p : ℕ → Bool) (n i : ℕ) → i < n → is_one (mask_of p n) i ≡ p i
+pub is_one-mask_of : (p : ℕ → Bool) (n i : ℕ) → i < n → is_one (mask_of p n) i ≡ p i
 unfolding mask_of
 is_one-mask_of p zero i l = absurd (omega arith)
 is_one-mask_of p (suc n) i l =
@@ -91,7 +82,7 @@ same_digit (suc (suc x)) y lx ly e = absurd (omega arith)
 same_digit x (suc (suc y)) lx ly e = absurd (omega arith)
 
 -- a number of n bits is made of its bits
-mask_of_bits : (mask n : ℕ) (p : ℕ → Bool) → mask < 2 ^ n → ((i : ℕ) → i < n → p i ≡ is_one mask i) → mask_of p n ≡ mask
+pub mask_of_bits : (mask n : ℕ) (p : ℕ → Bool) → mask < 2 ^ n → ((i : ℕ) → i < n → p i ≡ is_one mask i) → mask_of p n ≡ mask
 mask_of_bits mask n p fits same =
     same_from_bits_below n (mask_of p n) mask (mask_of-lt p n) fits (λ i l.
     same_digit (bit_at (mask_of p n) i) (bit_at mask i) (bit_at-lt _ i) (bit_at-lt mask i) (is_one-mask_of p n i l ∙ same i l))

@@ -5,7 +5,7 @@ use Rattle.std.specs.List.{list_any}
 use Rattle.std.specs.Int.{bit_at}
 use Rattle.std.specs.FinSet as sets
 use Rattle.std.specs.FinSet.{contains-empty, contains-from_list, contains-insert, contains-remove, contains-union, contains-intersection, contains-difference}
-use Rattle.std.proofs.lemmas.Bool.{cases_eq, eq-eqb, ne_eqb}
+use Rattle.std.proofs.lemmas.Bool.{cases_eq, eq-eqb, ne_eqb, eqb-true}
 use Rattle.std.proofs.lemmas.Bool.Decides.{nat_tests}
 use Rattle.std.proofs.lemmas.List.{get_or-map, length-map}
 use Rattle.std.proofs.lemmas.List.Sums.{length-filter}
@@ -13,6 +13,7 @@ use Rattle.std.proofs.lemmas.Nat.{or_lt}
 use Rattle.std.proofs.lemmas.Nat.Bits.{and_pow, bit_at_and, bit_at_or, bit_at_not, bit_at-zero, bit_at-lt, bit_at-pow_same, bit_at-pow_other, same_from_bits_below}
 use Rattle.std.proofs.lemmas.Simd.{mask_l-lt, bit_mask_l, ones-mask_l}
 use Rattle.std.proofs.Math.Bool.{or_comm, and_comm}
+use Rattle.std.proofs.lemmas.Option.{same_Some, none-some}
 use lib.Lanes.{mask_l}
 use Rattle.rsc_look.specs.declared.assertion.Look.{Look}
 use Rattle.rsc_look.specs.declared.assertion.Look.TheVariants.{Start}
@@ -139,11 +140,8 @@ none_by_bits n h = (
 
 pub same_by_bits : (a b : ℕ) → a < 2 ^ 18 → b < 2 ^ 18 → nat_eq a b ≡ same_members (looks_of a) (looks_of b)
 same_by_bits a b la lb = same_bools (nat_eq a b) (same_members (looks_of a) (looks_of b))
-    (λ t. same_to look_cmp_total look_cmp-IsAntisymmetric (looks_of a) (looks_of b) (ap looks_of (test a b t)))
+    (λ t. same_to look_cmp_total look_cmp-IsAntisymmetric (looks_of a) (looks_of b) (ap looks_of (eqb-true a b t)))
     (λ t. eq-eqb a b (sym (bits_of-looks_of a la) ∙ ap bits_of (same_from look_cmp_total look_cmp-IsAntisymmetric (looks_of a) (looks_of b) t) ∙ bits_of-looks_of b lb))
-  where
-    test : (a b : ℕ) → nat_eq a b ≡ true → a ≡ b
-    test a b t = grind (arith, nat_tests)
 
 eighteen : length every_look ≡ 18
 unfolding every_look
@@ -177,23 +175,9 @@ count_by_bits n h =
 
 pub some_exact : (n : ℕ) (s : Looks) → n < 2 ^ 18 → (Some (looks_of n) ≡ Some s) ↔ (bits_of s ≡ n)
 some_exact n s h = (
-  (λ e. ap bits_of (sym (some_same (looks_of n) s e)) ∙ bits_of-looks_of n h),
+  (λ e. ap bits_of (sym (same_Some (looks_of n) s e)) ∙ bits_of-looks_of n h),
   (λ e. ap Some (ap looks_of (sym e) ∙ looks_of-bits_of s)),
 )
-  where
-    inside : Looks → Option Looks → Looks
-    inside d None = d
-    inside d (Some s) = s
-
-    some_same : (s t : Looks) → Some s ≡ Some t → s ≡ t
-    some_same s t e = ap (inside s) e
 
 pub none_exact : (n : ℕ) (s : Looks) → 2 ^ 18 ≤ n → (None ≡ Some s) ↔ (bits_of s ≡ n)
-none_exact n s h = ((λ e. absurd (none_some s e)), (λ e. let l = bits_of-lt s in absurd (omega arith)))
-  where
-    is_none : Option Looks → Bool
-    is_none None = true
-    is_none (Some s) = false
-
-    none_some : (s : Looks) → None ≡ Some s → ⊥
-    none_some s e = true≢false (ap is_none e)
+none_exact n s h = ((λ e. absurd (none-some s e)), (λ e. let l = bits_of-lt s in absurd (omega arith)))

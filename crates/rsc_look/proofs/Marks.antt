@@ -78,15 +78,3 @@ pub classes_whole : (looks : List Look) (t n : ℕ) (s : Numbers) (m : List ℕ)
 classes_whole looks t n s m l has is =
     is ∙ class_map_same (sets.contains s) (sets.contains (boundaries_of_each looks t)) (λ b lt.
     has b ∙ ap (λ (x : List Look). marks_of x t b) (take_all n looks l) ∙ sym (contains-boundaries_of_each looks t b))
-
--- ---- what each arm adds
-
-pub adds_none : (s : Numbers) → s ≡ sets.union s sets.empty
-adds_none s = same_set nat_cmp_total nat_cmp-IsAntisymmetric s (sets.union s sets.empty) (λ b.
-    sym (or-false (sets.contains s b)) ∙ ap (λ x. sets.contains s b || x) (sym (contains-empty nat_cmp b)) ∙ sym (contains-joined s sets.empty b))
-
-pub adds_both : (s u v : Numbers) → sets.union (sets.union s u) v ≡ sets.union s (sets.union u v)
-adds_both s u v = same_set nat_cmp_total nat_cmp-IsAntisymmetric _ _ (λ b.
-    contains-joined (sets.union s u) v b ∙ ap (λ x. x || sets.contains v b) (contains-joined s u b)
-    ∙ or_assoc (sets.contains s b) (sets.contains u b) (sets.contains v b)
-    ∙ sym (contains-joined s (sets.union u v) b ∙ ap (λ x. sets.contains s b || x) (contains-joined u v b)))

@@ -19,7 +19,7 @@ use Rattle.rsc_look.proofs.BytesKept.{HasMarks}
 use Rattle.rsc_look.proofs.Needed.{place_of, place_of_le, Tells-mark}
 use Rattle.rsc_look.proofs.Coarsest.{kept_at_bytes, kept_at_characters, mark_is_needed}
 
-only : (l m : Look) → Contains (l ∷ []) m → l ≡ m
+pub only : (l m : Look) → Contains (l ∷ []) m → l ≡ m
 only l m (zero, p, e) = e
 only l m (suc k, p, e) = absurd (omega arith)
 
