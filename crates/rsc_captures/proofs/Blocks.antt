@@ -7,7 +7,7 @@ use Rattle.std.specs.Cmp.Lexicographic.{bytes_decides}
 use Rattle.std.specs.List.{Contains, insert, list_any}
 use Rattle.std.specs.List.Sorted.{IsSortedByKey, IsPartitionPoint, IsNonDecreasingBy}
 use Rattle.std.specs.Ordering.{ordering_index}
-use Rattle.std.proofs.lemmas.Bool.{cases_lt, cases_eq}
+use Rattle.std.proofs.lemmas.Bool.{cases_lt, cases_eq, false_from_ne_true}
 use Rattle.std.proofs.lemmas.Cmp.{tied_itself}
 use Rattle.std.specs.List.{drop-map}
 use Rattle.std.specs.Option.{option_copied}
@@ -25,7 +25,7 @@ use Rattle.rsc_captures.specs.Groups.{Groups, groups_in, has_name, is_repeat, Ar
 use Rattle.rsc_captures.specs.Names.{name_at, name_cmp}
 use Rattle.rsc_captures.specs.Checks.{AreApart, IsRepeatOf, IsTable}
 use Rattle.rsc_captures.proofs.Indexed.{has_name-is}
-use Rattle.rsc_captures.proofs.Ordered.{name_total, name_exact}
+use Rattle.rsc_captures.proofs.Ordered.{name_total, name_exact, repeat_pair, none_at_split}
 
 -- an element that is put between the lesser and the greater ones
 module _ {K : Type 0} {R : K → K → Ordering} (total : IsTotalOrder R) {X : Type 0} (key : X → K) (xs : List X) (i : ℕ) (y : X) (le : i ≤ length xs) where
@@ -64,13 +64,7 @@ module _ {groups : Groups} {block n : ℕ} (order : List ℕ) (table : IsTable o
 
   -- a name that the search doesn't find is that of no group before
   pub absent : (name : List ℕ) (i : ℕ) → Splits name i → (g : ℕ) → g < block → g < n → name_at groups g ≡ Some name → ⊥
-  absent name i splits g in_block before named =
-      let place : Contains order g = table.named g name in_block before named in
-      let equal : name_cmp (name_at groups (get_or order place.0 0)) (Some name) ≡ Equal = rw (get_or_default order place.0 0 g place.1, place.2, named) (tied_itself name_total (Some name)) in
-      ⊎_elim
-      (λ (lt : place.0 < i). let less : name_cmp (name_at groups (get_or order place.0 0)) (Some name) ≡ Less = (parts name i splits).0 place.0 0 (omega arith) lt in cc)
-      (λ (ge : i ≤ place.0). let greater : name_cmp (name_at groups (get_or order place.0 0)) (Some name) ≡ Greater = (parts name i splits).1 place.0 0 ge place.1 in cc)
-      (cases_lt place.0 i)
+  absent name i splits g in_block before named = none_at_split groups order name i g (parts name i splits) (table.named g name in_block before named) named
 
   -- one more group of the block
   pub table_insert : (name : List ℕ) (i : ℕ) → i ≤ length order → n < block → name_at groups n ≡ Some name → Splits name i → IsTable (insert order i n) groups block (n + 1)
@@ -118,19 +112,8 @@ repeat_of_pair groups g h name lt in_groups one other =
 
 -- names are distinct where no group has the name of any lesser one
 pub distinct_from_apart : (groups : Groups) (n end : ℕ) → end ≤ n → end ≤ length groups → AreApart groups n end → AreDistinctBelow groups end
-distinct_from_apart groups n end all within apart g lt = by_name (name_at groups g) refl
-  where
-    by_answer : (name : List ℕ) (b : Bool) → name_at groups g ≡ Some name → list_any (has_name name) (take g groups) ≡ b → b ≡ false
-    by_answer name false named e = refl
-    by_answer name true named e =
-        let found = Any-from_list_any (has_name name) (take g groups) e in
-        let before : found.0 < g = let le : length (take g groups) ≡ g = length-take-le g groups (omega arith) in let in_take : found.0 < length (take g groups) = found.2 in omega arith in
-        let is : name_at groups found.0 ≡ Some name = sym (get_or-take g groups found.0 None before) ∙ get_or_default (take g groups) found.0 None found.1 found.2 ∙ found.3 ∙ has_name-is name found.1 found.4 in
-        absurd (apart found.0 g name (omega (arith, before)) before lt is named)
-
-    by_name : (name : Option (List ℕ)) → name_at groups g ≡ name → is_repeat groups g ≡ false
-    by_name None e = rw e refl
-    by_name (Some name) e = rw e (by_answer name (list_any (has_name name) (take g groups)) e refl)
+distinct_from_apart groups n end all within apart g lt = false_from_ne_true (is_repeat groups g) (λ repeats.
+    let pair = repeat_pair groups g (omega arith) repeats in apart pair.g g pair.name (omega (arith, pair.lesser)) pair.lesser lt pair.one pair.other)
 
 -- a block that begins at `from`, and the blocks before it
 module _ (groups : Groups) (from end : ℕ) where

@@ -9,7 +9,7 @@ use Rattle.std.specs.Cmp.{IsTotalOrder, first_so, second_so}
 use Rattle.std.specs.Cmp.Lexicographic.{slice_cmp, options_total, bytes_decides}
 use Rattle.std.specs.List.{Contains, range_with_len}
 use Rattle.std.specs.List.Sorted.{IsBinarySearchResult, IsSortedByKey, IsPartitionPoint}
-use Rattle.std.proofs.lemmas.Bool.{cases_lt, cases_eq, lt-ltb, ltb-true}
+use Rattle.std.proofs.lemmas.Bool.{cases_lt, cases_eq, lt-ltb, ltb-true, false_from_ne_true}
 use Rattle.std.proofs.lemmas.Cmp.{nat_list_cmp_total, nat_cmp_total, then_total, on_total, tied_itself}
 use Rattle.std.proofs.lemmas.List.{get_or-take, get_or_default, length-take, length-take-le, map-id, length-append, append-nil, drop_all}
 use Rattle.std.proofs.lemmas.List.FromFn.{length-range_with_len, get_or-range_with_len, map-range_with_len_more}
@@ -96,6 +96,31 @@ same_from_both a b up down =
 has_name-itself : (name : List ℕ) → has_name name (Some name) ≡ true
 has_name-itself name = (bytes_decides name name).1 refl
 
+-- a group and a lesser one with its name
+pub record IsPair (groups : Groups) (h : ℕ) : Type 0 where
+  pub g : ℕ
+  pub name : List ℕ
+  pub lesser : g < h
+  pub one : name_at groups g ≡ Some name
+  pub other : name_at groups h ≡ Some name
+
+pub repeat_pair : (groups : Groups) (h : ℕ) → h < length groups → is_repeat groups h ≡ true → IsPair groups h
+repeat_pair groups h lt = by_name (name_at groups h) refl
+  where
+    by_name : (name : Option (List ℕ)) → name_at groups h ≡ name → contains_name (take h groups) name ≡ true → IsPair groups h
+    by_name None at_h found = absurd (true≢false (sym found))
+    by_name (Some name) at_h found =
+        let earlier = Any-from_list_any (has_name name) (take h groups) found in
+        let taken : length (take h groups) ≡ h = length-take-le h groups (omega arith) in
+        let before : earlier.0 < h = omega (arith, taken, earlier.2) in
+        record {
+          g = earlier.0;
+          name = name;
+          lesser = before;
+          one = sym (get_or-take h groups earlier.0 None before) ∙ get_or_default (take h groups) earlier.0 None earlier.1 earlier.2 ∙ earlier.3 ∙ has_name-is name earlier.1 earlier.4;
+          other = at_h;
+        }
+
 module _ (groups : Groups) where
   -- a group that has a lesser one's name
   repeats_from : (g h : ℕ) (name : List ℕ) → g < h → name_at groups g ≡ Some name → name_at groups h ≡ Some name → has_name_of groups g h ≡ true
@@ -154,26 +179,18 @@ module _ (groups : Groups) where
     -- a group whose name a lesser one has is behind a group that has its name
     repeat_place : HasGroups order (length groups) → (g : ℕ) → g < length groups → is_repeat groups g ≡ true
         → (k : ℕ) × (k + 1 < length order) × (get_or order (k + 1) 0 ≡ g) × (has_name_of groups (get_or order k 0) (get_or order (k + 1) 0) ≡ true)
-    repeat_place complete g lt repeats = by_name (name_at groups g) refl repeats
-      where
-        by_name : (name : Option (List ℕ)) → name_at groups g ≡ name → contains_name (take g groups) name ≡ true
-            → (k : ℕ) × (k + 1 < length order) × (get_or order (k + 1) 0 ≡ g) × (has_name_of groups (get_or order k 0) (get_or order (k + 1) 0) ≡ true)
-        by_name None at_g found = absurd (true≢false (sym found))
-        by_name (Some name) at_g found =
-            let earlier = Any-from_list_any (has_name name) (take g groups) found in
-            let taken : length (take g groups) ≡ g = length-take-le g groups (omega arith) in
-            let before : earlier.0 < g = omega (arith, taken, earlier.2) in
-            let at_h : name_at groups earlier.0 ≡ Some name = sym (get_or-take g groups earlier.0 None before) ∙ get_or_default (take g groups) earlier.0 None earlier.1 earlier.2 ∙ earlier.3 ∙ has_name-is name earlier.1 earlier.4 in
-            let i : Contains order earlier.0 = complete earlier.0 (omega (arith, before, lt)) in
-            let j : Contains order g = complete g lt in
-            let is_h : get_or order i.0 0 ≡ earlier.0 = get_or_default order i.0 0 earlier.0 i.1 ∙ i.2 in
-            let is_g : get_or order j.0 0 ≡ g = get_or_default order j.0 0 g j.1 ∙ j.2 in
-            let named_i : name_at groups (get_or order i.0 0) ≡ Some name = rw is_h at_h in
-            let named_j : name_at groups (get_or order j.0 0) ≡ Some name = rw is_g at_g in
-            let less : get_or order i.0 0 < get_or order j.0 0 = omega (arith, is_h, is_g, before) in
-            let first : i.0 < j.0 = ⊎_elim (λ (lt : i.0 < j.0). lt) (λ (ge : j.0 ≤ i.0). absurd (let back : get_or order j.0 0 ≤ get_or order i.0 0 = groups_rise j.0 i.0 ge i.1 (named_i ∙ sym named_j) in omega (arith, back, less))) (cases_lt i.0 j.0) in
-            let place = neighbour i.0 j.0 name first j.1 named_i named_j less in
-            (place.0, place.1, place.2 ∙ is_g, place.3)
+    repeat_place complete g lt repeats =
+        let pair = repeat_pair groups g lt repeats in
+        let i : Contains order pair.g = complete pair.g (omega (arith, pair.lesser, lt)) in
+        let j : Contains order g = complete g lt in
+        let is_h : get_or order i.0 0 ≡ pair.g = get_or_default order i.0 0 pair.g i.1 ∙ i.2 in
+        let is_g : get_or order j.0 0 ≡ g = get_or_default order j.0 0 g j.1 ∙ j.2 in
+        let named_i : name_at groups (get_or order i.0 0) ≡ Some pair.name = rw is_h pair.one in
+        let named_j : name_at groups (get_or order j.0 0) ≡ Some pair.name = rw is_g pair.other in
+        let less : get_or order i.0 0 < get_or order j.0 0 = omega (arith, is_h, is_g, pair.lesser) in
+        let first : i.0 < j.0 = ⊎_elim (λ (lt : i.0 < j.0). lt) (λ (ge : j.0 ≤ i.0). absurd (let back : get_or order j.0 0 ≤ get_or order i.0 0 = groups_rise j.0 i.0 ge i.1 (named_i ∙ sym named_j) in omega (arith, back, less))) (cases_lt i.0 j.0) in
+        let place = neighbour i.0 j.0 pair.name first j.1 named_i named_j less in
+        (place.0, place.1, place.2 ∙ is_g, place.3)
 
     -- one more neighbour
     pub above_more : (i least less : ℕ) → 0 < i → ((k : ℕ) → k + 1 < i → has_name_of groups (get_or order k 0) (get_or order (k + 1) 0) ≡ true → least ≤ get_or order (k + 1) 0) → less ≤ least
@@ -188,11 +205,19 @@ module _ (groups : Groups) where
     -- where no group below a bound is behind one that has its name, none repeats a name
     pub distinct_from_order : HasGroups order (length groups) → (n : ℕ) → n ≤ length groups
         → ((k : ℕ) → k + 1 < length order → has_name_of groups (get_or order k 0) (get_or order (k + 1) 0) ≡ true → n ≤ get_or order (k + 1) 0) → AreDistinctBelow groups n
-    distinct_from_order complete n le above g lt =
-        elim (is_repeat groups g) as (λ b. is_repeat groups g ≡ b → b ≡ false) [
-          | true ↦ λ repeats. let place = repeat_place complete g (omega arith) repeats in let at_least : n ≤ get_or order (place.0 + 1) 0 = above place.0 place.1 place.3 in absurd (omega (arith, at_least, place.2, lt))
-          | false ↦ λ _. refl
-        ] refl
+    distinct_from_order complete n le above g lt = false_from_ne_true (is_repeat groups g) (λ repeats.
+        let place = repeat_place complete g (omega arith) repeats in
+        let at_least : n ≤ get_or order (place.0 + 1) 0 = above place.0 place.1 place.3 in omega (arith, at_least, place.2, lt))
+
+  -- where the groups of an order are split into those whose names are less and those whose names are greater, none has the name
+  pub none_at_split : (order : List ℕ) (name : List ℕ) (k g : ℕ) → IsPartitionPoint (λ h. name_cmp (name_at groups h) (Some name) ≡ Less) (λ h. name_cmp (name_at groups h) (Some name) ≡ Greater) order k
+      → Contains order g → name_at groups g ≡ Some name → ⊥
+  none_at_split order name k g parts place named =
+      let equal : name_cmp (name_at groups (get_or order place.0 0)) (Some name) ≡ Equal = rw (get_or_default order place.0 0 g place.1, place.2, named) (tied_itself name_total (Some name)) in
+      ⊎_elim
+      (λ (lt : place.0 < k). let less : name_cmp (name_at groups (get_or order place.0 0)) (Some name) ≡ Less = parts.0 place.0 0 (omega arith) lt in cc)
+      (λ (ge : k ≤ place.0). let greater : name_cmp (name_at groups (get_or order place.0 0)) (Some name) ≡ Greater = parts.1 place.0 0 ge place.1 in cc)
+      (cases_lt place.0 k)
 
   -- what halving answers is the group of the name
   pub index_from_search : (order : List ℕ) → IsIndexed order groups → SCANNED_GROUPS ≤ length groups → (name : List ℕ) (r : Result ℕ ℕ) → IsBinarySearchResult (λ g. name_cmp (name_at groups g) (Some name)) order r → MatchResult r (λ k. index_of groups name ≡ Some (get_or order k 0)) (λ _. index_of groups name ≡ None)
@@ -209,13 +234,7 @@ module _ (groups : Groups) where
       by_index None e = refl
       by_index (Some g) e =
           let named : name_at groups g ≡ Some name = (index_of-is groups name indexed.distinct g).0 e in
-          let place : Contains order g = (indexed.ordered many).complete g (get_or_past groups g name named) in
-          let equal : name_cmp (name_at groups (get_or order place.0 0)) (Some name) ≡ Equal =
-          rw (get_or_default order place.0 0 g place.1, place.2, named) (tied_itself name_total (Some name)) in
-          ⊎_elim
-          (λ (lt : place.0 < k). let less : name_cmp (name_at groups (get_or order place.0 0)) (Some name) ≡ Less = parts.0 place.0 0 (omega arith) lt in cc)
-          (λ (ge : k ≤ place.0). let greater : name_cmp (name_at groups (get_or order place.0 0)) (Some name) ≡ Greater = parts.1 place.0 0 ge place.1 in cc)
-          (cases_lt place.0 k)
+          absurd (none_at_split order name k g parts ((indexed.ordered many).complete g (get_or_past groups g name named)) named)
 
 pub counted_more : (n : ℕ) → range_with_len 0 n ++ n ∷ [] ≡ range_with_len 0 (n + 1)
 counted_more n =

@@ -19,7 +19,6 @@ HasMarks p m = (b : ℕ) → b < 255 → m b ≡ true → p b ≡ true
 -- two bytes that are together lie on one side of each boundary
 pub Together-leb : (p : ℕ → Bool) (a b x : ℕ) → Together p a b → p x ≡ true → leb a x ≡ leb b x
 Together-leb p a b x t h =
-    let f : min a b ≤ x → x < max a b → ⊥ = λ u v. t x u v h in
     grind (arith, nat_tests)
 
 Together-leb-mark : (p m : ℕ → Bool) (a b x : ℕ) → HasMarks p m → Together p a b → x < 255 → m x ≡ true → leb a x ≡ leb b x
@@ -78,7 +77,6 @@ TogetherAt p _ _ = ⊥
 
 pub TogetherAt-slice_get : (p : ℕ → Bool) (h k : List ℕ) (i : ℕ) → AreInterchanged p h k → TogetherAt p (slice_get h i) (slice_get k i)
 TogetherAt-slice_get p h k i s =
-    let e = s.same_length in
     ⊎_elim
     (λ (l : i < length h).
     let lk : i < length k = omega arith in

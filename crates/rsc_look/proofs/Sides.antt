@@ -105,8 +105,6 @@ encoded_moves W h k i j c s e =
     ⊎_elim
     (λ q. (c, q.0, refl))
     (λ q.
-    let w = e.within in
-    let one = q.0 in
     let here : i < length h = omega arith in
     let low : get_or h i 0 < 128 = subst (λ x. x < 128) q.1 q.2 in
     (get_or k i 0, q.4, s.ascii (get_or k i 0) q.3 ∙ sym (s.words i here) ∙ sym (s.ascii (get_or h i 0) low) ∙ ap W (sym q.1)))
