@@ -7,7 +7,7 @@ use Rattle.std.proofs.Math.Seq.{get_or-append_seam, take-length}
 use Rattle.std.proofs.lemmas.List.Sums.{sum_by_more}
 use Rattle.rsc_captures.specs.Groups.{GroupLists, group_count, explicit_groups, explicit_before, all_groups}
 use Rattle.rsc_captures.specs.Faults.{LIMIT_OF_IDS, IsFaultless}
-use Rattle.rsc_captures.proofs.Clear.{some_group}
+use Rattle.rsc_captures.proofs.Clear.{some_group, before_more}
 use Rattle.rsc_captures.specs.Layout.{groups_before, AreFirsts, IsLaidOut}
 
 pub firsts_push : (firsts : List ℕ) (lists : GroupLists) (n first : ℕ) → AreFirsts firsts lists n → first ≡ groups_before lists (n + 1) → AreFirsts (firsts ++ first ∷ []) lists (n + 1)
@@ -33,8 +33,8 @@ groups_so_far lists (suc n) le nonempty =
     let lt : n < length lists = omega arith in
     let some : 0 < group_count lists n = nonempty n lt in
     let before : groups_before lists n ≡ n + explicit_before lists n = groups_so_far lists n (omega arith) nonempty in
-    let all : groups_before lists (n + 1) ≡ groups_before lists n + group_count lists n = groups_more lists n lt in
-    let explicit : explicit_before lists (n + 1) ≡ explicit_before lists n + (group_count lists n - 1) = sum_by_more explicit_groups lists n [] lt in
+    let all = groups_more lists n lt in
+    let explicit = before_more lists n lt in
     rw (← add-one) (omega arith)
 
 -- the groups of all patterns

@@ -3,10 +3,10 @@ use Rattle.std.proofs.Common.{◌≡◌, ◌⊎◌, ℕ, zero, suc, ◌+◌, ◌
 use Rattle.std.proofs.lemmas.Bool.{cases_lt, lt-ltb, ltb-true}
 use Rattle.std.proofs.lemmas.Bool.Decides.{nat_tests}
 use Rattle.std.proofs.lemmas.List.{get_or_past}
-use Rattle.std.proofs.lemmas.List.Sums.{sum_by_more}
 use Rattle.rsc_captures.specs.Groups.{GroupLists, groups_of, group_count, explicit_groups, explicit_before, all_groups, slot_number, slot_of}
 use Rattle.rsc_captures.specs.Faults.{LIMIT_OF_IDS, IsFaultless}
-use Rattle.rsc_captures.proofs.Clear.{some_group}
+use Rattle.rsc_captures.proofs.Clear.{some_group, before_more}
+use Rattle.rsc_captures.proofs.Lists.{sum_rises}
 use Rattle.rsc_captures.specs.SlotOwners.{IsSlotOf, IsOwned}
 use Rattle.rsc_captures.proofs.Firsts.{all_groups_are}
 
@@ -33,15 +33,6 @@ pattern_in lists p g h =
     ⊎_elim (λ (lt : p < length lists). lt)
     (λ (le : length lists ≤ p). absurd (let none : groups_of lists p ≡ [] = get_or_past lists p [] le in let zero_groups : group_count lists p ≡ 0 = ap length none in omega arith))
     (cases_lt p (length lists))
-
-pub before_more : (lists : GroupLists) (p : ℕ) → p < length lists → explicit_before lists (p + 1) ≡ explicit_before lists p + (group_count lists p - 1)
-before_more lists p lt = sum_by_more explicit_groups lists p [] lt
-
-pub before_rises : (lists : GroupLists) (p n : ℕ) → p + n ≤ length lists → explicit_before lists p ≤ explicit_before lists (p + n)
-before_rises lists p zero le = let e : p + zero ≡ p = omega arith in rw e (omega arith)
-before_rises lists p (suc n) le =
-    let e : p + suc n ≡ p + n + 1 = omega arith in
-    rw e (omega (arith, before_rises lists p n (omega arith), before_more lists (p + n) (omega arith)))
 
 -- the pattern among whose explicit groups the r-th of all is
 record HasExplicit (lists : GroupLists) (n r p : ℕ) : Type 0 where
@@ -93,8 +84,7 @@ same_explicit : (lists : GroupLists) (p g q h : ℕ) → suc g < group_count lis
 same_explicit lists p g q h a b same lt =
     let in_p : p < length lists = pattern_in lists p (suc g) a in
     let in_q : q < length lists = pattern_in lists q (suc h) b in
-    let e : p + 1 + (q - (p + 1)) ≡ q = omega arith in
-    let rises : explicit_before lists (p + 1) ≤ explicit_before lists q = rw e at (before_rises lists (p + 1) (q - (p + 1)) (omega arith)) in
+    let rises : explicit_before lists (p + 1) ≤ explicit_before lists q = sum_rises explicit_groups lists (p + 1) q (omega arith) in
     let more : explicit_before lists (p + 1) ≡ explicit_before lists p + (group_count lists p - 1) = before_more lists p in_p in
     omega arith
 

@@ -15,21 +15,15 @@ use Rattle.rsc_captures.proofs.Checked.{clear_distinct, faultless_from}
 use Rattle.rsc_captures.proofs.Clear.{some_group}
 use Rattle.rsc_captures.proofs.Owners.{pattern_in}
 use Rattle.rsc_captures.proofs.Firsts.{groups_more}
+use Rattle.rsc_captures.proofs.Lists.{sum_rises}
 
 pub distinct_in : (lists : GroupLists) → IsFaultless LIMIT_OF_IDS lists → (p : ℕ) → AreDistinctBelow (groups_of lists p) (group_count lists p)
 distinct_in lists faultless p g lt = clear_distinct faultless p (pattern_in lists p g lt) g lt
 
-pub groups_rise : (lists : GroupLists) (p n : ℕ) → p + n ≤ length lists → groups_before lists p ≤ groups_before lists (p + n)
-groups_rise lists p zero le = let e : p + zero ≡ p = omega arith in rw e (omega arith)
-groups_rise lists p (suc n) le =
-    let e : p + suc n ≡ p + n + 1 = omega arith in
-    rw e (omega (arith, groups_rise lists p n (omega arith), groups_more lists (p + n) (omega arith)))
-
 -- a pattern's groups are before those of the patterns after it
 pub groups_within : (lists : GroupLists) (p n : ℕ) → p < n → n ≤ length lists → groups_before lists p + group_count lists p ≤ groups_before lists n
 groups_within lists p n lt le =
-    let e : p + 1 + (n - (p + 1)) ≡ n = omega arith in
-    let rises : groups_before lists (p + 1) ≤ groups_before lists n = rw e at (groups_rise lists (p + 1) (n - (p + 1)) (omega arith)) in
+    let rises : groups_before lists (p + 1) ≤ groups_before lists n = sum_rises length lists (p + 1) n (omega arith) in
     omega (arith, rises, groups_more lists p (omega (arith, lt, le)))
 
 names_of-is : (firsts : List ℕ) (lists : GroupLists) → AreFirsts firsts lists (length lists) → (names : Groups) (p : ℕ) → p < length lists → names_of firsts names p ≡ take (group_count lists p) (drop (groups_before lists p) names)

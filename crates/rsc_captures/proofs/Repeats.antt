@@ -9,8 +9,7 @@ use Rattle.rsc_captures.specs.Groups.{Groups, GroupLists, groups_in, lists_in, g
 use Rattle.rsc_captures.specs.Faults.{Duplicate, TooManyGroups, IsPlace, pattern_fault, name_fault, place_fault, IsFirstAtPlace}
 use Rattle.rsc_captures.specs.Checks.{IsClearBelow}
 use Rattle.rsc_captures.specs.Names.{IsFirstRepeat}
-use Rattle.rsc_captures.proofs.Checked.{name_fault_clear, name_fault_repeat, no_repeat_at_zero}
-use Rattle.rsc_captures.proofs.Clear.{pattern_clear, explicit_place, first_at}
+use Rattle.rsc_captures.proofs.Clear.{duplicate_at, too_many_at, clear_with}
 use Rattle.rsc_captures.proofs.Places.{Handed, length-lists_in, groups_of_in, group_count_in, name_of_in}
 
 -- a group of the first groups is a repeat there exactly if it is one
@@ -26,42 +25,6 @@ repeat_handed lists p end g d lt below =
 pub repeated_name : (groups : Groups) (g : ℕ) (group : Option (Bor (List ℕ))) (other : Bor (List ℕ)) → get_or groups g None ≡ option_copied group → is_repeat groups g ≡ true → get_or groups g None ≡ Some (unwrap_or group other).now
 repeated_name groups g None other is repeats = absurd (true≢false (sym (rw is at repeats)))
 repeated_name groups g (Some name) other is repeats = is
-
-module _ (limit : ℕ) (lists : GroupLists) (p end : ℕ) (in_lists : p < length lists) (clear : pattern_fault lists p ≡ None) (within : (g : ℕ) → g < end → 2 * (explicit_before lists p + g) ≤ limit) where
-  place_within : (g : ℕ) → 0 < g → g < end → place_fault limit lists p g ≡ name_fault (groups_of lists p) p g (name_of lists p g)
-  place_within g some lt =
-      let le : 2 * (explicit_before lists p + g) ≤ limit = within g lt in
-      let no_limit : ltb limit (2 * (explicit_before lists p + g)) ≡ false = grind (arith, common_steps) in
-      explicit_place limit lists p g some ∙ rw no_limit refl
-
-  place_distinct : (g : ℕ) → g < end → is_repeat (groups_of lists p) g ≡ false → place_fault limit lists p g ≡ None
-  place_distinct zero lt distinct = clear
-  place_distinct (suc g) lt distinct = place_within (suc g) (omega arith) lt ∙ name_fault_clear (groups_of lists p) p (suc g) (name_of lists p (suc g)) distinct
-
-  module _ (earlier : IsClearBelow limit lists p) where
-    pub duplicate_at : (g : ℕ) (name : List ℕ) → g < end → g < group_count lists p → is_repeat (groups_of lists p) g ≡ true → name_of lists p g ≡ Some name → AreDistinctBelow (groups_of lists p) g → IsFirstAtPlace limit lists (Duplicate p name)
-    duplicate_at zero name lt in_pattern repeats named distinct = absurd (true≢false (sym repeats ∙ no_repeat_at_zero (groups_of lists p)))
-    duplicate_at (suc g) name lt in_pattern repeats named distinct = first_at limit lists p (suc g) (Duplicate p name) (in_lists, omega arith)
-        (place_within (suc g) (omega arith) lt ∙ rw named (name_fault_repeat (groups_of lists p) p (suc g) name (rw named at repeats)))
-        earlier
-        (λ h before. place_distinct h (omega arith) (distinct h before))
-
-    pub too_many_at : 0 < end → end < group_count lists p → limit < 2 * (explicit_before lists p + end) → AreDistinctBelow (groups_of lists p) end → IsFirstAtPlace limit lists (TooManyGroups p end)
-    too_many_at some in_pattern past distinct =
-        let limited : ltb limit (2 * (explicit_before lists p + end)) ≡ true = grind (arith, common_steps) in
-        first_at limit lists p end (TooManyGroups p end) (in_lists, omega arith) (explicit_place limit lists p end some ∙ rw limited refl) earlier (λ h before. place_distinct h before (distinct h before))
-
-    pub clear_with : end ≡ group_count lists p → AreDistinctBelow (groups_of lists p) end → IsClearBelow limit lists (p + 1)
-    clear_with all distinct q g place before =
-        ⊎_elim
-        (λ (lt : q < p). earlier q g place lt)
-        (λ (ge : p ≤ q).
-        let same : q ≡ p = omega arith in
-        let some : 0 < group_count lists p = (pattern_clear lists p clear).1 in
-        let here : IsPlace lists p g = subst (λ (r : ℕ). IsPlace lists r g) same place in
-        let lt : g < end = omega (arith, here.1) in
-        subst (λ (r : ℕ). place_fault limit lists r g ≡ None) (sym same) (place_distinct g lt (distinct g lt)))
-        (cases_lt q p)
 
 -- the same of a pattern as it is handed in
 module _ (limit : ℕ) (lists : List (Bor Handed)) (p end before : ℕ) (d : Bor Handed) (lt : p < length lists) (clear : pattern_fault (lists_in lists) p ≡ None) (earlier : IsClearBelow limit (lists_in lists) p) (is : before ≡ explicit_before (lists_in lists) p) (within : (g : ℕ) → g < end → 2 * (before + g) ≤ limit) (le : end ≤ length (get_or lists p d).now) where

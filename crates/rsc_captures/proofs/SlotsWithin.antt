@@ -3,19 +3,19 @@ use Rattle.std.proofs.Common.{◌≡◌, ℕ, zero, suc, ◌+◌, ◌-◌, ◌*�
 use Rattle.std.specs.Prelude.{IfSome}
 use Rattle.std.proofs.lemmas.Bool.{cases_lt}
 use Rattle.std.proofs.lemmas.Bool.Decides.{nat_tests}
-use Rattle.rsc_captures.specs.Groups.{GroupLists, group_count, explicit_before, all_groups, slot_number, slot_of}
+use Rattle.rsc_captures.specs.Groups.{GroupLists, group_count, explicit_groups, explicit_before, all_groups, slot_number, slot_of}
 use Rattle.rsc_captures.specs.Faults.{LIMIT_OF_IDS, IsFaultless}
-use Rattle.rsc_captures.proofs.Owners.{slot_explicit, slot_of-group, slot_facts, pattern_in, before_more, before_rises}
+use Rattle.rsc_captures.proofs.Owners.{slot_explicit, slot_of-group, slot_facts, pattern_in}
 use Rattle.rsc_captures.specs.Layout.{groups_before}
-use Rattle.rsc_captures.proofs.Clear.{some_group}
+use Rattle.rsc_captures.proofs.Clear.{some_group, before_more}
+use Rattle.rsc_captures.proofs.Lists.{sum_rises}
 use Rattle.rsc_captures.proofs.Firsts.{groups_so_far, all_groups_are}
 
 pub number_within : (lists : GroupLists) → IsFaultless LIMIT_OF_IDS lists → (p g : ℕ) → g < group_count lists p → slot_number lists p g + 1 < 2 * all_groups lists
 number_within lists checked p zero lt = let pattern : p < length lists = pattern_in lists p 0 lt in omega (arith, all_groups_are lists checked)
 number_within lists checked p (suc g) lt =
     let pattern : p < length lists = pattern_in lists p (suc g) lt in
-    let e : p + 1 + (length lists - (p + 1)) ≡ length lists = omega arith in
-    let rises : explicit_before lists (p + 1) ≤ explicit_before lists (length lists) = rw e at (before_rises lists (p + 1) (length lists - (p + 1)) (omega arith)) in
+    let rises : explicit_before lists (p + 1) ≤ explicit_before lists (length lists) = sum_rises explicit_groups lists (p + 1) (length lists) (omega arith) in
     omega (arith, slot_explicit lists p g, before_more lists p pattern, all_groups_are lists checked)
 
 pub slot_within : (lists : GroupLists) → IsFaultless LIMIT_OF_IDS lists → (p g slot : ℕ) → slot_of lists p g ≡ Some slot → slot + 1 < 2 * all_groups lists

@@ -5,6 +5,7 @@ use Rattle.std.specs.List.{Contains, Any}
 use Rattle.std.specs.FinSet as sets
 use Rattle.std.proofs.lemmas.List.Folds.{list_any_at, Any-from_list_any}
 use Rattle.std.proofs.lemmas.List.Elements.{All-cons, All-nil}
+use Rattle.std.proofs.lemmas.Bool.{true_from_ne_false}
 use Rattle.rsc_alphabet.specs.Partitions.{Together, class_map}
 use Rattle.rsc_alphabet.specs.SameMembers.{same_bools}
 use Rattle.rsc_look.specs.declared.assertion.Look.{Look}
@@ -63,6 +64,10 @@ Keeps-from p looks t W has a = record {
 one_byte_haystack : (b : ℕ) → b < 256 → IsHaystack (b ∷ [])
 one_byte_haystack b h = All-cons (λ x. x < 256) b [] h (All-nil (λ x. x < 256))
 
+-- where there is no boundary between two bytes they are together
+pub next_together : (q : ℕ → Bool) (b : ℕ) → q b ≡ false → Together q b (b + 1)
+next_together q b e x low high is = let same : b ≡ x = omega arith in true≢false (sym is ∙ ap q (sym same) ∙ e)
+
 pub alike_alone : (q : ℕ → Bool) (b : ℕ) → b < 255 → q b ≡ false → AreInterchanged q (b ∷ []) ((b + 1) ∷ [])
 alike_alone q b h e = record {
   first = one_byte_haystack b (omega arith);
@@ -71,31 +76,27 @@ alike_alone q b h e = record {
   together = go;
 }
   where
-    apart : (x : ℕ) → min b (b + 1) ≤ x → x < max b (b + 1) → q x ≡ true → ⊥
-    apart x l u t = let s : b ≡ x = omega arith in true≢false (sym t ∙ ap q (sym s) ∙ e)
-
     go : (i : ℕ) → i < 1 → Together q (slice_index (b ∷ []) i) (slice_index ((b + 1) ∷ []) i)
-    go zero l = apart
+    go zero l = next_together q b e
     go (suc i) l = absurd (omega arith)
 
 differ_alone : (b : ℕ) → b + 1 < 128 → DifferInAscii (b ∷ []) ((b + 1) ∷ [])
 differ_alone b h zero l n = (omega arith, h)
 differ_alone b h (suc i) l n = absurd (omega arith)
 
-not_told : (A B : Type 0) → A ↔ B → (A × (B → ⊥)) ⊎ ((A → ⊥) × B) → ⊥
+pub not_told : (A B : Type 0) → A ↔ B → (A × (B → ⊥)) ⊎ ((A → ⊥) × B) → ⊥
 not_told A B e t = ⊎_elim (λ p. p.1 (e.0 p.0)) (λ p. p.0 (e.1 p.1)) t
 
 -- a partition that keeps an assertion has each boundary of it
 pub mark_is_needed : (q : ℕ → Bool) (looks : List Look) (l : Look) (t : ℕ) (W : ℕ → Bool) (b : ℕ) → (is_unicode l ≡ true → AgreesWithAscii W) → Keeps q looks t W → Contains looks l → b < 255 → is_mark l t b ≡ true → q b ≡ true
-mark_is_needed q looks l t W b a keeps c lt m = go (q b) refl (is_unicode l) refl
+mark_is_needed q looks l t W b a keeps c lt m = true_from_ne_false (q b) (λ e. go e (is_unicode l) refl)
   where
     told : Tells l t W (b ∷ []) ((b + 1) ∷ []) (place_of l)
     told = Tells-mark l t W b a m
 
-    go : (x : Bool) → q b ≡ x → (u : Bool) → is_unicode l ≡ u → q b ≡ true
-    go true e u f = e
-    go false e false f = absurd (not_told _ _ (keeps.at_bytes l c f (b ∷ []) ((b + 1) ∷ []) (alike_alone q b lt e) (place_of l) (place_of_le l)) told)
-    go false e true f = absurd (not_told _ _ (keeps.at_characters l c f (b ∷ []) ((b + 1) ∷ []) (alike_alone q b lt e) (differ_alone b (below_127 b (sym (is_mark-unicode l t b f) ∙ m))) (place_of l) (place_of_le l)) told)
+    go : q b ≡ false → (u : Bool) → is_unicode l ≡ u → ⊥
+    go e false f = not_told _ _ (keeps.at_bytes l c f (b ∷ []) ((b + 1) ∷ []) (alike_alone q b lt e) (place_of l) (place_of_le l)) told
+    go e true f = not_told _ _ (keeps.at_characters l c f (b ∷ []) ((b + 1) ∷ []) (alike_alone q b lt e) (differ_alone b (below_127 b (sym (is_mark-unicode l t b f) ∙ m))) (place_of l) (place_of_le l)) told
 
 -- the member whose boundary it is
 member_with : (looks : List Look) (t b : ℕ) → sets.contains (boundaries_of_each looks t) b ≡ true → Any (λ l. is_mark l t b ≡ true) looks
