@@ -1,30 +1,28 @@
 -- A table of the groups of a block in the order of their names, and which groups have the name of a lesser one.
-use Rattle.std.proofs.Common.{◌≡◌, ℕ, suc, ◌+◌, ◌-◌, ◌<◌, ◌≤◌, ◌≢◌, ⊎_elim, Bool, true, false, List, [], ◌∷◌, ◌++◌, length, take, drop, get_or, ap₂, Option, Some, None, Less, Equal, Greater, is_lt, refl, ap, sym, ◌∙◌, arith}
+use Rattle.std.proofs.Common.{◌≡◌, ℕ, suc, ◌+◌, ◌-◌, ◌<◌, ◌≤◌, ◌≢◌, ⊎_elim, true, List, [], ◌∷◌, ◌++◌, length, take, drop, get_or, ap₂, Some, None, Less, Equal, Greater, is_lt, refl, ap, sym, ◌∙◌, arith}
 use Rattle.std.specs.Ordering.{ordering_reverse}
 use Rattle.std.specs.declared.cmp.Ordering.{Ordering}
 use Rattle.std.specs.Cmp.{IsTotalOrder}
 use Rattle.std.specs.Cmp.Lexicographic.{bytes_decides}
-use Rattle.std.specs.List.{Contains, insert, list_any}
+use Rattle.std.specs.List.{Contains, insert}
 use Rattle.std.specs.List.Sorted.{IsSortedByKey, IsPartitionPoint, IsNonDecreasingBy}
 use Rattle.std.specs.Ordering.{ordering_index}
 use Rattle.std.proofs.lemmas.Bool.{cases_lt, cases_eq, false_from_ne_true}
-use Rattle.std.proofs.lemmas.Cmp.{tied_itself}
 use Rattle.std.specs.List.{drop-map}
 use Rattle.std.specs.Option.{option_copied}
 use Rattle.rsc_captures.proofs.Places.{Handed}
-use Rattle.std.proofs.lemmas.List.{take-map, get_or-take, get_or-drop, get_or_default, length-take-le, length-set, length-drop, length_push, drop-take, drop-append-le, take-take, take-set-le, take_more_set}
+use Rattle.std.proofs.lemmas.List.{take-map, get_or-take, get_or-drop, length-take-le, length-set, length-drop, length_push, drop-take, drop-append-le, take-take, take-set-le, take_more_set}
 use Rattle.std.proofs.lemmas.Slice.{take-put_mid}
 use Rattle.std.proofs.Math.ListN.{set}
 use Rattle.std.proofs.Math.Seq.{drop-append_seam, take-append_seam}
 use borrow.Rule.Slice.PartMut.{mid_of, put_mid}
 use Rattle.std.proofs.lemmas.List.Edits.{length-insert, get_or-insert_below, get_or-insert_at, get_or-insert_above}
-use Rattle.std.proofs.lemmas.List.Folds.{Any-from_list_any, list_any_at}
+use Rattle.std.proofs.lemmas.List.Folds.{list_any_at}
 use Rattle.std.proofs.lemmas.List.Sorted.{searchable_from_sorted, IsPermutation-insert, All-permutation, Contains-permutation}
 use Rattle.std.proofs.lemmas.List.Elements.{All-cons}
 use Rattle.rsc_captures.specs.Groups.{Groups, groups_in, has_name, is_repeat, AreDistinctBelow}
 use Rattle.rsc_captures.specs.Names.{name_at, name_cmp}
 use Rattle.rsc_captures.specs.Checks.{AreApart, IsRepeatOf, IsTable}
-use Rattle.rsc_captures.proofs.Indexed.{has_name-is}
 use Rattle.rsc_captures.proofs.Ordered.{name_total, name_exact, repeat_pair, none_at_split}
 
 -- an element that is put between the lesser and the greater ones

@@ -1,12 +1,10 @@
 -- The first fault of a pattern, of whose groups those within the limit were looked at for a repeat.
-use Rattle.std.proofs.Common.{◌≡◌, ℕ, zero, suc, ◌+◌, ◌*◌, ◌<◌, ◌≤◌, ⊎_elim, true, false, List, length, take, get_or, Option, Some, None, Bor, refl, ap, ap₂, sym, subst, ◌∙◌, arith, ltb}
+use Rattle.std.proofs.Common.{◌≡◌, ℕ, ◌+◌, ◌*◌, ◌<◌, ◌≤◌, true, List, length, take, get_or, Option, Some, None, Bor, ap, ap₂, sym, ◌∙◌, arith}
 use mathlib.Core.Bool.{true≢false}
 use Rattle.std.specs.Option.{option_copied, unwrap_or}
-use Rattle.std.proofs.lemmas.Bool.{cases_lt}
-use Rattle.std.proofs.lemmas.Grind.{common_steps}
 use Rattle.std.proofs.lemmas.List.{get_or-take, take-take, take-map, length-map, length-take-le}
-use Rattle.rsc_captures.specs.Groups.{Groups, GroupLists, groups_in, lists_in, groups_of, group_count, name_of, contains_name, is_repeat, AreDistinctBelow, explicit_before}
-use Rattle.rsc_captures.specs.Faults.{Duplicate, TooManyGroups, IsPlace, pattern_fault, name_fault, place_fault, IsFirstAtPlace}
+use Rattle.rsc_captures.specs.Groups.{Groups, groups_in, lists_in, groups_of, group_count, name_of, contains_name, is_repeat, AreDistinctBelow, explicit_before}
+use Rattle.rsc_captures.specs.Faults.{Duplicate, TooManyGroups, pattern_fault, IsFirstAtPlace}
 use Rattle.rsc_captures.specs.Checks.{IsClearBelow}
 use Rattle.rsc_captures.specs.Names.{IsFirstRepeat}
 use Rattle.rsc_captures.proofs.Clear.{duplicate_at, too_many_at, clear_with}

@@ -1,5 +1,5 @@
 -- The boundaries of a list's members make the coarsest partition that keeps them.
-use Rattle.std.proofs.Common.{◌≡◌, ◌↔◌, ℕ, zero, suc, ◌+◌, ◌<◌, ◌≤◌, min, max, Bool, true, false, List, [], ◌∷◌, refl, sym, ap, ◌∙◌, subst, arith, ◌⊎◌, ⊎_elim, true≢false}
+use Rattle.std.proofs.Common.{◌≡◌, ◌↔◌, ℕ, zero, suc, ◌+◌, ◌<◌, Bool, true, false, List, [], ◌∷◌, refl, sym, ap, ◌∙◌, subst, arith, ◌⊎◌, ⊎_elim, true≢false}
 use Rattle.std.specs.Prelude.{slice_index, length}
 use Rattle.std.specs.List.{Contains, Any}
 use Rattle.std.specs.FinSet as sets

@@ -1,5 +1,5 @@
 -- What the operations on eighteen bits do to the set that they stand for.
-use Rattle.std.proofs.Common.{◌≡◌, ◌≢◌, ◌↔◌, ℕ, zero, suc, ◌-◌, ◌*◌, ◌^◌, ◌<◌, ◌≤◌, Bool, true, false, not, ◌&&◌, ◌||◌, cond, List, length, get_or, map, filter, Option, Some, None, min, max, refl, sym, ap, ap₂, ◌∙◌, arith, nat_eq, bit_and, bit_or, w32, ⊎_elim, true≢false}
+use Rattle.std.proofs.Common.{◌≡◌, ◌≢◌, ◌↔◌, ℕ, zero, suc, ◌-◌, ◌*◌, ◌^◌, ◌<◌, ◌≤◌, Bool, true, false, not, ◌&&◌, ◌||◌, cond, List, length, get_or, map, filter, Some, None, min, max, refl, sym, ap, ap₂, ◌∙◌, arith, nat_eq, bit_and, bit_or, w32, ⊎_elim}
 use Rattle.std.specs.Prelude.{count_ones, IsTrue}
 use Rattle.std.specs.List.{list_any}
 use Rattle.std.specs.Int.{bit_at}

@@ -2,12 +2,11 @@
 use Rattle.std.proofs.Common.{◌≡◌, ℕ, ◌-◌, Bool, false, ◌&&◌, ◌||◌, List, [], ◌∷◌, nat_eq, nat_lt, ◌+◌, ◌<◌, ◌≤◌, length, take, get_or, sym, ap, ap₂, ◌∙◌}
 use Rattle.std.specs.List.{list_any}
 use Rattle.std.specs.Ordering.{nat_cmp}
-use Rattle.std.specs.Cmp.{nat_cmp_total}
 use Rattle.std.specs.FinSet as sets
-use Rattle.std.specs.FinSet.{contains-empty, contains-from_list_nat, same_set, nat_cmp-IsAntisymmetric}
+use Rattle.std.specs.FinSet.{contains-empty, contains-from_list_nat}
 use Rattle.std.proofs.lemmas.List.{take_all, take_more}
 use Rattle.std.proofs.lemmas.List.Folds.{list_any-append}
-use Rattle.std.proofs.Math.Bool.{or-false, or_assoc}
+use Rattle.std.proofs.Math.Bool.{or-false}
 use Rattle.rsc_alphabet.specs.ByteSets.{Numbers}
 use Rattle.rsc_alphabet.specs.Partitions.{edges_of, class_map}
 use Rattle.rsc_alphabet.proofs.PartitionsLemmas.{contains-joined, contains-edges_of, class_map_same}

@@ -1,18 +1,16 @@
 -- A set of assertions and its eighteen bits: each gives the other back.
-use Rattle.std.proofs.Common.{◌≡◌, ◌≢◌, ℕ, zero, suc, ◌+◌, ◌-◌, ◌*◌, ◌^◌, ◌<◌, ◌≤◌, Bool, true, false, ◌&&◌, ◌||◌, cond, List, [], ◌∷◌, ◌++◌, get_or, map, filter, refl, sym, ap, ap₂, ◌∙◌, arith, nat_eq, ⊎_elim}
+use Rattle.std.proofs.Common.{◌≡◌, ℕ, zero, suc, ◌+◌, ◌*◌, ◌^◌, ◌<◌, ◌≤◌, Bool, true, false, ◌&&◌, cond, List, [], ◌∷◌, get_or, map, filter, refl, sym, ap, ◌∙◌, arith, nat_eq}
 use Rattle.std.specs.List.{list_any, sum_by}
 use Rattle.std.specs.Int.{bit_at}
 use Rattle.std.specs.Ordering.{eq_by_cmp}
 use Rattle.std.specs.Cmp.{IsTotalOrder, nat_cmp_total, on_total, unsigned_tied}
 use Rattle.std.specs.FinSet as sets
 use Rattle.std.specs.FinSet.{IsAntisymmetric, nat_cmp-IsAntisymmetric, contains-from_list, same_set}
-use Rattle.std.proofs.lemmas.Bool.{cases_eq, agree_below, agree_below_at, eqb-true}
-use Rattle.std.proofs.lemmas.Bool.Decides.{nat_tests}
+use Rattle.std.proofs.lemmas.Bool.{agree_below, agree_below_at, eqb-true}
 use Rattle.std.proofs.lemmas.List.{map-append}
 use Rattle.std.proofs.lemmas.List.Elements.{filter-append}
 use Rattle.std.proofs.lemmas.List.Sums.{sum_by-cons, sum_by-append}
-use Rattle.std.proofs.lemmas.Nat.Bits.{bit_at_cat_low, bit_at_cat_high, bit_at-lt, same_from_bits_below}
-use Rattle.std.proofs.Math.Bool.{and-true, and-false}
+use Rattle.std.proofs.Math.Bool.{and-true}
 use Rattle.std.proofs.lemmas.Map.Views.{any-filter_same}
 use Rattle.rsc_alphabet.specs.Bytes.{from_to}
 use Rattle.rsc_alphabet.specs.BytesLaws.{from_to_none, from_to_last}
@@ -106,7 +104,7 @@ sum_to p zero l = ap (λ (x : List ℕ). sum_by repr_of (filter p (map look_at x
 sum_to p (suc k) l =
     let more : suc k ≡ k + 1 = omega arith in
     let here : mask_of (λ j. p (look_at j)) k + sum_by repr_of (filter p (look_at k ∷ [])) ≡ mask_of (λ j. p (look_at j)) (suc k) =
-        one (p (look_at k)) (mask_of (λ j. p (look_at j)) k) in
+    one (p (look_at k)) (mask_of (λ j. p (look_at j)) k) in
     ap (λ n. sum_by repr_of (filter p (map look_at (from_to 0 n)))) more
     ∙ ap (λ (x : List ℕ). sum_by repr_of (filter p (map look_at x))) (from_to_last 0 k (omega arith))
     ∙ ap (λ (x : List Look). sum_by repr_of (filter p x)) (map-append look_at (from_to 0 k) (k ∷ []))
