@@ -59,9 +59,6 @@ opened h b c l =
     rw (all_last h b (c + 1) (omega arith), any_last h b (c + 1) (omega arith), all_last h b c l, any_last h b c l)
     (by_parts (list_all h (from_to b c)) (list_any h (from_to b c)) (h c) (h (c + 1)))
 
-alike_up_more : (h : ℕ → Bool) (b c : ℕ) → b ≤ c → alike_up h b (c + 1) ≡ (alike_up h b c && alike_up h c (c + 1))
-alike_up_more h b c l = opened h b c l ∙ ap (λ t. alike_up h b c && t) (sym (pair h c))
-
 alike_up_same : (h : ℕ → Bool) (b : ℕ) → alike_up h b b ≡ true
 unfolding alike_up
 alike_up_same h b =
@@ -81,7 +78,7 @@ are_alike_more (r ∷ rs) b c l =
   where
     one : treats_alike r b (c + 1) ≡ (treats_alike r b c && treats_alike r c (c + 1))
     one =
-        treats_alike_up r b (c + 1) (omega arith) ∙ alike_up_more (holds r) b c l
+        treats_alike_up r b (c + 1) (omega arith) ∙ opened (holds r) b c l ∙ ap (λ t. alike_up (holds r) b c && t) (sym (pair (holds r) c))
         ∙ sym (ap₂ (λ t u. t && u) (treats_alike_up r b c l) (treats_alike_up r c (c + 1) (omega arith)))
 
 are_alike_same : (ranges : List (ℕ × ℕ)) (b : ℕ) → are_alike ranges b b ≡ true

@@ -25,12 +25,6 @@ begins s b l clean is = by_cases (sets.contains s b) (sets.contains s (b - 1)) i
     by_cases true false is clean = grind (arith, nat_tests)
     by_cases false y is clean = cc
 
-begins_none : (s : Numbers) (b : ℕ) → sets.contains s b ≡ false → begins_run s b ≡ false
-begins_none s b none = rw none refl
-
-ends_none : (s : Numbers) (b : ℕ) → sets.contains s b ≡ false → ends_run s b ≡ false
-ends_none s b none = rw none refl
-
 -- a byte after a member begins no run, and one before a member ends none
 begins_later : (s : Numbers) (b : ℕ) → 0 < b → sets.contains s (b - 1) ≡ true → begins_run s b ≡ false
 begins_later s b l before = rw (before, ne_eqb b 0 (λ e. omega arith)) (elim (sets.contains s b) as (λ v. (v && false) ≡ false) [ true ↦ refl | false ↦ refl ])
@@ -70,7 +64,7 @@ module _ (s : Numbers) (b e : ℕ) (from : b ≤ e) (fits : e < 256) (within : (
 
 pub runs_from_skip : (s : Numbers) (b : ℕ) → b ≤ 255 → sets.contains s b ≡ false → runs_from s b ≡ runs_from s (b + 1)
 runs_from_skip s b l none =
-    ap₂ (λ t u. zip t u) (filter_skip (begins_run s) b 256 (omega arith) (begins_none s b none)) (filter_skip (ends_run s) b 256 (omega arith) (ends_none s b none))
+    ap₂ (λ t u. zip t u) (filter_skip (begins_run s) b 256 (omega arith) (rw none refl)) (filter_skip (ends_run s) b 256 (omega arith) (rw none refl))
 
 pub runs_from_none : (s : Numbers) (b : ℕ) → 255 < b → runs_from s b ≡ []
 runs_from_none s b l = rw (from_to_none b 256 (omega arith)) refl

@@ -24,19 +24,13 @@ Together-leb p a b x t h =
 Together-leb-mark : (p m : ℕ → Bool) (a b x : ℕ) → HasMarks p m → Together p a b → x < 255 → m x ≡ true → leb a x ≡ leb b x
 Together-leb-mark p m a b x s t l h = Together-leb p a b x t (s x l h)
 
-mark_at : (t : ℕ) → t < 255 → is_edge t t ≡ true
-mark_at t h = grind (arith, nat_tests)
-
-mark_before : (t : ℕ) → 0 < t → t < 256 → is_edge t (t - 1) ≡ true
-mark_before t h k = grind (arith, nat_tests)
-
 same_eqb : (a b t : ℕ) → a < 256 → b < 256 → (t < 255 → leb a t ≡ leb b t) → (0 < t → t < 256 → leb a (t - 1) ≡ leb b (t - 1)) → eqb a t ≡ eqb b t
 same_eqb a b t la lb f g = grind (arith, nat_tests)
 
 pub Together-eqb : (p : ℕ → Bool) (a b t : ℕ) → a < 256 → b < 256 → HasMarks p (is_edge t) → Together p a b → eqb a t ≡ eqb b t
 Together-eqb p a b t la lb s h =
-    same_eqb a b t la lb (λ l. Together-leb-mark p (is_edge t) a b t s h l (mark_at t l))
-    (λ l lt. Together-leb-mark p (is_edge t) a b (t - 1) s h (omega arith) (mark_before t l lt))
+    same_eqb a b t la lb (λ l. Together-leb-mark p (is_edge t) a b t s h l (grind (arith, nat_tests)))
+    (λ l lt. Together-leb-mark p (is_edge t) a b (t - 1) s h (omega arith) (grind (arith, nat_tests)))
 
 -- the word bytes, by the boundaries that they lie between
 abbrev word_between : Bool → Bool → Bool → Bool → Bool → Bool → Bool → Bool → Bool

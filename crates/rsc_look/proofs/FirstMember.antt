@@ -86,14 +86,11 @@ IsFirstMember s r = MatchOption r (members s ≡ []) (λ l. members s ≡ l ∷ 
 pub first_none : (n : ℕ) → n ≡ 0 → members (looks_of n) ≡ []
 first_none n e = no_member (looks_of n) (ap looks_of e ∙ looks_of-none)
 
-below_mod : (x : ℕ) → x < 2 ^ 32 → x % 2 ^ 32 ≡ x
-below_mod x l = omega arith
-
 shifted : (k : ℕ) → k < 18 → 1 * 2 ^ k % 2 ^ 32 ≡ 2 ^ k
 shifted k l =
     let one : 1 * 2 ^ k ≡ 2 ^ k = omega arith in
     let small : 2 ^ k < 2 ^ 32 = subst (λ x. x < 2 ^ 32) (repr_of-look_at k l) (let m = repr_of-lt (look_at k) in omega arith) in
-    rw one (below_mod (2 ^ k) small)
+    rw one (omega (arith, small))
 
 pub first_some : (n : ℕ) (r : Option Look) → (n ≡ 0 → ⊥) → n < 2 ^ 18 → ((l : Look) → (r ≡ Some l) ↔ (repr_of l ≡ 1 * 2 ^ trailing_zeros w32 n % 2 ^ 32)) → IsFirstMember (looks_of n) r
 first_some n r some h is =

@@ -5,7 +5,7 @@ use Rattle.std.specs.Prelude.{IsTrue}
 use Rattle.rsc_primitives.specs.Utf8.{IsInside}
 use Rattle.rsc_primitives.proofs.Utf8Lemmas.{IsInside-begins, IsInside-ends}
 use Rattle.rsc_look.specs.declared.assertion.Look.{Look}
-use Rattle.rsc_look.specs.declared.assertion.Look.TheVariants.{WordUnicode, WordUnicodeNegate, WordStartUnicode, WordEndUnicode, WordStartHalfUnicode, WordEndHalfUnicode}
+use Rattle.rsc_look.specs.declared.assertion.Look.TheVariants.{WordUnicode}
 use Rattle.rsc_look.specs.declared.side.Side.{Side}
 use Rattle.rsc_look.specs.declared.side.Side.TheVariants.{Absent, Bad, Word, Other}
 use Rattle.rsc_look.specs.Holds.{IsBefore, IsAfter, holds_at_sides, Holds}
@@ -26,11 +26,6 @@ bad_after W h i Other s p = absurd (IsInside-begins h i p.0 s p.1)
 
 neither : (l : Look) → holds_at_sides l Bad Bad ≡ false
 neither WordUnicode = refl
-neither WordUnicodeNegate = refl
-neither WordStartUnicode = refl
-neither WordEndUnicode = refl
-neither WordStartHalfUnicode = refl
-neither WordEndHalfUnicode = refl
 neither _ = refl
 
 pub Holds-inside : (l : Look) (t : ℕ) (W : ℕ → Bool) (h : List ℕ) (i : ℕ) → is_unicode l ≡ true → IsInside h i → Holds l t W h i → ⊥

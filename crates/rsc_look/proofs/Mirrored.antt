@@ -1,5 +1,5 @@
 -- An assertion at a place is the reversed one at the same place of the mirror.
-use Rattle.std.proofs.Common.{◌≡◌, ◌↔◌, ℕ, zero, suc, ◌+◌, ◌-◌, ◌<◌, ◌≤◌, Bool, true, false, not, ◌&&◌, cond, eqb, List, [], ◌∷◌, length, take, get_or, map, reverse, Option, Some, None, is_none, refl, sym, ap, ◌∙◌, arith, ⊎_elim, true≢false}
+use Rattle.std.proofs.Common.{◌≡◌, ◌↔◌, ℕ, zero, suc, ◌+◌, ◌-◌, ◌<◌, ◌≤◌, Bool, true, false, not, ◌&&◌, cond, List, [], ◌∷◌, length, take, get_or, map, reverse, Option, Some, None, is_none, refl, sym, ap, ◌∙◌, arith, ⊎_elim, true≢false}
 use Rattle.std.specs.Prelude.{slice_get, IsTrue}
 use mathlib.Core.List.{reverse_aux}
 use lib.Utf8.{scalar}
@@ -56,19 +56,13 @@ is_none-map : (o : Option ℕ) → is_none (option_map exchanged o) ≡ is_none 
 is_none-map None = refl
 is_none-map (Some x) = refl
 
-cr_is_lf : (x : ℕ) → eqb (exchanged x) 13 ≡ eqb x 10
-cr_is_lf x = grind (arith, nat_tests)
-
-lf_is_cr : (x : ℕ) → eqb (exchanged x) 10 ≡ eqb x 13
-lf_is_cr x = grind (arith, nat_tests)
-
 is_cr-map : (o : Option ℕ) → is_byte 13 (option_map exchanged o) ≡ is_byte 10 o
 is_cr-map None = refl
-is_cr-map (Some x) = cr_is_lf x
+is_cr-map (Some x) = grind (arith, nat_tests)
 
 is_lf-map : (o : Option ℕ) → is_byte 10 (option_map exchanged o) ≡ is_byte 13 o
 is_lf-map None = refl
-is_lf-map (Some x) = lf_is_cr x
+is_lf-map (Some x) = grind (arith, nat_tests)
 
 bytes_reversed : (l : Look) (t : ℕ) (p n : Option ℕ) → is_crlf l ≡ false → holds_at_bytes (reversed l) t n p ≡ holds_at_bytes l t p n
 bytes_reversed StartCRLF t p n e = absurd (true≢false e)

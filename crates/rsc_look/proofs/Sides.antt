@@ -1,6 +1,6 @@
 -- The sides of a place: each place has one on either hand, and bytes below 128 may replace one another.
 use Rattle.std.specs.Bool.{beq}
-use Rattle.std.proofs.Common.{not, ◌&&◌, ap₂, ◌≡◌, ◌↔◌, ℕ, ◌-◌, ◌<◌, ◌≤◌, Bool, true, false, List, length, get_or, refl, sym, ap, ◌∙◌, subst, arith, ◌⊎◌, inl, inr, ⊎_elim, true≢false}
+use Rattle.std.proofs.Common.{not, ◌&&◌, ap₂, ◌≡◌, ◌↔◌, ℕ, ◌-◌, ◌<◌, ◌≤◌, Bool, true, false, List, length, get_or, refl, sym, ap, ◌∙◌, subst, arith, inl, inr, ⊎_elim, true≢false}
 use Rattle.std.specs.Prelude.{IsTrue}
 use Rattle.std.proofs.lemmas.Bool.{cases_eq, cases_Bool}
 use Rattle.rsc_primitives.specs.Utf8.{is_word_byte, BeginsAt, EndsAt, EncodedFrom}
@@ -158,23 +158,17 @@ Holds-decided l t W h i a b r u p q e = let s = sides_decide l W h i a b r p q e
 
 -- ---- each place has a side before it and one after it
 
-order : (i n : ℕ) → i ≤ n → (i ≡ n) ⊎ (i < n)
-order i n l = grind arith
-
-zero_or : (i : ℕ) → (i ≡ 0) ⊎ (0 < i)
-zero_or i = grind arith
-
 pub has_before : (W : ℕ → Bool) (h : List ℕ) (i : ℕ) → (a : Side) × IsBefore W h i a
 has_before W h i =
     ⊎_elim (λ e. (Absent, e))
-    (λ l. ⊎_elim (λ p. ⊎_elim (λ w. (Word, (p.0, p.1, w))) (λ w. (Other, (p.0, p.1, w))) (cases_Bool (W p.0))) (λ n. (Bad, (l, n))) (EndsAt-decided h i))
-    (zero_or i)
+    (λ ne. ⊎_elim (λ p. ⊎_elim (λ w. (Word, (p.0, p.1, w))) (λ w. (Other, (p.0, p.1, w))) (cases_Bool (W p.0))) (λ n. (Bad, (omega (arith, ne), n))) (EndsAt-decided h i))
+    (cases_eq i 0)
 
 pub has_after : (W : ℕ → Bool) (h : List ℕ) (i : ℕ) → i ≤ length h → (a : Side) × IsAfter W h i a
 has_after W h i o =
     ⊎_elim (λ e. (Absent, e))
-    (λ l. ⊎_elim (λ p. ⊎_elim (λ w. (Word, (p.0, p.1, w))) (λ w. (Other, (p.0, p.1, w))) (cases_Bool (W p.0))) (λ n. (Bad, (l, n))) (BeginsAt-decided h i))
-    (order i (length h) o)
+    (λ ne. ⊎_elim (λ p. ⊎_elim (λ w. (Word, (p.0, p.1, w))) (λ w. (Other, (p.0, p.1, w))) (cases_Bool (W p.0))) (λ n. (Bad, (omega (arith, ne), n))) (BeginsAt-decided h i))
+    (cases_eq i (length h))
 
 pub half_before : (t : ℕ) (W : ℕ → Bool) (h : List ℕ) (i : ℕ) (a : Side) (r : Bool) → i ≤ length h → IsBefore W h i a → r ≡ is_absent_or_other a → IsTrue r ↔ Holds WordStartHalfUnicode t W h i
 half_before t W h i a r o p e = let q = has_after W h i o in sides_decide WordStartHalfUnicode W h i a q.0 r p q.1 e

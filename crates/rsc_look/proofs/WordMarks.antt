@@ -19,15 +19,12 @@ use Rattle.rsc_look.proofs.Needed.{below_127}
 abbrev pub changes : ℕ → Bool
 changes b = exactly_one (is_word_byte b) (is_word_byte (b + 1))
 
-within : (b : ℕ) → b < 255 → changes b ≡ is_word_mark b
-within b l = agree_below_at changes is_word_mark 255 b refl l
-
 -- below 255 a change is a boundary, and there is no boundary above
 pub changes-is_word_mark : (b : ℕ) → (ltb b 255 && changes b) ≡ is_word_mark b
 changes-is_word_mark b = go (ltb b 255) (is_word_mark b) refl refl
   where
     go : (x y : Bool) → ltb b 255 ≡ x → is_word_mark b ≡ y → (x && changes b) ≡ y
-    go true y e f = within b (grind (arith, nat_tests)) ∙ f
+    go true y e f = agree_below_at changes is_word_mark 255 b refl (grind (arith, nat_tests)) ∙ f
     go false false e f = refl
     go false true e f = absurd (let s = below_127 b f in grind (arith, nat_tests))
 

@@ -6,7 +6,7 @@ use Rattle.std.specs.Ordering.{eq_by_cmp}
 use Rattle.std.specs.Cmp.{IsTotalOrder, nat_cmp_total, on_total, unsigned_tied}
 use Rattle.std.specs.FinSet as sets
 use Rattle.std.specs.FinSet.{IsAntisymmetric, nat_cmp-IsAntisymmetric, contains-from_list, same_set}
-use Rattle.std.proofs.lemmas.Bool.{agree_below, agree_below_at, eqb-true}
+use Rattle.std.proofs.lemmas.Bool.{agree_below_at, eqb-true}
 use Rattle.std.proofs.lemmas.List.{map-append}
 use Rattle.std.proofs.lemmas.List.Elements.{filter-append}
 use Rattle.std.proofs.lemmas.List.Sums.{sum_by-cons, sum_by-append}
@@ -51,19 +51,13 @@ tied l m = unsigned_tied (repr_of l) (repr_of m)
 
 -- ---- the assertion of a bit
 
-places : agree_below (λ k. nat_eq (place_of (look_at k)) k) (λ k. true) 18 ≡ true
-unfolding look_at
-places = refl
-
-numbers : agree_below (λ k. nat_eq (repr_of (look_at k)) (2 ^ k)) (λ k. true) 18 ≡ true
-unfolding look_at
-numbers = refl
-
 pub place_of-look_at : (k : ℕ) → k < 18 → place_of (look_at k) ≡ k
-place_of-look_at k l = eqb-true _ _ (agree_below_at (λ j. nat_eq (place_of (look_at j)) j) (λ j. true) 18 k places l)
+unfolding look_at
+place_of-look_at k l = eqb-true _ _ (agree_below_at (λ j. nat_eq (place_of (look_at j)) j) (λ j. true) 18 k refl l)
 
 pub repr_of-look_at : (k : ℕ) → k < 18 → repr_of (look_at k) ≡ 2 ^ k
-repr_of-look_at k l = eqb-true _ _ (agree_below_at (λ j. nat_eq (repr_of (look_at j)) (2 ^ j)) (λ j. true) 18 k numbers l)
+unfolding look_at
+repr_of-look_at k l = eqb-true _ _ (agree_below_at (λ j. nat_eq (repr_of (look_at j)) (2 ^ j)) (λ j. true) 18 k refl l)
 
 pub place_of-lt : (l : Look) → place_of l < 18
 place_of-lt Start = omega arith
