@@ -62,14 +62,21 @@ fn matcher<W: WordClass>(terminator: u8, words: W) -> LookMatcher<W> {
     matcher
 }
 
-// A haystack, and a position that is at most its length.
-fn place(alloc: Global, haystack: &[u8], at: &[u8]) -> Result<(Vec<u8>, usize), CommandError>
-    ensures { IfOk result (λ place. place.1 ≤ length place.0.items) }
+// A matcher, what is asked of it, a haystack, and a position that is at most its length.
+fn question<'a>(
+    alloc: Global,
+    arguments: &[&'a [u8]],
+) -> Result<(LookMatcher<UnicodeWord>, &'a [u8], Vec<u8>, usize), CommandError>
+    ensures { IfOk result (λ question. question.3 ≤ length question.2.items) }
 {
+    let [terminator, asked, haystack, at] = arguments else {
+        return Err(BadCommand);
+    };
+    let matcher = matcher(byte(terminator)?, UnicodeWord);
     let haystack = bytes(alloc, haystack)?;
     let at = number(at)?;
     if at <= haystack.len() {
-        Ok((haystack, at))
+        Ok((matcher, asked, haystack, at))
     } else {
         Err(BadCommand)
     }
@@ -77,35 +84,23 @@ fn place(alloc: Global, haystack: &[u8], at: &[u8]) -> Result<(Vec<u8>, usize), 
 
 /// Whether an assertion holds at a position.
 pub fn matches(alloc: Global, arguments: &[&[u8]]) -> Result<String, CommandError> {
-    let [terminator, asked, haystack, at] = arguments else {
-        return Err(BadCommand);
-    };
-    let matcher = matcher(byte(terminator)?, UnicodeWord);
-    let look = look(asked)?;
-    let (haystack, at) = place(alloc, haystack, at)?;
-    truth_answer(alloc, matcher.matches(look, haystack.as_slice(), at))
+    let (matcher, asked, haystack, at) = question(alloc, arguments)?;
+    let holds = matcher.matches(look(asked)?, haystack.as_slice(), at);
+    truth_answer(alloc, holds)
 }
 
 /// The same by the assertion's own call.
 pub fn named_calls(alloc: Global, arguments: &[&[u8]]) -> Result<String, CommandError> {
-    let [terminator, asked, haystack, at] = arguments else {
-        return Err(BadCommand);
-    };
-    let matcher = matcher(byte(terminator)?, UnicodeWord);
-    let look = look(asked)?;
-    let (haystack, at) = place(alloc, haystack, at)?;
-    truth_answer(alloc, named_call(&matcher, look, haystack.as_slice(), at))
+    let (matcher, asked, haystack, at) = question(alloc, arguments)?;
+    let holds = named_call(&matcher, look(asked)?, haystack.as_slice(), at);
+    truth_answer(alloc, holds)
 }
 
 /// Whether all assertions of a set hold at a position.
 pub fn matches_set(alloc: Global, arguments: &[&[u8]]) -> Result<String, CommandError> {
-    let [terminator, set, haystack, at] = arguments else {
-        return Err(BadCommand);
-    };
-    let matcher = matcher(byte(terminator)?, UnicodeWord);
-    let set = look_set(set)?;
-    let (haystack, at) = place(alloc, haystack, at)?;
-    truth_answer(alloc, matcher.matches_set(set, haystack.as_slice(), at))
+    let (matcher, asked, haystack, at) = question(alloc, arguments)?;
+    let holds = matcher.matches_set(look_set(asked)?, haystack.as_slice(), at);
+    truth_answer(alloc, holds)
 }
 
 /// The assertions that hold at each position, as the sums of their numbers.

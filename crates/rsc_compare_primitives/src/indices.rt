@@ -98,12 +98,21 @@ pub fn from_width(
     token: &[u8],
 ) -> Result<String, CommandError> {
     let number = number(token)?;
+    macro_rules! tried {
+        ($number:expr) => {
+            match kind {
+                Kind::Small => made!(alloc, SmallIndex::try_from($number)),
+                Kind::Pattern => made!(alloc, PatternID::try_from($number)),
+                Kind::State => made!(alloc, StateID::try_from($number)),
+            }
+        };
+    }
     match width {
         b"u8" => from_u8(alloc, kind, u8::try_from(number).map_err(|_| BadCommand)?),
-        b"u16" => from_u16(alloc, kind, u16::try_from(number).map_err(|_| BadCommand)?),
-        b"u32" => from_u32(alloc, kind, u32::try_from(number).map_err(|_| BadCommand)?),
-        b"u64" => from_u64(alloc, kind, number as u64),
-        b"usize" => from_usize(alloc, kind, number),
+        b"u16" => tried!(u16::try_from(number).map_err(|_| BadCommand)?),
+        b"u32" => tried!(u32::try_from(number).map_err(|_| BadCommand)?),
+        b"u64" => tried!(number as u64),
+        b"usize" => tried!(number),
         _ => Err(BadCommand),
     }
 }
@@ -113,38 +122,6 @@ fn from_u8(alloc: Global, kind: Kind, number: u8) -> Result<String, CommandError
         Kind::Small => accepted(alloc, SmallIndex::from(number).as_usize()),
         Kind::Pattern => accepted(alloc, PatternID::from(number).as_usize()),
         Kind::State => accepted(alloc, StateID::from(number).as_usize()),
-    }
-}
-
-fn from_u16(alloc: Global, kind: Kind, number: u16) -> Result<String, CommandError> {
-    match kind {
-        Kind::Small => made!(alloc, SmallIndex::try_from(number)),
-        Kind::Pattern => made!(alloc, PatternID::try_from(number)),
-        Kind::State => made!(alloc, StateID::try_from(number)),
-    }
-}
-
-fn from_u32(alloc: Global, kind: Kind, number: u32) -> Result<String, CommandError> {
-    match kind {
-        Kind::Small => made!(alloc, SmallIndex::try_from(number)),
-        Kind::Pattern => made!(alloc, PatternID::try_from(number)),
-        Kind::State => made!(alloc, StateID::try_from(number)),
-    }
-}
-
-fn from_u64(alloc: Global, kind: Kind, number: u64) -> Result<String, CommandError> {
-    match kind {
-        Kind::Small => made!(alloc, SmallIndex::try_from(number)),
-        Kind::Pattern => made!(alloc, PatternID::try_from(number)),
-        Kind::State => made!(alloc, StateID::try_from(number)),
-    }
-}
-
-fn from_usize(alloc: Global, kind: Kind, number: usize) -> Result<String, CommandError> {
-    match kind {
-        Kind::Small => made!(alloc, SmallIndex::try_from(number)),
-        Kind::Pattern => made!(alloc, PatternID::try_from(number)),
-        Kind::State => made!(alloc, StateID::try_from(number)),
     }
 }
 
