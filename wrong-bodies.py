@@ -13,10 +13,10 @@ A wrong body is a file `NAME.edit`:
     apart: extract_from                        if there: functions on whose proof this one's rests, so that their edits are tried apart from this
 
 `rt ci` tries the edits of crates/CRATE/must-fail one by one, each for the price of a start of the checker, and takes any refusal. Here edits of
-different functions are applied together to a copy, and one check of those functions judges them all: it goes on behind a refused function, and
-the callers of a function see its contract alone. An edit passes only if its function is refused at a goal that begins as named; a goal that
-is refused because a proof file names what the edit took away does not count. The crates below are proved first; that the crate itself is proved as it
-is, `rt ci` says.
+different functions are applied together to a copy, and one check of those functions judges them all: it goes on behind a refused function, and the
+callers of a function see its contract alone. An edit passes only if its function is refused at a goal that begins as named (of a proof by hand, `by
+hand at ` and the word that is refused); a goal that is refused because a proof file names what the edit took away does not count. The crates below
+are proved first; that the crate itself is proved as it is, `rt ci` says.
 """
 import collections
 import concurrent.futures
