@@ -1,6 +1,7 @@
 //! The classes of bytes for assertions and ranges, and how large a table is by them.
-ghost use Rattle.std.specs.Prelude.{◌≡◌, ◌≤◌, ◌<◌, ◌⊎◌, [], ℕ, true, ◌+◌, ◌^◌, slice_index};
+ghost use Rattle.std.specs.Prelude.{◌≡◌, ◌≤◌, ◌<◌, ◌⊎◌, [], ℕ, true, ◌^◌};
 ghost use Rattle.std.specs.FinSet as sets;
+ghost use Rattle.rsc_alphabet.specs.Iterators.{symbol_count};
 ghost use Rattle.rsc_look.specs.Keeping.{IsCoarsestMap, Keeps};
 ghost use Rattle.rsc_show.specs.Chosen.{chosen_words};
 ghost use Rattle.rsc_show.specs.Ranges.{HasEdge, IsCoarsestParting, IsOfLook, Parts};
@@ -64,7 +65,7 @@ pub struct Sizes {
 
 /// The sizes that go with a map from bytes to classes.
 pub fn sizes_of(classes: &ByteClasses) -> Sizes
-    ensures symbols { result.symbols ≡ slice_index classes.now 255 + 2 }
+    ensures symbols { result.symbols ≡ symbol_count classes.now }
     ensures entries { result.entries ≡ 2 ^ result.exponent }
     ensures enough { result.symbols ≤ result.entries }
     ensures least { (k : ℕ) → result.symbols ≤ 2 ^ k → result.exponent ≤ k }
