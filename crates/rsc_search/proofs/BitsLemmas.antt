@@ -1,12 +1,12 @@
--- The bits of a word: its lowest and its highest set bit, and the word without either.
+-- The bits of a word: its lowest and its highest set bit, the word without its lowest, and the word moved up.
 use Rattle.std.proofs.Common.{◌≡◌, ◌≢◌, ℕ, zero, suc, ◌+◌, ◌-◌, ◌*◌, ◌/◌, ◌%◌, ◌^◌, ◌<◌, ◌≤◌, min, Bool, true, false, not, ◌&&◌, ◌||◌, refl, ap, sym, ◌∙◌, arith, w64, bit_and, add-one, eqb, ltb}
-use Rattle.std.specs.Int.{bit_at, bit_not, trailing_zeros}
-use Rattle.std.specs.Int.Bits.{bit_xor, xor_add_and}
+use Rattle.std.specs.Int.{bit_at, trailing_zeros}
 use Rattle.std.specs.Int.Count.{trailing_of_zero}
 use Rattle.std.specs.Int.RustNames.{bit_or}
 use Rattle.std.proofs.lemmas.Grind.{common_steps}
-use Rattle.std.proofs.lemmas.Nat.Bits.{bit_at_above, bit_at_clear_same, bit_at_clear_other, bit_at_lowest, bit_at-suc, bit_at-zero, bit_at_and, bit_at-trailing_zeros, bit_at_set_same, bit_at_set_other, bit_at-lt, same_from_bits_below}
-use Rattle.std.proofs.lemmas.Nat.{leading_length, pow_pos, or_lt, and_mask}
+use Rattle.std.proofs.lemmas.Nat.Bits.{bit_at_above, bit_at_cat_low, bit_at_cat_high, bit_at_lowest, bit_at-suc, bit_at-zero, bit_at_and, bit_at-trailing_zeros, bit_at_set_same, bit_at_set_other, bit_at-lt, same_from_bits_below}
+use Rattle.std.proofs.lemmas.Nat.{leading_length, pow_pos, or_lt}
+use mathlib.Core.Bool.{true≢false}
 use native.Mathlib.Numerals.{unary_clauses}
 use Rattle.std.proofs.Math.Nat.{div-lt_iff_lt-mul}
 use Rattle.rsc_search.specs.WordLayout.{has_bit, bit_length}
@@ -121,6 +121,12 @@ clear_if_other more word i stays ne =
       | false ↦ λ e. e
     ] refl
 
+-- a number's low 64 bits
+kept_by_word : (m j : ℕ) → j < 64 → bit_at (m % 2 ^ 64) j ≡ bit_at m j
+kept_by_word m j within =
+    let parts : (m / 2 ^ 64) * 2 ^ 64 + m % 2 ^ 64 ≡ m = omega arith in
+    sym (bit_at_cat_low (m / 2 ^ 64) 64 (m % 2 ^ 64) j within) ∙ ap (λ x. bit_at x j) parts
+
 -- ---- the highest set bit
 length_of : (n : ℕ) → n < 2 ^ 64 → (n < 2 ^ bit_length n) × (2 ^ bit_length n ≤ 2 * n + 1)
 length_of n fits =
@@ -158,29 +164,28 @@ highest_set n fits some = top (bit_length n - 1) (omega (arith, some)) (length_o
         let one : n / 2 ^ k ≡ 1 = omega (arith, under, over) in
         rw one refl
 
--- the highest place less a number of zeros, as `^`
-pub places_below : (zeros : ℕ) → zeros < 64 → bit_xor zeros 63 ≡ 63 - zeros
-places_below zeros within =
-    let sum : bit_xor zeros 63 + bit_and zeros 63 * 2 ≡ zeros + 63 = xor_add_and zeros 63 in
-    let low : bit_and zeros 63 ≡ zeros % 64 = and_mask zeros 6 in
-    omega (arith, sum, low, within)
+-- `n << k` has the bits of n, each k places higher
+pub bit_moved_in : (n k j : ℕ) → j < k → j < 64 → has_bit (n * 2 ^ k % 2 ^ 64) j ≡ false
+bit_moved_in n k j below within =
+    let none : n * 2 ^ k ≡ n * 2 ^ k + 0 = omega arith in
+    let bit : bit_at (n * 2 ^ k % 2 ^ 64) j ≡ 0 = kept_by_word (n * 2 ^ k) j within ∙ ap (λ m. bit_at m j) none ∙ bit_at_cat_low n k 0 j below ∙ bit_at-zero j in
+    rw bit refl
 
--- `n & !(1 << k)` has the bits of n but bit k
-pub bit_cleared : (n k : ℕ) → n < 2 ^ 64 → k < 64 → (j : ℕ) → has_bit (bit_and n (bit_not w64 (1 * 2 ^ k % 2 ^ 64))) j ≡ (not (eqb j k) && has_bit n j)
-bit_cleared n k fits within j =
-    by_order j 64
-    (λ below. elim (eqb j k) as (λ b. eqb j k ≡ b → has_bit (bit_and n (bit_not w64 (1 * 2 ^ k % 2 ^ 64))) j ≡ (not b && has_bit n j)) [
-      | true ↦ λ e. let eq : j ≡ k = grind (arith, common_steps) in rw (eq, bit_at_clear_same w64 n k within) refl
-      | false ↦ λ e. let ne : j ≢ k = grind (arith, common_steps) in rw (bit_at_clear_other w64 n k within j below ne) refl
-    ] refl)
-    (λ at_64. past (omega (arith, at_64)))
-    (λ above. past (omega (arith, above)))
-  where
-    past : 64 ≤ j → has_bit (bit_and n (bit_not w64 (1 * 2 ^ k % 2 ^ 64))) j ≡ (not (eqb j k) && has_bit n j)
-    past le =
-        let none : bit_at n j ≡ 0 = bit_at_above n 64 j fits le in
-        let clear : min 0 (bit_at (bit_not w64 (1 * 2 ^ k % 2 ^ 64)) j) ≡ 0 = omega arith in
-        rw (bit_at_and n (bit_not w64 (1 * 2 ^ k % 2 ^ 64)) j, none, clear) (sym (and_false (not (eqb j k))))
+pub bit_moved : (n k j : ℕ) → k ≤ j → j < 64 → has_bit (n * 2 ^ k % 2 ^ 64) j ≡ has_bit n (j - k)
+bit_moved n k j above within =
+    let none : n * 2 ^ k ≡ n * 2 ^ k + 0 = omega arith in
+    let bit : bit_at (n * 2 ^ k % 2 ^ 64) j ≡ bit_at n (j - k) = kept_by_word (n * 2 ^ k) j within ∙ ap (λ m. bit_at m j) none ∙ bit_at_cat_high n k 0 j (pow_pos k) above in
+    rw bit refl
+
+pub bit_moved_one : (n j : ℕ) → j < 63 → has_bit (n * 2 % 2 ^ 64) (j + 1) ≡ has_bit n j
+bit_moved_one n j below =
+    let place : j + 1 - 1 ≡ j = omega arith in
+    bit_moved n 1 (j + 1) (omega arith) (omega (arith, below)) ∙ ap (has_bit n) place
+
+-- a number with a set bit isn't zero
+pub some_bit : (n i : ℕ) → has_bit n i ≡ true → 0 < n
+some_bit zero i is = absurd (true≢false (sym is ∙ rw (bit_at-zero i) refl))
+some_bit (suc n) i is = omega arith
 
 -- no bit is set below the lowest set one, and none of zero
 pub none_under : (n i : ℕ) → n < 2 ^ 64 → i < trailing_zeros w64 n → has_bit n i ≡ false

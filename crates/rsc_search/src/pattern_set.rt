@@ -168,13 +168,13 @@ impl<A: Allocator> PatternSet<A> {
         ensures contained { All (λ p. has_member self.now.members p ≡ true) result }
     {
         let words = self.words.as_slice();
-        let last = words.len().saturating_sub(1);
         PatternSetIter {
             words,
             front_index: 0,
             front: word_at(words, 0),
-            back_index: last,
-            back: word_at(words, last),
+            back_index: words.len(),
+            back_end: BITS * words.len(),
+            back: 0,
             left: self.count,
         }
     }
