@@ -1,5 +1,7 @@
 -- The members of a set, by its words.
-use Rattle.std.proofs.Common.{◌≡◌, ◌≢◌, ℕ, zero, suc, replicate, ◌+◌, ◌/◌, ◌%◌, ◌<◌, ◌≤◌, ◌↔◌, Bool, true, false, ◌||◌, ◌&&◌, List, [], length, set, refl, sym, ap, ◌∙◌, arith, eqb, ltb, get_or-set_other, get_or-set_same}
+use Rattle.std.proofs.Common.{◌≡◌, ◌≢◌, ℕ, zero, suc, replicate, ◌+◌, ◌/◌, ◌%◌, ◌<◌, ◌≤◌, ◌↔◌, Bool, true, false, ◌||◌, ◌&&◌, List, [], ◌++◌, length, take, drop, set, refl, sym, ap, ◌∙◌, arith, eqb, ltb, get_or-set_other, get_or-set_same}
+use Rattle.std.proofs.Math.Seq.{take-append_seam}
+use Rattle.std.proofs.lemmas.List.{length-replicate}
 use Rattle.std.proofs.lemmas.Grind.{common_steps}
 use Rattle.std.proofs.lemmas.Bool.{and_parts}
 use Rattle.std.proofs.lemmas.Nat.Bits.{bit_at-zero}
@@ -58,6 +60,12 @@ none_of_zeros n p =
 
 pub no_members : (capacity n : ℕ) → numbers_below capacity (is_set (replicate n 0)) ≡ []
 no_members capacity n = filter_none (is_set (replicate n 0)) 0 capacity (λ q from below. none_of_zeros n q)
+
+-- words that were lent and came back as zeros
+pub all_zeros : (words lent : List ℕ) (n : ℕ) → n ≡ length words → lent ≡ replicate (length words) 0 → take n (lent ++ drop (length lent) words) ≡ replicate (length words) 0
+all_zeros words lent n n_is zeros =
+    let whole : n ≡ length lent = n_is ∙ sym (ap length zeros ∙ length-replicate (length words) 0) in
+    rw whole (take-append_seam lent (drop (length lent) words)) ∙ zeros
 
 pub members_within : (capacity : ℕ) (words : List ℕ) → length (numbers_below capacity (is_set words)) ≤ capacity
 members_within capacity words = length_filter_le (is_set words) 0 capacity

@@ -9,7 +9,7 @@ ghost use Rattle.rsc_search.specs.PatternSets.{Patterns, no_patterns, has_member
 mod error;
 mod iter;
 
-use crate::words::{BITS, has_bit, have_same_bits, with_bit, word_at};
+use crate::words::{BITS, clear_all, has_bit, have_same_bits, with_bit, word_at};
 pub use error::PatternSetInsertError;
 pub use iter::PatternSetIter;
 use rsc_primitives::PatternID;
@@ -69,7 +69,7 @@ impl<A: Allocator> PatternSet<A> {
     pub fn clear(&mut self)
         ensures { self.new ≡ no_patterns self.old.capacity }
     {
-        self.words.fill(0);
+        clear_all(self.words.as_mut_slice());
         self.count = 0;
     }
 

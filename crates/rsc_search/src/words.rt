@@ -1,5 +1,5 @@
 //! Words of 64 bits, and lists of them: bit `i` of word `w` is that of the number `64 * w + i`.
-ghost use Rattle.std.specs.Prelude.{◌≡◌, ℕ, ◌+◌, ◌<◌, ◌≤◌, ◌==◌, ◌||◌, ◌&&◌, ◌↔◌, not, true, false, IsTrue};
+ghost use Rattle.std.specs.Prelude.{◌≡◌, ℕ, ◌+◌, ◌<◌, ◌≤◌, ◌==◌, ◌||◌, ◌&&◌, ◌↔◌, not, true, false, IsTrue, length, replicate};
 ghost use Rattle.std.specs.Int.{trailing_zeros, w64};
 ghost use Rattle.rsc_search.specs.WordLayout.{word_of, has_bit, SameBits, HasBitBelow, IsRestFrom, IsRestTo, IsWordFrom, IsWordTo};
 
@@ -40,6 +40,25 @@ pub(crate) fn word_at(words: &[u64], index: usize) -> u64
     ensures { result ≡ word_of words.now index }
 {
     words.get(index).copied().unwrap_or(0)
+}
+
+/// Sets each word to zero. Up to four are set from both ends: any other way is compiled to a call, which takes longer than they do.
+#[inline(always)]
+pub(crate) fn clear_all(words: &mut [u64])
+    ensures { words.new ≡ replicate (length words.old) 0 }
+{
+    let count = words.len();
+    match count {
+        0 => {}
+        1 => words[0] = 0,
+        2..=4 => {
+            words[0] = 0;
+            words[1] = 0;
+            words[count - 2] = 0;
+            words[count - 1] = 0;
+        }
+        _ => words.fill(0),
+    }
 }
 
 /// Whether two lists have as many words, and the same bits are set in both.
