@@ -34,7 +34,7 @@ pub unsafe extern "C" fn original(
         WORD_BYTES..=PATTERN_ITER => primitives(kernel, data, param, reps),
         BYTE_CLASSES..=BYTESET_RANGES => alphabet(kernel, data, param, reps),
         LOOK_AT..=LOOKSET_ITER => look(kernel, data, param, reps),
-        PSET_FILL..=PSET_ITER_BACK => pattern_set(kernel, data, param, reps),
+        PSET_FILL..=PSET_FILL_FIRST => pattern_set(kernel, data, param, reps),
         GI_NEW..=CAPS_CLONE => captures(kernel, data, reps),
         _ => engine::run(kernel, data, param, reps),
     }
@@ -233,14 +233,21 @@ fn pattern_set(kernel: u32, data: &[u8], param: u64, reps: u64) -> u64 {
     let pids: Vec<PatternID> = numbers[1..].iter().map(|&n| PatternID::must(n)).collect();
     let (members, queries) = pids.split_at(numbers[0]);
     let mut set = PatternSet::new(param as usize);
-    if !matches!(kernel, PSET_FILL | PSET_CLEAR) {
+    if !matches!(kernel, PSET_FILL | PSET_CLEAR | PSET_FILL_FIRST) {
         members.iter().for_each(|&pid| _ = set.insert(pid));
     }
     match kernel {
         PSET_FILL => repeat(reps, || {
             let new = black_box(members).iter().filter(|&&pid| set.insert(pid)).count();
+            let sum = new + set.len();
             black_box(&mut set).clear();
-            new as u64
+            sum as u64
+        }),
+        PSET_FILL_FIRST => repeat(reps, || {
+            let new = black_box(&members[..1]).iter().filter(|&&pid| set.insert(pid)).count();
+            let sum = new + set.len();
+            black_box(&mut set).clear();
+            sum as u64
         }),
         PSET_CLEAR => repeat(reps, || {
             let new = set.insert(black_box(members)[0]);

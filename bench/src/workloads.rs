@@ -39,6 +39,7 @@ pub const PSET_AGAIN: u32 = 42;
 pub const PSET_CONTAINS: u32 = 43;
 pub const PSET_ITER: u32 = 44;
 pub const PSET_ITER_BACK: u32 = 45;
+pub const PSET_FILL_FIRST: u32 = 46;
 pub const GI_NEW: u32 = 50;
 pub const GI_TO_INDEX: u32 = 51;
 pub const GI_TO_NAME: u32 = 52;
@@ -391,7 +392,7 @@ pub fn all() -> Vec<Workload> {
                 let name = format!("pset_{call}_{capacity}_{name}");
                 all.push(Workload { name, kernel, data: data.clone(), param, ops, less });
             };
-            add("insert", PSET_FILL, size, Some(PSET_CLEAR));
+            add("insert", PSET_FILL, size, Some(PSET_FILL_FIRST));
             add("insert_again", PSET_AGAIN, size, None);
             add("contains", PSET_CONTAINS, QUERIES, None);
             add("iter", PSET_ITER, 1, None);

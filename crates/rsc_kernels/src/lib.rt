@@ -28,7 +28,7 @@ pub extern "C" fn rsc_kernel(
         1..=8 => primitives::run(alloc, kernel, data, param, reps),
         10..=20 => alphabet::run(alloc, kernel, data, param, reps),
         30..=33 => look::run(alloc, kernel, data, param, reps),
-        40..=45 => search::run(alloc, kernel, data, param, reps),
+        40..=46 => search::run(alloc, kernel, data, param, reps),
         50..=67 => captures::run(alloc, kernel, data, reps),
         70..=74 => engine::run(alloc, kernel, data, param, reps),
         _ => Ok(0),

@@ -5,7 +5,7 @@ use rsc_primitives::PatternID;
 use rsc_search::PatternSet;
 use std::alloc::{AllocError, Global};
 
-/// The sum of a kernel of this layer, numbers 40 to 45. `param` is the set's capacity.
+/// The sum of a kernel of this layer, numbers 40 to 46. `param` is the set's capacity.
 pub fn run(
     alloc: Global,
     kernel: u32,
@@ -57,7 +57,12 @@ fn over_set(
     requires below { All (λ p. p < capacity) members.now }
 {
     let mut set = PatternSet::new(alloc, capacity)?;
-    if kernel != 40 && kernel != 41 {
+    if kernel == 40 || kernel == 46 {
+        let (first, _) = members.split_at(members.len().min(1));
+        let put_in = if kernel == 40 { members } else { first };
+        return Ok(fillings(set, put_in, reps));
+    }
+    if kernel != 41 {
         refused(&mut set, members, 0);
     }
     let mut sum = 0u64;
@@ -100,7 +105,6 @@ fn pass(
     ensures { set.new.capacity ≡ set.old.capacity }
 {
     match kernel {
-        40 => fill(set, members, sum),
         41 => clear(set, members, sum),
         42 => refused(set, members, sum),
         43 => found(set, queries, sum),
@@ -109,21 +113,35 @@ fn pass(
     }
 }
 
-// How many are new when all are put in; the set is empty before and after.
-#[inline(never)]
-fn fill(set: &mut PatternSet, members: &[PatternID], sum: u64) -> u64
-    requires { All (λ p. p < set.old.capacity) members.now }
-    ensures { set.new.capacity ≡ set.old.capacity }
+fn fillings(set: PatternSet, members: &[PatternID], reps: u64) -> u64
+    requires { All (λ p. p < set.capacity) members.now }
 {
-    let mut sum = sum;
-    for id in members {
-        sum = sum.wrapping_add(u64::from(set.insert(*id)));
+    let (mut set, mut sum) = (set, 0u64);
+    for _ in 0..reps {
+        let (emptied, more) = fill(set, members, sum);
+        set = emptied;
+        sum = more;
     }
-    set.clear();
     sum
 }
 
-// The same of the first alone.
+// How many are new when all are put in, and how many members there are then; the set is empty before and after. It is handed over
+// and back, so that the loop has it in variables of its own, as the original's has.
+#[inline(never)]
+fn fill(set: PatternSet, members: &[PatternID], sum: u64) -> (PatternSet, u64)
+    requires { All (λ p. p < set.capacity) members.now }
+    ensures { result.0.capacity ≡ set.capacity }
+{
+    let (mut set, mut sum) = (set, sum);
+    for id in members {
+        sum = sum.wrapping_add(u64::from(set.insert(*id)));
+    }
+    sum = sum.wrapping_add(set.len() as u64);
+    set.clear();
+    (set, sum)
+}
+
+// How many are new when the first alone is put in; the set is empty before and after.
 #[inline(never)]
 fn clear(set: &mut PatternSet, members: &[PatternID], sum: u64) -> u64
     requires { All (λ p. p < set.old.capacity) members.now }
