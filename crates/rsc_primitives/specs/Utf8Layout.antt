@@ -3,6 +3,13 @@ use Rattle.std.specs.Prelude.{◌≡◌, ℕ, ◌+◌, ◌-◌, ◌*◌, ◌≤�
 use Rattle.std.specs.Int.{IsInRange}
 use Rattle.rsc_primitives.specs.Utf8.{IsTail, OpensThree, OpensFour}
 
+-- n is the number of the character past ASCII whose encoding begins these bytes
+abbrev pub IsLongNumber : ℕ → ℕ → ℕ → ℕ → ℕ → Type 0
+IsLongNumber a b c d n =
+    (IsInRange 0xC2 0xDF a × IsTail b × (n ≡ (a - 0xC0) * 64 + (b - 0x80)))
+    ⊎ (OpensThree a b × IsTail c × (n ≡ (a - 0xE0) * 4096 + (b - 0x80) * 64 + (c - 0x80)))
+    ⊎ (OpensFour a b × IsTail c × IsTail d × (n ≡ (a - 0xF0) * 262144 + (b - 0x80) * 4096 + (c - 0x80) * 64 + (d - 0x80)))
+
 -- n is the number of the character that begins the bytes
 abbrev pub IsFirstNumber : List ℕ → ℕ → Type 0
 IsFirstNumber h n =

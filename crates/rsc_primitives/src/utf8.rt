@@ -1,9 +1,9 @@
 //! UTF-8 read from either end of any bytes: RFC 3629, section 4.
 ghost use Rattle.std.specs.Prelude.{◌≡◌, ◌==◌, ◌↔◌, ℕ, ◌+◌, ◌-◌, ◌*◌, ◌<◌, ◌≤◌, IsTrue, MatchOption, IfSome, IfOk, length, slice_index};
 ghost use Rattle.std.specs.Char.{IsScalar, len_utf8};
-ghost use Rattle.std.specs.Int.{bit_at};
+ghost use Rattle.std.specs.Int.{IsInRange, bit_at};
 ghost use Rattle.rsc_primitives.specs.Utf8.{is_word_byte, IsTail, OpensThree, OpensFour, DecodesTo, DecodesLastTo, IsBoundary};
-ghost use Rattle.rsc_primitives.specs.Utf8Layout.{IsFirstNumber, IsLastNumber};
+ghost use Rattle.rsc_primitives.specs.Utf8Layout.{IsLongNumber, IsFirstNumber, IsLastNumber};
 
 // The word bytes below 128: bit b stands for the byte b.
 const ASCII_WORD_BYTES: u128 = 0x07FF_FFFE_87FF_FFFE_03FF_0000_0000_0000;
@@ -76,11 +76,9 @@ pub fn decode(bytes: &[u8]) -> Option<Result<char, u8>>
     ensures width { IfSome result (λ step. IfOk step (λ c. len_utf8 c ≤ length bytes.now)) }
 {
     let first = *bytes.first()?;
-    if first < 0x80 {
-        return Some(Ok(char::from(first)));
-    }
     match first_char(bytes) {
         Some(c) => Some(Ok(c)),
+        None if first < 0x80 => Some(Ok(char::from(first))),
         None => Some(Err(first)),
     }
 }
@@ -136,44 +134,90 @@ fn is_tail(byte: u8) -> bool
     (0x80..=0xBF).contains(&byte)
 }
 
+// Whether a byte may begin an encoding of more than one byte.
+#[inline(always)]
+fn is_long_lead(byte: u8) -> bool
+    ensures { IsTrue result ↔ IsInRange 0xC2 0xF4 byte }
+{
+    (0xC2..=0xF4).contains(&byte)
+}
+
+// What a byte within a character adds to its number, or more than 3F of any other byte.
+#[inline(always)]
+fn tail_bits(byte: u8) -> u8
+    ensures tail { IsTail byte → result ≡ byte - 0x80 }
+    ensures other { result ≤ 0x3F → IsTail byte }
+{
+    byte.wrapping_sub(0x80)
+}
+
 // The character past ASCII that begins the bytes. Most bytes that begin none are told by the first alone.
 #[inline(always)]
 fn first_char(bytes: &[u8]) -> Option<char>
-    requires some { 1 ≤ length bytes.now }
-    requires past_ascii { 0x80 ≤ slice_index bytes.now 0 }
-    ensures { MatchOption result ((n : ℕ) → IsFirstNumber bytes.now n → ⊥) (IsFirstNumber bytes.now) }
+    requires { 1 ≤ length bytes.now }
+    ensures { MatchOption result ((n : ℕ) → IsFirstNumber bytes.now n → slice_index bytes.now 0 ≤ 0x7F) (IsFirstNumber bytes.now) }
 {
-    let n = bytes.len();
-    let a = bytes[0];
-    if a < 0xC2 || 0xF4 < a || n < 2 {
+    let first = bytes[0];
+    if first < 0xC2 || 0xF4 < first {
         return None;
     }
-    let b = bytes[1];
-    if !is_tail(b) {
+    let [a, b, c, d, ..] = bytes else {
+        return first_char_of_few(bytes);
+    };
+    char_of(*a, *b, *c, *d)
+}
+
+// The same of at most three bytes. A byte that isn't there is 0, which is within no character.
+#[cold]
+#[inline(never)]
+fn first_char_of_few(bytes: &[u8]) -> Option<char>
+    requires { length bytes.now ≤ 3 }
+    ensures { MatchOption result ((n : ℕ) → IsFirstNumber bytes.now n → slice_index bytes.now 0 ≤ 0x7F) (IsFirstNumber bytes.now) }
+{
+    match bytes {
+        [a, b] => char_of(*a, *b, 0, 0),
+        [a, b, c] => char_of(*a, *b, *c, 0),
+        _ => None,
+    }
+}
+
+// The character past ASCII whose encoding begins these four bytes.
+#[inline(always)]
+fn char_of(a: u8, b: u8, c: u8, d: u8) -> Option<char>
+    ensures { MatchOption result ((n : ℕ) → IsLongNumber a b c d n → ⊥) (IsLongNumber a b c d) }
+{
+    let x = tail_bits(b);
+    if !(is_long_lead(a) & (x <= 0x3F)) {
         return None;
     }
-    if a <= 0xDF {
-        return Some(char_of_two(a, b));
+    let x = u32::from(x);
+    if a < 0xE0 {
+        let number = u32::from(a % 32) * 64 + x;
+        if number < 0x80 || 0x7FF < number {
+            return None;
+        }
+        return char::from_u32(number);
     }
-    if n < 3 || !is_tail(bytes[2]) {
+    let y = u32::from(tail_bits(c));
+    if a < 0xF0 {
+        if y > 0x3F {
+            return None;
+        }
+        let number = u32::from(a % 16) * 4096 + x * 64 + y;
+        if number < 0x800 {
+            return None;
+        }
+        return char::from_u32(number);
+    }
+    let z = u32::from(tail_bits(d));
+    if y > 0x3F || z > 0x3F {
         return None;
     }
-    let c = bytes[2];
-    if a <= 0xEF {
-        return if opens_three(a, b) {
-            Some(char_of_three(a, b, c))
-        } else {
-            None
-        };
-    }
-    if n < 4 || !is_tail(bytes[3]) {
+    let number = u32::from(a % 16) * 262144 + x * 4096 + y * 64 + z;
+    if number < 0x10000 {
         return None;
     }
-    if opens_four(a, b) {
-        Some(char_of_four(a, b, c, bytes[3]))
-    } else {
-        None
-    }
+    char::from_u32(number)
 }
 
 // The character past ASCII that ends the bytes. It stops at the first byte from the back that can't be there.

@@ -1,4 +1,5 @@
-use Rattle.std.proofs.Common.{sym}
+use Rattle.std.proofs.Common.{◌≡◌, ◌≤◌, get_or, sym, arith}
+use Rattle.std.proofs.lemmas.Option.{get_or_from_slice_get}
 use Rattle.rsc_primitives.proofs.PartsLemmas.{BeginsAt-fits}
 use Rattle.rsc_primitives.proofs.Utf8Lemmas.{IsFirstNumber-from, BeginsAt-from}
 use Rattle.rsc_primitives.proofs.utf8.decode.Goals as goal
@@ -8,5 +9,9 @@ returns-in-Some c =
     let begins = BeginsAt-from _ _ c.in-Some.ensures in
     record { answer = begins; width = BeginsAt-fits _ _ begins }
 
-pub returns-in-None-clause-answer : goal.returns-in-None-clause-answer
-returns-in-None-clause-answer c = (sym c.in_ok-first.ensures.value, λ x b. c.in-None.ensures x (IsFirstNumber-from _ x b))
+pub returns-in-None-2-clause-answer : goal.returns-in-None-2-clause-answer
+returns-in-None-2-clause-answer c =
+    let h = c.args.bytes.now in
+    let past_ascii = c.if-first-lt128.false in
+    let first : get_or h 0 0 ≡ c.in_ok-first.field-0.now = get_or_from_slice_get h 0 _ 0 (sym c.in_ok-first.ensures.value) in
+    (sym c.in_ok-first.ensures.value, λ x b. let ascii : get_or h 0 0 ≤ 0x7F = c.in-None-2.ensures x (IsFirstNumber-from _ x b) in omega arith)
