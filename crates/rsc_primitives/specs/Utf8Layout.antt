@@ -10,6 +10,13 @@ IsLongNumber a b c d n =
     ⊎ (OpensThree a b × IsTail c × (n ≡ (a - 0xE0) * 4096 + (b - 0x80) * 64 + (c - 0x80)))
     ⊎ (OpensFour a b × IsTail c × IsTail d × (n ≡ (a - 0xF0) * 262144 + (b - 0x80) * 4096 + (c - 0x80) * 64 + (d - 0x80)))
 
+-- n is the number of the character past ASCII whose encoding ends these bytes
+abbrev pub EndsLongNumber : ℕ → ℕ → ℕ → ℕ → ℕ → Type 0
+EndsLongNumber a b c d n =
+    (IsInRange 0xC2 0xDF c × IsTail d × (n ≡ (c - 0xC0) * 64 + (d - 0x80)))
+    ⊎ (OpensThree b c × IsTail d × (n ≡ (b - 0xE0) * 4096 + (c - 0x80) * 64 + (d - 0x80)))
+    ⊎ (OpensFour a b × IsTail c × IsTail d × (n ≡ (a - 0xF0) * 262144 + (b - 0x80) * 4096 + (c - 0x80) * 64 + (d - 0x80)))
+
 -- n is the number of the character that begins the bytes
 abbrev pub IsFirstNumber : List ℕ → ℕ → Type 0
 IsFirstNumber h n =

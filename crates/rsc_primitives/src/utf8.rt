@@ -3,7 +3,7 @@ ghost use Rattle.std.specs.Prelude.{◌≡◌, ◌==◌, ◌↔◌, ℕ, ◌+◌
 ghost use Rattle.std.specs.Char.{IsScalar, len_utf8};
 ghost use Rattle.std.specs.Int.{IsInRange, bit_at};
 ghost use Rattle.rsc_primitives.specs.Utf8.{is_word_byte, IsTail, OpensThree, OpensFour, DecodesTo, DecodesLastTo, IsBoundary};
-ghost use Rattle.rsc_primitives.specs.Utf8Layout.{IsLongNumber, IsFirstNumber, IsLastNumber};
+ghost use Rattle.rsc_primitives.specs.Utf8Layout.{IsLongNumber, EndsLongNumber, IsFirstNumber, IsLastNumber};
 
 // The word bytes below 128: bit b stands for the byte b.
 const ASCII_WORD_BYTES: u128 = 0x07FF_FFFE_87FF_FFFE_03FF_0000_0000_0000;
@@ -107,26 +107,6 @@ pub fn decode_last(bytes: &[u8]) -> Option<Result<char, u8>>
     }
 }
 
-// The character of a number that is some character's, between two bounds.
-//
-// Both are known, and tested only so that the compiler knows them too, and a caller who asks how many bytes the character takes
-// needs fewer tests.
-#[inline(always)]
-fn char_between(number: u32, least: u32, greatest: u32) -> char
-    requires scalar { IsScalar number }
-    requires from { least ≤ number }
-    requires to { number ≤ greatest }
-    ensures { result ≡ number }
-{
-    if number < least || greatest < number {
-        unreachable!();
-    }
-    match char::from_u32(number) {
-        Some(c) => c,
-        None => unreachable!(),
-    }
-}
-
 #[inline(always)]
 fn is_tail(byte: u8) -> bool
     ensures { IsTrue result ↔ IsTail byte }
@@ -220,97 +200,64 @@ fn char_of(a: u8, b: u8, c: u8, d: u8) -> Option<char>
     char::from_u32(number)
 }
 
-// The character past ASCII that ends the bytes. It stops at the first byte from the back that can't be there.
+// The character past ASCII that ends the bytes.
 #[inline(always)]
 fn last_char(bytes: &[u8]) -> Option<char>
     requires some { 1 ≤ length bytes.now }
     requires past_ascii { 0x80 ≤ slice_index bytes.now (length bytes.now - 1) }
     ensures { MatchOption result ((n : ℕ) → IsLastNumber bytes.now n → ⊥) (IsLastNumber bytes.now) }
 {
-    let n = bytes.len();
-    let d = bytes[n - 1];
-    if n < 2 || !is_tail(d) {
+    let [.., a, b, c, d] = bytes else {
+        return last_char_of_few(bytes);
+    };
+    char_ending(*a, *b, *c, *d)
+}
+
+// The same of at most three bytes. A byte that isn't there is 0, which is no lead.
+#[cold]
+#[inline(never)]
+fn last_char_of_few(bytes: &[u8]) -> Option<char>
+    requires some { 1 ≤ length bytes.now }
+    requires few { length bytes.now ≤ 3 }
+    requires past_ascii { 0x80 ≤ slice_index bytes.now (length bytes.now - 1) }
+    ensures { MatchOption result ((n : ℕ) → IsLastNumber bytes.now n → ⊥) (IsLastNumber bytes.now) }
+{
+    match bytes {
+        [c, d] => char_ending(0, 0, *c, *d),
+        [b, c, d] => char_ending(0, *b, *c, *d),
+        _ => None,
+    }
+}
+
+// The character past ASCII whose encoding ends these four bytes. Each length is one comparison of the bytes' highest bits: where
+// bytes are no text, comparisons of single bytes can't be foretold.
+#[inline(always)]
+fn char_ending(a: u8, b: u8, c: u8, d: u8) -> Option<char>
+    ensures { MatchOption result ((n : ℕ) → EndsLongNumber a b c d n → ⊥) (EndsLongNumber a b c d) }
+{
+    let d_bits = u32::from(d % 64);
+    if u32::from(c / 32) * 4 + u32::from(d / 64) == 0b110_10 {
+        let number = u32::from(c % 32) * 64 + d_bits;
+        if number < 0x80 {
+            return None;
+        }
+        return char::from_u32(number);
+    }
+    let tails = u32::from(c / 64) * 4 + u32::from(d / 64);
+    let c_bits = u32::from(c % 64);
+    if u32::from(b / 16) * 16 + tails == 0b1110_10_10 {
+        let number = u32::from(b % 16) * 4096 + c_bits * 64 + d_bits;
+        if number < 0x800 {
+            return None;
+        }
+        return char::from_u32(number);
+    }
+    if u32::from(a / 8) * 64 + u32::from(b / 64) * 16 + tails != 0b11110_10_10_10 {
         return None;
     }
-    let c = bytes[n - 2];
-    if 0xC2 <= c && c <= 0xDF {
-        return Some(char_of_two(c, d));
-    }
-    if n < 3 || !is_tail(c) {
+    let number = u32::from(a % 8) * 262144 + u32::from(b % 64) * 4096 + c_bits * 64 + d_bits;
+    if number < 0x10000 {
         return None;
     }
-    let b = bytes[n - 3];
-    if opens_three(b, c) {
-        return Some(char_of_three(b, c, d));
-    }
-    if n < 4 {
-        return None;
-    }
-    let a = bytes[n - 4];
-    if opens_four(a, b) {
-        Some(char_of_four(a, b, c, d))
-    } else {
-        None
-    }
-}
-
-#[inline(always)]
-fn char_of_two(a: u8, b: u8) -> char
-    requires lead { 0xC2 ≤ a }
-    requires most { a ≤ 0xDF }
-    requires tail { IsTail b }
-    ensures { result ≡ (a - 0xC0) * 64 + (b - 0x80) }
-{
-    let number = (u32::from(a) - 0xC0) * 64 + (u32::from(b) - 0x80);
-    char_between(number, 0x80, 0x7FF)
-}
-
-#[inline(always)]
-fn char_of_three(a: u8, b: u8, c: u8) -> char
-    requires leads { OpensThree a b }
-    requires tail { IsTail c }
-    ensures { result ≡ (a - 0xE0) * 4096 + (b - 0x80) * 64 + (c - 0x80) }
-{
-    let number = (u32::from(a) - 0xE0) * 4096 + (u32::from(b) - 0x80) * 64 + (u32::from(c) - 0x80);
-    char_between(number, 0x800, 0xFFFF)
-}
-
-#[inline(always)]
-fn char_of_four(a: u8, b: u8, c: u8, d: u8) -> char
-    requires leads { OpensFour a b }
-    requires third { IsTail c }
-    requires tail { IsTail d }
-    ensures { result ≡ (a - 0xF0) * 262144 + (b - 0x80) * 4096 + (c - 0x80) * 64 + (d - 0x80) }
-{
-    let number = (u32::from(a) - 0xF0) * 262144
-        + (u32::from(b) - 0x80) * 4096
-        + (u32::from(c) - 0x80) * 64
-        + (u32::from(d) - 0x80);
-    char_between(number, 0x10000, 0x10FFFF)
-}
-
-// Whether an encoding of three bytes may begin with these two.
-#[inline(always)]
-fn opens_three(a: u8, b: u8) -> bool
-    ensures { IsTrue result ↔ OpensThree a b }
-{
-    match a {
-        0xE0 => 0xA0 <= b && b <= 0xBF,
-        0xE1..=0xEC | 0xEE..=0xEF => 0x80 <= b && b <= 0xBF,
-        0xED => 0x80 <= b && b <= 0x9F,
-        _ => false,
-    }
-}
-
-// Whether an encoding of four bytes may begin with these two.
-#[inline(always)]
-fn opens_four(a: u8, b: u8) -> bool
-    ensures { IsTrue result ↔ OpensFour a b }
-{
-    match a {
-        0xF0 => 0x90 <= b && b <= 0xBF,
-        0xF1..=0xF3 => 0x80 <= b && b <= 0xBF,
-        0xF4 => 0x80 <= b && b <= 0x8F,
-        _ => false,
-    }
+    char::from_u32(number)
 }
