@@ -33,13 +33,8 @@ pub fn before(haystack: &[u8], at: usize) -> Side
     match utf8::decode_last(&haystack[..at]) {
         None => Side::Edge,
         Some(Ok(c)) => Side::Character(c),
-        Some(Err(_)) => {
-            if is_inside(haystack, at) {
-                Side::Inside
-            } else {
-                Side::NoCharacter
-            }
-        }
+        Some(Err(_)) if is_inside(haystack, at) => Side::Inside,
+        Some(Err(_)) => Side::NoCharacter,
     }
 }
 
@@ -51,13 +46,8 @@ pub fn after(haystack: &[u8], at: usize) -> Side
     match utf8::decode(&haystack[at..]) {
         None => Side::Edge,
         Some(Ok(c)) => Side::Character(c),
-        Some(Err(_)) => {
-            if is_inside(haystack, at) {
-                Side::Inside
-            } else {
-                Side::NoCharacter
-            }
-        }
+        Some(Err(_)) if is_inside(haystack, at) => Side::Inside,
+        Some(Err(_)) => Side::NoCharacter,
     }
 }
 
