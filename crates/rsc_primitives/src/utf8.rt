@@ -1,8 +1,8 @@
 //! UTF-8 read from either end of any bytes: RFC 3629, section 4.
-ghost use Rattle.std.specs.Prelude.{◌≡◌, ◌==◌, ◌↔◌, ℕ, ◌+◌, ◌-◌, ◌*◌, ◌<◌, ◌≤◌, IsTrue, MatchOption, IfSome, IfOk, length, slice_index};
-ghost use Rattle.std.specs.Char.{IsScalar, len_utf8};
+ghost use Rattle.std.specs.Prelude.{◌≡◌, ◌==◌, ◌↔◌, ℕ, ◌-◌, ◌<◌, ◌≤◌, IsTrue, MatchOption, IfSome, IfOk, length, slice_index};
+ghost use Rattle.std.specs.Char.{len_utf8};
 ghost use Rattle.std.specs.Int.{IsInRange, bit_at};
-ghost use Rattle.rsc_primitives.specs.Utf8.{is_word_byte, IsTail, OpensThree, OpensFour, DecodesTo, DecodesLastTo, IsBoundary};
+ghost use Rattle.rsc_primitives.specs.Utf8.{is_word_byte, IsTail, DecodesTo, DecodesLastTo, IsBoundary};
 ghost use Rattle.rsc_primitives.specs.Utf8Layout.{IsLongNumber, EndsLongNumber, IsFirstNumber, IsLastNumber};
 
 // The word bytes below 128: bit b stands for the byte b.
