@@ -57,8 +57,16 @@ pub(crate) fn clear_all(words: &mut [u64])
             words[count - 2] = 0;
             words[count - 1] = 0;
         }
-        _ => words.fill(0),
+        _ => clear_many(words),
     }
+}
+
+// Apart, so that a caller saves registers only where the call is made.
+#[inline(never)]
+fn clear_many(words: &mut [u64])
+    ensures { words.new ≡ replicate (length words.old) 0 }
+{
+    words.fill(0);
 }
 
 /// Whether two lists have as many words, and the same bits are set in both.
