@@ -11,7 +11,7 @@ ghost use Rattle.rsc_alphabet.specs.ByteSets.{Numbers, members, runs, IsMaximalR
 ghost use Rattle.rsc_alphabet.specs.Partitions.{Together, class_map, edges_of, edges_of_each, changes_at};
 ghost use Rattle.rsc_alphabet.specs.Ranges.{holds, are_alike};
 ghost use Rattle.rsc_alphabet.specs.Symbols.{Symbol, byte, symbol_cmp};
-ghost use Rattle.rsc_alphabet.specs.Iterators.{end_of, symbols, representatives_of};
+ghost use Rattle.rsc_alphabet.specs.Iterators.{end_of, symbols, symbol_count, representatives_of};
 
 use crate::{ByteClassSet, ByteClasses, ByteSet, Unit};
 
@@ -34,7 +34,7 @@ pub fn classes_rise_by_one()
 pub fn each_class_comes_once()
     ensures place { (classes : List ℕ) (c : ℕ) → c ≤ slice_index classes 255 → slice_get (symbols classes) c ≡ Some (byte c) }
     ensures end { (classes : List ℕ) → slice_get (symbols classes) (slice_index classes 255 + 1) ≡ Some (end_of classes) }
-    ensures count { (classes : List ℕ) → length (symbols classes) ≡ slice_index classes 255 + 2 }
+    ensures count { (classes : List ℕ) → length (symbols classes) ≡ symbol_count classes }
     ensures within { (p : ℕ → Bool) (b : ℕ) → b < 256 → slice_index (class_map p) b ≤ slice_index (class_map p) 255 }
     ensures reached { (p : ℕ → Bool) (c : ℕ) → c ≤ slice_index (class_map p) 255 →
         (b : ℕ) × ((b < 256) × (slice_index (class_map p) b ≡ c)) }

@@ -1,7 +1,7 @@
 -- What the first argument lists.
 use Rattle.std.proofs.Common.{◌≡◌, ◌∷◌, ◌++◌, ℕ, [], List, false, refl, sym, ap, ◌∙◌, append_assoc}
 use Rattle.rsc_look.specs.declared.assertion.Look.{Look}
-use Rattle.rsc_look.specs.declared.assertion.Look.TheVariants.{Start, End, StartLF, EndLF, StartCRLF, EndCRLF, WordAscii, WordAsciiNegate, WordUnicode, WordUnicodeNegate, WordStartAscii, WordEndAscii, WordStartUnicode, WordEndUnicode, WordStartHalfAscii, WordEndHalfAscii, WordStartHalfUnicode, WordEndHalfUnicode}
+use Rattle.rsc_look.specs.declared.assertion.Look.TheVariants.{Start}
 use Rattle.rsc_look.specs.Looks.{every_look}
 use Rattle.rsc_show.specs.Listed.{haystack_arguments, listed}
 use Rattle.rsc_notation.specs.LookNames.{look_name}
@@ -11,23 +11,7 @@ behind_name : (l : Look) (rest : List (List ℕ))
     → (listed false (look_name l ∷ rest) ≡ l ∷ listed false rest) × (haystack_arguments false (look_name l ∷ rest) ≡ haystack_arguments false rest)
 unfolding every_look
 behind_name Start rest = (refl, refl)
-behind_name End rest = (refl, refl)
-behind_name StartLF rest = (refl, refl)
-behind_name EndLF rest = (refl, refl)
-behind_name StartCRLF rest = (refl, refl)
-behind_name EndCRLF rest = (refl, refl)
-behind_name WordAscii rest = (refl, refl)
-behind_name WordAsciiNegate rest = (refl, refl)
-behind_name WordUnicode rest = (refl, refl)
-behind_name WordUnicodeNegate rest = (refl, refl)
-behind_name WordStartAscii rest = (refl, refl)
-behind_name WordEndAscii rest = (refl, refl)
-behind_name WordStartUnicode rest = (refl, refl)
-behind_name WordEndUnicode rest = (refl, refl)
-behind_name WordStartHalfAscii rest = (refl, refl)
-behind_name WordEndHalfAscii rest = (refl, refl)
-behind_name WordStartHalfUnicode rest = (refl, refl)
-behind_name WordEndHalfUnicode rest = (refl, refl)
+behind_name _ rest = (refl, refl)
 
 -- an assertion that is put behind those so far is the first of those that are left
 pub listed_push : (looks : List Look) (l : Look) (a : List ℕ) (rest : List (List ℕ)) → a ≡ look_name l

@@ -2,21 +2,14 @@
 use Rattle.std.proofs.Common.{◌≡◌, ◌↔◌, ◌<◌, ◌≤◌, ◌∷◌, ◌++◌, ◌||◌, [], ℕ, Bool, true, false, List, refl, sym, subst, ◌∙◌, arith, ◌⊎◌, inl, inr, ⊎_elim, true≢false}
 use Rattle.std.specs.List.{Contains}
 use Rattle.std.specs.FinSet as sets
-use Rattle.std.proofs.lemmas.Bool.{or_cases}
+use Rattle.std.proofs.lemmas.Bool.{or_cases, or_left, or_right}
 use Rattle.std.proofs.lemmas.List.Elements.{Contains-append_left, Contains-push, Contains-push_cases}
 use Rattle.rsc_alphabet.specs.Partitions.{class_map}
 use Rattle.rsc_look.specs.declared.assertion.Look.{Look}
 use Rattle.rsc_look.specs.Boundaries.{boundaries_of}
 use Rattle.rsc_look.specs.Keeping.{IsCoarsestMap, IsExactFor, IsNeeded, Keeps}
+use Rattle.rsc_look.proofs.Single.{only}
 use Rattle.rsc_show.specs.Ranges.{HasEdge, IsCoarsestParting, IsEdge, IsOfLook, Parts}
-
-pub or_left : (x y : Bool) → x ≡ true → (x || y) ≡ true
-or_left true y e = refl
-or_left false y e = absurd (true≢false (sym e))
-
-pub or_right : (x y : Bool) → y ≡ true → (x || y) ≡ true
-or_right true y e = refl
-or_right false y e = e
 
 -- one more range parts, if its edges are added and no boundary is lost
 pub parts_more : (p q : ℕ → Bool) (ranges : List (ℕ × ℕ)) (r : ℕ × ℕ) → ((b : ℕ) → p b ≡ true → q b ≡ true)
@@ -38,20 +31,16 @@ edge_kept b ranges r e = record {
 pub edge_added : (b : ℕ) (ranges : List (ℕ × ℕ)) (r : ℕ × ℕ) → r.0 ≤ r.1 → IsEdge b r → HasEdge b (ranges ++ r ∷ [])
 edge_added b ranges r fills edge = record { range = r; listed = Contains-push ranges r; holds_a_byte = fills; edge = edge }
 
--- a list of one assertion has that one alone
-one : (l m : Look) → Contains (l ∷ []) m → l ≡ m
-one l m here = ⊎_elim (λ (c : Contains [] m). let inside = c.1 in absurd (omega (arith, inside))) (λ e. e) (Contains-push_cases [] l m here)
-
 keeps_one : (q : ℕ → Bool) (looks : List Look) (l : Look) (t : ℕ) (W : ℕ → Bool) → Contains looks l → Keeps q looks t W → Keeps q (l ∷ []) t W
 keeps_one q looks l t W listed keeps = record {
-  at_bytes = λ m here. keeps.at_bytes m (subst (λ x. Contains looks x) (one l m here) listed);
-  at_characters = λ m here. keeps.at_characters m (subst (λ x. Contains looks x) (one l m here) listed);
+  at_bytes = λ m here. keeps.at_bytes m (subst (λ x. Contains looks x) (only l m here) listed);
+  at_characters = λ m here. keeps.at_characters m (subst (λ x. Contains looks x) (only l m here) listed);
 }
 
 needed_in : (b : ℕ) (looks : List Look) (l : Look) (t : ℕ) (W : ℕ → Bool) → Contains looks l → IsNeeded b (l ∷ []) t W → IsNeeded b looks t W
 needed_in b looks l t W listed needed = record {
   look = needed.look;
-  listed = subst (λ x. Contains looks x) (one l needed.look needed.listed) listed;
+  listed = subst (λ x. Contains looks x) (only l needed.look needed.listed) listed;
   position = needed.position;
   at_an_end = needed.at_an_end;
   tells = needed.tells;

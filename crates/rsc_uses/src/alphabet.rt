@@ -3,7 +3,7 @@ ghost use Rattle.std.specs.Prelude.{◌≡◌, ◌↔◌, ◌+◌, ◌*◌, ◌^
 ghost use Rattle.std.specs.FinSet as sets;
 ghost use Rattle.rsc_alphabet.specs.ByteSets.{members, runs};
 ghost use Rattle.rsc_alphabet.specs.Partitions.{Together, class_map, edges_of_each};
-ghost use Rattle.rsc_alphabet.specs.Iterators.{stride2_of};
+ghost use Rattle.rsc_alphabet.specs.Iterators.{stride2_of, symbol_count};
 ghost use Rattle.rsc_uses.specs.Leads.{lead_of};
 
 use rsc_alphabet::{ByteClassSet, ByteClasses, ByteSet, Unit, classes_of_ranges, laws};
@@ -79,10 +79,10 @@ pub fn end_is_apart(partition: &ByteClassSet, byte: u8) -> bool
 
 /// Marks the cell of each class and of the end of the input, and no other.
 pub fn fill_row(map: &ByteClasses, row: &mut [u32])
-    requires { slice_index map.now 255 + 2 ≤ length row.old }
+    requires { symbol_count map.now ≤ length row.old }
     ensures len { length row.new ≡ length row.old }
-    ensures marked { (k : ℕ) → k < slice_index map.now 255 + 2 → slice_index row.new k ≡ 1 }
-    ensures kept { (k : ℕ) → slice_index map.now 255 + 2 ≤ k → slice_index row.new k ≡ slice_index row.old k }
+    ensures marked { (k : ℕ) → k < symbol_count map.now → slice_index row.new k ≡ 1 }
+    ensures kept { (k : ℕ) → symbol_count map.now ≤ k → slice_index row.new k ≡ slice_index row.old k }
 {
     laws::each_class_comes_once();
     for unit in map.iter() {
@@ -106,7 +106,7 @@ pub fn fill_by_representatives(map: &ByteClasses, leads: &[u32; 256], end: u32, 
     requires rises { (b : ℕ) → b < 256 → slice_index map.now b ≤ slice_index map.now 255 }
     requires alike { (b c : ℕ) → b < 256 → c < 256 → slice_index map.now b ≡ slice_index map.now c →
         slice_index leads.now b ≡ slice_index leads.now c }
-    requires room { slice_index map.now 255 + 2 ≤ length row.old }
+    requires room { symbol_count map.now ≤ length row.old }
     ensures len { length row.new ≡ length row.old }
     ensures bytes { (b : ℕ) → b < 256 → slice_index row.new (slice_index map.now b) ≡ slice_index leads.now b }
     ensures end { slice_index row.new (slice_index map.now 255 + 1) ≡ end }
