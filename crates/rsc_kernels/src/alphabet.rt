@@ -2,12 +2,16 @@
 ghost use Rattle.std.specs.Prelude.{◌≤◌, All, IfOk, IfSome};
 
 use crate::look;
+use crate::numbers::{
+    BYTE_CLASSES, BYTESET_CONTAINS, BYTESET_ITER, BYTESET_RANGES, CLASSES_OF, CLASSES_OF_RANGES,
+    MAP_ELEMS, MAP_ELEMS_ALL, MAP_GET, MAP_ITER, MAP_REPS,
+};
 use crate::repeat::repeat;
 use rsc_alphabet::{ByteClassSet, ByteClasses, ByteSet, Unit, classes_of_ranges};
 use std::alloc::{AllocError, Global};
 use std::ops::Bound;
 
-/// The sum of a kernel of this layer, numbers 10 to 20.
+/// The sum of a kernel of this layer.
 pub fn run(
     alloc: Global,
     kernel: u32,
@@ -15,7 +19,7 @@ pub fn run(
     param: u64,
     reps: u64,
 ) -> Result<u64, AllocError> {
-    if kernel == 12 {
+    if kernel == CLASSES_OF {
         return look::classes_of(alloc, data, param, reps);
     }
     let [count, pairs @ ..] = data else {
@@ -54,37 +58,42 @@ fn over_ranges(kernel: u32, ranges: &[(u8, u8)], haystack: &[u8], param: u64, re
         marks.set_range(start, end);
     }
     match kernel {
-        10 => repeat(reps, |sum| classes_of_set(&marks, sum)),
-        11 => {
+        BYTE_CLASSES => repeat(reps, |sum| classes_of_set(&marks, sum)),
+        CLASSES_OF_RANGES => {
             let mut sum = 0u64;
             for _ in 0..reps {
                 sum = classes_of_list(ranges, sum);
             }
             sum
         }
-        18..=20 => over_members(kernel, &members_of(ranges), haystack, reps),
+        BYTESET_CONTAINS..=BYTESET_RANGES => over_members(
+            kernel,
+            &members_of(ranges),
+            haystack,
+            reps,
+        ),
         _ => over_map(kernel, &marks.byte_classes(), haystack, param, reps),
     }
 }
 
 fn over_map(kernel: u32, classes: &ByteClasses, haystack: &[u8], param: u64, reps: u64) -> u64 {
     match kernel {
-        13 => repeat(reps, |sum| classes_in(classes, haystack, sum)),
-        14 => repeat(reps, |sum| symbols(classes, sum)),
-        15 => repeat(reps, |sum| representatives(classes, sum)),
-        16 => {
+        MAP_GET => repeat(reps, |sum| classes_in(classes, haystack, sum)),
+        MAP_ITER => repeat(reps, |sum| symbols(classes, sum)),
+        MAP_REPS => repeat(reps, |sum| representatives(classes, sum)),
+        MAP_ELEMS => {
             let class = (param % 256) as u8;
             repeat(reps, |sum| elements(classes, class, sum))
         }
-        17 => repeat(reps, |sum| elements_of_all(classes, sum)),
+        MAP_ELEMS_ALL => repeat(reps, |sum| elements_of_all(classes, sum)),
         _ => 0,
     }
 }
 
 fn over_members(kernel: u32, members: &ByteSet, haystack: &[u8], reps: u64) -> u64 {
     match kernel {
-        18 => repeat(reps, |sum| members_in(members, haystack, sum)),
-        19 => repeat(reps, |sum| all_members(members, sum)),
+        BYTESET_CONTAINS => repeat(reps, |sum| members_in(members, haystack, sum)),
+        BYTESET_ITER => repeat(reps, |sum| all_members(members, sum)),
         _ => repeat(reps, |sum| all_runs(members, sum)),
     }
 }

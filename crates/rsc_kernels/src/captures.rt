@@ -1,6 +1,10 @@
 //! Kernels over captures.
 
 use crate::groups;
+use crate::numbers::{
+    CAPS_ALL, CAPS_BY_NAME, CAPS_CLEAR, CAPS_CLONE, CAPS_EXTRACT, CAPS_EXTRACT_BYTES, CAPS_GET,
+    CAPS_ITER, GI_NEW, GI_REFUSED,
+};
 use crate::repeat::repeat;
 use rsc_captures::{Captures, GroupInfo};
 use rsc_primitives::{NonMaxUsize, PatternID};
@@ -9,15 +13,15 @@ use std::alloc::{AllocError, Global};
 // What the kernels 64 and 65 cut.
 const EXTRACT_HAYSTACK: &str = "0123456789abcdef";
 
-/// The sum of a kernel over group infos and captures, numbers 50 to 67. `data` is lists of groups, as [`groups::lists_of`]
+/// The sum of a kernel over group infos and captures. `data` is lists of groups, as [`groups::lists_of`]
 /// reads them.
 pub fn run(alloc: Global, kernel: u32, data: &[u8], reps: u64) -> Result<u64, AllocError> {
     let held = groups::lists_of(alloc, data)?;
     let lists = groups::slices_of(alloc, held.as_slice())?;
-    if kernel == 50 {
+    if kernel == GI_NEW {
         return Ok(repeat(reps, |sum| slots_of_new(alloc, &lists, sum)));
     }
-    if kernel == 57 {
+    if kernel == GI_REFUSED {
         return Ok(repeat(reps, |sum| text_of_refusal(alloc, &lists, sum)));
     }
     let Ok(info) = GroupInfo::new(alloc, &lists) else {
@@ -41,22 +45,22 @@ fn over_captures(
 ) -> Result<u64, AllocError> {
     let mut captures = filled(alloc, info.clone()?, first.len())?;
     Ok(match kernel {
-        60 => repeat(reps, |sum| slots_of_all(alloc, &info, sum)),
-        61 => repeat(reps, |sum| spans_by_index(&captures, first.len(), sum)),
-        62 => repeat(reps, |sum| spans_by_name(&captures, first, sum)),
-        63 => repeat(reps, |sum| all_spans(&captures, sum)),
-        64 => repeat(reps, |sum| parts_of_text(&captures, EXTRACT_HAYSTACK, sum)),
-        65 => repeat(reps, |sum| {
+        CAPS_ALL => repeat(reps, |sum| slots_of_all(alloc, &info, sum)),
+        CAPS_GET => repeat(reps, |sum| spans_by_index(&captures, first.len(), sum)),
+        CAPS_BY_NAME => repeat(reps, |sum| spans_by_name(&captures, first, sum)),
+        CAPS_ITER => repeat(reps, |sum| all_spans(&captures, sum)),
+        CAPS_EXTRACT => repeat(reps, |sum| parts_of_text(&captures, EXTRACT_HAYSTACK, sum)),
+        CAPS_EXTRACT_BYTES => repeat(reps, |sum| {
             parts_of_bytes(&captures, EXTRACT_HAYSTACK.as_bytes(), sum)
         }),
-        66 => {
+        CAPS_CLEAR => {
             let mut sum = 0u64;
             for _ in 0..reps {
                 sum = cleared(&mut captures, sum);
             }
             sum
         }
-        67 => repeat(reps, |sum| slots_of_clone(&captures, sum)),
+        CAPS_CLONE => repeat(reps, |sum| slots_of_clone(&captures, sum)),
         _ => 0,
     })
 }

@@ -4,6 +4,7 @@ ghost use Rattle.std.specs.Prelude.{◌≤◌, All};
 use crate::alphabet::{last, ranges_of};
 use crate::groups;
 use crate::look::{looks_of, matcher};
+use crate::numbers::{MATCH_CAPTURES, MATCH_SETS, PATTERN_CLASSES, SCAN, STEPS};
 use crate::repeat::repeat;
 use crate::search::{count_of, ids_of};
 use rsc_alphabet::{ByteClassSet, ByteClasses, classes_of_ranges};
@@ -19,7 +20,7 @@ const SPREAD: u64 = 0x9E37_79B9_7F4A_7C15;
 // How many states an automaton may have at most.
 const STATES: u64 = 65_536;
 
-/// The sum of a kernel of this kind, numbers 70 to 74.
+/// The sum of a kernel of what engines do.
 pub fn run(
     alloc: Global,
     kernel: u32,
@@ -28,11 +29,11 @@ pub fn run(
     reps: u64,
 ) -> Result<u64, AllocError> {
     match kernel {
-        70 => Ok(scan(data, param, reps)),
-        71 => steps(alloc, data, param, reps),
-        72 => classes_of_patterns(alloc, data, param, reps),
-        73 => captures_of_matches(alloc, data, param as usize, reps),
-        74 => sets_of_matches(alloc, data, param as usize, reps),
+        SCAN => Ok(scan(data, param, reps)),
+        STEPS => steps(alloc, data, param, reps),
+        PATTERN_CLASSES => classes_of_patterns(alloc, data, param, reps),
+        MATCH_CAPTURES => captures_of_matches(alloc, data, param as usize, reps),
+        MATCH_SETS => sets_of_matches(alloc, data, param as usize, reps),
         _ => Ok(0),
     }
 }

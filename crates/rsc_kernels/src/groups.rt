@@ -1,5 +1,6 @@
 //! Kernels over the groups of patterns.
 
+use crate::numbers::{GI_ALL_NAMES, GI_CLONE, GI_PATTERN_NAMES, GI_SLOT, GI_TO_INDEX, GI_TO_NAME};
 use crate::repeat::repeat;
 use rsc_captures::GroupInfo;
 use rsc_primitives::PatternID;
@@ -46,7 +47,7 @@ pub fn slices_of<'a, 'b>(
     Ok(slices)
 }
 
-/// The sum of a kernel over a group info that is made, numbers 51 to 56.
+/// The sum of a kernel over a group info that is made.
 pub fn run(
     alloc: Global,
     kernel: u32,
@@ -55,21 +56,21 @@ pub fn run(
     reps: u64,
 ) -> Result<u64, AllocError> {
     Ok(match kernel {
-        51 => {
+        GI_TO_INDEX => {
             let names = names_of(alloc, lists)?;
             repeat(reps, |sum| indices(info, &names, sum))
         }
-        52 => {
+        GI_TO_NAME => {
             let places = places_of(alloc, lists)?;
             repeat(reps, |sum| names_at(info, &places, sum))
         }
-        53 => {
+        GI_SLOT => {
             let places = places_of(alloc, lists)?;
             repeat(reps, |sum| slots(info, &places, sum))
         }
-        54 => repeat(reps, |sum| patterns_of_clone(info, sum)),
-        55 => repeat(reps, |sum| all_names(info, sum)),
-        56 => repeat(reps, |sum| names_by_pattern(info, sum)),
+        GI_CLONE => repeat(reps, |sum| patterns_of_clone(info, sum)),
+        GI_ALL_NAMES => repeat(reps, |sum| all_names(info, sum)),
+        GI_PATTERN_NAMES => repeat(reps, |sum| names_by_pattern(info, sum)),
         _ => 0,
     })
 }

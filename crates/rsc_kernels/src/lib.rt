@@ -6,10 +6,15 @@ mod captures;
 mod engine;
 mod groups;
 mod look;
+mod numbers;
 mod primitives;
 mod repeat;
 mod search;
 
+use crate::numbers::{
+    BYTE_CLASSES, BYTESET_RANGES, CAPS_CLONE, GI_NEW, LOOK_AT, LOOKSET_ITER, MATCH_SETS,
+    PATTERN_ITER, PSET_FILL, PSET_FILL_FIRST, SCAN, WORD_BYTES,
+};
 use std::alloc::Global;
 
 /// The sum, wrapping at 64 bits, of what each of `reps` repetitions of a kernel adds. README.md has the table of kernels.
@@ -25,12 +30,12 @@ pub extern "C" fn rsc_kernel(
     reps: u64,
 ) -> u64 {
     let sum = match kernel {
-        1..=8 => primitives::run(alloc, kernel, data, param, reps),
-        10..=20 => alphabet::run(alloc, kernel, data, param, reps),
-        30..=33 => look::run(alloc, kernel, data, param, reps),
-        40..=46 => search::run(alloc, kernel, data, param, reps),
-        50..=67 => captures::run(alloc, kernel, data, reps),
-        70..=74 => engine::run(alloc, kernel, data, param, reps),
+        WORD_BYTES..=PATTERN_ITER => primitives::run(alloc, kernel, data, param, reps),
+        BYTE_CLASSES..=BYTESET_RANGES => alphabet::run(alloc, kernel, data, param, reps),
+        LOOK_AT..=LOOKSET_ITER => look::run(alloc, kernel, data, param, reps),
+        PSET_FILL..=PSET_FILL_FIRST => search::run(alloc, kernel, data, param, reps),
+        GI_NEW..=CAPS_CLONE => captures::run(alloc, kernel, data, reps),
+        SCAN..=MATCH_SETS => engine::run(alloc, kernel, data, param, reps),
         _ => Ok(0),
     };
     sum.unwrap_or(0)

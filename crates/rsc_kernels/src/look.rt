@@ -1,11 +1,12 @@
 //! Kernels over assertions, and sets of them.
 
 use crate::alphabet::last;
+use crate::numbers::{LOOK_AT, LOOKSET_UNION, SET_AT};
 use crate::repeat::repeat;
 use rsc_look::{Look, LookMatcher, LookSet, UnicodeWord};
 use std::alloc::{AllocError, Global};
 
-/// The sum of a kernel of this layer, numbers 30 to 33.
+/// The sum of a kernel of this layer.
 ///
 /// The lowest 32 bits of `param` are an assertion's number or the bits of a set; the byte above them is the line terminator.
 pub fn run(
@@ -18,15 +19,15 @@ pub fn run(
     let bits = (param % (1 << 32)) as u32;
     let matcher = matcher(((param >> 32) % 256) as u8);
     Ok(match kernel {
-        30 => match Look::from_repr(bits) {
+        LOOK_AT => match Look::from_repr(bits) {
             Some(look) => repeat(reps, |sum| places(&matcher, look, data, sum)),
             None => 0,
         },
-        31 => match LookSet::from_bits(bits) {
+        SET_AT => match LookSet::from_bits(bits) {
             Some(set) => repeat(reps, |sum| places_of_set(&matcher, set, data, sum)),
             None => 0,
         },
-        32 => {
+        LOOKSET_UNION => {
             let sets = sets_of(alloc, data)?;
             repeat(reps, |sum| unions(&sets, sum))
         }

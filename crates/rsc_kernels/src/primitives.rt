@@ -1,13 +1,16 @@
 //! Kernels over small indices, UTF-8 and bytes shown as text.
 ghost use Rattle.std.specs.Prelude.{◌≤◌};
 
+use crate::numbers::{
+    BOUNDARIES, BYTE_TEXT, DECODE, DECODE_LAST, HAYSTACK_TEXT, PATTERN_ITER, SMALL_NEW, WORD_BYTES,
+};
 use crate::repeat::repeat;
 use rsc_primitives::escape::{byte_text, haystack_text};
 use rsc_primitives::utf8::{decode, decode_last, is_boundary, is_word_byte};
 use rsc_primitives::{PatternID, SmallIndex};
 use std::alloc::{AllocError, Global};
 
-/// The sum of a kernel of this layer, numbers 1 to 8.
+/// The sum of a kernel of this layer.
 pub fn run(
     alloc: Global,
     kernel: u32,
@@ -16,17 +19,17 @@ pub fn run(
     reps: u64,
 ) -> Result<u64, AllocError> {
     Ok(match kernel {
-        1 => repeat(reps, |sum| word_bytes(data, sum)),
-        2 => repeat(reps, |sum| decoded(data, sum)),
-        3 => repeat(reps, |sum| decoded_last(data, sum)),
-        4 => repeat(reps, |sum| boundaries(data, sum)),
-        5 => repeat(reps, |sum| text_of_haystack(alloc, data, sum)),
-        6 => repeat(reps, |sum| texts_of_bytes(alloc, data, sum)),
-        7 => {
+        WORD_BYTES => repeat(reps, |sum| word_bytes(data, sum)),
+        DECODE => repeat(reps, |sum| decoded(data, sum)),
+        DECODE_LAST => repeat(reps, |sum| decoded_last(data, sum)),
+        BOUNDARIES => repeat(reps, |sum| boundaries(data, sum)),
+        HAYSTACK_TEXT => repeat(reps, |sum| text_of_haystack(alloc, data, sum)),
+        BYTE_TEXT => repeat(reps, |sum| texts_of_bytes(alloc, data, sum)),
+        SMALL_NEW => {
             let numbers = numbers_of(alloc, data)?;
             repeat(reps, |sum| small_indices(&numbers, sum))
         }
-        8 => repeat(reps, |sum| pattern_ids(param as usize, sum)),
+        PATTERN_ITER => repeat(reps, |sum| pattern_ids(param as usize, sum)),
         _ => 0,
     })
 }

@@ -1,11 +1,14 @@
 //! Kernels over pattern sets.
 ghost use Rattle.std.specs.Prelude.{◌≡◌, ◌<◌, ◌≤◌, All, IfOk, IfSome};
 
+use crate::numbers::{
+    PSET_AGAIN, PSET_CLEAR, PSET_CONTAINS, PSET_FILL, PSET_FILL_FIRST, PSET_ITER,
+};
 use rsc_primitives::PatternID;
 use rsc_search::PatternSet;
 use std::alloc::{AllocError, Global};
 
-/// The sum of a kernel of this layer, numbers 40 to 46. `param` is the set's capacity.
+/// The sum of a kernel of this layer. `param` is the set's capacity.
 pub fn run(
     alloc: Global,
     kernel: u32,
@@ -57,12 +60,12 @@ fn over_set(
     requires below { All (λ p. p < capacity) members.now }
 {
     let mut set = PatternSet::new(alloc, capacity)?;
-    if kernel == 40 || kernel == 46 {
+    if kernel == PSET_FILL || kernel == PSET_FILL_FIRST {
         let (first, _) = members.split_at(members.len().min(1));
-        let put_in = if kernel == 40 { members } else { first };
+        let put_in = if kernel == PSET_FILL { members } else { first };
         return Ok(fillings(set, put_in, reps));
     }
-    if kernel != 41 {
+    if kernel != PSET_CLEAR {
         refused(&mut set, members, 0);
     }
     let mut sum = 0u64;
@@ -105,10 +108,10 @@ fn pass(
     ensures { set.new.capacity ≡ set.old.capacity }
 {
     match kernel {
-        41 => clear(set, members, sum),
-        42 => refused(set, members, sum),
-        43 => found(set, queries, sum),
-        44 => sum_of_members(set, sum),
+        PSET_CLEAR => clear(set, members, sum),
+        PSET_AGAIN => refused(set, members, sum),
+        PSET_CONTAINS => found(set, queries, sum),
+        PSET_ITER => sum_of_members(set, sum),
         _ => sum_from_back(set, sum),
     }
 }
