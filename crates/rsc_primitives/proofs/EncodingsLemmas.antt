@@ -1,8 +1,9 @@
 -- What the encodings are beside std's, and beside one another.
-use Rattle.std.proofs.Common.{◌≡◌, ℕ, ◌+◌, ◌<◌, ◌≤◌, ◌↔◌, ◌⊎◌, Bool, true, false, ◌&&◌, List, [], ◌∷◌, ◌++◌, length, get_or, refl, sym, ◌∙◌, subst, arith, ⊎_elim, length-append, true≢false}
+use Rattle.std.proofs.Common.{◌≡◌, ℕ, ◌+◌, ◌<◌, ◌≤◌, ◌↔◌, ◌⊎◌, true, List, [], ◌∷◌, ◌++◌, length, get_or, refl, sym, ◌∙◌, subst, arith, ⊎_elim, length-append}
 use Rattle.std.specs.Char.{IsScalar, InScalarRange, encode_utf8}
 use Rattle.std.specs.Str.{encode_utf8_all, all_scalars}
 use Rattle.std.proofs.lemmas.Bool.Decides.{nat_tests}
+use Rattle.std.proofs.lemmas.Bool.{and_parts}
 use Rattle.rsc_primitives.specs.Utf8.{Encodes, EncodesAll}
 use Rattle.rsc_primitives.proofs.Utf8Lemmas.{length-Encodes, Encodes-size, Encodes-rest, InScalarRange-Encodes}
 use Rattle.rsc_primitives.proofs.Encode.{Encodes-encode, Encodes-is}
@@ -17,10 +18,6 @@ pub Encodes-std : (e : List ℕ) (c : ℕ) → Encodes e c ↔ (IsScalar c × (e
 Encodes-std e c =
     (λ p. (IsScalar-Encodes e c p, Encodes-is e c (IsScalar-Encodes e c p) p), λ q. subst (λ (y : List ℕ). Encodes y c) (sym q.1) (Encodes-encode c q.0))
 
-both : (x y : Bool) → (x && y) ≡ true → (x ≡ true) × (y ≡ true)
-both true y e = (refl, e)
-both false y e = absurd (true≢false (sym e))
-
 pub all_scalars-EncodesAll : (h cs : List ℕ) → EncodesAll h cs → (all_scalars cs ≡ true) × (h ≡ encode_utf8_all cs)
 all_scalars-EncodesAll h [] p = (refl, p)
 all_scalars-EncodesAll h (c ∷ cs) p =
@@ -30,7 +27,7 @@ all_scalars-EncodesAll h (c ∷ cs) p =
 pub EncodesAll-encode : (cs : List ℕ) → all_scalars cs ≡ true → EncodesAll (encode_utf8_all cs) cs
 EncodesAll-encode [] s = refl
 EncodesAll-encode (c ∷ cs) s =
-    (encode_utf8 c, encode_utf8_all cs, refl, Encodes-encode c (both _ _ s).0, EncodesAll-encode cs (both _ _ s).1)
+    (encode_utf8 c, encode_utf8_all cs, refl, Encodes-encode c (and_parts _ _ s).0, EncodesAll-encode cs (and_parts _ _ s).1)
 
 pub EncodesAll-std : (h cs : List ℕ) → EncodesAll h cs ↔ ((all_scalars cs ≡ true) × (h ≡ encode_utf8_all cs))
 EncodesAll-std h cs =
