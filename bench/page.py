@@ -4,7 +4,7 @@
     bench/page.py [THEIRS OURS]     # two files of lines `name ns`, as bench.sh leaves them; without them the picture alone is drawn anew
 
 A workload that the page lacks comes beside the one that was measured before or after it, whose name is more like its own; one whose time is a
-difference that came out at nothing is left out. The text around the tables is written by hand. A line of the tables of times that is no such row is
+difference that came out at less than a quarter of a cycle is left out. The text around the tables is written by hand. A line of the tables of times that is no such row is
 a mistake, and stops the script.
 """
 import math
@@ -35,7 +35,7 @@ def with_times(lines, theirs, ours):
     rows, ahead, before, names = {}, {}, None, list(ours)
     for place, name in enumerate(names):
         ns, number = ours[name], at.get(name)
-        if min(ns, theirs[name]) < 0.01:
+        if min(ns, theirs[name]) < 0.1:
             rows.update({number: []} if number else {})
             continue
         row = f"| `{name}` | {shown(theirs[name])} | {shown(ns)} | {ns / theirs[name]:.2f} |"
