@@ -7,18 +7,14 @@ use crate::numbers::{
     MAP_ELEMS, MAP_ELEMS_ALL, MAP_GET, MAP_ITER, MAP_REPS,
 };
 use crate::repeat::repeat;
+use crate::request::Request;
 use rsc_alphabet::{ByteClassSet, ByteClasses, ByteSet, Unit, classes_of_ranges};
 use std::alloc::{AllocError, Global};
 use std::ops::Bound;
 
 /// The sum of a kernel of this layer.
-pub fn run(
-    alloc: Global,
-    kernel: u32,
-    data: &[u8],
-    param: u64,
-    reps: u64,
-) -> Result<u64, AllocError> {
+pub fn run(alloc: Global, request: Request<'_>) -> Result<u64, AllocError> {
+    let (kernel, data, param, reps) = (request.kernel, request.data, request.param, request.reps);
     if kernel == CLASSES_OF {
         return look::classes_of(alloc, data, param, reps);
     }

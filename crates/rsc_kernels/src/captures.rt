@@ -6,16 +6,18 @@ use crate::numbers::{
     CAPS_ITER, GI_NEW, GI_REFUSED,
 };
 use crate::repeat::repeat;
+use crate::request::Request;
 use rsc_captures::{Captures, GroupInfo};
 use rsc_primitives::{NonMaxUsize, PatternID};
 use std::alloc::{AllocError, Global};
 
-// What the kernels 64 and 65 cut.
+// What the two kernels of extraction cut.
 const EXTRACT_HAYSTACK: &str = "0123456789abcdef";
 
 /// The sum of a kernel over group infos and captures. `data` is lists of groups, as [`groups::lists_of`]
 /// reads them.
-pub fn run(alloc: Global, kernel: u32, data: &[u8], reps: u64) -> Result<u64, AllocError> {
+pub fn run(alloc: Global, request: Request<'_>) -> Result<u64, AllocError> {
+    let (kernel, data, reps) = (request.kernel, request.data, request.reps);
     let held = groups::lists_of(alloc, data)?;
     let lists = groups::slices_of(alloc, held.as_slice())?;
     if kernel == GI_NEW {
@@ -27,7 +29,7 @@ pub fn run(alloc: Global, kernel: u32, data: &[u8], reps: u64) -> Result<u64, Al
     let Ok(info) = GroupInfo::new(alloc, &lists) else {
         return Ok(0);
     };
-    if kernel < 60 {
+    if kernel < CAPS_ALL {
         return groups::run(alloc, kernel, &lists, &info, reps);
     }
     match lists.first() {

@@ -6,6 +6,7 @@ use crate::groups;
 use crate::look::{looks_of, matcher};
 use crate::numbers::{MATCH_CAPTURES, MATCH_SETS, PATTERN_CLASSES, SCAN, STEPS};
 use crate::repeat::repeat;
+use crate::request::Request;
 use crate::search::{count_of, ids_of};
 use rsc_alphabet::{ByteClassSet, ByteClasses, classes_of_ranges};
 use rsc_captures::{Captures, GroupInfo};
@@ -21,13 +22,8 @@ const SPREAD: u64 = 0x9E37_79B9_7F4A_7C15;
 const STATES: u64 = 65_536;
 
 /// The sum of a kernel of what engines do.
-pub fn run(
-    alloc: Global,
-    kernel: u32,
-    data: &[u8],
-    param: u64,
-    reps: u64,
-) -> Result<u64, AllocError> {
+pub fn run(alloc: Global, request: Request<'_>) -> Result<u64, AllocError> {
+    let (kernel, data, param, reps) = (request.kernel, request.data, request.param, request.reps);
     match kernel {
         SCAN => Ok(scan(data, param, reps)),
         STEPS => steps(alloc, data, param, reps),

@@ -9,12 +9,14 @@ mod look;
 mod numbers;
 mod primitives;
 mod repeat;
+mod request;
 mod search;
 
 use crate::numbers::{
     BYTE_CLASSES, BYTESET_RANGES, CAPS_CLONE, GI_NEW, LOOK_AT, LOOKSET_ITER, MATCH_SETS,
     PATTERN_ITER, PSET_FILL, PSET_FILL_FIRST, SCAN, WORD_BYTES,
 };
+use crate::request::Request;
 use std::alloc::Global;
 
 /// The sum, wrapping at 64 bits, of what each of `reps` repetitions of a kernel adds. README.md has the table of kernels.
@@ -29,13 +31,19 @@ pub extern "C" fn rsc_kernel(
     param: u64,
     reps: u64,
 ) -> u64 {
+    let request = Request {
+        kernel,
+        data,
+        param,
+        reps,
+    };
     let sum = match kernel {
-        WORD_BYTES..=PATTERN_ITER => primitives::run(alloc, kernel, data, param, reps),
-        BYTE_CLASSES..=BYTESET_RANGES => alphabet::run(alloc, kernel, data, param, reps),
-        LOOK_AT..=LOOKSET_ITER => look::run(alloc, kernel, data, param, reps),
-        PSET_FILL..=PSET_FILL_FIRST => search::run(alloc, kernel, data, param, reps),
-        GI_NEW..=CAPS_CLONE => captures::run(alloc, kernel, data, reps),
-        SCAN..=MATCH_SETS => engine::run(alloc, kernel, data, param, reps),
+        WORD_BYTES..=PATTERN_ITER => primitives::run(alloc, request),
+        BYTE_CLASSES..=BYTESET_RANGES => alphabet::run(alloc, request),
+        LOOK_AT..=LOOKSET_ITER => look::run(alloc, request),
+        PSET_FILL..=PSET_FILL_FIRST => search::run(alloc, request),
+        GI_NEW..=CAPS_CLONE => captures::run(alloc, request),
+        SCAN..=MATCH_SETS => engine::run(alloc, request),
         _ => Ok(0),
     };
     sum.unwrap_or(0)

@@ -3,19 +3,15 @@
 use crate::alphabet::last;
 use crate::numbers::{LOOK_AT, LOOKSET_UNION, SET_AT};
 use crate::repeat::repeat;
+use crate::request::Request;
 use rsc_look::{Look, LookMatcher, LookSet, UnicodeWord};
 use std::alloc::{AllocError, Global};
 
 /// The sum of a kernel of this layer.
 ///
 /// The lowest 32 bits of `param` are an assertion's number or the bits of a set; the byte above them is the line terminator.
-pub fn run(
-    alloc: Global,
-    kernel: u32,
-    data: &[u8],
-    param: u64,
-    reps: u64,
-) -> Result<u64, AllocError> {
+pub fn run(alloc: Global, request: Request<'_>) -> Result<u64, AllocError> {
+    let (kernel, data, param, reps) = (request.kernel, request.data, request.param, request.reps);
     let bits = (param % (1 << 32)) as u32;
     let matcher = matcher(((param >> 32) % 256) as u8);
     Ok(match kernel {

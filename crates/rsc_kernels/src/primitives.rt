@@ -5,19 +5,15 @@ use crate::numbers::{
     BOUNDARIES, BYTE_TEXT, DECODE, DECODE_LAST, HAYSTACK_TEXT, PATTERN_ITER, SMALL_NEW, WORD_BYTES,
 };
 use crate::repeat::repeat;
+use crate::request::Request;
 use rsc_primitives::escape::{byte_text, haystack_text};
 use rsc_primitives::utf8::{decode, decode_last, is_boundary, is_word_byte};
 use rsc_primitives::{PatternID, SmallIndex};
 use std::alloc::{AllocError, Global};
 
 /// The sum of a kernel of this layer.
-pub fn run(
-    alloc: Global,
-    kernel: u32,
-    data: &[u8],
-    param: u64,
-    reps: u64,
-) -> Result<u64, AllocError> {
+pub fn run(alloc: Global, request: Request<'_>) -> Result<u64, AllocError> {
+    let (kernel, data, param, reps) = (request.kernel, request.data, request.param, request.reps);
     Ok(match kernel {
         WORD_BYTES => repeat(reps, |sum| word_bytes(data, sum)),
         DECODE => repeat(reps, |sum| decoded(data, sum)),

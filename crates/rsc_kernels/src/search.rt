@@ -4,18 +4,14 @@ ghost use Rattle.std.specs.Prelude.{◌≡◌, ◌<◌, ◌≤◌, All, IfOk, If
 use crate::numbers::{
     PSET_AGAIN, PSET_CLEAR, PSET_CONTAINS, PSET_FILL, PSET_FILL_FIRST, PSET_ITER,
 };
+use crate::request::Request;
 use rsc_primitives::PatternID;
 use rsc_search::PatternSet;
 use std::alloc::{AllocError, Global};
 
 /// The sum of a kernel of this layer. `param` is the set's capacity.
-pub fn run(
-    alloc: Global,
-    kernel: u32,
-    data: &[u8],
-    param: u64,
-    reps: u64,
-) -> Result<u64, AllocError> {
+pub fn run(alloc: Global, request: Request<'_>) -> Result<u64, AllocError> {
+    let (kernel, data, param, reps) = (request.kernel, request.data, request.param, request.reps);
     let ids = ids_of(alloc, data)?;
     let (Some(count), capacity) = (count_of(data), param as usize) else {
         return Ok(0);
