@@ -9,6 +9,7 @@ ghost use Rattle.rsc_show.specs.ListedLayout.{left_of, SoFar};
 
 use crate::choices::{Color, Words, color_of, words_of};
 use crate::error::{ShowError, refused};
+use crate::text::Page;
 use rsc_look::{Look, LookMatcher};
 use rsc_notation::bytes::{parse_byte, parse_bytes, parse_range};
 use rsc_notation::looks::{every_look, look_of, name_of};
@@ -97,15 +98,16 @@ pub fn parse(alloc: Global, arguments: &[String]) -> Result<Request, ShowError>
     for argument in arguments {
         next = take(alloc, &mut request, next, argument.as_str())?;
     }
-    match next {
-        Next::Plain | Next::Nothing => Ok(request),
-        Next::Terminator => Err(refused(alloc, "--terminator", EXPECTED_BYTE)),
-        Next::Words => Err(refused(alloc, "--words", EXPECTED_WORDS)),
-        Next::Range => Err(refused(alloc, "--range", EXPECTED_RANGE)),
-        Next::Color => Err(refused(alloc, "--color", EXPECTED_COLOR)),
-        Next::Hex => Err(refused(alloc, "--hex", EXPECTED_BYTE)),
-        Next::Text => Err(refused(alloc, "--", "one text")),
-    }
+    let (option, expected) = match next {
+        Next::Plain | Next::Nothing => return Ok(request),
+        Next::Terminator => ("--terminator", EXPECTED_BYTE),
+        Next::Words => ("--words", EXPECTED_WORDS),
+        Next::Range => ("--range", EXPECTED_RANGE),
+        Next::Color => ("--color", EXPECTED_COLOR),
+        Next::Hex => ("--hex", EXPECTED_BYTE),
+        Next::Text => ("--", "one text"),
+    };
+    Err(refused(alloc, option, expected))
 }
 
 // Takes an argument, and says what the next one is.
@@ -119,23 +121,31 @@ fn take(alloc: Global, request: &mut Request, next: Next, argument: &str) -> Res
     match next {
         Next::Plain => take_plain(alloc, request, argument),
         Next::Terminator => {
-            let byte = parse_byte(argument.as_bytes());
-            request.terminator = byte.ok_or(refused(alloc, argument, EXPECTED_BYTE))?;
+            let Some(byte) = parse_byte(argument.as_bytes()) else {
+                return Err(refused(alloc, argument, EXPECTED_BYTE));
+            };
+            request.terminator = byte;
             Ok(Next::Plain)
         }
         Next::Words => {
-            request.words = words_of(argument).ok_or(refused(alloc, argument, EXPECTED_WORDS))?;
+            let Some(words) = words_of(argument) else {
+                return Err(refused(alloc, argument, EXPECTED_WORDS));
+            };
+            request.words = words;
             Ok(Next::Plain)
         }
         Next::Range => {
-            let range = parse_range(argument.as_bytes());
-            request
-                .ranges
-                .push(range.ok_or(refused(alloc, argument, EXPECTED_RANGE))?)?;
+            let Some(range) = parse_range(argument.as_bytes()) else {
+                return Err(refused(alloc, argument, EXPECTED_RANGE));
+            };
+            request.ranges.push(range)?;
             Ok(Next::Plain)
         }
         Next::Color => {
-            request.color = color_of(argument).ok_or(refused(alloc, argument, EXPECTED_COLOR))?;
+            let Some(color) = color_of(argument) else {
+                return Err(refused(alloc, argument, EXPECTED_COLOR));
+            };
+            request.color = color;
             Ok(Next::Plain)
         }
         Next::Hex => {
@@ -209,14 +219,15 @@ fn bytes_of(alloc: Global, argument: &str) -> Result<Vec<u8>, ShowError>
 // What was expected in place of a name that no assertion has: the names that the fewest edits make of it.
 fn nearest(alloc: Global, name: &str) -> Result<String, AllocError> {
     let least = least_distance(alloc, name)?;
-    let mut text = String::from_str(alloc, "an assertion, as")?;
+    let mut page = Page::new(alloc);
+    page.push_str("an assertion, as");
     for look in every_look() {
         if levenshtein(alloc, name_of(*look), name)? == least {
-            text.push(' ')?;
-            text.push_str(name_of(*look))?;
+            page.push(' ');
+            page.push_str(name_of(*look));
         }
     }
-    Ok(text)
+    page.finish()
 }
 
 fn least_distance(alloc: Global, name: &str) -> Result<usize, AllocError> {

@@ -41,10 +41,12 @@ pub fn words_agree()
 pub fn words_of(argument: &str) -> Option<Words>
     ensures { (words : Words) → (result ≡ Some words) ↔ (argument.now ≡ words_name words) }
 {
-    match argument.as_bytes() {
-        b"ascii" => Some(Words::Ascii),
-        b"unicode" => Some(Words::Unicode),
-        _ => None,
+    if argument == "ascii" {
+        Some(Words::Ascii)
+    } else if argument == "unicode" {
+        Some(Words::Unicode)
+    } else {
+        None
     }
 }
 
@@ -76,10 +78,13 @@ impl Color {
 pub fn color_of(argument: &str) -> Option<Color>
     ensures { (color : Color) → (result ≡ Some color) ↔ (argument.now ≡ color_name color) }
 {
-    match argument.as_bytes() {
-        b"auto" => Some(Color::Auto),
-        b"always" => Some(Color::Always),
-        b"never" => Some(Color::Never),
-        _ => None,
+    if argument == "auto" {
+        Some(Color::Auto)
+    } else if argument == "always" {
+        Some(Color::Always)
+    } else if argument == "never" {
+        Some(Color::Never)
+    } else {
+        None
     }
 }

@@ -1,7 +1,7 @@
 //! What stops the program.
 
+use crate::text::Page;
 use std::alloc::{AllocError, AllocFailed, Global};
-use std::fmt;
 use std::fmt::Write;
 
 /// Why [`crate::run::run`] gave up. Nothing was written then, but by a failed write itself.
@@ -57,37 +57,27 @@ impl<T: Drop> From<AllocFailed<T>> for ShowError {
     }
 }
 
-impl From<fmt::Error> for ShowError {
-    fn from(_error: fmt::Error) -> ShowError {
-        ShowError::OutOfMemory
-    }
-}
-
 /// The refusal of an argument: which, and what was expected.
 pub fn refused(alloc: Global, argument: &str, expected: &str) -> ShowError {
-    match refusal(alloc, argument, expected) {
-        Ok(text) => ShowError::Usage(text),
-        Err(error) => error,
+    let mut page = Page::new(alloc);
+    page.push_str("rsc_show: `");
+    push_argument(&mut page, argument);
+    page.push_str("`: expected ");
+    page.push_str(expected);
+    match page.finish() {
+        Ok(message) => ShowError::Usage(message),
+        Err(_) => ShowError::OutOfMemory,
     }
 }
 
-fn refusal(alloc: Global, argument: &str, expected: &str) -> Result<String, ShowError> {
-    let mut text = String::from_str(alloc, "rsc_show: `")?;
-    push_shown(&mut text, argument)?;
-    text.push_str("`: expected ")?;
-    text.push_str(expected)?;
-    Ok(text)
-}
-
-// A text, in which control characters are shown by their numbers, so that they can't move the terminal's cursor.
-fn push_shown(text: &mut String, shown: &str) -> Result<(), ShowError> {
-    for c in shown.chars() {
+// An argument, in which control characters are shown by their numbers, so that they can't move the terminal's cursor.
+fn push_argument(page: &mut Page, argument: &str) {
+    for c in argument.chars() {
         if c.is_control() {
             let number = c as u32;
-            write!(text, "\\x{number:02X}")?;
+            let _ = write!(page, "\\x{number:02X}");
         } else {
-            text.push(c)?;
+            page.push(c);
         }
     }
-    Ok(())
 }

@@ -6,7 +6,7 @@ ghost use Rattle.rsc_show.specs.Pointers.{behind, IsSecond, reached};
 ghost use Rattle.rsc_show.specs.PointersLayout.{IsFirstNamed};
 
 use crate::error::{ShowError, refused};
-use crate::text::{push_cell, push_right, push_spaces};
+use crate::text::Page;
 use rsc_captures::{GroupInfo, GroupInfoError, GroupInfoErrorKind};
 use rsc_notation::groups::{parse_patterns, slices_of};
 use rsc_primitives::PatternID;
@@ -34,45 +34,33 @@ pub fn answer(alloc: Global, arguments: &[String]) -> Result<String, ShowError> 
 
 // A line for each group: its pattern, its number, its name and its slots.
 fn table(alloc: Global, info: &GroupInfo) -> Result<String, ShowError> {
-    let mut text = String::from_str(alloc, "pattern group slots name\n")?;
+    let mut page = Page::new(alloc);
+    page.push_str("pattern group slots name\n");
     for (pattern, group, name) in info.all_names() {
-        push_group(alloc, &mut text, info, pattern, group, name)?;
+        push_group(&mut page, info, pattern, group, name);
     }
     let slots = info.slot_len();
     let patterns = info.pattern_len();
-    write!(text, "\n{slots} slots, {patterns} patterns\n")?;
-    Ok(text)
+    let _ = write!(page, "\n{slots} slots, {patterns} patterns\n");
+    Ok(page.finish()?)
 }
 
 fn push_group(
-    alloc: Global,
-    text: &mut String,
+    page: &mut Page,
     info: &GroupInfo,
     pattern: PatternID,
     group: usize,
     name: Option<&str>,
-) -> Result<(), ShowError> {
-    push_number(alloc, text, pattern.as_usize(), 7)?;
-    push_number(alloc, text, group, 5)?;
+) {
+    let number = pattern.as_usize();
+    let _ = write!(page, "{number:>7} {group:>5} ");
     if let Some((start, end)) = info.slots(pattern, group) {
-        let mut slots = String::new(alloc);
-        write!(slots, "{start} {end}")?;
-        push_right(text, slots.as_str(), 5)?;
+        let mut slots = page.cell();
+        let _ = write!(slots, "{start} {end}");
+        page.push_right(&slots, 5);
     }
-    text.push_str(name.unwrap_or("-"))?;
-    text.push('\n')?;
-    Ok(())
-}
-
-fn push_number(
-    alloc: Global,
-    text: &mut String,
-    number: usize,
-    width: usize,
-) -> Result<(), ShowError> {
-    let mut digits = String::new(alloc);
-    write!(digits, "{number}")?;
-    Ok(push_right(text, digits.as_str(), width)?)
+    page.push_str(name.unwrap_or("-"));
+    page.push('\n');
 }
 
 // The lists, a pointer at the group at fault, and the displayed refusal; want of memory stops the program.
@@ -95,11 +83,12 @@ fn refusal(
             )
         }
     };
-    let mut text = String::from_str(alloc, lists)?;
-    text.push('\n')?;
-    push_spaces(&mut text, place_of(lists.as_bytes(), pattern, group))?;
-    write!(text, "^\nrefused: {error}\n")?;
-    Ok(text)
+    let mut page = Page::new(alloc);
+    page.push_str(lists);
+    page.push('\n');
+    page.push_spaces(place_of(lists.as_bytes(), pattern, group));
+    let _ = write!(page, "^\nrefused: {error}\n");
+    Ok(page.finish()?)
 }
 
 // The group of a pattern that has the name a second time.

@@ -2,13 +2,12 @@
 ghost use Rattle.std.specs.Prelude.{◌≤◌, length};
 
 use crate::arguments::{Haystack, Request, parse};
-use crate::choices::{Color, Words};
+use crate::choices::Color;
 use crate::error::{ShowError, refused};
 use crate::positions::{Side, after, before, marks_at};
-use crate::text::{end_line, push_cell, push_right};
-use rsc_look::{Look, LookMatcher, UnicodeWord, WordClass};
+use crate::text::Page;
+use rsc_look::{Look, UnicodeWord, WordClass};
 use rsc_notation::looks::{every_look, name_of};
-use rsc_primitives::escape::byte_text;
 use std::alloc::Global;
 use std::fmt::Write;
 use std::io::Read;
@@ -19,6 +18,8 @@ const SIDE_WIDTH: usize = 15;
 // An input that hasn't ended after so many reads counts as one that can't be read.
 const MAX_READS: u32 = 1_048_576;
 
+const EXPECTED_HAYSTACK: &str = "a haystack, as -- TEXT, --hex BYTES or -";
+
 /// The answer to the arguments of `looks`.
 pub fn answer<R: Read>(
     alloc: Global,
@@ -26,23 +27,24 @@ pub fn answer<R: Read>(
     input: &mut R,
 ) -> Result<String, ShowError> {
     let request = parse(alloc, arguments)?;
-    if !request.ranges.is_empty() {
-        return Err(refused(alloc, "--range", "an argument of classes"));
-    }
-    if !matches!(request.color, Color::Auto) {
-        return Err(refused(alloc, "--color", "an argument of classes"));
+    if let Some(option) = option_of_classes(&request) {
+        return Err(refused(alloc, option, "an argument of classes"));
     }
     match &request.haystack {
-        Haystack::Missing => Err(refused(
-            alloc,
-            "looks",
-            "a haystack, as -- TEXT, --hex BYTES or -",
-        )),
+        Haystack::Missing => Err(refused(alloc, "looks", EXPECTED_HAYSTACK)),
         Haystack::Given(bytes) => table(alloc, &request, bytes.as_slice()),
-        Haystack::Standard => {
-            let bytes = read_all(alloc, input)?;
-            table(alloc, &request, bytes.as_slice())
-        }
+        Haystack::Standard => table(alloc, &request, read_all(alloc, input)?.as_slice()),
+    }
+}
+
+// An option that `looks` doesn't take, if one is there.
+fn option_of_classes(request: &Request) -> Option<&'static str> {
+    if !request.ranges.is_empty() {
+        return Some("--range");
+    }
+    match request.color {
+        Color::Auto => None,
+        Color::Always | Color::Never => Some("--color"),
     }
 }
 
@@ -54,87 +56,59 @@ fn table(alloc: Global, request: &Request, haystack: &[u8]) -> Result<String, Sh
     } else {
         request.looks.as_slice()
     };
-    let mut text = String::new(alloc);
-    push_head(alloc, &mut text, looks)?;
+    let mut page = Page::new(alloc);
+    push_head(&mut page, looks);
     for at in 0..=haystack.len() {
-        push_row(alloc, &mut text, &matcher, looks, haystack, at)?;
+        let marks = marks_at(alloc, &matcher, looks, haystack, at)?;
+        push_row(&mut page, haystack, at, marks.as_slice());
     }
-    push_legend(alloc, &mut text, looks)?;
-    Ok(text)
+    push_legend(&mut page, looks);
+    Ok(page.finish()?)
 }
 
 // A line for each of the assertions.
-fn push_legend(alloc: Global, text: &mut String, looks: &[Look]) -> Result<(), ShowError> {
-    text.push('\n')?;
+fn push_legend(page: &mut Page, looks: &[Look]) {
+    page.push('\n');
     for look in looks {
-        push_meaning(alloc, text, *look)?;
+        push_meaning(page, *look);
     }
-    Ok(())
 }
 
-// The names of the columns: an assertion's is its character.
-fn push_head(alloc: Global, text: &mut String, looks: &[Look]) -> Result<(), ShowError> {
-    push_right(text, "at", 6)?;
-    push_cell(text, "before", SIDE_WIDTH)?;
-    push_cell(text, "after", SIDE_WIDTH)?;
+// The names of the columns: an assertion's is its character, and two of them take two columns each.
+fn push_head(page: &mut Page, looks: &[Look]) {
+    page.push_str("    at before          after           ");
     for look in looks {
-        push_mark(alloc, text, *look)?;
+        let mut cell = page.cell();
+        cell.push(look.as_char());
+        page.push_cell(&cell, 1);
     }
-    Ok(end_line(text)?)
-}
-
-// The character of an assertion, two of which take two columns each, in a column of two.
-fn push_mark(alloc: Global, text: &mut String, look: Look) -> Result<(), ShowError> {
-    let mut mark = String::new(alloc);
-    mark.push(look.as_char())?;
-    Ok(push_cell(text, mark.as_str(), 1)?)
+    page.end_line();
 }
 
 // A position, what is on its sides, and a mark for each assertion that holds there.
-fn push_row(
-    alloc: Global,
-    text: &mut String,
-    matcher: &LookMatcher<Words>,
-    looks: &[Look],
-    haystack: &[u8],
-    at: usize,
-) -> Result<(), ShowError>
+fn push_row(page: &mut Page, haystack: &[u8], at: usize, marks: &[bool])
     requires { at ≤ length haystack.now }
 {
-    let mut number = String::new(alloc);
-    write!(number, "{at}")?;
-    push_right(text, number.as_str(), 6)?;
-    push_sides(alloc, text, haystack, at)?;
-    let marks = marks_at(alloc, matcher, looks, haystack, at)?;
-    for mark in marks.as_slice() {
-        text.push_str(if *mark { "x " } else { ". " })?;
-    }
-    Ok(end_line(text)?)
-}
-
-// What is before a position and after it.
-fn push_sides(alloc: Global, text: &mut String, haystack: &[u8], at: usize) -> Result<(), ShowError>
-    requires { at ≤ length haystack.now }
-{
+    let _ = write!(page, "{at:>6} ");
     let last = haystack[..at].last().copied();
-    let cell = before_text(alloc, last, before(haystack, at))?;
-    push_cell(text, cell.as_str(), SIDE_WIDTH)?;
+    push_side(page, last, "start", before(haystack, at));
     let first = haystack.get(at).copied();
-    let cell = after_text(alloc, first, after(haystack, at))?;
-    push_cell(text, cell.as_str(), SIDE_WIDTH)?;
-    Ok(())
+    push_side(page, first, "end", after(haystack, at));
+    for mark in marks {
+        page.push_str(if *mark { "x " } else { ". " });
+    }
+    page.end_line();
 }
 
 // An assertion's character, its name, and what it asks.
-fn push_meaning(alloc: Global, text: &mut String, look: Look) -> Result<(), ShowError> {
-    let mut label = String::new(alloc);
-    label.push(look.as_char())?;
-    label.push(' ')?;
-    label.push_str(name_of(look))?;
-    push_cell(text, label.as_str(), 22)?;
-    text.push_str(meaning_of(look))?;
-    text.push('\n')?;
-    Ok(())
+fn push_meaning(page: &mut Page, look: Look) {
+    let mut label = page.cell();
+    label.push(look.as_char());
+    label.push(' ');
+    label.push_str(name_of(look));
+    page.push_cell(&label, 22);
+    page.push_str(meaning_of(look));
+    page.push('\n');
 }
 
 // What an assertion asks of the two sides of a position, in words of at most 57 columns.
@@ -161,47 +135,36 @@ fn meaning_of(look: Look) -> &'static str {
     }
 }
 
-// What is before a position, where `byte` is the byte there.
-fn before_text(alloc: Global, byte: Option<u8>, side: Side) -> Result<String, ShowError> {
+// The byte on one side of a position, and what it is part of; or the name of the haystack's edge, where there is none.
+fn push_side(page: &mut Page, byte: Option<u8>, edge: &str, side: Side) {
+    let mut cell = page.cell();
     match byte {
-        None => Ok(String::from_str(alloc, "start")?),
-        Some(byte) => side_text(alloc, byte, side),
+        None => cell.push_str(edge),
+        Some(byte) => {
+            cell.push_digits(byte);
+            cell.push(' ');
+            match side {
+                Side::Character(c) => push_character(&mut cell, byte, c),
+                Side::Inside => cell.push_str("inside"),
+                Side::Edge | Side::NoCharacter => cell.push_str("no character"),
+            }
+        }
     }
-}
-
-// What is after a position, where `byte` is the byte there.
-fn after_text(alloc: Global, byte: Option<u8>, side: Side) -> Result<String, ShowError> {
-    match byte {
-        None => Ok(String::from_str(alloc, "end")?),
-        Some(byte) => side_text(alloc, byte, side),
-    }
-}
-
-// A byte, and what it is part of.
-fn side_text(alloc: Global, byte: u8, side: Side) -> Result<String, ShowError> {
-    let mut text = String::new(alloc);
-    write!(text, "{byte:02x} ")?;
-    match side {
-        Side::Character(c) => push_character(alloc, &mut text, byte, c)?,
-        Side::Inside => text.push_str("inside")?,
-        Side::Edge | Side::NoCharacter => text.push_str("no character")?,
-    }
-    Ok(text)
+    page.push_cell(&cell, SIDE_WIDTH);
 }
 
 // A character: of ASCII as a byte is shown, any other by its number, and by itself if it is a word character.
-fn push_character(alloc: Global, text: &mut String, byte: u8, c: char) -> Result<(), ShowError> {
+fn push_character(cell: &mut Page, byte: u8, c: char) {
     if c.is_ascii() {
-        text.push_str(byte_text(alloc, byte)?.as_str())?;
-        return Ok(());
+        cell.push_shown(byte);
+        return;
     }
     let number = c as u32;
-    write!(text, "U+{number:04X}")?;
+    let _ = write!(cell, "U+{number:04X}");
     if UnicodeWord.is_word(c) {
-        text.push(' ')?;
-        text.push(c)?;
+        cell.push(' ');
+        cell.push(c);
     }
-    Ok(())
 }
 
 // All bytes of the input, up to its end.

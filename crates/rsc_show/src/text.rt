@@ -1,45 +1,119 @@
-//! Cells of aligned tables.
+//! Text that is put together from the cells of aligned tables.
 ghost use Rattle.std.specs.Prelude.{◌≡◌, chars, false};
+ghost use Rattle.std.specs.String.{string_bytes};
 ghost use Rattle.unicode_width.specs.Width.{str_width};
 
-use std::alloc::AllocError;
+use rsc_primitives::escape::DebugByte;
+use std::alloc::{AllocError, Global};
+use std::fmt;
+use std::fmt::Write;
 use unicode_width::UnicodeWidthStr;
 
-/// Appends a cell, and spaces up to its width in columns, and one more.
-pub fn push_cell(text: &mut String, cell: &str, width: usize) -> Result<(), AllocError> {
-    text.push_str(cell)?;
-    push_spaces(
-        text,
-        width.saturating_add(1).saturating_sub(columns_of(cell)),
-    )
+/// A text that grows, and remembers that memory was refused, so that this is asked once, at its end.
+#[derive(Drop)]
+pub struct Page {
+    alloc: Global,
+    text: String,
+    // Whether the text lacks something for want of memory.
+    is_refused: bool,
 }
 
-/// Appends spaces up to a width in columns, and the cell after them, and one more space.
-pub fn push_right(text: &mut String, cell: &str, width: usize) -> Result<(), AllocError> {
-    push_spaces(text, width.saturating_sub(columns_of(cell)))?;
-    text.push_str(cell)?;
-    text.push(' ')
-}
-
-/// Appends spaces.
-pub fn push_spaces(text: &mut String, count: usize) -> Result<(), AllocError> {
-    for _ in 0..count {
-        text.push(' ')?;
+impl Page {
+    /// An empty page.
+    pub fn new(alloc: Global) -> Page {
+        Page {
+            alloc,
+            text: String::new(alloc),
+            is_refused: false,
+        }
     }
-    Ok(())
-}
 
-// How many columns a text takes in a terminal.
-fn columns_of(text: &str) -> usize
-    ensures { result ≡ str_width false (chars text.now) }
-{
-    text.width()
-}
-
-/// Ends a line, without the space that a cell leaves at its end.
-pub fn end_line(text: &mut String) -> Result<(), AllocError> {
-    if text.ends_with(' ') {
-        let _ = text.pop();
+    /// An empty page for a cell of this one.
+    pub fn cell(&self) -> Page {
+        Page::new(self.alloc)
     }
-    text.push('\n')
+
+    /// Appends a text.
+    pub fn push_str(&mut self, text: &str) {
+        let _ = self.write_str(text);
+    }
+
+    /// Appends a character.
+    pub fn push(&mut self, c: char) {
+        let _ = self.write_char(c);
+    }
+
+    /// Appends a byte as two hexadecimal digits.
+    pub fn push_digits(&mut self, byte: u8) {
+        let _ = write!(self, "{byte:02x}");
+    }
+
+    /// Appends a byte as it is shown: as a character where it prints, and else as an escape.
+    pub fn push_shown(&mut self, byte: u8) {
+        let _ = write!(self, "{:?}", DebugByte(byte));
+    }
+
+    /// Appends spaces.
+    pub fn push_spaces(&mut self, count: usize) {
+        for _ in 0..count {
+            self.push(' ');
+        }
+    }
+
+    /// Appends a cell, and spaces up to one more than its width in columns.
+    pub fn push_cell(&mut self, cell: &Page, width: usize) {
+        self.push_page(cell);
+        self.push_spaces(width.saturating_add(1).saturating_sub(cell.columns()));
+    }
+
+    /// Appends spaces up to a width in columns, the cell after them, and one more space.
+    pub fn push_right(&mut self, cell: &Page, width: usize) {
+        self.push_spaces(width.saturating_sub(cell.columns()));
+        self.push_page(cell);
+        self.push(' ');
+    }
+
+    fn push_page(&mut self, page: &Page) {
+        self.push_str(page.text.as_str());
+        self.is_refused = self.is_refused || page.is_refused;
+    }
+
+    // How many columns it takes in a terminal.
+    fn columns(&self) -> usize
+        ensures { result ≡ str_width false (chars (string_bytes self.now.text)) }
+    {
+        self.text.as_str().width()
+    }
+
+    /// Ends a line, without the space that a cell leaves at its end.
+    pub fn end_line(&mut self) {
+        if self.text.ends_with(' ') {
+            let _ = self.text.pop();
+        }
+        self.push('\n');
+    }
+
+    /// The text.
+    ///
+    /// # Errors
+    ///
+    /// [`AllocError`] where memory for a part of it was refused.
+    pub fn finish(self) -> Result<String, AllocError> {
+        if self.is_refused {
+            return Err(AllocError);
+        }
+        Ok(self.text)
+    }
+}
+
+impl fmt::Write for Page {
+    fn write_str(&mut self, text: &str) -> fmt::Result {
+        match self.text.push_str(text) {
+            Ok(()) => Ok(()),
+            Err(_) => {
+                self.is_refused = true;
+                Err(fmt::Error)
+            }
+        }
+    }
 }
