@@ -176,28 +176,15 @@ half_before t W h i a r o p e = let q = has_after W h i o in sides_decide WordSt
 pub half_after : (t : ℕ) (W : ℕ → Bool) (h : List ℕ) (i : ℕ) (b : Side) (r : Bool) → IsAfter W h i b → r ≡ is_absent_or_other b → IsTrue r ↔ Holds WordEndHalfUnicode t W h i
 half_after t W h i b r p e = let q = has_before W h i in sides_decide WordEndHalfUnicode W h i q.0 b r q.1 p e
 
--- ---- what a call may answer when it has read one side
-
-pub Holds-after : (l : Look) (t : ℕ) (W : ℕ → Bool) (h : List ℕ) (i : ℕ) (b : Side) (r : Bool) → is_unicode l ≡ true → IsAfter W h i b → ((a : Side) → r ≡ holds_at_sides l a b) → IsTrue r ↔ Holds l t W h i
-Holds-after l t W h i b r u q e = let p = has_before W h i in Holds-decided l t W h i p.0 b r u p.1 q (e p.0)
-
-pub Holds-before : (l : Look) (t : ℕ) (W : ℕ → Bool) (h : List ℕ) (i : ℕ) (a : Side) (r : Bool) → i ≤ length h → is_unicode l ≡ true → IsBefore W h i a → ((b : Side) → r ≡ holds_at_sides l a b) → IsTrue r ↔ Holds l t W h i
+-- what a call may answer when it has looked at the side before alone
+Holds-before : (l : Look) (t : ℕ) (W : ℕ → Bool) (h : List ℕ) (i : ℕ) (a : Side) (r : Bool) → i ≤ length h → is_unicode l ≡ true → IsBefore W h i a → ((b : Side) → r ≡ holds_at_sides l a b) → IsTrue r ↔ Holds l t W h i
 Holds-before l t W h i a r o u p e = let q = has_after W h i o in Holds-decided l t W h i a q.0 r u p q.1 (e q.0)
 
-and_with : (x y z : Bool) → x ≡ true → z ≡ not y → z ≡ (x && not y)
-and_with x y z e f = rw e f
+pub starts : (t : ℕ) (W : ℕ → Bool) (h : List ℕ) (i : ℕ) (a b : Side) (x y : Bool) → IsBefore W h i a → IsAfter W h i b → x ≡ is_word_side a → y ≡ is_word_side b → IsTrue (y && not x) ↔ Holds WordStartUnicode t W h i
+starts t W h i a b x y p q e f = Holds-decided WordStartUnicode t W h i a b (y && not x) refl p q (rw (e, f) refl)
 
-pub starts_there : (t : ℕ) (W : ℕ → Bool) (h : List ℕ) (i : ℕ) (a b : Side) (w x r : Bool) → IsBefore W h i a → IsAfter W h i b → w ≡ is_word_side b → w ≡ true → x ≡ is_word_side a → r ≡ not x → IsTrue r ↔ Holds WordStartUnicode t W h i
-starts_there t W h i a b w x r p q e f g k = Holds-decided WordStartUnicode t W h i a b r refl p q (and_with (is_word_side b) (is_word_side a) r (sym e ∙ f) (k ∙ ap not g))
-
-pub starts_nowhere : (t : ℕ) (W : ℕ → Bool) (h : List ℕ) (i : ℕ) (b : Side) (r : Bool) → IsAfter W h i b → r ≡ is_word_side b → r ≡ false → IsTrue r ↔ Holds WordStartUnicode t W h i
-starts_nowhere t W h i b r q e f = Holds-after WordStartUnicode t W h i b r refl q (λ a. let z : is_word_side b ≡ false = sym e ∙ f in rw (z, f))
-
-pub ends_there : (t : ℕ) (W : ℕ → Bool) (h : List ℕ) (i : ℕ) (a b : Side) (w x r : Bool) → IsBefore W h i a → IsAfter W h i b → w ≡ is_word_side a → w ≡ true → x ≡ is_word_side b → r ≡ not x → IsTrue r ↔ Holds WordEndUnicode t W h i
-ends_there t W h i a b w x r p q e f g k = Holds-decided WordEndUnicode t W h i a b r refl p q (and_with (is_word_side a) (is_word_side b) r (sym e ∙ f) (k ∙ ap not g))
-
-pub ends_nowhere : (t : ℕ) (W : ℕ → Bool) (h : List ℕ) (i : ℕ) (a : Side) (r : Bool) → i ≤ length h → IsBefore W h i a → r ≡ is_word_side a → r ≡ false → IsTrue r ↔ Holds WordEndUnicode t W h i
-ends_nowhere t W h i a r o p e f = Holds-before WordEndUnicode t W h i a r o refl p (λ b. let z : is_word_side a ≡ false = sym e ∙ f in rw (z, f))
+pub ends : (t : ℕ) (W : ℕ → Bool) (h : List ℕ) (i : ℕ) (a b : Side) (x y : Bool) → IsBefore W h i a → IsAfter W h i b → x ≡ is_word_side a → y ≡ is_word_side b → IsTrue (x && not y) ↔ Holds WordEndUnicode t W h i
+ends t W h i a b x y p q e f = Holds-decided WordEndUnicode t W h i a b (x && not y) refl p q (rw (e, f) refl)
 
 -- `==` of the program on two tests, as `exactly_one`
 not_exactly_one : (x y : Bool) → beq x y ≡ not (exactly_one x y)

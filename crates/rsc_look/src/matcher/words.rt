@@ -157,8 +157,10 @@ impl<W: WordClass> LookMatcher<W> {
         requires { at ≤ length haystack.now }
         ensures { IsOkAnd result (λ r. IsTrue r ↔ HoldsFor W.word_chars Look.WordStartUnicode self.now haystack.now at) }
     {
-        let starts = self.side_after(haystack, at).is_word();
-        Ok(starts && !self.side_before(haystack, at).is_word())
+        let before = self.side_before(haystack, at);
+        // Both sides are looked at: whether one alone decides is foretold wrongly too often.
+        let after = self.side_after(haystack, at);
+        Ok(after.is_word() & !before.is_word())
     }
 
     /// Whether a word character is before the position, and none after it.
@@ -175,8 +177,9 @@ impl<W: WordClass> LookMatcher<W> {
         requires { at ≤ length haystack.now }
         ensures { IsOkAnd result (λ r. IsTrue r ↔ HoldsFor W.word_chars Look.WordEndUnicode self.now haystack.now at) }
     {
-        let ends = self.side_before(haystack, at).is_word();
-        Ok(ends && !self.side_after(haystack, at).is_word())
+        let before = self.side_before(haystack, at);
+        let after = self.side_after(haystack, at);
+        Ok(before.is_word() & !after.is_word())
     }
 
     /// Whether no word byte is before the position.
