@@ -34,7 +34,7 @@ pub unsafe extern "C" fn original(
         WORD_BYTES..=PATTERN_ITER => primitives(kernel, data, param, reps),
         BYTE_CLASSES..=BYTESET_RANGES => alphabet(kernel, data, param, reps),
         LOOK_AT..=LOOKSET_ITER => look(kernel, data, param, reps),
-        PSET_FILL..=PSET_FILL_FIRST => pattern_set(kernel, data, param, reps),
+        PSET_FILL..=PSET_TRY => pattern_set(kernel, data, param, reps),
         GI_NEW..=CAPS_CLONE => captures(kernel, data, reps),
         _ => engine::run(kernel, data, param, reps),
     }
@@ -227,11 +227,29 @@ fn look(kernel: u32, data: &[u8], param: u64, reps: u64) -> u64 {
     }
 }
 
+fn fill_in_turn(members: &[PatternID], capacity: usize, reps: u64) -> u64 {
+    let mut sets: Vec<PatternSet> = (0..SETS).map(|_| PatternSet::new(capacity)).collect();
+    repeat(reps, || {
+        let sets = black_box(&mut sets);
+        let mut new = 0;
+        for &pid in black_box(members) {
+            for set in sets.iter_mut() {
+                new += u64::from(set.try_insert(pid).unwrap_or(false));
+            }
+        }
+        sets.iter_mut().for_each(PatternSet::clear);
+        new
+    })
+}
+
 fn pattern_set(kernel: u32, data: &[u8], param: u64, reps: u64) -> u64 {
     let numbers: Vec<usize> =
         data.chunks_exact(4).map(|w| u32::from_le_bytes(w.try_into().unwrap()) as usize).collect();
     let pids: Vec<PatternID> = numbers[1..].iter().map(|&n| PatternID::must(n)).collect();
     let (members, queries) = pids.split_at(numbers[0]);
+    if kernel == PSET_TRY {
+        return fill_in_turn(members, param as usize, reps);
+    }
     let mut set = PatternSet::new(param as usize);
     if !matches!(kernel, PSET_FILL | PSET_CLEAR | PSET_FILL_FIRST) {
         members.iter().for_each(|&pid| _ = set.insert(pid));

@@ -40,6 +40,7 @@ pub const PSET_CONTAINS: u32 = 43;
 pub const PSET_ITER: u32 = 44;
 pub const PSET_ITER_BACK: u32 = 45;
 pub const PSET_FILL_FIRST: u32 = 46;
+pub const PSET_TRY: u32 = 47;
 pub const GI_NEW: u32 = 50;
 pub const GI_TO_INDEX: u32 = 51;
 pub const GI_TO_NAME: u32 = 52;
@@ -257,6 +258,9 @@ fn pattern_set(capacity: u32, members: u32) -> Vec<u8> {
 
 const QUERIES: u64 = 4096;
 
+/// How many pattern sets are filled in turn.
+pub const SETS: usize = 8;
+
 /// Group lists as rsc_bench reads them: patterns with `;` between, groups with `,`,
 /// `-` unnamed.
 pub fn group_lists(patterns: usize, named: usize) -> Vec<u8> {
@@ -392,7 +396,10 @@ pub fn all() -> Vec<Workload> {
                 let name = format!("pset_{call}_{capacity}_{name}");
                 all.push(Workload { name, kernel, data: data.clone(), param, ops, less });
             };
-            add("insert", PSET_FILL, size, Some(PSET_FILL_FIRST));
+            if members == capacity {
+                add("insert", PSET_FILL, size, Some(PSET_FILL_FIRST));
+                add("try_insert_in_turn", PSET_TRY, size * SETS as u64, None);
+            }
             add("insert_again", PSET_AGAIN, size, None);
             add("contains", PSET_CONTAINS, QUERIES, None);
             add("iter", PSET_ITER, 1, None);

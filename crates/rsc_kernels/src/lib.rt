@@ -14,7 +14,7 @@ mod search;
 
 use crate::numbers::{
     BYTE_CLASSES, BYTESET_RANGES, CAPS_CLONE, GI_NEW, LOOK_AT, LOOKSET_ITER, MATCH_SETS,
-    PATTERN_ITER, PSET_FILL, PSET_FILL_FIRST, SCAN, WORD_BYTES,
+    PATTERN_ITER, PSET_FILL, PSET_TRY, SCAN, WORD_BYTES,
 };
 use crate::request::Request;
 use std::alloc::Global;
@@ -41,7 +41,7 @@ pub extern "C" fn rsc_kernel(
         WORD_BYTES..=PATTERN_ITER => primitives::run(alloc, request),
         BYTE_CLASSES..=BYTESET_RANGES => alphabet::run(alloc, request),
         LOOK_AT..=LOOKSET_ITER => look::run(alloc, request),
-        PSET_FILL..=PSET_FILL_FIRST => search::run(alloc, request),
+        PSET_FILL..=PSET_TRY => search::run(alloc, request),
         GI_NEW..=CAPS_CLONE => captures::run(alloc, request),
         SCAN..=MATCH_SETS => engine::run(alloc, request),
         _ => Ok(0),

@@ -64,6 +64,8 @@ pub const PSET_ITER_BACK: u32 = 45;
 
 pub const PSET_FILL_FIRST: u32 = 46;
 
+pub const PSET_TRY: u32 = 47;
+
 // rsc_captures
 pub const GI_NEW: u32 = 50;
 

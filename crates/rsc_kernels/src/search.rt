@@ -2,12 +2,15 @@
 ghost use Rattle.std.specs.Prelude.{◌≡◌, ◌<◌, ◌≤◌, All, IfOk, IfSome};
 
 use crate::numbers::{
-    PSET_AGAIN, PSET_CLEAR, PSET_CONTAINS, PSET_FILL, PSET_FILL_FIRST, PSET_ITER,
+    PSET_AGAIN, PSET_CLEAR, PSET_CONTAINS, PSET_FILL, PSET_FILL_FIRST, PSET_ITER, PSET_TRY,
 };
 use crate::request::Request;
 use rsc_primitives::PatternID;
 use rsc_search::PatternSet;
 use std::alloc::{AllocError, Global};
+
+// How many sets are filled in turn.
+const SETS: usize = 8;
 
 /// The sum of a kernel of this layer. `param` is the set's capacity.
 pub fn run(alloc: Global, request: Request<'_>) -> Result<u64, AllocError> {
@@ -20,6 +23,14 @@ pub fn run(alloc: Global, request: Request<'_>) -> Result<u64, AllocError> {
         return Ok(0);
     }
     let (members, queries) = ids.as_slice().split_at(count);
+    if kernel == PSET_TRY {
+        let mut sets = empty_sets(alloc, capacity)?;
+        let mut sum = 0u64;
+        for _ in 0..reps {
+            sum = fill_in_turn(&mut sets, members, sum);
+        }
+        return Ok(sum);
+    }
     match members_below(alloc, members, capacity)? {
         Some(members) => over_set(alloc, kernel, &members, queries, capacity, reps),
         None => Ok(0),
@@ -138,6 +149,40 @@ fn fill(set: PatternSet, members: &[PatternID], sum: u64) -> (PatternSet, u64)
     sum = sum.wrapping_add(set.len() as u64);
     set.clear();
     (set, sum)
+}
+
+fn empty_sets(alloc: Global, capacity: usize) -> Result<Vec<PatternSet>, AllocError>
+    requires { capacity ≤ PatternID.LIMIT }
+{
+    let mut sets = Vec::new(alloc);
+    for _ in 0..SETS {
+        sets.push(PatternSet::new(alloc, capacity)?)?;
+    }
+    Ok(sets)
+}
+
+// How many are new when each is put into all sets, one set after the other; the sets are empty before and after.
+#[inline(never)]
+fn fill_in_turn(sets: &mut [PatternSet], members: &[PatternID], sum: u64) -> u64 {
+    let mut sum = sum;
+    for id in members {
+        sum = put_into_all(sets, *id, sum);
+    }
+    for set in sets {
+        set.clear();
+    }
+    sum
+}
+
+#[inline(always)]
+fn put_into_all(sets: &mut [PatternSet], id: PatternID, sum: u64) -> u64 {
+    let mut sum = sum;
+    for set in sets {
+        if let Ok(is_new) = set.try_insert(id) {
+            sum = sum.wrapping_add(u64::from(is_new));
+        }
+    }
+    sum
 }
 
 // How many are new when the first alone is put in; the set is empty before and after.
