@@ -1,15 +1,17 @@
 -- What an iterator over a set's members has left, word by word.
-use Rattle.std.proofs.Common.{◌≡◌, ℕ, ◌+◌, ◌-◌, ◌*◌, ◌<◌, ◌≤◌, Bool, true, false, [], ◌∷◌, ◌++◌, filter, refl, sym, ap, ap₂, ◌∙◌, nat_eq, arith}
+use Rattle.std.proofs.Common.{◌≡◌, ℕ, ◌+◌, ◌-◌, ◌*◌, ◌<◌, ◌≤◌, Bool, true, false, [], ◌∷◌, ◌++◌, filter, refl, sym, ap, ap₂, ◌∙◌, ◌^◌, nat_eq, arith, append-nil, min, ⊎_elim}
 use Rattle.std.specs.Int.{bit_at}
+use Rattle.std.specs.Int.Bits.{bit_and}
 use Rattle.std.specs.FinSet as sets
 use Rattle.std.proofs.lemmas.List.Elements.{filter-append}
-use Rattle.std.proofs.lemmas.Nat.Bits.{bit_at-zero}
+use Rattle.std.proofs.lemmas.Bool.{cases_lt}
+use Rattle.std.proofs.lemmas.Nat.Bits.{bit_at-zero, bit_at_above, bit_at_and}
 use Rattle.rsc_alphabet.specs.Bytes.{from_to}
 use Rattle.rsc_alphabet.specs.BytesLaws.{from_to_none, from_to_parts, filter_none, filter_first, filter_same}
 use Rattle.rsc_alphabet.specs.ByteSets.{Numbers}
 use Rattle.rsc_alphabet.specs.ByteSetLayout.{is_one, members_from, members_left}
 
-filter_parts : (p : ℕ → Bool) (low mid high : ℕ) → low ≤ mid → mid ≤ high → filter p (from_to low high) ≡ filter p (from_to low mid) ++ filter p (from_to mid high)
+pub filter_parts : (p : ℕ → Bool) (low mid high : ℕ) → low ≤ mid → mid ≤ high → filter p (from_to low high) ≡ filter p (from_to low mid) ++ filter p (from_to mid high)
 filter_parts p low mid high l h = ap (filter p) (from_to_parts low mid high l h) ∙ filter-append p (from_to low mid) (from_to mid high)
 
 -- the first number of a range at which a test gives true
@@ -17,48 +19,66 @@ filter_at : (p : ℕ → Bool) (low k high : ℕ) → low ≤ k → k < high →
 filter_at p low k high l h none is =
     filter_parts p low k high l (omega arith) ∙ ap₂ (λ x y. x ++ y) (filter_none p low k none) (filter_first p k high h is)
 
--- a test that gives false at the first numbers of a range
-filter_from : (p : ℕ → Bool) (low mid high : ℕ) → low ≤ mid → mid ≤ high → ((i : ℕ) → low ≤ i → i < mid → p i ≡ false) → filter p (from_to low high) ≡ filter p (from_to mid high)
-filter_from p low mid high l h none = filter_parts p low mid high l h ∙ ap (λ x. x ++ filter p (from_to mid high)) (filter_none p low mid none)
-
 -- a word of which nothing was taken
-pub whole_word : (s : Numbers) (number word : ℕ) → number < 4 → ((i : ℕ) → i < 64 → is_one word i ≡ sets.contains s (64 * number + i)) → members_left s number word ≡ members_from s (64 * number)
+pub whole_word : (s : Numbers) (number word : ℕ) → number < 4 → ((i : ℕ) → i < 64 → is_one word i ≡ sets.contains s (64 * number + i)) → members_left s number (64 * number) word ≡ members_from s (64 * number)
 whole_word s number word l same =
     ap (λ x. x ++ members_from s (64 * number + 64)) (filter_same (λ b. is_one word (b - 64 * number)) (λ b. sets.contains s b) (64 * number) (64 * number + 64) (λ k low high.
     let e : 64 * number + (k - 64 * number) ≡ k = omega arith in same (k - 64 * number) (omega arith) ∙ ap (sets.contains s) e))
     ∙ sym (filter_parts (λ b. sets.contains s b) (64 * number) (64 * number + 64) 256 (omega arith) (omega arith))
 
--- a word with nothing left
-pub no_word : (s : Numbers) (number : ℕ) → members_left s number 0 ≡ members_from s (64 * number + 64)
-no_word s number =
-    ap (λ x. x ++ members_from s (64 * number + 64)) (filter_none (λ b. is_one 0 (b - 64 * number)) (64 * number) (64 * number + 64) (λ k low high. rw (bit_at-zero (k - 64 * number)) refl))
+-- its bits stand for bytes
+pub whole_word_fits : (number word : ℕ) → number < 4 → word < 2 ^ 64 → (i : ℕ) → bit_at word i ≡ 1 → 64 * number + i < 256
+whole_word_fits number word l fits i is =
+    ⊎_elim (λ (h : i < 64). omega arith) (λ (h : 64 ≤ i). let none : bit_at word i ≡ 0 = bit_at_above word 64 i fits h in absurd (omega (arith, none, is))) (cases_lt i 64)
 
-pub none_left : (s : Numbers) (number : ℕ) → number ≡ 3 → members_left s number 0 ≡ []
-none_left s number is = no_word s number ∙ let e : 64 * number + 64 ≡ 256 = omega (arith, is) in rw (e, from_to_none 256 256 (omega arith)) refl
+-- a word with nothing left
+pub no_word : (s : Numbers) (number byte : ℕ) → members_left s number byte 0 ≡ members_from s (64 * number + 64)
+no_word s number byte =
+    ap (λ x. x ++ members_from s (64 * number + 64)) (filter_none (λ b. is_one 0 (b - byte)) byte (byte + 64) (λ k low high. rw (bit_at-zero (k - byte)) refl))
+
+pub none_left : (s : Numbers) (number byte : ℕ) → number ≡ 3 → members_left s number byte 0 ≡ []
+none_left s number byte is = no_word s number byte ∙ let e : 64 * number + 64 ≡ 256 = omega (arith, is) in rw (e, from_to_none 256 256 (omega arith)) refl
 
 -- from a word with nothing left to the next one
-pub next_word : (s : Numbers) (number word : ℕ) → number + 1 < 4 → ((i : ℕ) → i < 64 → is_one word i ≡ sets.contains s (64 * (number + 1) + i)) → members_left s (number + 1) word ≡ members_left s number 0
-next_word s number word l same =
+pub next_word : (s : Numbers) (number byte word : ℕ) → number + 1 < 4 → ((i : ℕ) → i < 64 → is_one word i ≡ sets.contains s (64 * (number + 1) + i)) → members_left s (number + 1) (64 * (number + 1)) word ≡ members_left s number byte 0
+next_word s number byte word l same =
     let e : 64 * (number + 1) ≡ 64 * number + 64 = omega arith in
-    whole_word s (number + 1) word l same ∙ ap (members_from s) e ∙ sym (no_word s number)
+    whole_word s (number + 1) word l same ∙ ap (members_from s) e ∙ sym (no_word s number byte)
 
--- the lowest bit taken out of a word
-pub lowest_left : (s : Numbers) (number word rest k : ℕ) → k < 64 → bit_at word k ≡ 1 → ((i : ℕ) → i < k → bit_at word i ≡ 0) →
-    ((i : ℕ) → i ≤ k → bit_at rest i ≡ 0) → ((i : ℕ) → k < i → bit_at rest i ≡ bit_at word i) →
-    members_left s number word ≡ (64 * number + k) ∷ members_left s number rest
-lowest_left s number word rest k l here below gone kept =
-    ap (λ x. x ++ members_from s (64 * number + 64)) (filter_at (λ b. is_one word (b - 64 * number)) (64 * number) (64 * number + k) (64 * number + 64) (omega arith) (omega arith) before at_k
-    ∙ ap (λ x. (64 * number + k) ∷ x) (filter_same (λ b. is_one word (b - 64 * number)) (λ b. is_one rest (b - 64 * number)) (64 * number + k + 1) (64 * number + 64) after
-    ∙ sym (filter_from (λ b. is_one rest (b - 64 * number)) (64 * number) (64 * number + k + 1) (64 * number + 64) (omega arith) (omega arith) taken)))
+-- the bits above the lowest one that is 1, moved down
+pub lowest_left : (s : Numbers) (number byte word rest k : ℕ) → word < 2 ^ 64 → k < 64 → bit_at word k ≡ 1 → ((i : ℕ) → i < k → bit_at word i ≡ 0) → ((i : ℕ) → bit_at rest i ≡ bit_at word (k + (1 + i))) →
+    members_left s number byte word ≡ (byte + k) ∷ members_left s number (byte + k + 1) rest
+lowest_left s number byte word rest k fits l here below moved =
+    ap (λ x. x ++ members_from s (64 * number + 64)) (filter_at before_moved byte (byte + k) (byte + 64) (omega arith) (omega arith) none at_k
+    ∙ ap (λ x. (byte + k) ∷ x) (filter_same before_moved after_moved (byte + k + 1) (byte + 64) same
+    ∙ sym (filter_parts after_moved (byte + k + 1) (byte + 64) (byte + k + 1 + 64) (omega arith) (omega arith)
+    ∙ ap (λ x. filter after_moved (from_to (byte + k + 1) (byte + 64)) ++ x) (filter_none after_moved (byte + 64) (byte + k + 1 + 64) past)
+    ∙ append-nil _)))
   where
-    before : (i : ℕ) → 64 * number ≤ i → i < 64 * number + k → is_one word (i - 64 * number) ≡ false
-    before i p q = rw (below (i - 64 * number) (omega arith)) refl
+    before_moved : ℕ → Bool
+    before_moved b = is_one word (b - byte)
 
-    at_k : is_one word (64 * number + k - 64 * number) ≡ true
-    at_k = let e : 64 * number + k - 64 * number ≡ k = omega arith in rw (e, here) refl
+    after_moved : ℕ → Bool
+    after_moved b = is_one rest (b - (byte + k + 1))
 
-    after : (i : ℕ) → 64 * number + k + 1 ≤ i → i < 64 * number + 64 → is_one word (i - 64 * number) ≡ is_one rest (i - 64 * number)
-    after i p q = ap (λ x. nat_eq x 1) (sym (kept (i - 64 * number) (omega arith)))
+    none : (i : ℕ) → byte ≤ i → i < byte + k → is_one word (i - byte) ≡ false
+    none i p q = rw (below (i - byte) (omega arith)) refl
 
-    taken : (i : ℕ) → 64 * number ≤ i → i < 64 * number + k + 1 → is_one rest (i - 64 * number) ≡ false
-    taken i p q = rw (gone (i - 64 * number) (omega arith)) refl
+    at_k : is_one word (byte + k - byte) ≡ true
+    at_k = let e : byte + k - byte ≡ k = omega arith in rw (e, here) refl
+
+    same : (i : ℕ) → byte + k + 1 ≤ i → i < byte + 64 → is_one word (i - byte) ≡ is_one rest (i - (byte + k + 1))
+    same i p q =
+        let e : k + (1 + (i - (byte + k + 1))) ≡ i - byte = omega arith in
+        ap (λ x. nat_eq x 1) (sym (moved (i - (byte + k + 1)) ∙ ap (bit_at word) e))
+
+    past : (i : ℕ) → byte + 64 ≤ i → i < byte + k + 1 + 64 → is_one rest (i - (byte + k + 1)) ≡ false
+    past i p q = ap (λ x. nat_eq x 1) (moved (i - (byte + k + 1)) ∙ bit_at_above word 64 (k + (1 + (i - (byte + k + 1)))) fits (omega arith))
+
+-- the same where the lowest bit is 1
+pub first_left : (s : Numbers) (number byte word rest : ℕ) → word < 2 ^ 64 → bit_and word 1 ≡ 1 → ((i : ℕ) → bit_at rest i ≡ bit_at word (1 + i)) →
+    members_left s number byte word ≡ byte ∷ members_left s number (byte + 1) rest
+first_left s number byte word rest fits here moved =
+    let e : byte + 0 ≡ byte = omega arith in
+    let first : min (bit_at word 0) 1 ≡ 1 = sym (bit_at_and word 1 0) ∙ ap (λ x. bit_at x 0) here in
+    rw e at (lowest_left s number byte word rest 0 fits (omega arith) (omega (arith, first)) (λ i l. absurd (omega arith)) (λ i. let f : 1 + i ≡ 0 + (1 + i) = omega arith in moved i ∙ ap (bit_at word) f))

@@ -1,12 +1,12 @@
--- The bits of a number that was shifted, masked, or had its lowest bit taken out, and how many bits are 1.
-use Rattle.std.proofs.Common.{◌≡◌, ℕ, zero, suc, ◌+◌, ◌-◌, ◌*◌, ◌/◌, ◌%◌, ◌^◌, ◌<◌, ◌≤◌, min, not, ◌&&◌, cond, nat_eq, refl, sym, ap, ap₂, ◌∙◌, arith, ⊎_elim}
+-- The bits of a number that was shifted or masked, and how many bits are 1.
+use Rattle.std.proofs.Common.{◌≡◌, ℕ, zero, suc, ◌+◌, ◌-◌, ◌*◌, ◌/◌, ◌%◌, ◌^◌, ◌<◌, ◌≤◌, Bool, true, false, min, not, ◌&&◌, cond, nat_eq, nat_le, refl, sym, ap, ap₂, ◌∙◌, arith, ⊎_elim}
 use Rattle.std.specs.Int.{w128, bit_at, bit_not}
 use Rattle.std.specs.Int.Bits.{bit_and}
 use Rattle.std.specs.Int.Count.{ones, ones_in, ones_cat}
-use Rattle.std.proofs.lemmas.Bool.{cases_lt}
-use Rattle.std.proofs.lemmas.Nat.{and_mask, pow-add, pow_pos, mod-pow-add, div-add-mod'}
-use Rattle.std.proofs.lemmas.Nat.Bits.{bit_at-lt, bit_at-zero, bit_at_and, bit_at_not, bit_at_ones, bit_at_ones_above, bit_at_cat_low, bit_at_cat_high, same_from_bits, same_from_bits_below}
-use Rattle.std.proofs.Math.Nat.{mod-lt, div-div-eq-div-mul, pow-suc}
+use Rattle.std.proofs.lemmas.Bool.{cases_lt, le-leb, lt-leb}
+use Rattle.std.proofs.lemmas.Nat.{and_mask, pow-add, pow_pos, mod-pow-add}
+use Rattle.std.proofs.lemmas.Nat.Bits.{bit_at-lt, bit_at-zero, bit_at_and, bit_at_not, bit_at_ones, bit_at_cat_low, bit_at_cat_high, same_from_bits}
+use Rattle.std.proofs.Math.Nat.{mod-lt, div-div-eq-div-mul}
 use Rattle.rsc_alphabet.specs.ByteSetLayout.{is_one}
 use Rattle.rsc_alphabet.specs.Partitions.{class_of}
 use Rattle.rsc_alphabet.proofs.PartitionsLemmas.{class_of_more, class_of_none}
@@ -71,48 +71,26 @@ run_within run mask start end fits l inside below above = (
     no_bit : (i : ℕ) → bit_at run i ≡ 0 → bit_at (bit_and run (bit_not w128 mask)) i ≡ bit_at 0 i
     no_bit i none = bit_at_and run (bit_not w128 mask) i ∙ rw none (min_none (bit_at (bit_not w128 mask) i) ∙ sym (bit_at-zero i))
 
--- ---- the lowest bit taken out
-
--- a number by its lowest bit
-lowest_split : (n k : ℕ) → bit_at n k ≡ 1 → ((i : ℕ) → i < k → bit_at n i ≡ 0) → n ≡ n / 2 ^ (suc k) * 2 ^ (suc k) + 2 ^ k
-lowest_split n k here below =
-    sym (div-add-mod' n (2 ^ (suc k))) ∙ ap (λ x. n / 2 ^ (suc k) * 2 ^ (suc k) + x) rest
+-- a bit is kept if it is in the run
+pub run_kept : (mask run start end i : ℕ) → ((i : ℕ) → start ≤ i → i ≤ end → bit_at run i ≡ 1) → ((i : ℕ) → i < start → bit_at run i ≡ 0) → ((i : ℕ) → end < i → bit_at run i ≡ 0) →
+    is_one (bit_and mask run) i ≡ (nat_le start i && nat_le i end && is_one mask i)
+run_kept mask run start end i inside below above =
+    ap (λ x. nat_eq x 1) (bit_at_and mask run i) ∙ ⊎_elim
+    (λ (h : i < start). rw (below i h, lt-leb start i h) (none (bit_at mask i)))
+    (λ (h : start ≤ i). ⊎_elim
+    (λ (k : end < i). rw (above i k, lt-leb i end k) (none (bit_at mask i) ∙ sym (no_more (nat_le start i) (is_one mask i))))
+    (λ (k : i ≤ end). rw (inside i h k, le-leb start i h, le-leb i end k) (ap (λ x. nat_eq x 1) (omega (arith, bit_at-lt mask i))))
+    (cases_lt end i))
+    (cases_lt i start)
   where
-    none : n % 2 ^ k ≡ 0
-    none = same_from_bits_below k (n % 2 ^ k) 0 (mod-lt n (pow_pos k)) (pow_pos k) (λ i l. bit_at-mod n k i l ∙ below i l ∙ sym (bit_at-zero i))
+    none : (x : ℕ) → nat_eq (min x 0) 1 ≡ false
+    none x = let e : min x 0 ≡ 0 = omega arith in rw e refl
 
-    rest : n % 2 ^ (suc k) ≡ 2 ^ k
-    rest = let e : suc k ≡ 1 + k = omega arith in rw e (mod-pow-add n 1 k ∙ ap₂ (λ x y. x * 2 ^ k + y) here none ∙ omega arith)
-
-pub lowest_out : (n k : ℕ) → bit_at n k ≡ 1 → ((i : ℕ) → i < k → bit_at n i ≡ 0) →
-    ((i : ℕ) → i ≤ k → bit_at (bit_and n (n - 1)) i ≡ 0) × ((i : ℕ) → k < i → bit_at (bit_and n (n - 1)) i ≡ bit_at n i)
-lowest_out n k here below = (
-  (λ i l. bit_at_and n (n - 1) i ∙ ⊎_elim
-      (λ (h : i < k). rw (below i h) (min_none (bit_at (n - 1) i)))
-      (λ (h : k ≤ i). let e : i ≡ k = omega arith in rw e (rw at_k (omega arith)))
-      (cases_lt i k)),
-  (λ i l. bit_at_and n (n - 1) i ∙ rw (before i l) (omega arith)),
-)
-  where
-    split : n ≡ n / 2 ^ (suc k) * 2 ^ (suc k) + 2 ^ k
-    split = lowest_split n k here below
-
-    less : n - 1 ≡ n / 2 ^ (suc k) * 2 ^ (suc k) + (2 ^ k - 1)
-    less = one_less n (n / 2 ^ (suc k) * 2 ^ (suc k)) (2 ^ k) split (pow_pos k)
-      where
-        one_less : (n a p : ℕ) → n ≡ a + p → 0 < p → n - 1 ≡ a + (p - 1)
-        one_less n a p e l = omega (arith, e)
-
-    small : 2 ^ k < 2 ^ (suc k)
-    small = rw (pow-suc 2 k) (omega (arith, pow_pos k))
-
-    at_k : bit_at (n - 1) k ≡ 0
-    at_k = ap (λ x. bit_at x k) less ∙ bit_at_cat_low (n / 2 ^ (suc k)) (suc k) (2 ^ k - 1) k (omega arith) ∙ bit_at_ones_above k k (omega arith)
-
-    before : (i : ℕ) → k < i → bit_at (n - 1) i ≡ bit_at n i
-    before i l =
-        ap (λ x. bit_at x i) less ∙ bit_at_cat_high (n / 2 ^ (suc k)) (suc k) (2 ^ k - 1) i (omega (arith, small)) (omega arith)
-        ∙ sym (ap (λ x. bit_at x i) split ∙ bit_at_cat_high (n / 2 ^ (suc k)) (suc k) (2 ^ k) i small (omega arith))
+    no_more : (x y : Bool) → (x && false && y) ≡ false
+    no_more true true = refl
+    no_more true false = refl
+    no_more false true = refl
+    no_more false false = refl
 
 -- ---- how many bits are 1
 

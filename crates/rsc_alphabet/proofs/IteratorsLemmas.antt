@@ -1,65 +1,28 @@
 -- The steps of the iterators of a class map.
-use Rattle.std.proofs.Common.{◌≡◌, ℕ, ◌+◌, ◌-◌, ◌<◌, ◌≤◌, Bool, true, false, not, cond, List, [], ◌∷◌, ◌++◌, map, filter, refl, sym, ap, ◌∙◌, arith, nat_eq, slice_index, Option, Some, None}
+use Rattle.std.proofs.Common.{◌≡◌, ℕ, ◌+◌, ◌-◌, ◌<◌, ◌≤◌, Bool, true, false, not, List, [], ◌∷◌, ◌++◌, map, filter, refl, sym, ap, ap₂, ◌∙◌, arith, nat_eq, slice_index, Some, None}
 use Rattle.std.proofs.lemmas.Bool.{eq-eqb, ne_eqb}
 use Rattle.rsc_alphabet.specs.Bytes.{from_to, bytes}
-use Rattle.rsc_alphabet.specs.BytesLaws.{from_to_none, from_to_first, length-from_to, get_or-from_to, filter_same, filter_first, filter_skip}
+use Rattle.rsc_alphabet.specs.BytesLaws.{from_to_none, from_to_first, length-from_to, get_or-from_to, filter_same, filter_first, filter_none}
 use Rattle.rsc_alphabet.specs.Symbols.{Symbol, byte, end_of_input, byte_of}
-use Rattle.rsc_alphabet.specs.Iterators.{end_of, symbols, elements_of, end_if_unbounded, representatives_of}
-use Rattle.std.proofs.Common.{◌≢◌, ◌^◌, length, append-nil, nat_le, ⊎_elim}
+use Rattle.rsc_alphabet.specs.Iterators.{end_of, symbols, elements_of, representing, end_if_unbounded, representatives_of}
+use Rattle.std.proofs.Common.{◌^◌, length, append-nil, nat_le, ⊎_elim}
 use Rattle.std.proofs.Common.{set, below_more, get_or-set_same, get_or-set_other}
-use Rattle.std.proofs.Common.{zero, suc, ◌||◌, slice_get, length-append}
+use Rattle.std.proofs.Common.{zero, suc, ◌||◌, ◌&&◌, slice_get, length-append}
 use Rattle.std.specs.Option.{option_map}
 use Rattle.std.proofs.lemmas.Option.{slice_get-map, slice_get-get_or}
 use Rattle.std.specs.declared.ops.Bound.{Bound}
 use Rattle.std.specs.Range.Bound.{start_index, end_index}
 use Rattle.std.proofs.Math.Pow.{pow_mono}
-use Rattle.std.proofs.lemmas.Bool.{cases_lt, le-leb}
+use Rattle.std.proofs.lemmas.Bool.{cases_lt, le-leb, lt-leb}
 use Rattle.std.proofs.lemmas.Bool.Decides.{nat_tests}
 use Rattle.std.proofs.lemmas.List.{ext_get_or, length-map}
-use Rattle.rsc_alphabet.specs.IteratorLayout.{symbols_left, elements_left, is_new, representatives_left, IsLastClass}
-
--- after the first byte only the classes count
-later_same : (classes : List ℕ) (low high : ℕ) (last : Option ℕ) (c : ℕ) →
-    filter (is_new classes last low) (from_to (low + 1) high) ≡ filter (is_new classes (Some c) (low + 1)) (from_to (low + 1) high)
-later_same classes low high None c = filter_same _ _ (low + 1) high (λ k l h. rw (ne_eqb k low (λ e. omega arith)) refl)
-later_same classes low high (Some d) c = refl
-
-new_here : (classes : List ℕ) (last : Option ℕ) (low c : ℕ) → c ≡ slice_index classes low → IsLastClass classes last low → (last ≡ Some c → ⊥) → is_new classes last low low ≡ true
-new_here classes None low c is was other = rw (eq-eqb low low refl) refl
-new_here classes (Some d) low c is was other = rw (ne_eqb (slice_index classes low) (slice_index classes (low - 1)) (λ e. other (ap Some (was ∙ sym e ∙ sym is)))) refl
-
-old_here : (classes : List ℕ) (last : Option ℕ) (low c : ℕ) → c ≡ slice_index classes low → IsLastClass classes last low → last ≡ Some c → is_new classes last low low ≡ false
-old_here classes None low c is was same = cc
-old_here classes (Some d) low c is was same =
-    let e : d ≡ c = cc in
-    rw (eq-eqb (slice_index classes low) (slice_index classes (low - 1)) (sym is ∙ sym e ∙ was)) refl
-
-pub representatives_left_new : (classes : List ℕ) (low high : ℕ) (last : Option ℕ) (with_end : Bool) (c : ℕ) → low < high → c ≡ slice_index classes low → IsLastClass classes last low → (last ≡ Some c → ⊥) →
-    representatives_left classes low high last with_end ≡ byte low ∷ representatives_left classes (low + 1) high (Some c) with_end
-representatives_left_new classes low high last with_end c l is was other =
-    ap (λ t. map (λ b. byte b) t ++ cond with_end (end_of classes ∷ []) [])
-    (filter_first (is_new classes last low) low high l (new_here classes last low c is was other) ∙ ap (λ t. low ∷ t) (later_same classes low high last c))
-
-pub representatives_left_old : (classes : List ℕ) (low high : ℕ) (last : Option ℕ) (with_end : Bool) (c : ℕ) → low < high → c ≡ slice_index classes low → IsLastClass classes last low → last ≡ Some c →
-    representatives_left classes low high last with_end ≡ representatives_left classes (low + 1) high last with_end
-representatives_left_old classes low high last with_end c l is was same =
-    ap (λ t. map (λ b. byte b) t ++ cond with_end (end_of classes ∷ []) [])
-    (filter_skip (is_new classes last low) low high l (old_here classes last low c is was same) ∙ rw same (later_same classes low high (Some c) c))
-
-pub representatives_left_none : (classes : List ℕ) (low high : ℕ) (last : Option ℕ) (with_end : Bool) → high ≤ low → representatives_left classes low high last with_end ≡ cond with_end (end_of classes ∷ []) []
-representatives_left_none classes low high last with_end l = rw (from_to_none low high l) refl
-
--- a representative, or the end, begins an iterator of its own
-pub representatives_left_again : (classes : List ℕ) (low high c : ℕ) (with_end : Bool) → c ≡ slice_index classes (low - 1) → (low < high → slice_index classes low ≡ c → ⊥) →
-    representatives_left classes low high (Some c) with_end ≡ representatives_left classes low high None with_end
-representatives_left_again classes low high c with_end was other =
-    ⊎_elim
-    (λ (l : low < high).
-    representatives_left_new classes low high (Some c) with_end (slice_index classes low) l refl was (λ e. other l (let f : slice_index classes low ≡ c = cc in f))
-    ∙ sym (representatives_left_new classes low high None with_end (slice_index classes low) l refl tt (λ e. cc)))
-    (λ (l : high ≤ low).
-    representatives_left_none classes low high (Some c) with_end l ∙ sym (representatives_left_none classes low high None with_end l))
-    (cases_lt low high)
+use Rattle.std.specs.FinSet as sets
+use Rattle.std.specs.FinSet.{contains-empty}
+use Rattle.std.specs.Ordering.{nat_cmp}
+use Rattle.rsc_alphabet.specs.ByteSetLayout.{is_one}
+use Rattle.rsc_alphabet.specs.ByteSets.{Numbers, members}
+use Rattle.rsc_alphabet.specs.IteratorLayout.{symbols_left, elements_left}
+use Rattle.rsc_alphabet.proofs.AscendingLemmas.{filter_parts}
 
 -- ---- the classes
 
@@ -107,30 +70,69 @@ slice_get-symbols classes c l =
 
 -- ---- the elements of a class
 
-pub elements_left_first : (classes : List ℕ) (class b : ℕ) (with_end : Bool) → b ≤ 255 → slice_index classes b ≡ class →
-    elements_left classes class b with_end ≡ byte b ∷ elements_left classes class (b + 1) with_end
-elements_left_first classes class b with_end l is =
-    ap (λ t. map (λ k. byte k) t ++ cond with_end (end_of_input 256 ∷ []) [])
-    (filter_first (λ k. nat_eq (slice_index classes k) class) b 256 (omega arith) (eq-eqb (slice_index classes b) class is))
-
-pub elements_left_skip : (classes : List ℕ) (class b : ℕ) (with_end : Bool) → b ≤ 255 → slice_index classes b ≢ class →
-    elements_left classes class b with_end ≡ elements_left classes class (b + 1) with_end
-elements_left_skip classes class b with_end l not_is =
-    ap (λ t. map (λ k. byte k) t ++ cond with_end (end_of_input 256 ∷ []) [])
-    (filter_skip (λ k. nat_eq (slice_index classes k) class) b 256 (omega arith) (ne_eqb (slice_index classes b) class not_is))
-
-pub elements_left_none : (classes : List ℕ) (class b : ℕ) (with_end : Bool) → 255 < b → elements_left classes class b with_end ≡ cond with_end (end_of_input 256 ∷ []) []
-elements_left_none classes class b with_end l = rw (from_to_none b 256 (omega arith)) refl
-
 -- the elements of an end of the input
-pub elements_of-end : (classes : List ℕ) (unit : Symbol) → byte_of unit ≡ None → elements_left classes 0 256 true ≡ elements_of classes unit
+pub elements_of-end : (classes : List ℕ) (unit : Symbol) → byte_of unit ≡ None → elements_left [] true ≡ elements_of classes unit
 elements_of-end classes (byte b) none = cc
-elements_of-end classes (end_of_input n) none = elements_left_none classes 0 256 true (omega arith)
+elements_of-end classes (end_of_input n) none = refl
 
 -- the elements of the class whose number is that of a byte unit
-pub elements_of-byte : (classes : List ℕ) (unit : Symbol) (class : ℕ) → byte_of unit ≡ Some class → elements_left classes class 0 false ≡ elements_of classes unit
-elements_of-byte classes (byte b) class is = let e : b ≡ class = cc in rw e (append-nil _)
-elements_of-byte classes (end_of_input n) class is = cc
+pub elements_of-byte : (classes : List ℕ) (unit : Symbol) (class : ℕ) (s : Numbers) → byte_of unit ≡ Some class → ((b : ℕ) → b < 256 → sets.contains s b ≡ nat_eq (slice_index classes b) class) →
+    elements_left (members s) false ≡ elements_of classes unit
+elements_of-byte classes (byte b) class s is same =
+    let e : b ≡ class = cc in
+    rw e (append-nil _ ∙ ap (λ t. map (λ k. byte k) t) (filter_same (λ k. sets.contains s k) (λ k. nat_eq (slice_index classes k) class) 0 256 (λ k low high. same k high)))
+elements_of-byte classes (end_of_input n) class s is same = cc
+
+-- ---- the representatives of a range
+
+-- a set whose members are the bytes from `low` up to, and without, `high` whose class isn't their predecessor's, and `low`
+representing_are : (classes : List ℕ) (s : Numbers) (low high : ℕ) → low ≤ high → high ≤ 256 → ((b : ℕ) → b < low → sets.contains s b ≡ false) → ((b : ℕ) → high ≤ b → b < 256 → sets.contains s b ≡ false) →
+    ((b : ℕ) → low ≤ b → b < high → sets.contains s b ≡ (nat_eq b low || not (nat_eq (slice_index classes b) (slice_index classes (b - 1))))) → members s ≡ representing classes low high
+representing_are classes s low high l h before after inside =
+    filter_parts (λ b. sets.contains s b) 0 low 256 (omega arith) (omega arith)
+    ∙ ap₂ (λ x y. x ++ y) (filter_none (λ b. sets.contains s b) 0 low (λ b p q. before b q)) (filter_parts (λ b. sets.contains s b) low high 256 l h)
+    ∙ ap (λ x. filter (λ b. sets.contains s b) (from_to low high) ++ x) (filter_none (λ b. sets.contains s b) high 256 after)
+    ∙ append-nil _
+    ∙ filter_same (λ b. sets.contains s b) (λ b. nat_eq b low || not (nat_eq (slice_index classes b) (slice_index classes (b - 1)))) low high inside
+
+pub representing_none : (classes : List ℕ) (low high : ℕ) → high ≤ low → representing classes low high ≡ []
+representing_none classes low high h = rw (from_to_none low high h) refl
+
+pub bytes_between_are : (classes : List ℕ) (changes part s : Numbers) (low high : ℕ) → low < high → high ≤ 256 →
+    ((b : ℕ) → b < 256 → sets.contains changes b ≡ not (nat_eq (slice_index classes b) (slice_index classes (b - 1)))) →
+    ((b : ℕ) → sets.contains part b ≡ (nat_le low b && nat_le b (high - 1) && sets.contains changes b)) →
+    ((b : ℕ) → sets.contains s b ≡ (nat_eq b low || sets.contains part b)) → members s ≡ representing classes low high
+bytes_between_are classes changes part s low high l h changed parted added =
+    representing_are classes s low high (omega arith) h
+    (λ b p. added b ∙ rw (ne_eqb b low (λ e. omega arith), parted b, lt-leb low b p) refl)
+    (λ b p q. added b ∙ rw (ne_eqb b low (λ e. omega arith), parted b, le-leb low b (omega arith), lt-leb b (high - 1) (omega arith)) refl)
+    (λ b p q. added b ∙ ap (λ x. nat_eq b low || x) (parted b ∙ rw (le-leb low b p, le-leb b (high - 1) (omega arith)) (changed b (omega arith))))
+
+-- ---- sets by their words
+
+pub members_none : members sets.empty ≡ []
+members_none = filter_none (λ b. sets.contains sets.empty b) 0 256 (λ b p q. contains-empty nat_cmp b)
+
+-- what a test says of each of the four words
+pub by_words : (s : Numbers) (p : ℕ → Bool) → ((i : ℕ) → i < 64 → sets.contains s i ≡ p i) → ((i : ℕ) → i < 64 → sets.contains s (64 + i) ≡ p (64 + i)) →
+    ((i : ℕ) → i < 64 → sets.contains s (128 + i) ≡ p (128 + i)) → ((i : ℕ) → i < 64 → sets.contains s (192 + i) ≡ p (192 + i)) → (b : ℕ) → b < 256 → sets.contains s b ≡ p b
+by_words s p first second third fourth b l =
+    ⊎_elim (λ (h : b < 64). first b h) (λ (h : 64 ≤ b).
+    ⊎_elim (λ (k : b < 128). later 64 h (second (b - 64) (omega arith))) (λ (k : 128 ≤ b).
+    ⊎_elim (λ (m : b < 192). later 128 k (third (b - 128) (omega arith))) (λ (m : 192 ≤ b). later 192 m (fourth (b - 192) (omega arith)))
+    (cases_lt b 192)) (cases_lt b 128)) (cases_lt b 64)
+  where
+    later : (start : ℕ) → start ≤ b → sets.contains s (start + (b - start)) ≡ p (start + (b - start)) → sets.contains s b ≡ p b
+    later start low same = let e : start + (b - start) ≡ b = omega arith in rw e at same
+
+-- the word of the bytes 1 to 64, moved up by one byte
+pub first_changes : (classes : List ℕ) (word up i : ℕ) → i < 64 → ((i : ℕ) → i < 64 → is_one word i ≡ not (nat_eq (slice_index classes (1 + i)) (slice_index classes (1 + i - 1)))) →
+    is_one up 0 ≡ false → ((i : ℕ) → 0 < i → i < 64 → is_one up i ≡ is_one word (i - 1)) → is_one up i ≡ not (nat_eq (slice_index classes i) (slice_index classes (i - 1)))
+first_changes classes word up zero l each first others = first ∙ rw (eq-eqb (slice_index classes 0) (slice_index classes 0) refl) refl
+first_changes classes word up (suc k) l each first others =
+    let e : suc k - 1 ≡ k = omega arith in
+    let f : 1 + k ≡ suc k = omega arith in
+    others (suc k) (omega arith) l ∙ rw e (rw (f, e) at (each k (omega arith)))
 
 -- ---- numbers
 

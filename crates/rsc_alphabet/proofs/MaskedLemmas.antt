@@ -1,10 +1,10 @@
 -- What changing a bit of the two numbers that hold a set of bytes does to the set.
-use Rattle.std.proofs.Common.{◌≡◌, ◌≢◌, ◌↔◌, ℕ, zero, suc, ◌+◌, ◌-◌, ◌*◌, ◌^◌, ◌<◌, ◌≤◌, Bool, true, false, not, ◌&&◌, nat_eq, refl, sym, ap, ◌∙◌, arith, ⊎_elim}
+use Rattle.std.proofs.Common.{◌≡◌, ◌≢◌, ◌↔◌, ℕ, zero, suc, ◌+◌, ◌-◌, ◌*◌, ◌^◌, ◌<◌, ◌≤◌, Bool, true, false, not, ◌&&◌, nat_eq, nat_le, refl, sym, ap, ◌∙◌, arith, ⊎_elim}
 use Rattle.std.specs.Int.{bit_at}
 use Rattle.std.specs.Ordering.{nat_cmp}
 use Rattle.std.specs.FinSet as sets
 use Rattle.std.specs.FinSet.{contains-empty}
-use Rattle.std.proofs.lemmas.Bool.{cases_lt, cases_eq, eq-eqb, eqb-true, ne_eqb, true≢false}
+use Rattle.std.proofs.lemmas.Bool.{cases_lt, cases_eq, eq-eqb, eqb-true, ne_eqb, true≢false, le-leb, lt-leb}
 use Rattle.std.proofs.lemmas.Nat.Bits.{bit_at-zero}
 use Rattle.rsc_alphabet.specs.ByteSets.{begins_run, ends_run}
 use Rattle.rsc_alphabet.specs.ByteSetLayout.{is_one, is_masked, masked, mask_of}
@@ -22,6 +22,9 @@ contains-high low high b fits l = contains-masked low high fits b ∙ is_masked-
 -- the same, from the bit's place
 pub contains-at : (low high i : ℕ) → high < 2 ^ 128 → sets.contains (masked low high) (128 + i) ≡ is_one high i
 contains-at low high i fits = let e : 128 + i - 128 ≡ i = omega arith in contains-high low high (128 + i) fits (omega arith) ∙ ap (is_one high) e
+
+pub contains-fourth : (low high i : ℕ) → high < 2 ^ 128 → sets.contains (masked low high) (192 + i) ≡ is_one high (64 + i)
+contains-fourth low high i fits = let e : 192 + i - 128 ≡ 64 + i = omega arith in contains-high low high (192 + i) fits (omega arith) ∙ ap (is_one high) e
 
 -- what has a bit is a byte
 pub masked_below : (low high : ℕ) → high < 2 ^ 128 → (b : ℕ) → sets.contains (masked low high) b ≡ true → b < 256
@@ -180,6 +183,62 @@ all_high low high start end fits l m = (
   where
     inside : ((b : ℕ) → start ≤ b → b ≤ end → sets.contains (masked low high) b ≡ true) → (i : ℕ) → start - 128 ≤ i → i ≤ end - 128 → sets.contains (masked low high) (128 + i) ≡ true
     inside all i p q = all (128 + i) (omega arith) (omega arith)
+
+-- ---- the members of a range
+
+same_le : (a b c d : ℕ) → (a ≤ b → c ≤ d) → (c ≤ d → a ≤ b) → nat_le a b ≡ nat_le c d
+same_le a b c d f g =
+    ⊎_elim (λ (h : b < a). rw (lt-leb a b h) (sym (lt-leb c d (⊎_elim (λ (k : d < c). k) (λ (k : c ≤ d). let m = g k in absurd (omega (arith, m, h))) (cases_lt d c)))))
+    (λ (h : a ≤ b). rw (le-leb a b h) (sym (le-leb c d (f h)))) (cases_lt b a)
+
+module _ (low high start end : ℕ) (fits : high < 2 ^ 128) where
+  abbrev is_between : ℕ → Bool
+  is_between b = nat_le start b && nat_le b end && sets.contains (masked low high) b
+
+  above_end : (b : ℕ) → end < b → false ≡ is_between b
+  above_end b h = rw (lt-leb b end h) (no_more (nat_le start b) (sets.contains (masked low high) b))
+    where
+      no_more : (x y : Bool) → false ≡ (x && false && y)
+      no_more true true = refl
+      no_more true false = refl
+      no_more false true = refl
+      no_more false false = refl
+
+  pub between_low : (new : ℕ) → end < 128 → ((i : ℕ) → is_one new i ≡ (nat_le start i && nat_le i end && is_one low i)) → (b : ℕ) → sets.contains (masked new 0) b ≡ is_between b
+  between_low new l each =
+      masked_from new 0 (omega arith) is_between
+      (λ q h. each q ∙ ap (λ x. nat_le start q && nat_le q end && x) (sym (contains-low low high q fits h)))
+      (λ i h. rw (bit_at-zero i) (above_end (128 + i) (omega arith)))
+      (λ q h. sym (above_end q (omega arith)))
+
+  in_high : (new : ℕ) → 128 ≤ end → (from : ℕ) → ((i : ℕ) → nat_le from i ≡ nat_le start (128 + i)) → ((i : ℕ) → is_one new i ≡ (nat_le from i && nat_le i (end - 128) && is_one high i)) →
+      (i : ℕ) → is_one new i ≡ is_between (128 + i)
+  in_high new k from same each i =
+      each i ∙ rw (same i, same_le i (end - 128) (128 + i) end (λ h. omega arith) (λ h. omega arith), sym (contains-at low high i fits)) refl
+
+  past_between : (q : ℕ) → 256 ≤ q → is_between q ≡ false
+  past_between q h = rw (past_bytes low high fits q h) (no_member (nat_le start q) (nat_le q end))
+    where
+      no_member : (x y : Bool) → (x && y && false) ≡ false
+      no_member true true = refl
+      no_member true false = refl
+      no_member false true = refl
+      no_member false false = refl
+
+  pub between_high : (new : ℕ) → new < 2 ^ 128 → 128 ≤ start → 128 ≤ end → ((i : ℕ) → is_one new i ≡ (nat_le (start - 128) i && nat_le i (end - 128) && is_one high i)) → (b : ℕ) → sets.contains (masked 0 new) b ≡ is_between b
+  between_high new new_fits l k each =
+      masked_from 0 new new_fits is_between
+      (λ q h. rw (bit_at-zero q, lt-leb start q (omega arith)) refl)
+      (λ i h. in_high new k (start - 128) (λ i. same_le (start - 128) i start (128 + i) (λ m. omega arith) (λ m. omega arith)) each i)
+      past_between
+
+  pub between_both : (new new2 : ℕ) → new2 < 2 ^ 128 → start < 128 → 128 ≤ end → ((i : ℕ) → is_one new i ≡ (nat_le start i && nat_le i 127 && is_one low i)) →
+      ((i : ℕ) → is_one new2 i ≡ (nat_le 0 i && nat_le i (end - 128) && is_one high i)) → (b : ℕ) → sets.contains (masked new new2) b ≡ is_between b
+  between_both new new2 new_fits l k each each2 =
+      masked_from new new2 new_fits is_between
+      (λ q h. each q ∙ rw (same_le q 127 q end (λ m. omega arith) (λ m. omega arith), sym (contains-low low high q fits h)) refl)
+      (λ i h. in_high new2 k 0 (λ i. same_le 0 i start (128 + i) (λ m. omega arith) (λ m. omega arith)) each2 i)
+      past_between
 
 -- ---- the four words
 

@@ -26,6 +26,6 @@ mask_of p (suc n) = (if p n then 1 else 0) * 2 ^ n + mask_of p n
 abbrev pub members_from : Numbers → ℕ → List ℕ
 members_from s low = filter (λ b. sets.contains s b) (from_to low 256)
 
--- of the 64 bytes of a word those whose bit is 1, and the members above them
-abbrev pub members_left : Numbers → ℕ → ℕ → List ℕ
-members_left s number word = filter (λ b. is_one word (b - 64 * number)) (from_to (64 * number) (64 * number + 64)) ++ members_from s (64 * number + 64)
+-- of the 64 numbers from `byte` on those whose bit of `word` is 1, and the members above the word
+abbrev pub members_left : Numbers → ℕ → ℕ → ℕ → List ℕ
+members_left s number byte word = filter (λ b. is_one word (b - byte)) (from_to byte (byte + 64)) ++ members_from s (64 * number + 64)

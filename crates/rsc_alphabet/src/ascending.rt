@@ -4,29 +4,32 @@ ghost use Rattle.std.specs.Iterator.{YieldsFirst, item_count};
 ghost use Rattle.rsc_alphabet.specs.ByteSets.{members};
 
 use crate::ByteSet;
-use crate::masks::{lowest_bit, without_lowest_bit};
+use crate::masks::{lowest_bit, shifted_down};
 use std::marker::Model;
 
-// An iterator over the members of a set: those of the 64 bytes from 64 * `number` on that are left are the bits of `word`, and those above
-// them are all left. A contract sees it as the list of those that are left.
-//
-// A word of 64 bits goes by twice as fast as a number of 128.
+// An iterator over the members of a set, by words of 64 bits, which go by twice as fast as a number of 128. A contract sees it as the list
+// of the members that are left.
 #[derive(Debug, Drop)]
 pub(crate) struct Ascending {
     set: ByteSet,
+    // All members from 64 * (`number` + 1) on are left.
     number: u8,
+    // Bit i of the word stands for the byte `byte + i`. So the bit of a member that follows the last one is the lowest, and is tested
+    // without waiting for the place of the one before it.
+    byte: usize,
     word: u64,
 }
 
 impl Model for Ascending {
-    ghost use Rattle.std.specs.Prelude.{ℕ, List, ◌<◌};
+    ghost use Rattle.std.specs.Prelude.{ℕ, List, ◌≡◌, ◌+◌, ◌<◌};
+    ghost use Rattle.std.specs.Int.{bit_at};
     ghost use Rattle.rsc_alphabet.specs.ByteSetLayout.{members_left};
 
     ghost Value = { List ℕ };
 
-    ghost view = { λ it. members_left it.set it.number it.word };
+    ghost view = { λ it. members_left it.set it.number it.byte it.word };
 
-    ghost invariant = { λ it. it.number < 4 };
+    ghost invariant = { λ it. (it.number < 4) × ((i : ℕ) → bit_at it.word i ≡ 1 → it.byte + i < 256) };
 }
 
 impl Ascending {
@@ -37,6 +40,7 @@ impl Ascending {
         Ascending {
             set,
             number: 0,
+            byte: 0,
             word: set.word(0),
         }
     }
@@ -51,15 +55,24 @@ impl Iterator for Ascending {
 
     #[inline]
     fn next(&mut self) -> Option<u8> {
+        if self.word & 1 == 1 {
+            let member = self.byte as u8;
+            self.byte += 1;
+            self.word = shifted_down(self.word, 1);
+            return Some(member);
+        }
         while self.word == 0 {
             if self.number == 3 {
                 return None;
             }
             self.number += 1;
+            self.byte = 64 * usize::from(self.number);
             self.word = self.set.word(self.number);
         }
-        let byte = 64 * self.number + lowest_bit(self.word);
-        self.word = without_lowest_bit(self.word);
-        Some(byte)
+        let gap = lowest_bit(self.word);
+        let member = self.byte + usize::from(gap);
+        self.byte = member + 1;
+        self.word = shifted_down(shifted_down(self.word, gap), 1);
+        Some(member as u8)
     }
 }

@@ -1,12 +1,16 @@
 //! Maps from a byte to its class.
-ghost use Rattle.std.specs.Prelude.{◌≡◌, ◌↔◌, ℕ, ◌+◌, ◌^◌, ◌<◌, ◌≤◌, IsTrue, IsSome, All, slice_index, slice_set, length};
+ghost use Rattle.std.specs.Prelude.{◌≡◌, ◌==◌, ◌↔◌, ℕ, ◌+◌, ◌-◌, ◌^◌, ◌<◌, ◌≤◌, not, IsTrue, IsSome, All, slice_index, slice_set, length};
+ghost use Rattle.std.specs.FinSet as sets;
 ghost use Rattle.std.specs.Range.Bound.{end_index};
 ghost use Rattle.rsc_alphabet.specs.Bytes.{bytes};
 ghost use Rattle.rsc_alphabet.specs.Symbols.{byte_of, number_of};
-ghost use Rattle.rsc_alphabet.specs.Iterators.{class_at, end_of, symbol_count, stride2_of, symbols, elements_of, representatives_of};
+ghost use Rattle.rsc_alphabet.specs.Iterators.{class_at, end_of, symbol_count, stride2_of, symbols, elements_of, representing, representatives_of};
+ghost use Rattle.rsc_alphabet.specs.ByteSets.{members};
 
 mod iter;
 
+use crate::lanes::{equal_to, unlike_before};
+use crate::masks::shifted_up;
 use crate::{ByteSet, Unit};
 pub use iter::{ByteClassElements, ByteClassIter, ByteClassRepresentatives};
 use rsc_primitives::escape::DebugByte;
@@ -191,18 +195,8 @@ impl ByteClasses {
         ensures class { IsSome (byte_of class) → All (λ u. class_at self.now u ≡ number_of class) result }
     {
         match class.as_u8() {
-            Some(class) => ByteClassElements {
-                classes: self,
-                class,
-                next_byte: 0,
-                with_end: false,
-            },
-            None => ByteClassElements {
-                classes: self,
-                class: 0,
-                next_byte: 256,
-                with_end: true,
-            },
+            Some(class) => ByteClassElements::new(&self.bytes_of(class), false),
+            None => ByteClassElements::new(&ByteSet::empty(), true),
         }
     }
 
@@ -238,34 +232,62 @@ impl ByteClasses {
         ensures list { result ≡ representatives_of self.now start end }
         ensures fits { end_index end 256 ≤ 256 }
     {
-        let next_byte = match start {
+        let first = match start {
             Bound::Included(b) => usize::from(b),
             Bound::Excluded(b) => usize::from(b) + 1,
             Bound::Unbounded => 0,
         };
-        let (end_byte, with_end) = match end {
+        let (end, with_end) = match end {
             Bound::Included(b) => (usize::from(b) + 1, false),
             Bound::Excluded(b) => (usize::from(b), false),
             Bound::Unbounded => (256, true),
         };
-        ByteClassRepresentatives {
-            classes: self,
-            next_byte,
-            end_byte,
-            with_end,
-        }
+        let bytes = self.bytes_between(first, end);
+        ByteClassRepresentatives::new(self, &bytes, with_end)
     }
-}
 
-// The bytes of a class.
-fn bytes_of(classes: &ByteClasses, class: u8) -> ByteSet {
-    let mut bytes = ByteSet::empty();
-    for byte in 0..=255u8 {
-        if classes.get(byte) == class {
-            bytes.add(byte);
+    // The representatives of the bytes from `first` up to, and without, `end`.
+    #[inline]
+    fn bytes_between(&self, first: usize, end: usize) -> ByteSet
+        requires { end ≤ 256 }
+        ensures { members result ≡ representing self.now first end }
+    {
+        if first >= end {
+            return ByteSet::empty();
         }
+        let start = first as u8;
+        let mut bytes = self.changes().between(start, (end - 1) as u8);
+        bytes.add(start);
+        bytes
     }
-    bytes
+
+    // The bytes whose class isn't their predecessor's.
+    #[inline]
+    fn changes(&self) -> ByteSet
+        ensures { (b : ℕ) → b < 256 → sets.contains result b ≡ not (slice_index self.now b == slice_index self.now (b - 1)) }
+    {
+        let classes = &self.classes;
+        ByteSet::from_words(
+            shifted_up(unlike_before(classes, 1)),
+            unlike_before(classes, 64),
+            unlike_before(classes, 128),
+            unlike_before(classes, 192),
+        )
+    }
+
+    // The bytes of a class.
+    #[inline]
+    fn bytes_of(&self, class: u8) -> ByteSet
+        ensures { (b : ℕ) → b < 256 → sets.contains result b ≡ (slice_index self.now b == class) }
+    {
+        let classes = &self.classes;
+        ByteSet::from_words(
+            equal_to(classes, 0, class),
+            equal_to(classes, 64, class),
+            equal_to(classes, 128, class),
+            equal_to(classes, 192, class),
+        )
+    }
 }
 
 // The number of a class, and the ranges of its bytes one after the other.
@@ -275,7 +297,7 @@ fn write_class<W: fmt::Write>(
     f: &mut fmt::Formatter<W>,
 ) -> fmt::Result {
     write!(f, "{class} => [")?;
-    let bytes = bytes_of(classes, class);
+    let bytes = classes.bytes_of(class);
     for (start, end) in bytes.iter_ranges() {
         fmt::Debug::fmt(&DebugByte(start), f)?;
         if start < end {

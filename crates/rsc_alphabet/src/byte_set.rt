@@ -1,5 +1,5 @@
 //! Sets of bytes, and the iterators over their members and their maximal runs.
-ghost use Rattle.std.specs.Prelude.{◌≡◌, ℕ, ◌+◌, ◌*◌, ◌%◌, ◌≤◌, ◌↔◌, ◌==◌, ◌&&◌, ◌||◌, not, IsTrue, ◌<◌, true, false, All};
+ghost use Rattle.std.specs.Prelude.{◌≡◌, ℕ, ◌+◌, ◌*◌, ◌%◌, ◌≤◌, ◌↔◌, ◌==◌, ◌&&◌, ◌||◌, not, nat_le, IsTrue, ◌<◌, true, false, All};
 ghost use Rattle.std.specs.FinSet as sets;
 ghost use Rattle.std.specs.Iterator.{YieldsFirst, item_count};
 ghost use Rattle.rsc_alphabet.specs.ByteSets.{members, runs, begins_run, ends_run};
@@ -7,8 +7,8 @@ ghost use Rattle.rsc_alphabet.specs.ByteSetLayout.{is_one};
 
 use crate::ascending::Ascending;
 use crate::masks::{
-    difference, has_bit, has_bits, lower_word, moved_down, moved_up, upper_word, with_bit,
-    without_bit,
+    difference, has_bit, has_bits, joined, lower_word, moved_down, moved_up, upper_word, with_bit,
+    within, without_bit,
 };
 use std::marker::{Model, PhantomData};
 
@@ -193,6 +193,44 @@ impl ByteSet {
             starts: Ascending::new(self.run_starts()),
             ends: Ascending::new(self.run_ends()),
             set: PhantomData,
+        }
+    }
+
+    // The set whose words, as `ByteSet::word` gives them, are these.
+    #[inline(always)]
+    pub(crate) fn from_words(first: u64, second: u64, third: u64, fourth: u64) -> ByteSet
+        ensures first { (i : ℕ) → i < 64 → sets.contains result i ≡ is_one first i }
+        ensures second { (i : ℕ) → i < 64 → sets.contains result (64 + i) ≡ is_one second i }
+        ensures third { (i : ℕ) → i < 64 → sets.contains result (128 + i) ≡ is_one third i }
+        ensures fourth { (i : ℕ) → i < 64 → sets.contains result (192 + i) ≡ is_one fourth i }
+    {
+        ByteSet {
+            low: joined(first, second),
+            high: joined(third, fourth),
+        }
+    }
+
+    // The members from `start` to `end`, both included.
+    #[inline]
+    pub(crate) fn between(&self, start: u8, end: u8) -> ByteSet
+        requires { start ≤ end }
+        ensures { (b : ℕ) → sets.contains result b ≡ (nat_le start b && nat_le b end && sets.contains self.now b) }
+    {
+        if end < 128 {
+            return ByteSet {
+                low: within(self.low, start, end),
+                high: 0,
+            };
+        }
+        if start >= 128 {
+            return ByteSet {
+                low: 0,
+                high: within(self.high, start - 128, end - 128),
+            };
+        }
+        ByteSet {
+            low: within(self.low, start, 127),
+            high: within(self.high, 0, end - 128),
         }
     }
 

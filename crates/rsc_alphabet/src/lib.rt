@@ -5,6 +5,7 @@ mod ascending;
 mod byte_class_set;
 mod byte_classes;
 mod byte_set;
+mod lanes;
 /// Laws that a caller may cite.
 pub mod laws;
 mod masks;

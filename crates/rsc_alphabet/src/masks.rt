@@ -1,5 +1,5 @@
 //! The bits of the numbers that hold a set of bytes.
-ghost use Rattle.std.specs.Prelude.{◌≡◌, ◌≢◌, ◌==◌, ◌&&◌, ◌↔◌, ℕ, ◌+◌, ◌-◌, ◌%◌, ◌<◌, ◌≤◌, not, IsTrue};
+ghost use Rattle.std.specs.Prelude.{◌≡◌, ◌≢◌, ◌==◌, ◌&&◌, ◌↔◌, ℕ, ◌+◌, ◌-◌, ◌%◌, ◌<◌, ◌≤◌, nat_le, false, not, IsTrue};
 ghost use Rattle.std.specs.Int.{bit_at};
 ghost use Rattle.rsc_alphabet.specs.ByteSetLayout.{is_one};
 ghost use Rattle.rsc_alphabet.specs.Partitions.{class_of};
@@ -66,6 +66,15 @@ fn run_of_bits(start: u8, end: u8) -> u128
     (u128::MAX >> (127 - end)) & (u128::MAX << start)
 }
 
+// The bits from `start` to `end`, both included.
+#[inline(always)]
+pub(crate) fn within(mask: u128, start: u8, end: u8) -> u128
+    requires { (start ≤ end) × (end < 128) }
+    ensures { (i : ℕ) → is_one result i ≡ (nat_le start i && nat_le i end && is_one mask i) }
+{
+    mask & run_of_bits(start, end)
+}
+
 // The bits of a number that aren't bits of another one.
 #[inline(always)]
 pub(crate) fn difference(mask: u128, other: u128) -> u128
@@ -108,6 +117,15 @@ pub(crate) fn upper_word(mask: u128) -> u64
     (mask >> 64) as u64
 }
 
+// The number of these two halves.
+#[inline(always)]
+pub(crate) fn joined(lower: u64, upper: u64) -> u128
+    ensures below { (i : ℕ) → i < 64 → bit_at result i ≡ bit_at lower i }
+    ensures above { (i : ℕ) → i < 64 → bit_at result (64 + i) ≡ bit_at upper i }
+{
+    (u128::from(upper) << 64) | u128::from(lower)
+}
+
 // The place of the lowest bit that is 1.
 #[inline(always)]
 pub(crate) fn lowest_bit(word: u64) -> u8
@@ -119,14 +137,22 @@ pub(crate) fn lowest_bit(word: u64) -> u8
     word.trailing_zeros() as u8
 }
 
-// The same number without the lowest bit that is 1.
+// Each bit one place up. The lowest is 0.
 #[inline(always)]
-pub(crate) fn without_lowest_bit(word: u64) -> u64
-    requires { 0 < word }
-    ensures { (k : ℕ) → bit_at word k ≡ 1 → ((i : ℕ) → i < k → bit_at word i ≡ 0) →
-        ((i : ℕ) → i ≤ k → bit_at result i ≡ 0) × ((i : ℕ) → k < i → bit_at result i ≡ bit_at word i) }
+pub(crate) fn shifted_up(word: u64) -> u64
+    ensures first { is_one result 0 ≡ false }
+    ensures others { (i : ℕ) → 0 < i → i < 64 → is_one result i ≡ is_one word (i - 1) }
 {
-    word & (word - 1)
+    word << 1
+}
+
+// Each bit some places down. The lowest ones are let go.
+#[inline(always)]
+pub(crate) fn shifted_down(word: u64, places: u8) -> u64
+    requires { places < 64 }
+    ensures { (i : ℕ) → bit_at result i ≡ bit_at word (places + i) }
+{
+    word >> places
 }
 
 // How many bits below a place are 1.

@@ -1,8 +1,12 @@
 //! The iterators over the classes of a map, the elements of a class, and the representatives of a range.
+ghost use Rattle.std.specs.Prelude.{◌≡◌};
 ghost use Rattle.std.specs.Iterator.{YieldsFirst, item_count};
+ghost use Rattle.rsc_alphabet.specs.ByteSets.{members};
+ghost use Rattle.rsc_alphabet.specs.IteratorLayout.{elements_left, representatives_left};
 
-use crate::{ByteClasses, Unit};
-use std::marker::Model;
+use crate::ascending::Ascending;
+use crate::{ByteClasses, ByteSet, Unit};
+use std::marker::{Model, PhantomData};
 
 /// The iterator over the classes as units, made by [`crate::ByteClasses::iter`].
 /// A contract sees it as the list of those that are left.
@@ -48,10 +52,9 @@ impl<'a> Iterator for ByteClassIter<'a> {
 /// A contract sees it as the list of those that are left.
 #[derive(Debug, Drop)]
 pub struct ByteClassElements<'a> {
-    pub(super) classes: &'a ByteClasses,
-    pub(super) class: u8,
-    pub(super) next_byte: usize,
-    pub(super) with_end: bool,
+    left: Ascending,
+    with_end: bool,
+    classes: PhantomData<&'a ByteClasses>,
 }
 
 impl<'a> Model for ByteClassElements<'a> {
@@ -61,7 +64,20 @@ impl<'a> Model for ByteClassElements<'a> {
 
     ghost Value = { List Symbol };
 
-    ghost view = { λ it. elements_left it.classes.now it.class it.next_byte it.with_end };
+    ghost view = { λ it. elements_left it.left it.with_end };
+}
+
+impl<'a> ByteClassElements<'a> {
+    #[inline]
+    pub(super) fn new(bytes: &ByteSet, with_end: bool) -> Self
+        ensures { result ≡ elements_left (members bytes.now) with_end }
+    {
+        ByteClassElements {
+            left: Ascending::new(*bytes),
+            with_end,
+            classes: PhantomData,
+        }
+    }
 }
 
 impl<'a> Iterator for ByteClassElements<'a> {
@@ -71,13 +87,10 @@ impl<'a> Iterator for ByteClassElements<'a> {
 
     ghost remaining = { item_count (λ rest. rest) };
 
+    #[inline]
     fn next(&mut self) -> Option<Unit> {
-        while self.next_byte <= 255 {
-            let byte = self.next_byte as u8;
-            self.next_byte += 1;
-            if self.classes.get(byte) == self.class {
-                return Some(Unit::u8(byte));
-            }
+        if let Some(byte) = self.left.next() {
+            return Some(Unit::u8(byte));
         }
         if self.with_end {
             self.with_end = false;
@@ -91,23 +104,32 @@ impl<'a> Iterator for ByteClassElements<'a> {
 /// A contract sees it as the list of those that are left.
 #[derive(Debug, Drop)]
 pub struct ByteClassRepresentatives<'a> {
-    pub(super) classes: &'a ByteClasses,
-    // The next representative, if it is below `end_byte`.
-    pub(super) next_byte: usize,
-    pub(super) end_byte: usize,
-    pub(super) with_end: bool,
+    classes: &'a ByteClasses,
+    left: Ascending,
+    with_end: bool,
 }
 
 impl<'a> Model for ByteClassRepresentatives<'a> {
-    ghost use Rattle.std.specs.Prelude.{◌≤◌, List, None};
+    ghost use Rattle.std.specs.Prelude.{List};
     ghost use Rattle.rsc_alphabet.specs.Symbols.{Symbol};
     ghost use Rattle.rsc_alphabet.specs.IteratorLayout.{representatives_left};
 
     ghost Value = { List Symbol };
 
-    ghost view = { λ it. representatives_left it.classes.now it.next_byte it.end_byte None it.with_end };
+    ghost view = { λ it. representatives_left it.classes.now it.left it.with_end };
+}
 
-    ghost invariant = { λ it. it.end_byte ≤ 256 };
+impl<'a> ByteClassRepresentatives<'a> {
+    #[inline]
+    pub(super) fn new(classes: &'a ByteClasses, bytes: &ByteSet, with_end: bool) -> Self
+        ensures { result ≡ representatives_left classes.now (members bytes.now) with_end }
+    {
+        ByteClassRepresentatives {
+            classes,
+            left: Ascending::new(*bytes),
+            with_end,
+        }
+    }
 }
 
 impl<'a> Iterator for ByteClassRepresentatives<'a> {
@@ -117,20 +139,15 @@ impl<'a> Iterator for ByteClassRepresentatives<'a> {
 
     ghost remaining = { item_count (λ rest. rest) };
 
+    #[inline]
     fn next(&mut self) -> Option<Unit> {
-        if self.next_byte >= self.end_byte {
-            if !self.with_end {
-                return None;
-            }
+        if let Some(byte) = self.left.next() {
+            return Some(Unit::u8(byte));
+        }
+        if self.with_end {
             self.with_end = false;
             return Some(self.classes.eoi());
         }
-        let byte = self.next_byte as u8;
-        let class = self.classes.get(byte);
-        self.next_byte += 1;
-        while self.next_byte < self.end_byte && self.classes.get(self.next_byte as u8) == class {
-            self.next_byte += 1;
-        }
-        Some(Unit::u8(byte))
+        None
     }
 }

@@ -1,31 +1,46 @@
-use Rattle.std.proofs.Common.{◌≡◌, ◌+◌, ◌*◌, [], ◌∷◌, sym, ap, ◌∙◌, arith, rules}
+use Rattle.std.proofs.Common.{◌≡◌, ◌+◌, [], ◌∷◌, sym, ap, ◌∙◌, arith, rules}
 use Rattle.rsc_alphabet.specs.ByteSetLayout.{members_left}
-use Rattle.rsc_alphabet.proofs.AscendingLemmas.{none_left, next_word, lowest_left}
+use Rattle.rsc_alphabet.proofs.AscendingLemmas.{none_left, next_word, whole_word_fits, lowest_left, first_left}
 use Rattle.rsc_alphabet.proofs.ascending.AscendingIterator.next.Goals as goal
+
+pub returns-then-self-eq1-clause-steps : goal.returns-then-self-eq1-clause-steps
+returns-then-self-eq1-clause-steps c =
+    let s = c.self.inside in
+    sym c.self.view_is ∙ first_left s.set s.number s.byte s.word c.shifted_down-self-inside.result (omega (arith, c.self.ranges)) c.if-self-eq1.true c.shifted_down-self-inside.ensures
+
+pub returns-then-self-eq1-clause-goes : goal.returns-then-self-eq1-clause-goes
+returns-then-self-eq1-clause-goes c =
+    let s = c.self.inside in
+    let steps : c.args.self.now ≡ s.byte ∷ members_left s.set s.number (s.byte + 1) c.shifted_down-self-inside.result = returns-then-self-eq1-clause-steps c in
+    search rules
 
 pub returns-then-self-eq3-clause-steps : goal.returns-then-self-eq3-clause-steps
 returns-then-self-eq3-clause-steps c =
     let s = c.loop-self.self-inside in
-    let none : members_left s.set s.number s.word ≡ [] = ap (members_left s.set s.number) c.loop-self-test.true ∙ none_left s.set s.number c.if-self-eq3.true in
-    (sym c.loop-self.invariant.1 ∙ none, none)
+    let none : members_left s.set s.number s.byte s.word ≡ [] = ap (members_left s.set s.number s.byte) c.loop-self-test.true ∙ none_left s.set s.number s.byte c.if-self-eq3.true in
+    (sym c.loop-self.invariant.2 ∙ none, none)
 
 pub loop-self-preserved : goal.loop-self-preserved
 loop-self-preserved c =
-    let s = c.loop-self.self-inside in (
+    let s = c.loop-self.self-inside in
+    rw c.from.ensures (
       omega (arith, c.loop-self.invariant.0),
-      next_word s.set s.number c.word-self-inside.result (omega (arith, c.loop-self.invariant.0)) c.word-self-inside.ensures
-          ∙ sym (ap (members_left s.set s.number) c.loop-self-test.true) ∙ c.loop-self.invariant.1,
+      whole_word_fits (s.number + 1) c.word-self-inside.result (omega (arith, c.loop-self.invariant.0)) (omega (arith, c.word-self-inside.type_inv)),
+      next_word s.set s.number s.byte c.word-self-inside.result (omega (arith, c.loop-self.invariant.0)) c.word-self-inside.ensures
+          ∙ sym (ap (members_left s.set s.number s.byte) c.loop-self-test.true) ∙ c.loop-self.invariant.2,
     )
 
 pub returns-clause-steps : goal.returns-clause-steps
 returns-clause-steps c =
     let s = c.loop-self.self-inside in
-    let low = c.lowest_bit.ensures in
-    let rest = c.without_lowest_bit-self-inside.ensures c.lowest_bit.result low.here low.below in
-    sym c.loop-self.invariant.1 ∙ lowest_left s.set s.number s.word c.without_lowest_bit-self-inside.result c.lowest_bit.result low.fits low.here low.below rest.0 rest.1
+    let low = c.lowest_bit-gap.ensures in
+    rw c.from-2.ensures (
+      sym c.loop-self.invariant.2
+      ∙ lowest_left s.set s.number s.byte s.word c.shifted_down-self-inside-2.result c.lowest_bit-gap.result (omega arith) low.fits low.here low.below
+      (λ i. c.shifted_down-self-inside-2.ensures i ∙ c.shifted_down.ensures (1 + i)))
 
 pub returns-clause-goes : goal.returns-clause-goes
 returns-clause-goes c =
     let s = c.loop-self.self-inside in
-    let steps : c.args.self.now ≡ (64 * s.number + c.lowest_bit.result) ∷ members_left s.set s.number c.without_lowest_bit-self-inside.result = returns-clause-steps c in
+    let steps : c.args.self.now ≡ (s.byte + c.from-2.result) ∷ members_left s.set s.number (s.byte + c.from-2.result + 1) c.shifted_down-self-inside-2.result = returns-clause-steps c in
     search rules
