@@ -1,11 +1,11 @@
 -- The bits of a number that was shifted or masked, and how many bits are 1.
-use Rattle.std.proofs.Common.{◌≡◌, ℕ, zero, suc, ◌+◌, ◌-◌, ◌*◌, ◌/◌, ◌%◌, ◌^◌, ◌<◌, ◌≤◌, Bool, true, false, min, not, ◌&&◌, cond, nat_eq, nat_le, refl, sym, ap, ap₂, ◌∙◌, arith, ⊎_elim}
+use Rattle.std.proofs.Common.{◌≡◌, ◌≢◌, ℕ, zero, suc, ◌+◌, ◌-◌, ◌*◌, ◌/◌, ◌%◌, ◌^◌, ◌<◌, ◌≤◌, Bool, true, false, min, max, not, ◌&&◌, ◌||◌, cond, nat_eq, nat_le, refl, sym, ap, ap₂, ◌∙◌, arith, ⊎_elim}
 use Rattle.std.specs.Int.{w128, bit_at, bit_not}
-use Rattle.std.specs.Int.Bits.{bit_and}
+use Rattle.std.specs.Int.Bits.{bit_and, bit_or}
 use Rattle.std.specs.Int.Count.{ones, ones_in, ones_cat}
 use Rattle.std.proofs.lemmas.Bool.{cases_lt, le-leb, lt-leb}
 use Rattle.std.proofs.lemmas.Nat.{and_mask, pow-add, pow_pos, mod-pow-add}
-use Rattle.std.proofs.lemmas.Nat.Bits.{bit_at-lt, bit_at-zero, bit_at_and, bit_at_not, bit_at_ones, bit_at_cat_low, bit_at_cat_high, same_from_bits}
+use Rattle.std.proofs.lemmas.Nat.Bits.{bit_at-lt, bit_at-zero, bit_at_above, bit_at_and, bit_at_or, bit_at_not, bit_at_ones, bit_at_cat_low, bit_at_cat_high, same_from_bits}
 use Rattle.std.proofs.Math.Nat.{mod-lt, div-div-eq-div-mul}
 use Rattle.rsc_alphabet.specs.ByteSetLayout.{is_one}
 use Rattle.rsc_alphabet.specs.Partitions.{class_of}
@@ -36,6 +36,34 @@ is_one-difference mask other i fits l =
     ∙ digits (bit_at mask i) (bit_at other i) (bit_at-lt mask i) (bit_at-lt other i)
   where
     digits : (x y : ℕ) → x < 2 → y < 2 → nat_eq (min x (1 - y)) 1 ≡ (nat_eq x 1 && not (nat_eq y 1))
+    digits zero zero lx ly = refl
+    digits zero (suc zero) lx ly = refl
+    digits (suc zero) zero lx ly = refl
+    digits (suc zero) (suc zero) lx ly = refl
+    digits (suc (suc x)) y lx ly = absurd (omega arith)
+    digits x (suc (suc y)) lx ly = absurd (omega arith)
+
+-- the bits of a number of two halves are 0 where those of the halves are
+pub none_joined : (whole lower upper i : ℕ) → whole < 2 ^ 128 → ((i : ℕ) → i < 64 → bit_at whole i ≡ bit_at lower i) → ((i : ℕ) → i < 64 → bit_at whole (64 + i) ≡ bit_at upper i) →
+    (i < 64 → bit_at lower i ≡ 0) → (64 ≤ i → i < 128 → bit_at upper (i - 64) ≡ 0) → bit_at whole i ≡ 0
+none_joined whole lower upper i fits below above low high =
+    ⊎_elim (λ (h : i < 64). below i h ∙ low h) (λ (h : 64 ≤ i).
+    ⊎_elim (λ (k : i < 128). let e : 64 + (i - 64) ≡ i = omega arith in rw e at (above (i - 64) (omega arith) ∙ high h k)) (λ (k : 128 ≤ i). bit_at_above whole 128 i fits k)
+    (cases_lt i 128)) (cases_lt i 64)
+
+-- one bit of a word
+pub one_here : (k : ℕ) → k < 64 → bit_at (1 * 2 ^ k % 2 ^ 64) k ≡ 1
+one_here k l = let z : k - k ≡ 0 = omega arith in bit_at-shl 1 k 64 k (omega arith) l ∙ ap (bit_at 1) z
+
+pub none_beside : (k i : ℕ) → k < 64 → i < 64 → i ≢ k → bit_at (1 * 2 ^ k % 2 ^ 64) i ≡ 0
+none_beside k i l h ne =
+    ⊎_elim (λ (b : i < k). bit_at-shl_below 1 k 64 i b h) (λ (b : k ≤ i). bit_at-shl 1 k 64 i b h ∙ bit_at_above 1 1 (i - k) (omega arith) (omega arith)) (cases_lt i k)
+
+-- the bits of two numbers
+pub is_one-either : (mask other i : ℕ) → is_one (bit_or mask other) i ≡ (is_one mask i || is_one other i)
+is_one-either mask other i = ap (λ x. nat_eq x 1) (bit_at_or mask other i) ∙ digits (bit_at mask i) (bit_at other i) (bit_at-lt mask i) (bit_at-lt other i)
+  where
+    digits : (x y : ℕ) → x < 2 → y < 2 → nat_eq (max x y) 1 ≡ (nat_eq x 1 || nat_eq y 1)
     digits zero zero lx ly = refl
     digits zero (suc zero) lx ly = refl
     digits (suc zero) zero lx ly = refl

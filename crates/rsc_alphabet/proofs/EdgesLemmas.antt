@@ -1,14 +1,13 @@
--- The boundaries of a set's maximal runs: they are where membership changes, and `add_set` adds them one run after the other.
+-- The boundaries of a set's maximal runs: they are where membership changes.
 use Rattle.std.proofs.Common.{◌≡◌, ◌≢◌, ℕ, zero, suc, ◌+◌, ◌-◌, ◌<◌, ◌≤◌, Bool, true, false, not, ◌&&◌, ◌||◌, List, [], ◌∷◌, refl, sym, ap, ap₂, subst, ◌∙◌, arith, nat_eq, nat_lt, nat_le, ⊎_elim}
 use Rattle.std.specs.List.{list_any, list_all}
 use Rattle.std.specs.Cmp.{nat_cmp_total}
 use Rattle.std.specs.FinSet as sets
 use Rattle.std.specs.Ordering.{nat_cmp}
 use Rattle.std.specs.FinSet.{contains-empty, same_set, nat_cmp-IsAntisymmetric}
-use Rattle.std.proofs.lemmas.Bool.{cases_lt, cases_Bool, cases_eq, eq-eqb, ne_eqb, le-leb, true≢false, leb-true, and_parts}
+use Rattle.std.proofs.lemmas.Bool.{cases_lt, cases_Bool, cases_eq, eq-eqb, ne_eqb, le-leb, lt-ltb, le-ltb, true≢false}
 use Rattle.std.proofs.lemmas.Bool.Decides.{nat_tests}
-use Rattle.std.proofs.Math.Bool.{or-false, or_assoc}
-use Rattle.rsc_alphabet.specs.ByteSets.{Numbers, ends_run, runs}
+use Rattle.rsc_alphabet.specs.ByteSets.{Numbers, begins_run, ends_run, runs}
 use Rattle.rsc_alphabet.specs.Partitions.{edges_of, edges_of_each, changes_at}
 use Rattle.rsc_alphabet.proofs.PartitionsLemmas.{contains-edges_of, contains-joined}
 use Rattle.rsc_alphabet.proofs.RunsLemmas.{runs_from, parts_no_run, runs_from_first, runs_from_skip, runs_from_none, parts_no_run-after, parts_no_run-skip}
@@ -166,24 +165,26 @@ ordered_from s =
 pub ordered_runs : (s : Numbers) → list_all is_ordered (runs s) ≡ true
 ordered_runs s = ordered_from s 256 0 (omega arith) (rw (eq-eqb 0 0 refl) refl)
 
-pub edges_step : (s : Numbers) (r : ℕ × ℕ) (rest all : List (ℕ × ℕ)) (k : ℕ) → all ≡ r ∷ rest →
-    (sets.contains (sets.union s (edges_of r)) k || list_any (is_edge k) rest) ≡ (sets.contains s k || list_any (is_edge k) all)
-edges_step s r rest all k is = rw (contains-joined s (edges_of r) k, is) (or_assoc (sets.contains s k) (is_edge k r) (list_any (is_edge k) rest))
-
-pub first_ordered : (s e : ℕ) (rest all : List (ℕ × ℕ)) → all ≡ (s, e) ∷ rest → list_all is_ordered all ≡ true → s ≤ e
-first_ordered s e rest all is ordered = leb-true s e (and_parts (nat_le s e) (list_all is_ordered rest) (rw is at ordered)).0
-
-pub rest_ordered : (s e : ℕ) (rest all : List (ℕ × ℕ)) → all ≡ (s, e) ∷ rest → list_all is_ordered all ≡ true → list_all is_ordered rest ≡ true
-rest_ordered s e rest all is ordered = (and_parts (nat_le s e) (list_all is_ordered rest) (rw is at ordered)).1
-
-pub edges_done : (s old new : Numbers) (rest : List (ℕ × ℕ)) → rest ≡ [] → ((k : ℕ) → (sets.contains new k || list_any (is_edge k) rest) ≡ (sets.contains old k || list_any (is_edge k) (runs s))) →
-    new ≡ sets.union old (edges_of_each (runs s))
-edges_done s old new rest none each =
-    same_set nat_cmp_total nat_cmp-IsAntisymmetric _ _ (λ k.
-    sym (or-false (sets.contains new k)) ∙ (rw none at (each k))
-    ∙ ap (λ b. sets.contains old k || b) (sym (contains-edges_of_each (runs s) k))
-    ∙ sym (contains-joined old (edges_of_each (runs s)) k))
-
 -- what is a boundary after those of a set's runs were added
-pub c-runs : (old s : Numbers) (k : ℕ) → sets.contains (sets.union old (edges_of_each (runs s))) k ≡ (sets.contains old k || changes_at s k)
+c-runs : (old s : Numbers) (k : ℕ) → sets.contains (sets.union old (edges_of_each (runs s))) k ≡ (sets.contains old k || changes_at s k)
 c-runs old s k = contains-joined old (edges_of_each (runs s)) k ∙ ap (λ b. sets.contains old k || b) (contains-edges_of_runs s k)
+
+-- the boundaries before the first bytes of the runs, and after their last ones
+pub edges_of_ends : (s starts ends : Numbers) → ((b : ℕ) → sets.contains starts b ≡ begins_run s b) → ((b : ℕ) → sets.contains ends b ≡ ends_run s b) →
+    (k : ℕ) → (nat_lt k 255 && (sets.contains starts (k + 1) || sets.contains ends k)) ≡ changes_at s k
+edges_of_ends s starts ends first last k =
+    let e : k + 1 - 1 ≡ k = omega arith in
+    rw (first (k + 1), last k, e, ne_eqb (k + 1) 0 (λ z. omega arith)) (⊎_elim
+    (λ (h : k < 255). rw (lt-ltb k 255 h, ne_eqb k 255 (λ z. omega arith)) (inside (sets.contains s k) (sets.contains s (k + 1))))
+    (λ (h : 255 ≤ k). rw (le-ltb k 255 h) refl)
+    (cases_lt k 255))
+  where
+    inside : (x y : Bool) → ((y && (false || not x)) || (x && (false || not y))) ≡ ((x && not y) || (not x && y))
+    inside true true = refl
+    inside true false = refl
+    inside false true = refl
+    inside false false = refl
+
+-- what has these boundaries beside the old ones
+pub edges_added : (s old new : Numbers) → ((k : ℕ) → sets.contains new k ≡ (sets.contains old k || changes_at s k)) → new ≡ sets.union old (edges_of_each (runs s))
+edges_added s old new each = same_set nat_cmp_total nat_cmp-IsAntisymmetric _ _ (λ k. each k ∙ sym (c-runs old s k))

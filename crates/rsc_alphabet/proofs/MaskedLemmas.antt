@@ -1,5 +1,5 @@
 -- What changing a bit of the two numbers that hold a set of bytes does to the set.
-use Rattle.std.proofs.Common.{◌≡◌, ◌≢◌, ◌↔◌, ℕ, zero, suc, ◌+◌, ◌-◌, ◌*◌, ◌^◌, ◌<◌, ◌≤◌, Bool, true, false, not, ◌&&◌, nat_eq, nat_le, refl, sym, ap, ◌∙◌, arith, ⊎_elim}
+use Rattle.std.proofs.Common.{◌≡◌, ◌≢◌, ◌↔◌, ℕ, zero, suc, ◌+◌, ◌-◌, ◌*◌, ◌^◌, ◌<◌, ◌≤◌, Bool, true, false, not, ◌&&◌, ◌||◌, nat_eq, nat_le, refl, sym, ap, ◌∙◌, arith, ⊎_elim}
 use Rattle.std.specs.Int.{bit_at}
 use Rattle.std.specs.Ordering.{nat_cmp}
 use Rattle.std.specs.FinSet as sets
@@ -166,6 +166,32 @@ ends_are low high down down2 new new2 fits fits2 last others each last2 others2 
     (end_in_low low high fits down new last others each)
     (end_in_high low high fits down2 new2 last2 others2 each2)
     (λ b l. rw (past_bytes low high fits b l) refl)
+
+-- ---- two sets, and the predecessors
+
+pub union_is : (low high low2 high2 new new2 : ℕ) → high < 2 ^ 128 → high2 < 2 ^ 128 → new2 < 2 ^ 128 →
+    ((i : ℕ) → is_one new i ≡ (is_one low i || is_one low2 i)) → ((i : ℕ) → is_one new2 i ≡ (is_one high i || is_one high2 i)) →
+    (b : ℕ) → sets.contains (masked new new2) b ≡ (sets.contains (masked low high) b || sets.contains (masked low2 high2) b)
+union_is low high low2 high2 new new2 fits fits2 fits3 each each2 =
+    masked_from new new2 fits3 (λ b. sets.contains (masked low high) b || sets.contains (masked low2 high2) b)
+    (λ q l. each q ∙ rw (contains-low low high q fits l, contains-low low2 high2 q fits2 l) refl)
+    (λ i l. each2 i ∙ rw (contains-at low high i fits, contains-at low2 high2 i fits2) refl)
+    (λ q l. rw (past_bytes low high fits q l, past_bytes low2 high2 fits2 q l) refl)
+
+pub predecessors_are : (low high down down2 : ℕ) → high < 2 ^ 128 → down2 < 2 ^ 128 →
+    is_one down 127 ≡ is_one high 0 → ((i : ℕ) → i < 127 → is_one down i ≡ is_one low (i + 1)) → is_one down2 127 ≡ false → ((i : ℕ) → i < 127 → is_one down2 i ≡ is_one high (i + 1)) →
+    (b : ℕ) → sets.contains (masked down down2) b ≡ sets.contains (masked low high) (b + 1)
+predecessors_are low high down down2 fits fits2 last others last2 others2 =
+    masked_from down down2 fits2 (λ b. sets.contains (masked low high) (b + 1))
+    (λ q l. ⊎_elim
+    (λ (h : q < 127). others q h ∙ sym (contains-low low high (q + 1) fits (omega arith)))
+    (λ (h : 127 ≤ q). let e : q ≡ 127 = omega arith in rw e (last ∙ sym (contains-at low high 0 fits)))
+    (cases_lt q 127))
+    (λ i l. ⊎_elim
+    (λ (h : i < 127). let f : 128 + i + 1 ≡ 128 + (i + 1) = omega arith in rw f (others2 i h ∙ sym (contains-at low high (i + 1) fits)))
+    (λ (h : 127 ≤ i). let e : i ≡ 127 = omega arith in rw e (last2 ∙ sym (past_bytes low high fits 256 (omega arith))))
+    (cases_lt i 127))
+    (λ q l. past_bytes low high fits (q + 1) (omega arith))
 
 -- ---- all bytes of a range
 

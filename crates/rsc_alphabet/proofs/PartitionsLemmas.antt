@@ -217,6 +217,22 @@ boundary_below ends bytes k is = parts (sets.contains ends k) (bytes k) (sym (co
     parts true low test = let l = low refl in grind (arith, nat_tests)
     parts false low test = grind (arith, nat_tests)
 
+-- the boundaries of a set to which other bytes were added
+pub edges_joined : (ends before after : Numbers) (starts lasts : ℕ → Bool) → ((b : ℕ) → sets.contains before b ≡ (sets.contains ends b || starts b)) → ((b : ℕ) → sets.contains after b ≡ (sets.contains before b || lasts b)) →
+    ((b : ℕ) → sets.contains after b ≡ true → b < 256) →
+    (k : ℕ) → sets.contains (sets.remove after 255) k ≡ (sets.contains (sets.remove ends 255) k || (nat_lt k 255 && (starts k || lasts k)))
+edges_joined ends before after starts lasts first second bytes k =
+    let added : sets.contains after k ≡ ((sets.contains ends k || starts k) || lasts k) = second k ∙ ap (λ x. x || lasts k) (first k) in
+    contains-removed after 255 k ∙ rw (added, contains-removed ends 255 k) (by_cases (sets.contains ends k) (starts k) (lasts k) (λ is. bytes k (added ∙ is)))
+  where
+    by_cases : (x y z : Bool) → (((x || y) || z) ≡ true → k < 256) → (not (nat_eq k 255) && ((x || y) || z)) ≡ ((not (nat_eq k 255) && x) || (nat_lt k 255 && (y || z)))
+    by_cases true true z f = let l = f refl in grind (arith, nat_tests)
+    by_cases true false true f = let l = f refl in grind (arith, nat_tests)
+    by_cases true false false f = let l = f refl in grind (arith, nat_tests)
+    by_cases false true z f = let l = f refl in grind (arith, nat_tests)
+    by_cases false false true f = let l = f refl in grind (arith, nat_tests)
+    by_cases false false false f = grind (arith, nat_tests)
+
 -- ---- the classes of two halves
 
 class_of-parts : (p : ℕ → Bool) (a n : ℕ) → class_of p (a + n) ≡ class_of p a + class_of (λ k. p (a + k)) n

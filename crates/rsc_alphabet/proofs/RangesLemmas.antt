@@ -2,6 +2,7 @@
 use Rattle.std.proofs.Common.{◌≡◌, ℕ, zero, suc, ◌+◌, ◌-◌, ◌<◌, ◌≤◌, Bool, true, false, not, ◌&&◌, ◌||◌, cond, List, [], ◌∷◌, length, get_or, min, max, refl, sym, ap, ap₂, ◌∙◌, arith, nat_eq, nat_lt, take, ⊎_elim, slice_index}
 use Rattle.std.specs.List.{list_any, list_all}
 use Rattle.std.specs.FinSet as sets
+use Rattle.std.specs.Ordering.{nat_cmp}
 use Rattle.std.proofs.lemmas.Bool.{cases_lt, eq-eqb, eqb-true}
 use Rattle.std.proofs.lemmas.Bool.Decides.{nat_tests}
 use Rattle.std.proofs.lemmas.List.{take_more}
@@ -11,7 +12,7 @@ use Rattle.rsc_alphabet.specs.Bytes.{from_to}
 use Rattle.rsc_alphabet.specs.BytesLaws.{from_to_none, from_to_last}
 use Rattle.rsc_alphabet.specs.Partitions.{class_of, class_map, edges_of}
 use Rattle.rsc_alphabet.specs.Ranges.{holds, treats_alike, are_alike, separates}
-use Rattle.rsc_alphabet.proofs.PartitionsLemmas.{class_of_more, class_of-rises, contains-edges_of, slice_index-class_map}
+use Rattle.rsc_alphabet.proofs.PartitionsLemmas.{class_of_more, class_of-rises, contains-edges_of, contains-edges, slice_index-class_map}
 
 all_last : (h : ℕ → Bool) (low high : ℕ) → low ≤ high → list_all h (from_to low (high + 1)) ≡ (list_all h (from_to low high) && h high)
 all_last h low high l = ap (list_all h) (from_to_last low high l) ∙ list_all-append h (from_to low high) (high ∷ []) ∙ ap (λ b. list_all h (from_to low high) && b) (and-true (h high))
@@ -139,3 +140,15 @@ separates_more ranges i d k l =
     split true true = refl
     split true false = refl
     split false y = refl
+
+-- one more range
+pub ends_more : (r : ℕ × ℕ) (starts ends starts2 ends2 : sets.FinSet nat_cmp) (k : ℕ) → r.0 ≤ r.1 → k < 255 →
+    ((b : ℕ) → sets.contains starts2 b ≡ (nat_eq b r.0 || sets.contains starts b)) → ((b : ℕ) → sets.contains ends2 b ≡ (nat_eq b r.1 || sets.contains ends b)) →
+    (sets.contains starts2 (k + 1) || sets.contains ends2 k) ≡ ((sets.contains starts (k + 1) || sets.contains ends k) || not (treats_alike r k (k + 1)))
+ends_more (s, e) starts ends starts2 ends2 k order within first last =
+    rw (first (k + 1), last k, sym (contains-edges_of_range (s, e) k order within), contains-edges s e k) (by_cases (sets.contains starts (k + 1)) (sets.contains ends k))
+  where
+    by_cases : (x y : Bool) → ((nat_eq (k + 1) s || x) || (nat_eq k e || y)) ≡ ((x || y) || (nat_eq (k + 1) s || (nat_eq k e && nat_lt e 255)))
+    by_cases true y = grind (arith, nat_tests)
+    by_cases false true = grind (arith, nat_tests)
+    by_cases false false = grind (arith, nat_tests)

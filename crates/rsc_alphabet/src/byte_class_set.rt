@@ -97,9 +97,16 @@ impl ByteClassSet {
         ensures set { self.new ≡ sets.union self.old (edges_of_each (runs set.now)) }
         ensures boundaries { (k : ℕ) → sets.contains self.new k ≡ (sets.contains self.old k || changes_at set.now k) }
     {
-        for (start, end) in set.iter_ranges() {
-            self.set_range(start, end);
-        }
+        self.add_edges(&set.run_starts(), &set.run_ends());
+    }
+
+    // Adds the boundary before each of `starts`, and the one after each of `ends`, where there is a byte on the other side.
+    #[inline]
+    fn add_edges(&mut self, starts: &ByteSet, ends: &ByteSet)
+        ensures { (k : ℕ) → sets.contains self.new k
+            ≡ (sets.contains self.old k || (nat_lt k 255 && (sets.contains starts.now (k + 1) || sets.contains ends.now k))) }
+    {
+        self.ends = self.ends.union(&starts.predecessors()).union(ends);
     }
 
     /// The class map of the partition: the class of a byte is the number of boundaries below it.
@@ -151,9 +158,14 @@ pub fn classes_of_ranges(ranges: &[(u8, u8)]) -> ByteClasses
     ensures alike { (b c : ℕ) → b < 256 → c < 256 →
         (slice_index result b ≡ slice_index result c) ↔ IsTrue (are_alike ranges.now b c) }
 {
-    let mut partition = ByteClassSet::empty();
+    // In two sets, so that no addition waits for the one before it.
+    let mut starts = ByteSet::empty();
+    let mut ends = ByteSet::empty();
     for &(start, end) in ranges {
-        partition.set_range(start, end);
+        starts.add(start);
+        ends.add(end);
     }
+    let mut partition = ByteClassSet::empty();
+    partition.add_edges(&starts, &ends);
     partition.byte_classes()
 }

@@ -7,8 +7,8 @@ ghost use Rattle.rsc_alphabet.specs.ByteSetLayout.{is_one};
 
 use crate::ascending::Ascending;
 use crate::masks::{
-    difference, has_bit, has_bits, joined, lower_word, moved_down, moved_up, upper_word, with_bit,
-    within, without_bit,
+    difference, either, has_bit, has_bits, joined, lower_word, moved_down, moved_up, upper_word,
+    with_bit, within, without_bit,
 };
 use std::marker::{Model, PhantomData};
 
@@ -234,9 +234,32 @@ impl ByteSet {
         }
     }
 
+    // The members of either set.
+    #[inline]
+    pub(crate) fn union(&self, other: &ByteSet) -> ByteSet
+        ensures members { (b : ℕ) → sets.contains result b ≡ (sets.contains self.now b || sets.contains other.now b) }
+        ensures bytes { (b : ℕ) → sets.contains result b ≡ true → b < 256 }
+    {
+        ByteSet {
+            low: either(self.low, other.low),
+            high: either(self.high, other.high),
+        }
+    }
+
+    // The bytes whose successor is a member.
+    #[inline]
+    pub(crate) fn predecessors(&self) -> ByteSet
+        ensures { (b : ℕ) → sets.contains result b ≡ sets.contains self.now (b + 1) }
+    {
+        ByteSet {
+            low: moved_down(self.low, self.high),
+            high: moved_down(self.high, 0),
+        }
+    }
+
     // The members that have no predecessor among the members.
     #[inline]
-    fn run_starts(&self) -> ByteSet
+    pub(crate) fn run_starts(&self) -> ByteSet
         ensures { (b : ℕ) → sets.contains result b ≡ begins_run self.now b }
     {
         ByteSet {
@@ -247,7 +270,7 @@ impl ByteSet {
 
     // The members that have no successor among the members.
     #[inline]
-    fn run_ends(&self) -> ByteSet
+    pub(crate) fn run_ends(&self) -> ByteSet
         ensures { (b : ℕ) → sets.contains result b ≡ ends_run self.now b }
     {
         ByteSet {

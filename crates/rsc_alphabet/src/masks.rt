@@ -1,5 +1,5 @@
 //! The bits of the numbers that hold a set of bytes.
-ghost use Rattle.std.specs.Prelude.{◌≡◌, ◌≢◌, ◌==◌, ◌&&◌, ◌↔◌, ℕ, ◌+◌, ◌-◌, ◌%◌, ◌<◌, ◌≤◌, nat_le, false, not, IsTrue};
+ghost use Rattle.std.specs.Prelude.{◌≡◌, ◌≢◌, ◌==◌, ◌&&◌, ◌||◌, ◌↔◌, ℕ, ◌+◌, ◌-◌, ◌%◌, ◌<◌, ◌≤◌, nat_le, false, not, IsTrue};
 ghost use Rattle.std.specs.Int.{bit_at};
 ghost use Rattle.rsc_alphabet.specs.ByteSetLayout.{is_one};
 ghost use Rattle.rsc_alphabet.specs.Partitions.{class_of};
@@ -33,7 +33,22 @@ pub(crate) fn with_bit(mask: u128, bit: u8) -> u128
     ensures here { bit_at result bit ≡ 1 }
     ensures others { (i : ℕ) → i ≢ bit → bit_at result i ≡ bit_at mask i }
 {
-    mask | (1 << bit)
+    mask | one_bit(bit)
+}
+
+// The number of which this bit alone is 1. One word is shifted, which takes less time than two.
+#[inline(always)]
+fn one_bit(bit: u8) -> u128
+    requires { bit < 128 }
+    ensures here { bit_at result bit ≡ 1 }
+    ensures others { (i : ℕ) → i ≢ bit → bit_at result i ≡ 0 }
+{
+    let word = 1 << (bit % 64);
+    if bit < 64 {
+        joined(word, 0)
+    } else {
+        joined(0, word)
+    }
 }
 
 // The same number but for a bit that is 0.
@@ -81,6 +96,14 @@ pub(crate) fn difference(mask: u128, other: u128) -> u128
     ensures { (i : ℕ) → i < 128 → is_one result i ≡ (is_one mask i && not (is_one other i)) }
 {
     mask & !other
+}
+
+// The bits of two numbers.
+#[inline(always)]
+pub(crate) fn either(mask: u128, other: u128) -> u128
+    ensures { (i : ℕ) → is_one result i ≡ (is_one mask i || is_one other i) }
+{
+    mask | other
 }
 
 // Each bit one place up. The lowest is the highest of `below`.

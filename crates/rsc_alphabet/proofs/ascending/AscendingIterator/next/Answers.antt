@@ -35,9 +35,9 @@ returns-clause-steps c =
     let s = c.loop-self.self-inside in
     let low = c.lowest_bit-gap.ensures in
     rw c.from-2.ensures (
-      sym c.loop-self.invariant.2
-      ∙ lowest_left s.set s.number s.byte s.word c.shifted_down-self-inside-2.result c.lowest_bit-gap.result (omega arith) low.fits low.here low.below
-      (λ i. c.shifted_down-self-inside-2.ensures i ∙ c.shifted_down.ensures (1 + i)))
+    sym c.loop-self.invariant.2
+    ∙ lowest_left s.set s.number s.byte s.word c.shifted_down-self-inside-2.result c.lowest_bit-gap.result (omega arith) low.fits low.here low.below
+    (λ i. c.shifted_down-self-inside-2.ensures i ∙ c.shifted_down.ensures (1 + i)))
 
 pub returns-clause-goes : goal.returns-clause-goes
 returns-clause-goes c =
