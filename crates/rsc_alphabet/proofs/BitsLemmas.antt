@@ -9,7 +9,7 @@ use Rattle.std.proofs.lemmas.Nat.Bits.{bit_at-lt, bit_at-zero, bit_at_above, bit
 use Rattle.std.proofs.Math.Nat.{mod-lt, div-div-eq-div-mul}
 use Rattle.rsc_alphabet.specs.ByteSetLayout.{is_one}
 use Rattle.rsc_alphabet.specs.Partitions.{class_of}
-use Rattle.rsc_alphabet.proofs.PartitionsLemmas.{class_of_more, class_of_none}
+use Rattle.rsc_alphabet.proofs.PartitionsLemmas.{class_of_more, class_of_none, class_of_same, class_of-parts}
 
 -- ---- shifts and masks
 
@@ -141,3 +141,8 @@ ones-class_of n (suc k) =
   where
     swap : (x y : ℕ) → x + y ≡ y + x
     swap x y = omega arith
+
+-- the bits below a place, in two parts
+pub count_parts : (ends bits a n : ℕ) → ((i : ℕ) → i < n → bit_at bits i ≡ bit_at ends (a + i)) → class_of (is_one ends) (a + n) ≡ class_of (is_one ends) a + class_of (is_one bits) n
+count_parts ends bits a n same =
+    class_of-parts (is_one ends) a n ∙ ap (λ x. class_of (is_one ends) a + x) (class_of_same (λ k. is_one ends (a + k)) (is_one bits) n (λ k l. ap (λ x. nat_eq x 1) (sym (same k l))))

@@ -1,9 +1,16 @@
--- The bits of the masks that comparisons of vectors give.
-use Rattle.std.proofs.Common.{◌≡◌, ℕ, ◌+◌, ◌-◌, ◌%◌, ◌^◌, ◌<◌, ◌≤◌, Bool, true, false, not, cond, List, length, get_or, map, replicate, nat_eq, refl, sym, ap, ◌∙◌, arith, w8}
-use Rattle.std.specs.Simd.Lanes.{chunk, mask_l, top, zip2}
+-- The bits of the masks that comparisons of vectors give, and the counts of bits in a vector.
+use Rattle.std.proofs.Common.{◌≡◌, ℕ, zero, suc, [], ◌∷◌, ◌+◌, ◌-◌, ◌%◌, ◌^◌, ◌<◌, ◌≤◌, Bool, true, false, not, cond, List, length, get_or, map, replicate, nat_eq, refl, sym, ap, ◌∙◌, arith, w8}
+use Rattle.std.specs.Simd.Lanes.{chunk, put_chunk, mask_l, top, zip2}
 use Rattle.std.proofs.lemmas.List.{get_or-map}
-use Rattle.std.proofs.lemmas.Simd.{length-chunk, get_or-chunk, bit_mask_l, bitmask_splat, tops_compared, mask_l-mod, length-zip2, get_or-zip2}
+use Rattle.std.proofs.lemmas.Simd.{length-chunk, get_or-chunk, bit_mask_l, bitmask_splat, tops_compared, mask_l-mod, length-zip2, get_or-zip2, get_or-put_chunk_at}
+use Rattle.std.specs.Int.Bits.{bit_and}
+use Rattle.std.specs.Int.Count.{ones}
+use Rattle.std.proofs.lemmas.Nat.{and_mask}
+use Rattle.std.proofs.Math.Nat.{mod-eq_of_lt}
 use Rattle.rsc_alphabet.specs.ByteSetLayout.{is_one}
+use Rattle.rsc_alphabet.specs.Partitions.{class_of}
+use Rattle.rsc_alphabet.proofs.PartitionsLemmas.{class_of-le}
+use Rattle.rsc_alphabet.proofs.BitsLemmas.{ones-class_of}
 
 digit : (b : Bool) → nat_eq (cond b 1 0) 1 ≡ b
 digit true = refl
@@ -40,3 +47,35 @@ unlike_bits xs first i some room l =
     ∙ bit_of_mask (zip2 t here before) i
     ∙ get_or-zip2 t here before i 0 0 false (omega (arith, long, l)) (omega (arith, long_before, l))
     ∙ (λ k. t (get_or-chunk first 64 xs i 0 l k) ((get_or-chunk (first - 1) 64 xs i 0 l ∙ ap (λ x. get_or xs x 0) e) k))
+
+-- ---- counts
+
+-- how many bits of `bits` below a place are 1, and `below` more
+abbrev pub count_with : ℕ → ℕ → ℕ → ℕ
+count_with bits below mask = (ones (bit_and bits mask) + below) % 256
+
+abbrev pub counts : ℕ → ℕ → List ℕ
+counts bits below =
+    count_with bits below 0 ∷ count_with bits below 1 ∷ count_with bits below 3 ∷ count_with bits below 7
+    ∷ count_with bits below 15 ∷ count_with bits below 31 ∷ count_with bits below 63 ∷ count_with bits below 127 ∷ []
+
+count_is : (bits below i : ℕ) → i < 8 → below ≤ 248 → count_with bits below (2 ^ i - 1) ≡ below + class_of (is_one bits) i
+count_is bits below i l small =
+    let counted : ones (bit_and bits (2 ^ i - 1)) ≡ class_of (is_one bits) i = ap ones (and_mask bits i) ∙ ones-class_of bits i in
+    let few : class_of (is_one bits) i ≤ i = class_of-le (is_one bits) i in
+    let e : ones (bit_and bits (2 ^ i - 1)) + below ≡ below + class_of (is_one bits) i = omega (arith, counted) in
+    ap (λ x. x % 256) e ∙ mod-eq_of_lt (omega (arith, few, l, small))
+
+counts_are : (bits below i : ℕ) → i < 8 → below ≤ 248 → get_or (counts bits below) i 0 ≡ below + class_of (is_one bits) i
+counts_are bits below zero l small = count_is bits below 0 (omega arith) small
+counts_are bits below (suc zero) l small = count_is bits below 1 (omega arith) small
+counts_are bits below (suc (suc zero)) l small = count_is bits below 2 (omega arith) small
+counts_are bits below (suc (suc (suc zero))) l small = count_is bits below 3 (omega arith) small
+counts_are bits below (suc (suc (suc (suc zero)))) l small = count_is bits below 4 (omega arith) small
+counts_are bits below (suc (suc (suc (suc (suc zero))))) l small = count_is bits below 5 (omega arith) small
+counts_are bits below (suc (suc (suc (suc (suc (suc zero)))))) l small = count_is bits below 6 (omega arith) small
+counts_are bits below (suc (suc (suc (suc (suc (suc (suc zero))))))) l small = count_is bits below 7 (omega arith) small
+counts_are bits below (suc (suc (suc (suc (suc (suc (suc (suc i)))))))) l small = absurd (omega arith)
+
+pub counts_put : (xs : List ℕ) (first bits below i : ℕ) → first + 8 ≤ length xs → below ≤ 248 → i < 8 → get_or (put_chunk first xs (counts bits below)) (first + i) 0 ≡ below + class_of (is_one bits) i
+counts_put xs first bits below i room small l = get_or-put_chunk_at first xs (counts bits below) i 0 l room ∙ counts_are bits below i l small

@@ -235,7 +235,7 @@ edges_joined ends before after starts lasts first second bytes k =
 
 -- ---- the classes of two halves
 
-class_of-parts : (p : ℕ → Bool) (a n : ℕ) → class_of p (a + n) ≡ class_of p a + class_of (λ k. p (a + k)) n
+pub class_of-parts : (p : ℕ → Bool) (a n : ℕ) → class_of p (a + n) ≡ class_of p a + class_of (λ k. p (a + k)) n
 class_of-parts p a zero = let e : a + zero ≡ a = omega arith in rw (e, class_of_none (λ k. p (a + k))) (omega arith)
 class_of-parts p a (suc n) =
     let e : a + suc n ≡ a + n + 1 = omega arith in

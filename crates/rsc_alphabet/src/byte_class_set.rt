@@ -6,7 +6,7 @@ ghost use Rattle.rsc_alphabet.specs.ByteSetLayout.{is_one};
 ghost use Rattle.rsc_alphabet.specs.Partitions.{changes_at, class_map, class_of, edges_of, edges_of_each};
 ghost use Rattle.rsc_alphabet.specs.Ranges.{are_alike, separates};
 
-use crate::masks::{ones, ones_below};
+use crate::masks::{lowest_byte, ones, ones_of_byte};
 use crate::{ByteClasses, ByteSet};
 use std::marker::Model;
 
@@ -126,16 +126,19 @@ impl ByteClassSet {
 }
 
 // Gives the 128 bytes from `first` on their classes: the number of boundaries below `first`, and of the bits of `ends` below the byte's own.
-// Never inlined, so that the compiler unrolls its loop, where each byte's mask is a constant.
-#[inline(never)]
 fn set_classes(classes: &mut ByteClasses, first: u8, ends: u128, below: u8)
     requires { (first ≤ 128) × (below ≤ 128) × (length classes.old ≡ 256) }
     ensures inside { (i : ℕ) → i < 128 → slice_index classes.new (first + i) ≡ below + class_of (is_one ends) i }
     ensures before { (b : ℕ) → b < first → slice_index classes.new b ≡ slice_index classes.old b }
     ensures entries { length classes.new ≡ 256 }
 {
-    for bit in 0..128u8 {
-        classes.set(first + bit, below + ones_below(ends, bit));
+    let mut left = ends;
+    let mut below = u16::from(below);
+    for part in 0..16u8 {
+        let bits = lowest_byte(left);
+        classes.set_eight(first + 8 * part, bits, below as u8);
+        below += ones_of_byte(bits);
+        left >>= 8;
     }
 }
 

@@ -6,10 +6,12 @@ ghost use Rattle.rsc_alphabet.specs.Bytes.{bytes};
 ghost use Rattle.rsc_alphabet.specs.Symbols.{byte_of, number_of};
 ghost use Rattle.rsc_alphabet.specs.Iterators.{class_at, end_of, symbol_count, stride2_of, symbols, elements_of, representing, representatives_of};
 ghost use Rattle.rsc_alphabet.specs.ByteSets.{members};
+ghost use Rattle.rsc_alphabet.specs.ByteSetLayout.{is_one};
+ghost use Rattle.rsc_alphabet.specs.Partitions.{class_of};
 
 mod iter;
 
-use crate::lanes::{equal_to, unlike_before};
+use crate::lanes::{equal_to, set_counts, unlike_before};
 use crate::masks::shifted_up;
 use crate::{ByteSet, Unit};
 pub use iter::{ByteClassElements, ByteClassIter, ByteClassRepresentatives};
@@ -259,6 +261,17 @@ impl ByteClasses {
         let mut bytes = self.changes().between(start, (end - 1) as u8);
         bytes.add(start);
         bytes
+    }
+
+    // Gives the eight bytes from `first` on their classes: byte i `below` and how many of the bits of `ends` below bit i are 1.
+    #[inline(always)]
+    pub(crate) fn set_eight(&mut self, first: u8, ends: u8, below: u8)
+        requires { (first ≤ 248) × (below ≤ 248) }
+        ensures here { (i : ℕ) → i < 8 → slice_index self.new (first + i) ≡ below + class_of (is_one ends) i }
+        ensures before { (b : ℕ) → b < first → slice_index self.new b ≡ slice_index self.old b }
+        ensures entries { length self.new ≡ 256 }
+    {
+        set_counts(&mut self.classes, usize::from(first), ends, below);
     }
 
     // The bytes whose class isn't their predecessor's.

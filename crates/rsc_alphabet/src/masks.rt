@@ -178,14 +178,21 @@ pub(crate) fn shifted_down(word: u64, places: u8) -> u64
     word >> places
 }
 
-// How many bits below a place are 1.
+// The lowest eight bits.
 #[inline(always)]
-pub(crate) fn ones_below(mask: u128, bit: u8) -> u8
-    requires { bit < 128 }
-    ensures count { result ≡ class_of (is_one mask) bit }
-    ensures most { result ≤ bit }
+pub(crate) fn lowest_byte(mask: u128) -> u8
+    ensures { (i : ℕ) → i < 8 → bit_at result i ≡ bit_at mask i }
 {
-    (mask & ((1 << bit) - 1)).count_ones() as u8
+    (mask & 0xFF) as u8
+}
+
+// How many bits of a byte are 1.
+#[inline(always)]
+pub(crate) fn ones_of_byte(bits: u8) -> u16
+    ensures count { result ≡ class_of (is_one bits) 8 }
+    ensures most { result ≤ 8 }
+{
+    bits.count_ones() as u16
 }
 
 // How many bits are 1.

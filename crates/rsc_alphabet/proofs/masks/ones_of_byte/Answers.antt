@@ -1,0 +1,13 @@
+use Rattle.std.proofs.Common.{sym, ap, ◌∙◌, arith}
+use Rattle.std.specs.Int.Count.{ones}
+use Rattle.std.proofs.Math.Nat.{mod-eq_of_lt}
+use Rattle.rsc_alphabet.specs.ByteSetLayout.{is_one}
+use Rattle.rsc_alphabet.proofs.PartitionsLemmas.{class_of-le}
+use Rattle.rsc_alphabet.proofs.BitsLemmas.{ones-class_of}
+use Rattle.rsc_alphabet.proofs.masks.ones_of_byte.Goals as goal
+
+pub returns-clause-count : goal.returns-clause-count
+returns-clause-count c = ap ones (sym (mod-eq_of_lt c.ranges.bits.fits)) ∙ ones-class_of c.args.bits 8
+
+pub returns-clause-most : goal.returns-clause-most
+returns-clause-most c = omega (arith, returns-clause-count c, class_of-le (is_one c.args.bits) 8)
