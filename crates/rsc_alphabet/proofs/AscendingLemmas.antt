@@ -26,7 +26,7 @@ whole_word s number word l same =
     let e : 64 * number + (k - 64 * number) ≡ k = omega arith in same (k - 64 * number) (omega arith) ∙ ap (sets.contains s) e))
     ∙ sym (filter_parts (λ b. sets.contains s b) (64 * number) (64 * number + 64) 256 (omega arith) (omega arith))
 
--- its bits stand for bytes
+-- its bits are those of bytes
 pub whole_word_fits : (number word : ℕ) → number < 4 → word < 2 ^ 64 → (i : ℕ) → bit_at word i ≡ 1 → 64 * number + i < 256
 whole_word_fits number word l fits i is =
     ⊎_elim (λ (h : i < 64). omega arith) (λ (h : 64 ≤ i). let none : bit_at word i ≡ 0 = bit_at_above word 64 i fits h in absurd (omega (arith, none, is))) (cases_lt i 64)

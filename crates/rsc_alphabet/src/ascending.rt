@@ -14,8 +14,8 @@ pub(crate) struct Ascending {
     set: ByteSet,
     // All members from 64 * (`number` + 1) on are left.
     number: u8,
-    // Bit i of the word stands for the byte `byte + i`. So the bit of a member that follows the last one is the lowest, and is tested
-    // without waiting for the place of the one before it.
+    // Bit i of the word is that of the byte `byte + i`, so a member that follows the last one has the lowest bit, and is found without
+    // waiting for the place of the one before it.
     byte: usize,
     word: u64,
 }
@@ -72,6 +72,7 @@ impl Iterator for Ascending {
         let gap = lowest_bit(self.word);
         let member = self.byte + usize::from(gap);
         self.byte = member + 1;
+        // In two steps, since `gap + 1` may be 64.
         self.word = shifted_down(shifted_down(self.word, gap), 1);
         Some(member as u8)
     }
