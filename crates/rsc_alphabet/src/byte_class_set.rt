@@ -6,7 +6,7 @@ ghost use Rattle.rsc_alphabet.specs.ByteSetLayout.{is_one};
 ghost use Rattle.rsc_alphabet.specs.Partitions.{changes_at, class_map, class_of, edges_of, edges_of_each};
 ghost use Rattle.rsc_alphabet.specs.Ranges.{are_alike, separates};
 
-use crate::masks::{lowest_byte, ones, ones_of_byte};
+use crate::masks::{eight_bits, ones, ones_below};
 use crate::{ByteClasses, ByteSet};
 use std::marker::Model;
 
@@ -132,13 +132,13 @@ fn set_classes(classes: &mut ByteClasses, first: u8, ends: u128, below: u8)
     ensures before { (b : ℕ) → b < first → slice_index classes.new b ≡ slice_index classes.old b }
     ensures entries { length classes.new ≡ 256 }
 {
-    let mut left = ends;
-    let mut below = u16::from(below);
     for part in 0..16u8 {
-        let bits = lowest_byte(left);
-        classes.set_eight(first + 8 * part, bits, below as u8);
-        below += ones_of_byte(bits);
-        left >>= 8;
+        let place = 8 * part;
+        classes.set_eight(
+            first + place,
+            eight_bits(ends, place),
+            below + ones_below(ends, place),
+        );
     }
 }
 

@@ -178,21 +178,23 @@ pub(crate) fn shifted_down(word: u64, places: u8) -> u64
     word >> places
 }
 
-// The lowest eight bits.
+// The eight bits from a place on.
 #[inline(always)]
-pub(crate) fn lowest_byte(mask: u128) -> u8
-    ensures { (i : ℕ) → i < 8 → bit_at result i ≡ bit_at mask i }
+pub(crate) fn eight_bits(mask: u128, place: u8) -> u8
+    requires { place < 128 }
+    ensures { (i : ℕ) → i < 8 → bit_at result i ≡ bit_at mask (place + i) }
 {
-    (mask & 0xFF) as u8
+    ((mask >> place) & 0xFF) as u8
 }
 
-// How many bits of a byte are 1.
+// How many bits below a place are 1.
 #[inline(always)]
-pub(crate) fn ones_of_byte(bits: u8) -> u16
-    ensures count { result ≡ class_of (is_one bits) 8 }
-    ensures most { result ≤ 8 }
+pub(crate) fn ones_below(mask: u128, bit: u8) -> u8
+    requires { bit < 128 }
+    ensures count { result ≡ class_of (is_one mask) bit }
+    ensures most { result ≤ bit }
 {
-    bits.count_ones() as u16
+    (mask & ((1 << bit) - 1)).count_ones() as u8
 }
 
 // How many bits are 1.
