@@ -1,14 +1,16 @@
 -- Names in one text, as one more is added.
-use Rattle.std.proofs.Common.{◌≡◌, ℕ, ◌+◌, ◌-◌, ◌<◌, ◌≤◌, true, false, cond, ltb, ⊎_elim, List, [], ◌∷◌, ◌++◌, length, take, drop, get_or, Option, Some, None, refl, ap, ap₂, ◌∙◌, arith}
+use Rattle.std.proofs.Common.{◌≡◌, ◌≢◌, ℕ, ◌+◌, ◌-◌, ◌<◌, ◌≤◌, true, false, cond, eqb, ⊎_elim, List, [], ◌∷◌, ◌++◌, length, take, drop, get_or, Option, Some, None, refl, ap, ap₂, ◌∙◌, arith}
 use Rattle.std.specs.Option.{unwrap_or}
 use Rattle.std.specs.Str.{IsUtf8, IsCharBoundary}
 use Rattle.std.specs.List.{slice_range}
-use Rattle.std.proofs.lemmas.Bool.{cases_lt, ltb-false, le-ltb}
+use Rattle.std.proofs.lemmas.Bool.{cases_lt, eqb-false}
+use Rattle.std.proofs.lemmas.Grind.{common_steps}
 use Rattle.std.proofs.lemmas.List.{drop-append-le, take-append-le, get_or_append_left, length-append, map-append, length-drop}
 use Rattle.std.proofs.lemmas.List.Elements.{All-push, All-tail}
 use Rattle.std.proofs.Math.Seq.{drop-append_seam, take-length}
 use Rattle.std.proofs.lemmas.Str.{IsCharBoundary-at_seam, IsCharBoundary-end}
 use Rattle.rsc_captures.specs.declared.names.Place.{Place}
+use Rattle.rsc_captures.specs.declared.names.TheConstants.{NO_NAME}
 use Rattle.rsc_captures.specs.Groups.{Groups}
 use Rattle.rsc_captures.specs.Names.{name_held, names_held, place_held, IsCut, AreCut, AreHeld}
 
@@ -22,47 +24,47 @@ module _ (text more : List ℕ) where
       (cases_lt i (length text))
 
   cut_stays : (p : Place) → IsUtf8 more → IsCut text p → IsCut (text ++ more) p
-  cut_stays p utf8 cut = record { start = boundary_stays p.start utf8 cut.start; end = boundary_stays p.end utf8 cut.end }
+  cut_stays p utf8 cut = record { start = boundary_stays p.start utf8 cut.start; end = boundary_stays (p.start + p.length) utf8 cut.end }
 
   -- what is at a place of the text is there in the longer text
-  part_stays : (p : Place) → IsCut text p → slice_range (text ++ more) p.start p.end ≡ slice_range text p.start p.end
+  part_stays : (p : Place) → IsCut text p → slice_range (text ++ more) p.start (p.start + p.length) ≡ slice_range text p.start (p.start + p.length)
   part_stays p cut =
-      let rest : p.end - p.start ≤ length (drop p.start text) = rw length-drop (omega (arith, cut.end.0)) in
-      ap (take (p.end - p.start)) (drop-append-le p.start text more cut.start.0) ∙ take-append-le (p.end - p.start) (drop p.start text) more rest
+      let rest : (p.start + p.length) - p.start ≤ length (drop p.start text) = rw length-drop (omega (arith, cut.end.0)) in
+      ap (take ((p.start + p.length) - p.start)) (drop-append-le p.start text more cut.start.0) ∙ take-append-le ((p.start + p.length) - p.start) (drop p.start text) more rest
 
-  name_stays : (p : Place) → (p.start ≤ p.end → IsCut text p) → name_held (text ++ more) p ≡ name_held text p
+  name_stays : (p : Place) → (p.length ≢ NO_NAME → IsCut text p) → name_held (text ++ more) p ≡ name_held text p
   name_stays p cut =
-      elim (ltb p.end p.start) as (λ b. ltb p.end p.start ≡ b → cond b None (Some (slice_range (text ++ more) p.start p.end)) ≡ cond b None (Some (slice_range text p.start p.end))) [
+      elim (eqb p.length NO_NAME) as (λ b. eqb p.length NO_NAME ≡ b → cond b None (Some (slice_range (text ++ more) p.start (p.start + p.length))) ≡ cond b None (Some (slice_range text p.start (p.start + p.length)))) [
         | true ↦ λ none. refl
-        | false ↦ λ some. ap Some (part_stays p (cut (ltb-false p.end p.start some)))
+        | false ↦ λ some. ap Some (part_stays p (cut (eqb-false p.length NO_NAME some)))
       ] refl
 
   names_stay : (places : List Place) → AreCut text places → names_held (text ++ more) places ≡ names_held text places
   names_stay [] cuts = refl
-  names_stay (p ∷ places) cuts = ap₂ (λ name names. name ∷ names) (name_stays p (cuts 0 p (omega arith))) (names_stay places (All-tail (λ p. p.start ≤ p.end → IsCut text p) p places cuts))
+  names_stay (p ∷ places) cuts = ap₂ (λ name names. name ∷ names) (name_stays p (cuts 0 p (omega arith))) (names_stay places (All-tail (λ p. p.length ≢ NO_NAME → IsCut text p) p places cuts))
 
   cuts_stay : (places : List Place) → IsUtf8 more → AreCut text places → AreCut (text ++ more) places
   cuts_stay places utf8 cuts k d lt le = cut_stays (get_or places k d) utf8 (cuts k d lt le)
 
 -- the name that is added is at its place
-name_added : (text : List ℕ) (name : Option (List ℕ)) → name_held (text ++ unwrap_or name []) (place_held text name) ≡ name
-name_added text None = refl
-name_added text (Some bytes) =
-    let some : ltb (length text + length bytes) (length text) ≡ false = le-ltb (length text + length bytes) (length text) (omega arith) in
+name_added : (text : List ℕ) (name : Option (List ℕ)) → length (unwrap_or name []) < NO_NAME → name_held (text ++ unwrap_or name []) (place_held text name) ≡ name
+name_added text None short = refl
+name_added text (Some bytes) short =
+    let some : eqb (length bytes) NO_NAME ≡ false = grind (arith, common_steps) in
     let all : (length text + length bytes) - length text ≡ length bytes = omega arith in
     rw some (ap Some (ap (take ((length text + length bytes) - length text)) (drop-append_seam text bytes) ∙ ap (λ n. take n bytes) all ∙ take-length bytes))
 
-cut_added : (text : List ℕ) (name : Option (List ℕ)) → IsUtf8 (unwrap_or name []) → (place_held text name).start ≤ (place_held text name).end → IsCut (text ++ unwrap_or name []) (place_held text name)
-cut_added text None utf8 le = absurd (omega (arith, le))
-cut_added text (Some bytes) utf8 le = record {
+cut_added : (text : List ℕ) (name : Option (List ℕ)) → IsUtf8 (unwrap_or name []) → (place_held text name).length ≢ NO_NAME → IsCut (text ++ unwrap_or name []) (place_held text name)
+cut_added text None utf8 some = absurd (some refl)
+cut_added text (Some bytes) utf8 some = record {
   start = IsCharBoundary-at_seam (text ++ bytes) text bytes refl utf8;
   end = rw (← length-append text bytes) (IsCharBoundary-end (text ++ bytes));
 }
 
 -- one more group
-pub held_more : (text : List ℕ) (places : List Place) (groups : Groups) (name : Option (List ℕ)) → IsUtf8 (unwrap_or name []) → AreHeld text places groups
+pub held_more : (text : List ℕ) (places : List Place) (groups : Groups) (name : Option (List ℕ)) → IsUtf8 (unwrap_or name []) → length (unwrap_or name []) < NO_NAME → AreHeld text places groups
     → AreHeld (text ++ unwrap_or name []) (places ++ place_held text name ∷ []) (groups ++ name ∷ [])
-held_more text places groups name utf8 held = record {
-  are = map-append (name_held (text ++ unwrap_or name [])) places (place_held text name ∷ []) ∙ ap₂ (λ names one. names ++ one ∷ []) (names_stay text (unwrap_or name []) places held.cuts ∙ held.are) (name_added text name);
-  cuts = All-push (λ p. p.start ≤ p.end → IsCut (text ++ unwrap_or name []) p) places (place_held text name) (cuts_stay text (unwrap_or name []) places utf8 held.cuts) (cut_added text name utf8);
+held_more text places groups name utf8 short held = record {
+  are = map-append (name_held (text ++ unwrap_or name [])) places (place_held text name ∷ []) ∙ ap₂ (λ names one. names ++ one ∷ []) (names_stay text (unwrap_or name []) places held.cuts ∙ held.are) (name_added text name short);
+  cuts = All-push (λ p. p.length ≢ NO_NAME → IsCut (text ++ unwrap_or name []) p) places (place_held text name) (cuts_stay text (unwrap_or name []) places utf8 held.cuts) (cut_added text name utf8);
 }

@@ -10,11 +10,14 @@ ghost use Rattle.rsc_captures.specs.Names.{names_held, place_held, AreCut, AreHe
 use std::alloc::{AllocError, Allocator};
 use std::marker::Model;
 
-// Where a name is in the text, from its first byte to the one behind its last; a place that ends before it begins is no name's.
+// What a place has in place of a length where the group has no name. No name is so long.
+const NO_NAME: usize = usize::MAX;
+
+// Where a name begins in the text, and how many bytes it has: a caller who wants no more than its length needs no sum.
 #[derive(Clone, Copy, Debug)]
 struct Place {
     start: usize,
-    end: usize,
+    length: usize,
 }
 
 /// Optional names in order. A contract sees them as their list.
@@ -64,15 +67,19 @@ fn hold_name<A: Allocator>(text: &mut String<A>, group: Option<&str>) -> Result<
     ensures text { OnOk result (string_bytes text.new ≡ string_bytes text.old ++ unwrap_or (option_copied group.entry) []) }
     ensures place { IfOk result (λ place. place ≡ place_held (string_bytes text.old) (option_copied group.entry)) }
     ensures utf8 { IsUtf8 (unwrap_or (option_copied group.entry) []) }
+    ensures length { length (unwrap_or (option_copied group.entry) []) < NO_NAME }
 {
     let Some(name) = group else {
-        return Ok(Place { start: 1, end: 0 });
+        return Ok(Place {
+            start: 0,
+            length: NO_NAME,
+        });
     };
     let start = text.len();
     text.push_str(name)?;
     Ok(Place {
         start,
-        end: text.len(),
+        length: name.len(),
     })
 }
 
@@ -113,9 +120,9 @@ impl<A: Allocator + Clone + Drop> NameList<A> {
         ensures { option_copied result ≡ slice_index_or self.now i None }
     {
         let place = self.places[i];
-        if place.end < place.start {
+        if place.length == NO_NAME {
             return None;
         }
-        Some(&self.text.as_str()[place.start..place.end])
+        Some(&self.text.as_str()[place.start..place.start + place.length])
     }
 }
