@@ -17,11 +17,9 @@ use std::marker::Model;
 // The span whose offsets are in a slot and the next.
 #[inline]
 fn span_at(slots: &[Option<NonMaxUsize>], slot: usize) -> Option<Span>
+    requires { slot + 1 < length slots.now }
     ensures { result ≡ span_at slots.now slot }
 {
-    if slot >= slots.len().saturating_sub(1) {
-        return None;
-    }
     let Some(start) = slots[slot] else {
         return None;
     };
@@ -273,17 +271,25 @@ impl<A: Allocator + Clone + Drop> Captures<A> {
     }
 
     // `get_group`, with the one exact clause.
+    #[tactic(auto, using(crate::proofs::Alone::none_past))]
     #[inline]
     fn group_span(&self, index: usize) -> Option<Span>
         ensures span { result ≡ group_span self.now index }
         ensures room { length self.now.offsets ≤ 2 * all_groups self.now.groups }
     {
         let pid = self.pid?;
+        let slots = self.slots.as_slice();
         if self.group_info.pattern_len() == 1 {
-            span_at(self.slots.as_slice(), index.checked_mul(2)?)
+            if index >= slots.len() / 2 {
+                return None;
+            }
+            span_at(slots, 2 * index)
         } else {
             let slot = self.group_info.slot(pid, index)?;
-            span_at(self.slots.as_slice(), slot)
+            if slot + 1 >= slots.len() {
+                return None;
+            }
+            span_at(slots, slot)
         }
     }
 

@@ -3,7 +3,7 @@ ghost use Rattle.std.specs.Prelude.{◌≡◌, ℕ, List, Option, ◌+◌, ◌�
 ghost use Rattle.std.specs.Option.{option_map};
 ghost use Rattle.rsc_search.specs.Spans.{cut, cut_text};
 ghost use Rattle.rsc_search.specs.declared.span.Span.{Span};
-ghost use Rattle.rsc_captures.specs.Captured.{participating, pieces};
+ghost use Rattle.rsc_captures.specs.Captured.{matched_groups, participating, pieces};
 ghost use Rattle.rsc_captures.specs.CapturedLayout.{participating_from};
 
 use crate::captures::Captures;
@@ -46,11 +46,12 @@ impl Haystack for &[u8] {
 impl<A: Allocator + Clone + Drop> Captures<A> {
     // The first group from `from` on that takes part, and the place after it.
     #[inline(always)]
-    fn next_participating(&self, from: usize) -> Option<(Span, usize)>
+    fn next_participating(&self, from: usize, group_len: usize) -> Option<(Span, usize)>
+        requires { group_len ≡ matched_groups self.now }
         ensures { MatchOption result (participating_from self.now from ≡ [])
             (λ found. participating_from self.now from ≡ found.0 ∷ participating_from self.now found.1) }
     {
-        for index in from..self.group_len() {
+        for index in from..group_len {
             if let Some(span) = self.get_group(index) {
                 return Some((span, index + 1));
             }
@@ -74,11 +75,12 @@ impl<A: Allocator + Clone + Drop> Captures<A> {
         ensures { option_map (λ parts. H.bytes parts.0 ∷ map H.bytes parts.1) result
             ≡ pieces (H.cut_of (H.bytes haystack)) (N + 1) (participating self.now) }
     {
-        let (span, mut next) = self.next_participating(0)?;
+        let group_len = self.group_len();
+        let (span, mut next) = self.next_participating(0, group_len)?;
         let whole = haystack.cut(span)?;
         let mut parts = [whole; N];
         for k in 0..N {
-            let (span, after) = self.next_participating(next)?;
+            let (span, after) = self.next_participating(next, group_len)?;
             parts[k] = haystack.cut(span)?;
             next = after;
         }
