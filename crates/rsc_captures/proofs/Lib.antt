@@ -5,7 +5,6 @@ pub mod Ordered  -- the groups in the order of their names
 pub mod Blocks  -- a table of the groups of a block in the order of their names, and which groups have the name of a lesser one
 pub mod Repeats  -- the first fault of a pattern, of whose groups those within the limit were looked at for a repeat
 pub mod Held  -- names in one text, as one more is added
-pub mod Emptied  -- a list that is set to one value from both ends
 pub mod Clear  -- lists of which no place, or no place of the patterns before one, is at fault; and the first place at fault
 pub mod Checked  -- which lists have no fault, and whose first fault is a name that is used twice
 pub mod FaultsLemmas  -- the first fault of a list: there is at most one, and a list without a fault has none

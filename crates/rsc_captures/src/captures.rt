@@ -32,41 +32,6 @@ fn span_at(slots: &[Option<NonMaxUsize>], slot: usize) -> Option<Span>
     })
 }
 
-// Empties each slot. Few are emptied from both ends: any other way is compiled to a call, which takes longer than they do.
-#[inline]
-fn empty(slots: &mut [Option<NonMaxUsize>])
-    ensures { slots.new ≡ replicate (length slots.old) None }
-{
-    let count = slots.len();
-    match count {
-        2..=4 => {
-            slots[0] = None;
-            slots[1] = None;
-            slots[count - 2] = None;
-            slots[count - 1] = None;
-        }
-        5..=8 => {
-            slots[0] = None;
-            slots[1] = None;
-            slots[2] = None;
-            slots[3] = None;
-            slots[count - 4] = None;
-            slots[count - 3] = None;
-            slots[count - 2] = None;
-            slots[count - 1] = None;
-        }
-        _ => empty_many(slots),
-    }
-}
-
-// Apart, so that a caller saves registers only where the call is made.
-#[inline(never)]
-fn empty_many(slots: &mut [Option<NonMaxUsize>])
-    ensures { slots.new ≡ replicate (length slots.old) None }
-{
-    slots.fill(None);
-}
-
 /// The offsets of the groups of a match, if there is a match.
 ///
 /// A search fills the slots and sets the pattern. Nothing is asked of what is in the slots, and no call here fails on
@@ -225,7 +190,7 @@ impl<A: Allocator + Clone + Drop> Captures<A> {
         ensures { self.new ≡ no_offsets self.old.groups (length self.old.offsets) }
     {
         self.pid = None;
-        empty(self.slots.as_mut_slice());
+        self.slots.as_mut_slice().fill(None);
     }
 
     /// Sets the pattern that matched. Any pattern will do, also one that the groups don't have.
