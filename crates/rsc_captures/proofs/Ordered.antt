@@ -219,16 +219,17 @@ module _ (groups : Groups) where
       (λ (ge : k ≤ place.0). let greater : name_cmp (name_at groups (get_or order place.0 0)) (Some name) ≡ Greater = parts.1 place.0 0 ge place.1 in cc)
       (cases_lt place.0 k)
 
+  -- groups in their order are sorted by their names
+  pub names_sorted : (order : List ℕ) → IsSortedByName order groups → IsSortedByKey (name_at groups) name_cmp order
+  names_sorted order sorted k d le lt = not_less _ _ (sorted k d le lt)
+
   -- what halving answers is the group of the name
   pub index_from_search : (order : List ℕ) → IsIndexed order groups → SCANNED_GROUPS ≤ length groups → (name : List ℕ) (r : Result ℕ ℕ) → IsBinarySearchResult (λ g. name_cmp (name_at groups g) (Some name)) order r → MatchResult r (λ k. index_of groups name ≡ Some (get_or order k 0)) (λ _. index_of groups name ≡ None)
   index_from_search order indexed many name (Ok k) found = (index_of-is groups name indexed.distinct (get_or order k 0)).1 (name_exact _ _ (found 0))
   index_from_search order indexed many name (Err k) split = by_index (index_of groups name) refl
     where
-      by_names : IsSortedByKey (name_at groups) name_cmp order
-      by_names i d le lt = not_less _ _ ((indexed.ordered many).sorted i d le lt)
-
       parts : IsPartitionPoint (λ g. name_cmp (name_at groups g) (Some name) ≡ Less) (λ g. name_cmp (name_at groups g) (Some name) ≡ Greater) order k
-      parts = split (searchable_from_sorted name_total (name_at groups) order (Some name) by_names)
+      parts = split (searchable_from_sorted name_total (name_at groups) order (Some name) (names_sorted order (indexed.ordered many).sorted))
 
       by_index : (o : Option ℕ) → index_of groups name ≡ o → o ≡ None
       by_index None e = refl

@@ -1,10 +1,8 @@
 -- What the code knows of a list as it reads it, beside the words of `Faults`.
 use Rattle.std.specs.Prelude.{◌≡◌, ℕ, ◌<◌, ◌≤◌, List, length, Some, None}
-use Rattle.std.specs.List.{All, Contains}
 use Rattle.rsc_captures.specs.Groups.{Groups, GroupLists}
 use Rattle.rsc_captures.specs.Faults.{Fault, Duplicate, IsPlace, pattern_fault, place_fault, slots_end}
-use Rattle.std.specs.List.Sorted.{IsSortedByKey}
-use Rattle.rsc_captures.specs.Names.{name_at, name_cmp}
+use Rattle.rsc_captures.specs.Names.{name_at}
 
 -- no place of the patterns before n is at fault
 abbrev pub IsClearBelow : ℕ → GroupLists → ℕ → Type 0
@@ -33,9 +31,3 @@ pub record IsRepeatOf (groups : Groups) (n h : ℕ) : Type 0 where
   pub one : name_at groups g ≡ Some name
   pub other : name_at groups h ≡ Some name
   pub apart : AreApart groups n h
-
--- the order has the groups with a name that are among the first `block` and among the first n, in the order of their names
-pub record IsTable (order : List ℕ) (groups : Groups) (block n : ℕ) : Type 0 where
-  pub sorted : IsSortedByKey (name_at groups) name_cmp order
-  pub within : All (λ g. (g < block) × (g < n)) order
-  pub named : (g : ℕ) (name : List ℕ) → g < block → g < n → name_at groups g ≡ Some name → Contains order g

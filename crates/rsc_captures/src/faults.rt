@@ -1,25 +1,27 @@
 //! Looks for the first fault of a group list, and takes no memory.
 //!
 //! The names of a pattern are looked at for a repeat block by block. A table on the stack has the groups of one block in the order
-//! of their names, and each name of the block and behind it is looked up there by halving. So n names of one pattern make at most
-//! n + n²/8192 look-ups of at most 13 comparisons, whatever names they are.
+//! of their names, where a name that is used twice has neighbours, and each name behind the block is looked up there by halving. So
+//! n names of one pattern are sorted in blocks of at most 65,536, and make at most n²/131072 look-ups of at most 17 comparisons,
+//! whatever names they are.
 ghost use Rattle.std.specs.Prelude.{◌≡◌, ℕ, ◌+◌, ◌*◌, ◌<◌, ◌≤◌, length, take, slice_index_or, Some, None, IfOk, IfErr, OnOk, MatchOption};
 ghost use Rattle.rsc_captures.specs.Groups.{has_name, contains_name, groups_in, lists_in, AreDistinctBelow, explicit_before, group_count};
 ghost use Rattle.rsc_captures.specs.Faults.{LIMIT_OF_IDS, pattern_fault, IsClear, IsFirstAtPlace, IsFirstFault, IsFaultless};
 ghost use Rattle.rsc_captures.specs.Checks.{IsClearBelow, HasNoOtherFault, AreApart, IsRepeatOf};
-ghost use Rattle.rsc_captures.specs.Names.{IsFirstRepeat, name_cmp};
+ghost use Rattle.rsc_captures.specs.Names.{IsFirstRepeat, IsOrder, name_cmp};
 ghost use Rattle.rsc_captures.specs.Found.{fault_found};
 ghost use Rattle.std.specs.Option.{option_copied};
-ghost use Rattle.std.specs.List.{insert};
 ghost use Rattle.std.specs.List.Sorted.{IsBinarySearchResult, IsSearchInRange};
 ghost use Rattle.std.specs.Bool.{MatchBool, OnFalse};
 
-use crate::order::SCANNED_GROUPS;
+use crate::order::{SCANNED_GROUPS, least_repeat, put_in_order};
 use rsc_primitives::{PatternID, PatternIDError};
 use std::cmp::Ordering;
 
-// How many groups a block has, and a table may hold: 8 KiB.
-const BLOCK: usize = 4096;
+// How many groups a table has room for: 4 KiB, and 256 KiB.
+const SMALL_TABLE: usize = 1024;
+
+const LARGE_TABLE: usize = 65536;
 
 /// A fault, with the name lent by the list.
 #[derive(Drop)]
@@ -81,61 +83,71 @@ fn compare(groups: &[Option<&str>], g: usize, name: &str) -> Ordering
 }
 
 // Where the name is among groups in the order of their names, or where it would be.
-fn find(groups: &[Option<&str>], order: &[u16], name: &str) -> Result<usize, usize>
+fn find(groups: &[Option<&str>], order: &[u32], name: &str) -> Result<usize, usize>
     ensures bound { IsSearchInRange result (length order.now) }
     ensures found { IsBinarySearchResult (λ g. name_cmp (slice_index_or (groups_in groups.now) g None) (Some name.now)) order.now result }
 {
-    order.binary_search_by(|g| compare(groups, usize::from(*g), name))
+    order.binary_search_by(|g| compare(groups, *g as usize, name))
 }
 
-// Puts a group at the place among the first `len` of the table, which has room for one more.
-fn insert(cells: &mut [u16], len: usize, place: usize, g: u16)
-    requires place { place ≤ len }
-    requires room { len < length cells.old }
-    ensures inserted { take (len + 1) cells.new ≡ insert (take len cells.old) place g }
-    ensures length { length cells.new ≡ length cells.old }
+// The first group whose name is used at a lesser one that is among the first, whose order is known.
+fn repeat_by_order(groups: &[Option<&str>], order: &[u32]) -> Option<usize>
+    requires within { length order.now ≤ length groups.now }
+    requires order { IsOrder order.now (groups_in (take (length order.now) groups.now)) }
+    ensures { MatchOption result (AreApart (groups_in groups.now) (length order.now) (length groups.now)) (IsRepeatOf (groups_in groups.now) (length order.now)) }
 {
-    cells[len] = g;
-    cells[place..len + 1].rotate_right(1);
-}
-
-// The first group whose name is used at a lesser one that is in the first block. The cells are those of the table.
-fn repeat_of_block(groups: &[Option<&str>], cells: &mut [u16]) -> Option<usize>
-    requires { length cells.old ≡ BLOCK }
-    ensures length { length cells.new ≡ BLOCK }
-    ensures repeat { MatchOption result (AreApart (groups_in groups.now) BLOCK (length groups.now)) (IsRepeatOf (groups_in groups.now) BLOCK) }
-{
-    let mut len = 0;
-    for g in 0..groups.len() {
+    let block = &groups[..order.len()];
+    let least = least_repeat(block, order);
+    if least < block.len() {
+        return Some(least);
+    }
+    for g in block.len()..groups.len() {
         let group = groups[g];
         let Some(name) = group else { continue };
-        match find(groups, &cells[..len], name) {
+        match find(block, order, name) {
             Ok(_) => return Some(g),
-            Err(place) => {
-                if g < BLOCK {
-                    insert(cells, len, place, g as u16);
-                    len += 1;
-                }
-            }
+            Err(_) => {}
         }
     }
     None
 }
 
 // The first group whose name is used at a lesser one, block by block: a later block is looked at only before the repeat of an earlier.
-fn first_repeat_of_many(groups: &[Option<&str>]) -> Option<usize>
+fn first_repeat_of_many(groups: &[Option<&str>], cells: &mut [u32]) -> Option<usize>
+    requires some { 0 < length cells.old }
+    requires table { length cells.old ≤ LIMIT_OF_IDS }
     ensures { MatchOption result (AreDistinctBelow (groups_in groups.now) (length groups.now)) (IsFirstRepeat (groups_in groups.now)) }
 {
-    let mut cells = [0u16; BLOCK];
     let mut end = groups.len();
     let mut from = 0;
     while from < end {
-        if let Some(g) = repeat_of_block(&groups[from..end], &mut cells) {
+        let rest = &groups[from..end];
+        let len = rest.len().min(cells.len());
+        put_in_order(&rest[..len], &mut cells[..len]);
+        if let Some(g) = repeat_by_order(rest, &cells[..len]) {
             end = from + g;
         }
-        from = from.saturating_add(BLOCK);
+        from += len;
     }
     if end < groups.len() { Some(end) } else { None }
+}
+
+// The same with the small table, which takes less time to make than the large one.
+#[inline(never)]
+fn first_repeat_by_small_table(groups: &[Option<&str>]) -> Option<usize>
+    ensures { MatchOption result (AreDistinctBelow (groups_in groups.now) (length groups.now)) (IsFirstRepeat (groups_in groups.now)) }
+{
+    let mut cells = [0u32; SMALL_TABLE];
+    first_repeat_of_many(groups, &mut cells)
+}
+
+// The same with the large table.
+#[inline(never)]
+fn first_repeat_by_large_table(groups: &[Option<&str>]) -> Option<usize>
+    ensures { MatchOption result (AreDistinctBelow (groups_in groups.now) (length groups.now)) (IsFirstRepeat (groups_in groups.now)) }
+{
+    let mut cells = [0u32; LARGE_TABLE];
+    first_repeat_of_many(groups, &mut cells)
 }
 
 /// The first group whose name is used at a lesser one.
@@ -144,8 +156,10 @@ pub(crate) fn first_repeat(groups: &[Option<&str>]) -> Option<usize>
 {
     if groups.len() < SCANNED_GROUPS {
         first_repeat_of_few(groups)
+    } else if groups.len() <= SMALL_TABLE {
+        first_repeat_by_small_table(groups)
     } else {
-        first_repeat_of_many(groups)
+        first_repeat_by_large_table(groups)
     }
 }
 

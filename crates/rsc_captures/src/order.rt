@@ -42,6 +42,27 @@ fn sort_by_name(groups: &[Option<&str>], order: &mut [u32])
     order.sort_unstable_by_key(|g| (name_at(groups, *g as usize), *g));
 }
 
+// Fills the list with the numbers from 0 on.
+fn number(order: &mut [u32])
+    requires { length order.old ≤ LIMIT_OF_IDS }
+    ensures { order.new ≡ range_with_len 0 (length order.old) }
+{
+    for i in 0..order.len() {
+        order[i] = i as u32;
+    }
+}
+
+/// Fills the list with the numbers of as many groups, in the order of their names.
+pub(crate) fn put_in_order(groups: &[Option<&str>], order: &mut [u32])
+    requires len { length order.old ≡ length groups.now }
+    requires limit { length order.old ≤ LIMIT_OF_IDS }
+    ensures order { IsOrder order.new (groups_in groups.now) }
+    ensures len { length order.new ≡ length order.old }
+{
+    number(order);
+    sort_by_name(groups, order);
+}
+
 /// Adds the numbers of a pattern's groups, in the order of their names where they are not few.
 pub(crate) fn add_order<A: Allocator>(
     order: &mut Vec<u32, A>,
@@ -70,9 +91,9 @@ fn has_name_of(groups: &[Option<&str>], g: u32, h: u32) -> bool
     }
 }
 
-// The least group whose name is used at a lesser one, or the number of groups where there is none: in the order of the names such a
-// group is right behind one that has its name.
-fn least_repeat(groups: &[Option<&str>], order: &[u32]) -> usize
+/// The least group whose name is used at a lesser one, or the number of groups where there is none: in the order of the names such a
+/// group is right behind one that has its name.
+pub(crate) fn least_repeat(groups: &[Option<&str>], order: &[u32]) -> usize
     requires complete { HasGroups order.now (length groups.now) }
     requires sorted { IsSortedByName order.now (groups_in groups.now) }
     ensures distinct { AreDistinctBelow (groups_in groups.now) result }

@@ -103,26 +103,25 @@ fn finds_a_name_that_is_used_twice_in_a_short_list(rt: HostRuntime) -> Result<()
 #[test]
 fn finds_a_name_that_is_used_twice_at_each_edge_of_a_block(rt: HostRuntime) -> Result<(), Fail> {
     let alloc = rt.alloc();
-    let names = names(alloc, 8193)?;
+    let names = names(alloc, 65538)?;
     for (count, earlier, later) in [
-        (4095usize, 1usize, 4094usize),
-        (4096, 1, 4095),
-        (4096, 4094, 4095),
-        (4097, 1, 4096),
-        (4097, 4095, 4096),
-        (4098, 4095, 4097),
-        (4098, 4096, 4097),
-        (8193, 1, 8192),
-        (8193, 4095, 8191),
-        (8193, 4096, 8192),
-        (8193, 8191, 8192),
+        (1024usize, 1usize, 1023usize),
+        (1024, 1022, 1023),
+        (1025, 1, 1024),
+        (1025, 1023, 1024),
+        (65536, 1, 65535),
+        (65536, 65534, 65535),
+        (65537, 1, 65536),
+        (65537, 65535, 65536),
+        (65538, 65535, 65537),
+        (65538, 65536, 65537),
     ] {
         assert!(rt;
             is_refused(alloc, &names, count, &[(earlier, later)], true)?,
             "{earlier}, {later} of {count}"
         );
     }
-    for count in [4096usize, 4097, 8193] {
+    for count in [1024usize, 1025, 65536, 65538] {
         assert!(rt; is_refused(alloc, &names, count, &[], true)?, "{count}");
     }
     Ok(())
@@ -131,12 +130,20 @@ fn finds_a_name_that_is_used_twice_at_each_edge_of_a_block(rt: HostRuntime) -> R
 #[test]
 fn names_the_first_of_several(rt: HostRuntime) -> Result<(), Fail> {
     let alloc = rt.alloc();
-    let names = names(alloc, 8193)?;
+    let names = names(alloc, 65538)?;
     // The pair that has to be found comes last.
-    assert!(rt; is_refused(alloc, &names, 8193, &[(1, 8000), (5000, 6000)], true)?);
-    assert!(rt; is_refused(alloc, &names, 8193, &[(5000, 6000), (1, 5999)], true)?);
-    assert!(rt; is_refused(alloc, &names, 8193, &[(1, 4000), (1, 3000), (1, 2)], true)?);
-    assert!(rt; is_refused(alloc, &names, 4097, &[(1, 4096), (3, 4095)], true)?);
+    assert!(rt; is_refused(alloc, &names, 65538, &[(1, 65537), (40000, 50000)], true)?);
+    assert!(rt; is_refused(alloc, &names, 65538, &[(40000, 65537), (1, 65536)], true)?);
+    assert!(rt;
+        is_refused(
+            alloc,
+            &names,
+            65538,
+            &[(1, 30000), (1, 20000), (1, 2)],
+            true
+        )?
+    );
+    assert!(rt; is_refused(alloc, &names, 65537, &[(1, 65536), (3, 65535)], true)?);
     Ok(())
 }
 

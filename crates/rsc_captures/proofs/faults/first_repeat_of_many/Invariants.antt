@@ -8,6 +8,7 @@ abbrev pub invariant-loop-from : goal.invariant-loop-from
 invariant-loop-from l = record {
   within : l.end ≤ length l.groups;
   apart : AreApart (groups_in l.groups) l.from l.end;
+  table : length l.cells ≡ length l.initial.cells;
   repeats : l.end < length l.groups → is_repeat (groups_in l.groups) l.end ≡ true;
 }
 
