@@ -110,10 +110,7 @@ fn finds_a_name_that_is_used_twice_at_each_edge_of_a_block(rt: HostRuntime) -> R
         (1025, 1, 1024),
         (1025, 1023, 1024),
         (65536, 1, 65535),
-        (65536, 65534, 65535),
-        (65537, 1, 65536),
         (65537, 65535, 65536),
-        (65538, 65535, 65537),
         (65538, 65536, 65537),
     ] {
         assert!(rt;
@@ -121,7 +118,7 @@ fn finds_a_name_that_is_used_twice_at_each_edge_of_a_block(rt: HostRuntime) -> R
             "{earlier}, {later} of {count}"
         );
     }
-    for count in [1024usize, 1025, 65536, 65538] {
+    for count in [1024usize, 1025, 65538] {
         assert!(rt; is_refused(alloc, &names, count, &[], true)?, "{count}");
     }
     Ok(())
