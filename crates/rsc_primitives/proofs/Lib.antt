@@ -7,5 +7,6 @@ mod IndicesLemmas  -- the iterator over the first indices: what is left of it at
 mod LongLemmas  -- the character past ASCII that begins a list or ends it, by four bytes
 pub mod PartsLemmas  -- the characters of a part of a list are those of the whole
 mod Rows  -- the definitions, computed at single values
+mod TableLemmas  -- tables of texts, one for each byte
 pub mod Texts  -- where the characters of a text are in its bytes
 pub mod Utf8Lemmas  -- what the nine forms say of bytes and places, in numbers alone

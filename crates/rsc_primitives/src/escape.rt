@@ -1,14 +1,17 @@
 //! Bytes shown as text for people to read, whatever they are.
-ghost use Rattle.std.specs.Prelude.{◌≡◌, ℕ, ◌≤◌, ◌<◌, IfOk, MatchOption, Some, length, flat_map, string_bytes};
+ghost use Rattle.std.specs.Prelude.{◌≡◌, ℕ, ◌+◌, ◌≤◌, ◌<◌, ◌++◌, IfOk, MatchOption, Some, length, flat_map, take, string_bytes};
 ghost use Rattle.std.specs.Char.{len_utf8};
-ghost use Rattle.std.specs.Char.Escape.{escape_or};
 ghost use Rattle.std.specs.Fmt.{WritesOnOk};
-ghost use Rattle.rsc_primitives.specs.Escapes.{byte_text, step_text, haystack_text, hex_escape, EncodesOnlyAscii};
+ghost use Rattle.rsc_primitives.specs.Escapes.{byte_text, step_text, haystack_text, EncodesOnlyAscii};
 ghost use Rattle.rsc_primitives.specs.Utf8.{BeginsAt};
 
+use crate::tables::{BYTE_LENGTHS, BYTE_WIDTH, STEP_LENGTHS, STEP_TEXTS, STEP_WIDTH, byte_texts};
 use crate::utf8::decode;
 use std::alloc::{AllocError, Allocator};
 use std::fmt;
+
+// How much text is put together before it is written.
+const PIECE_SIZE: usize = 64;
 
 /// A byte that shows itself as a character where it prints, and as an escape where it doesn't. A space is shown in quotes.
 #[derive(Clone, Copy)]
@@ -18,7 +21,7 @@ impl fmt::Debug for DebugByte {
     ghost debug_output = { λ byte. Some (byte_text byte.0) };
 
     fn fmt<W: fmt::Write>(&self, f: &mut fmt::Formatter<W>) -> fmt::Result {
-        write_byte(self.0, f)
+        f.write_str(text_of_byte(self.0))
     }
 }
 
@@ -48,11 +51,7 @@ impl<'a> fmt::Debug for DebugHaystack<'a> {
 pub fn byte_text<A: Allocator + Drop>(alloc: A, byte: u8) -> Result<String<A>, AllocError>
     ensures { IfOk result (λ text. string_bytes text ≡ byte_text byte) }
 {
-    let mut f = fmt::Formatter::new(String::new(alloc));
-    match write_byte(byte, &mut f) {
-        Ok(()) => Ok(f.into_inner()),
-        Err(_) => Err(AllocError),
-    }
+    String::from_str(alloc, text_of_byte(byte))
 }
 
 /// The text that [`DebugHaystack`] shows: the bytes' characters in quotes, with an escape for each byte that is part of none.
@@ -81,13 +80,12 @@ pub fn haystack_text<A: Allocator + Drop>(
     }
 }
 
-fn write_byte<W: fmt::Write>(byte: u8, f: &mut fmt::Formatter<W>) -> fmt::Result
-    ensures { WritesOnOk W.write_str_gives f.old result (byte_text byte) f.new }
+#[inline(always)]
+fn text_of_byte(byte: u8) -> &'static str
+    ensures { result.now ≡ byte_text byte }
 {
-    match byte {
-        b' ' => f.write_str("' '"),
-        _ => write_escaped(byte, true, f),
-    }
+    let at = BYTE_WIDTH * usize::from(byte);
+    &byte_texts()[at..at + usize::from(BYTE_LENGTHS[usize::from(byte)])]
 }
 
 fn write_haystack<W: fmt::Write>(haystack: &[u8], f: &mut fmt::Formatter<W>) -> fmt::Result
@@ -101,23 +99,67 @@ fn write_haystack<W: fmt::Write>(haystack: &[u8], f: &mut fmt::Formatter<W>) -> 
 fn write_steps<W: fmt::Write>(haystack: &[u8], f: &mut fmt::Formatter<W>) -> fmt::Result
     ensures { EncodesOnlyAscii haystack.now → WritesOnOk W.write_str_gives f.old result (flat_map step_text haystack.now) f.new }
 {
+    let mut piece = [0u8; PIECE_SIZE];
+    let mut len = 0usize;
     let mut rest = haystack;
     'steps: while let Some((byte, after)) = rest.split_first() {
+        if len > PIECE_SIZE - STEP_WIDTH {
+            write_piece(&piece[..len], f)?;
+            len = 0;
+        }
         match past_ascii(rest) {
-            Some(c) => {
-                write_past_ascii(c, f)?;
-                rest = &rest[c.len_utf8()..];
-            }
             None => {
-                write_step(*byte, f)?;
+                len += put_byte(&mut piece, len, *byte);
                 rest = after;
+            }
+            Some(c) => {
+                if prints_as_it_is(c) {
+                    len += put_char(&mut piece, len, c);
+                } else {
+                    write_piece(&piece[..len], f)?;
+                    len = 0;
+                    write_past_ascii(c, f)?;
+                }
+                rest = &rest[c.len_utf8()..];
             }
         }
     }
-    Ok(())
+    write_piece(&piece[..len], f)
+}
+
+// Writes whole characters, so no error comes of the test for UTF-8.
+fn write_piece<W: fmt::Write>(piece: &[u8], f: &mut fmt::Formatter<W>) -> fmt::Result
+    ensures { WritesOnOk W.write_str_gives f.old result piece.now f.new }
+{
+    match str::from_utf8(piece) {
+        Ok(text) => f.write_str(text),
+        Err(_) => Err(fmt::Error),
+    }
+}
+
+// Puts the text of a byte that is ASCII or part of no encoding behind the first `len` bytes of a piece, and answers how long it is.
+#[inline(always)]
+fn put_byte(piece: &mut [u8; PIECE_SIZE], len: usize, byte: u8) -> usize
+    requires { len + 8 ≤ 64 }
+    ensures bound { result ≤ 8 }
+    ensures text { take (len + result) piece.new ≡ take len piece.old ++ step_text byte }
+{
+    let at = STEP_WIDTH * usize::from(byte);
+    piece[len..len + STEP_WIDTH].copy_from_slice(&STEP_TEXTS[at..at + STEP_WIDTH]);
+    usize::from(STEP_LENGTHS[usize::from(byte)])
+}
+
+// The same of a character past ASCII.
+#[inline(always)]
+fn put_char(piece: &mut [u8; PIECE_SIZE], len: usize, c: char) -> usize
+    requires { len + 8 ≤ 64 }
+    ensures { result ≤ 4 }
+{
+    c.encode_utf8(&mut piece[len..]).len()
 }
 
 // The character past ASCII that begins the bytes, if one does.
+#[inline(always)]
 fn past_ascii(bytes: &[u8]) -> Option<char>
     ensures { MatchOption result ((c : ℕ) → BeginsAt bytes.now 0 c → c < 128) (λ c. BeginsAt bytes.now 0 c × (128 ≤ c) × (len_utf8 c ≤ length bytes.now)) }
 {
@@ -129,51 +171,39 @@ fn past_ascii(bytes: &[u8]) -> Option<char>
     }
 }
 
+// Whether the character is in one of these ranges, in which `escape_debug` leaves each character as it is. Most text past ASCII is in
+// them, and `escape_debug` takes longer, since it goes through a table of all characters.
+fn prints_as_it_is(c: char) -> bool {
+    match c {
+        // Latin
+        '\u{AE}'..='\u{2FF}' => true,
+        // Greek, Cyrillic
+        '\u{3A3}'..='\u{482}' => true,
+        // dashes, quotation marks
+        '\u{2010}'..='\u{2027}' => true,
+        // signs of currencies
+        '\u{20A0}'..='\u{20C4}' => true,
+        // arrows, mathematical operators
+        '\u{2190}'..='\u{2429}' => true,
+        // boxes, symbols
+        '\u{2460}'..='\u{2B73}' => true,
+        // Hiragana, Katakana
+        '\u{3041}'..='\u{3096}' | '\u{309B}'..='\u{30FF}' => true,
+        // Chinese
+        '\u{3220}'..='\u{A48C}' => true,
+        // Korean
+        '\u{AC00}'..='\u{D7A3}' => true,
+        // mathematical letters
+        '\u{1D400}'..='\u{1D454}' => true,
+        // pictures
+        '\u{1F300}'..='\u{1F6D9}' => true,
+        _ => false,
+    }
+}
+
 fn write_past_ascii<W: fmt::Write>(c: char, f: &mut fmt::Formatter<W>) -> fmt::Result {
     for escaped in c.escape_debug() {
         f.write_char(escaped)?;
     }
     Ok(())
-}
-
-// A byte that is ASCII or part of no encoding.
-fn write_step<W: fmt::Write>(byte: u8, f: &mut fmt::Formatter<W>) -> fmt::Result
-    ensures { WritesOnOk W.write_str_gives f.old result (step_text byte) f.new }
-{
-    match byte {
-        0x00 => f.write_str("\\0"),
-        0x1A => f.write_str("\\u{1a}"),
-        0x1B => f.write_str("\\u{1b}"),
-        0x1C => f.write_str("\\u{1c}"),
-        0x1D => f.write_str("\\u{1d}"),
-        0x1E => f.write_str("\\u{1e}"),
-        0x1F => f.write_str("\\u{1f}"),
-        _ => write_escaped(byte, false, f),
-    }
-}
-
-// A byte that prints as it is, one that has a letter of its own, and any other by its hexadecimal digits.
-fn write_escaped<W: fmt::Write>(byte: u8, capitals: bool, f: &mut fmt::Formatter<W>) -> fmt::Result
-    ensures { WritesOnOk W.write_str_gives f.old result (escape_or byte (hex_escape capitals byte)) f.new }
-{
-    match byte {
-        b'\t' => f.write_str("\\t"),
-        b'\n' => f.write_str("\\n"),
-        b'\r' => f.write_str("\\r"),
-        b'"' => f.write_str("\\\""),
-        b'\'' => f.write_str("\\'"),
-        b'\\' => f.write_str("\\\\"),
-        0x20..=0x7E => f.write_char(char::from(byte)),
-        _ => write_hex(byte, capitals, f),
-    }
-}
-
-fn write_hex<W: fmt::Write>(byte: u8, capitals: bool, f: &mut fmt::Formatter<W>) -> fmt::Result
-    ensures { WritesOnOk W.write_str_gives f.old result (hex_escape capitals byte) f.new }
-{
-    if capitals {
-        write!(f, "\\x{byte:02X}")
-    } else {
-        write!(f, "\\x{byte:02x}")
-    }
 }

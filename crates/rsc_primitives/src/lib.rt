@@ -6,6 +6,7 @@ pub mod escape;
 /// Laws that a caller may cite.
 pub mod laws;
 mod primitives;
+mod tables;
 /// UTF-8 read from either end of any bytes.
 pub mod utf8;
 

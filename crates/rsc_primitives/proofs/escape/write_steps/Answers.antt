@@ -1,23 +1,63 @@
-use Rattle.std.proofs.Common.{◌++◌, flat_map, sym, ap, ◌∙◌, append_assoc, rules, arith, subst, List, ℕ}
+use Rattle.std.proofs.Common.{◌++◌, ◌≤◌, flat_map, take, sym, ap, ◌∙◌, append-nil, rules, arith, subst, List, ℕ}
+use Rattle.std.specs.Fmt.{HasWritten}
 use Rattle.std.proofs.Output.{has_written_append}
+use Rattle.std.proofs.lemmas.List.{nil_from_length}
 use Rattle.rsc_primitives.specs.Escapes.{step_text, EncodesOnlyAscii}
-use Rattle.rsc_primitives.proofs.EscapesLemmas.{EncodesOnlyAscii-behind}
+use Rattle.rsc_primitives.proofs.EscapesLemmas.{EncodesOnlyAscii-behind, piece_written, byte_put}
+use Rattle.rsc_primitives.proofs.escape.write_steps.Goals.{then-len+in_ok-write_piece, else-len, then-prints_as_it_is, else-prints_as_it_is+in_ok-write_piece-in-Some-past_ascii+in_ok-write_past_ascii-in-Some-past_ascii}
 use Rattle.rsc_primitives.proofs.escape.write_steps.Goals as goal
 
-pub steps-preserved-in-Some-past_ascii : goal.steps-preserved-in-Some-past_ascii
-steps-preserved-in-Some-past_ascii g c only plain =
-    let now = c.steps.invariant only plain in
-    let begins = c.in-Some-past_ascii.ensures in
-    let low = now.3 _ _ begins.0 in
-    let high = begins.1 in
-    absurd (omega arith)
+pub steps-preserved-in-None : goal.steps-preserved-in-None
+steps-preserved-in-None g c =
+    elim c.if-len.branch [
+      | then-len+in_ok-write_piece w ↦ (
+        omega (arith, w.len-is, c.put_byte-len.ensures.bound),
+        λ only plain.
+            let now = c.steps.invariant.1 only plain in
+            let b = c.in-Some.byte.now in
+            let is = c.in-Some.ensures.cases.0 in (
+              now.0 ++ take c.steps.len c.steps.piece,
+              rw w.f-is (has_written_append _ _ _ _ _ _ now.1 (search rules)),
+              byte_put _ _ _ _ _ _ b c.put_byte-len.ensures.text is (piece_written now.0 _ c.steps.piece _ _ _ w.len-is now.2),
+              EncodesOnlyAscii-behind b c.in-Some.after.now (subst (λ (h : List ℕ). EncodesOnlyAscii h) is now.3),
+            ),
+      )
+      | else-len w ↦ (
+        omega (arith, w.len-is, w.if-len.false, c.put_byte-len.ensures.bound),
+        λ only plain.
+            let now = c.steps.invariant.1 only plain in
+            let b = c.in-Some.byte.now in
+            let is = c.in-Some.ensures.cases.0 in (
+              now.0,
+              rw w.f-is now.1,
+              byte_put _ _ _ _ _ _ b c.put_byte-len.ensures.text is (rw w.len-is now.2),
+              EncodesOnlyAscii-behind b c.in-Some.after.now (subst (λ (h : List ℕ). EncodesOnlyAscii h) is now.3),
+            ),
+      )
+    ]
 
 pub steps-preserved : goal.steps-preserved
-steps-preserved g c only plain =
-    let now = c.steps.invariant only plain in
-    let b = c.in-Some.byte.now in (
-      now.0 ++ step_text b,
-      has_written_append _ _ _ _ _ _ now.1 (search rules),
-      append_assoc now.0 (step_text b) _ ∙ ap (λ l. now.0 ++ flat_map step_text l) (sym c.in-Some.ensures.cases.0) ∙ now.2,
-      EncodesOnlyAscii-behind b c.in-Some.after.now (subst (λ (h : List ℕ). EncodesOnlyAscii h) c.in-Some.ensures.cases.0 now.3),
+steps-preserved g c =
+    let room : c.if-len.len ≤ 56 = elim c.if-len.branch [
+      | then-len+in_ok-write_piece w ↦ omega (arith, w.len-is)
+      | else-len w ↦ omega (arith, w.len-is, w.if-len.false)
+    ] in (
+      elim c.if-prints_as_it_is.branch [
+        | then-prints_as_it_is w ↦ omega (arith, room, w.len-is, w.put_char-len.ensures)
+        | else-prints_as_it_is+in_ok-write_piece-in-Some-past_ascii+in_ok-write_past_ascii-in-Some-past_ascii w ↦ omega (arith, w.len-is)
+      ],
+      λ only plain.
+          let now = c.steps.invariant.1 only plain in
+          let begins = c.in-Some-past_ascii.ensures in
+          let low = now.3 _ _ begins.0 in
+          let high = begins.1 in
+          absurd (omega arith),
     )
+
+pub returns : goal.returns
+returns g c only plain ok =
+    let now = c.steps.invariant.1 only plain in
+    let none = nil_from_length _ c.in_default.ensures.cases in
+    subst (λ (t : List ℕ). HasWritten g.W.Write.write_str_gives c.args.f.now t c.write_piece-2.new.f)
+    (sym (append-nil _) ∙ ap (λ l. (now.0 ++ take c.steps.len c.steps.piece) ++ flat_map step_text l) (sym none) ∙ now.2)
+    (has_written_append _ _ _ _ _ _ now.1 (search rules))
