@@ -54,7 +54,7 @@ impl PatternID {
     /// # Errors
     ///
     /// A number above the greatest index is refused, and the error holds it.
-    #[inline]
+    #[inline(always)]
     pub fn new(index: usize) -> Result<PatternID, PatternIDError>
         ensures { result ≡ index_of index }
     {
@@ -80,7 +80,7 @@ impl PatternID {
     }
 
     /// The number.
-    #[inline]
+    #[inline(always)]
     pub fn as_u64(&self) -> u64
         ensures value { result ≡ self.now }
         ensures small { IsIndex result }
@@ -201,7 +201,7 @@ impl TryFrom<u64> for PatternID {
 
     ghost try_from_gives = { λ n answer. answer ≡ index_of n };
 
-    #[inline]
+    #[inline(always)]
     fn try_from(index: u64) -> Result<PatternID, PatternIDError> {
         if index > PatternID::MAX.as_u64() {
             return Err(PatternIDError { attempted: index });
@@ -215,7 +215,7 @@ impl TryFrom<usize> for PatternID {
 
     ghost try_from_gives = { λ n answer. answer ≡ index_of n };
 
-    #[inline]
+    #[inline(always)]
     fn try_from(index: usize) -> Result<PatternID, PatternIDError> {
         PatternID::try_from(index as u64)
     }
@@ -247,7 +247,7 @@ impl Model for PatternIDError {
 
 impl PatternIDError {
     /// The number that was refused.
-    #[inline]
+    #[inline(always)]
     pub fn attempted(&self) -> u64
         ensures { result ≡ self.now }
     {

@@ -54,7 +54,7 @@ impl SmallIndex {
     /// # Errors
     ///
     /// A number above the greatest index is refused, and the error holds it.
-    #[inline]
+    #[inline(always)]
     pub fn new(index: usize) -> Result<SmallIndex, SmallIndexError>
         ensures { result ≡ index_of index }
     {
@@ -80,7 +80,7 @@ impl SmallIndex {
     }
 
     /// The number.
-    #[inline]
+    #[inline(always)]
     pub fn as_u64(&self) -> u64
         ensures value { result ≡ self.now }
         ensures small { IsIndex result }
@@ -192,7 +192,7 @@ impl TryFrom<u64> for SmallIndex {
 
     ghost try_from_gives = { λ n answer. answer ≡ index_of n };
 
-    #[inline]
+    #[inline(always)]
     fn try_from(index: u64) -> Result<SmallIndex, SmallIndexError> {
         if index > SmallIndex::MAX.as_u64() {
             return Err(SmallIndexError { attempted: index });
@@ -206,7 +206,7 @@ impl TryFrom<usize> for SmallIndex {
 
     ghost try_from_gives = { λ n answer. answer ≡ index_of n };
 
-    #[inline]
+    #[inline(always)]
     fn try_from(index: usize) -> Result<SmallIndex, SmallIndexError> {
         SmallIndex::try_from(index as u64)
     }
@@ -230,7 +230,7 @@ impl Model for SmallIndexError {
 
 impl SmallIndexError {
     /// The number that was refused.
-    #[inline]
+    #[inline(always)]
     pub fn attempted(&self) -> u64
         ensures { result ≡ self.now }
     {

@@ -53,7 +53,7 @@ impl StateID {
     /// # Errors
     ///
     /// A number above the greatest index is refused, and the error holds it.
-    #[inline]
+    #[inline(always)]
     pub fn new(index: usize) -> Result<StateID, StateIDError>
         ensures { result ≡ index_of index }
     {
@@ -79,7 +79,7 @@ impl StateID {
     }
 
     /// The number.
-    #[inline]
+    #[inline(always)]
     pub fn as_u64(&self) -> u64
         ensures value { result ≡ self.now }
         ensures small { IsIndex result }
@@ -191,7 +191,7 @@ impl TryFrom<u64> for StateID {
 
     ghost try_from_gives = { λ n answer. answer ≡ index_of n };
 
-    #[inline]
+    #[inline(always)]
     fn try_from(index: u64) -> Result<StateID, StateIDError> {
         if index > StateID::MAX.as_u64() {
             return Err(StateIDError { attempted: index });
@@ -205,7 +205,7 @@ impl TryFrom<usize> for StateID {
 
     ghost try_from_gives = { λ n answer. answer ≡ index_of n };
 
-    #[inline]
+    #[inline(always)]
     fn try_from(index: usize) -> Result<StateID, StateIDError> {
         StateID::try_from(index as u64)
     }
@@ -229,7 +229,7 @@ impl Model for StateIDError {
 
 impl StateIDError {
     /// The number that was refused.
-    #[inline]
+    #[inline(always)]
     pub fn attempted(&self) -> u64
         ensures { result ≡ self.now }
     {
