@@ -2,7 +2,7 @@
 //!
 //! The names of a pattern are looked at for a repeat block by block. A table on the stack has the groups of one block in the order
 //! of their names, where a name that is used twice has neighbours, and each name behind the block is looked up there by halving. So
-//! n names of one pattern are sorted in blocks of at most 65,536, and make at most n²/131072 look-ups of at most 17 comparisons,
+//! n names of one pattern are sorted in blocks of at most 16,384, and make at most n²/32768 look-ups of at most 15 comparisons,
 //! whatever names they are.
 ghost use Rattle.std.specs.Prelude.{◌≡◌, ℕ, ◌+◌, ◌*◌, ◌<◌, ◌≤◌, length, take, slice_index_or, Some, None, IfOk, IfErr, OnOk, MatchOption};
 ghost use Rattle.rsc_captures.specs.Groups.{has_name, contains_name, groups_in, lists_in, AreDistinctBelow, explicit_before, group_count};
@@ -18,10 +18,10 @@ use crate::order::{SCANNED_GROUPS, least_repeat, put_in_order};
 use rsc_primitives::{PatternID, PatternIDError};
 use std::cmp::Ordering;
 
-// How many groups a table has room for: 4 KiB, and 256 KiB.
+// How many groups a table has room for: 4 KiB, and 64 KiB.
 const SMALL_TABLE: usize = 1024;
 
-const LARGE_TABLE: usize = 65536;
+const LARGE_TABLE: usize = 16384;
 
 /// A fault, with the name lent by the list.
 #[derive(Drop)]

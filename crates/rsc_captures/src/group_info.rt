@@ -133,9 +133,9 @@ impl<A: Allocator + Clone + Drop> GroupInfo<A> {
     /// # Cost
     ///
     /// Names are sorted, pattern by pattern, and a name that is used twice is read off their order. The names of a list with any other
-    /// fault are sorted in blocks of at most 65,536, on the stack, and those behind a block are looked up there: n names of one pattern
-    /// make at most n²/131072 look-ups of at most 17 comparisons, whatever names they are. The block takes 4 KiB of the stack where a
-    /// pattern has at most 1,024 groups, else 256 KiB.
+    /// fault are sorted in blocks of at most 16,384, on the stack, and those behind a block are looked up there: n names of one pattern
+    /// make at most n²/32768 look-ups of at most 15 comparisons, whatever names they are. The block takes 4 KiB of the stack where a
+    /// pattern has at most 1,024 groups, else 64 KiB.
     pub fn new(alloc: A, lists: &[&[Option<&str>]]) -> Result<GroupInfo<A>, GroupInfoError<A>>
         ensures groups { IfOk result (λ info. info ≡ lists_in lists.now) }
         ensures faultless { OnOk result (IsFaultless LIMIT_OF_IDS (lists_in lists.now)) }

@@ -113,13 +113,9 @@ fn write_steps<W: fmt::Write>(haystack: &[u8], f: &mut fmt::Formatter<W>) -> fmt
                 rest = after;
             }
             Some(c) => {
-                if prints_as_it_is(c) {
-                    len += put_char(&mut piece, len, c);
-                } else {
-                    write_piece(&piece[..len], f)?;
-                    len = 0;
-                    write_past_ascii(c, f)?;
-                }
+                write_piece(&piece[..len], f)?;
+                len = 0;
+                write_past_ascii(c, f)?;
                 rest = &rest[c.len_utf8()..];
             }
         }
@@ -149,15 +145,6 @@ fn put_byte(piece: &mut [u8; PIECE_SIZE], len: usize, byte: u8) -> usize
     usize::from(STEP_LENGTHS[usize::from(byte)])
 }
 
-// The same of a character past ASCII.
-#[inline(always)]
-fn put_char(piece: &mut [u8; PIECE_SIZE], len: usize, c: char) -> usize
-    requires { len + 8 ≤ 64 }
-    ensures { result ≤ 4 }
-{
-    c.encode_utf8(&mut piece[len..]).len()
-}
-
 // The character past ASCII that begins the bytes, if one does.
 #[inline(always)]
 fn past_ascii(bytes: &[u8]) -> Option<char>
@@ -168,36 +155,6 @@ fn past_ascii(bytes: &[u8]) -> Option<char>
         Some(Ok(_)) => None,
         Some(Err(_)) => None,
         None => None,
-    }
-}
-
-// Whether the character is in one of these ranges, in which `escape_debug` leaves each character as it is. Most text past ASCII is in
-// them, and `escape_debug` takes longer, since it goes through a table of all characters.
-fn prints_as_it_is(c: char) -> bool {
-    match c {
-        // Latin
-        '\u{AE}'..='\u{2FF}' => true,
-        // Greek, Cyrillic
-        '\u{3A3}'..='\u{482}' => true,
-        // dashes, quotation marks
-        '\u{2010}'..='\u{2027}' => true,
-        // signs of currencies
-        '\u{20A0}'..='\u{20C4}' => true,
-        // arrows, mathematical operators
-        '\u{2190}'..='\u{2429}' => true,
-        // boxes, symbols
-        '\u{2460}'..='\u{2B73}' => true,
-        // Hiragana, Katakana
-        '\u{3041}'..='\u{3096}' | '\u{309B}'..='\u{30FF}' => true,
-        // Chinese
-        '\u{3220}'..='\u{A48C}' => true,
-        // Korean
-        '\u{AC00}'..='\u{D7A3}' => true,
-        // mathematical letters
-        '\u{1D400}'..='\u{1D454}' => true,
-        // pictures
-        '\u{1F300}'..='\u{1F6D9}' => true,
-        _ => false,
     }
 }
 

@@ -103,22 +103,22 @@ fn finds_a_name_that_is_used_twice_in_a_short_list(rt: HostRuntime) -> Result<()
 #[test]
 fn finds_a_name_that_is_used_twice_at_each_edge_of_a_block(rt: HostRuntime) -> Result<(), Fail> {
     let alloc = rt.alloc();
-    let names = names(alloc, 65538)?;
+    let names = names(alloc, 16386)?;
     for (count, earlier, later) in [
         (1024usize, 1usize, 1023usize),
         (1024, 1022, 1023),
         (1025, 1, 1024),
         (1025, 1023, 1024),
-        (65536, 1, 65535),
-        (65537, 65535, 65536),
-        (65538, 65536, 65537),
+        (16384, 1, 16383),
+        (16385, 16383, 16384),
+        (16386, 16384, 16385),
     ] {
         assert!(rt;
             is_refused(alloc, &names, count, &[(earlier, later)], true)?,
             "{earlier}, {later} of {count}"
         );
     }
-    for count in [1024usize, 1025, 65538] {
+    for count in [1024usize, 1025, 16386] {
         assert!(rt; is_refused(alloc, &names, count, &[], true)?, "{count}");
     }
     Ok(())
@@ -127,20 +127,12 @@ fn finds_a_name_that_is_used_twice_at_each_edge_of_a_block(rt: HostRuntime) -> R
 #[test]
 fn names_the_first_of_several(rt: HostRuntime) -> Result<(), Fail> {
     let alloc = rt.alloc();
-    let names = names(alloc, 65538)?;
+    let names = names(alloc, 16386)?;
     // The pair that has to be found comes last.
-    assert!(rt; is_refused(alloc, &names, 65538, &[(1, 65537), (40000, 50000)], true)?);
-    assert!(rt; is_refused(alloc, &names, 65538, &[(40000, 65537), (1, 65536)], true)?);
-    assert!(rt;
-        is_refused(
-            alloc,
-            &names,
-            65538,
-            &[(1, 30000), (1, 20000), (1, 2)],
-            true
-        )?
-    );
-    assert!(rt; is_refused(alloc, &names, 65537, &[(1, 65536), (3, 65535)], true)?);
+    assert!(rt; is_refused(alloc, &names, 16386, &[(1, 16385), (10000, 12000)], true)?);
+    assert!(rt; is_refused(alloc, &names, 16386, &[(10000, 16385), (1, 16384)], true)?);
+    assert!(rt; is_refused(alloc, &names, 16386, &[(1, 9000), (1, 5000), (1, 2)], true)?);
+    assert!(rt; is_refused(alloc, &names, 16385, &[(1, 16384), (3, 16383)], true)?);
     Ok(())
 }
 

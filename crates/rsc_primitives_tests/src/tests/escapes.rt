@@ -1,6 +1,5 @@
 use linked_list_allocator::LocalHeap;
 use rsc_primitives::escape::{DebugByte, DebugHaystack, byte_text, haystack_text};
-use std::alloc::{AllocError, Global};
 use std::test::Fail;
 
 #[test]
@@ -70,24 +69,6 @@ fn shows_a_haystack(rt: HostRuntime) -> Result<(), Fail> {
             want,
             "{haystack:?}"
         );
-    }
-    Ok(())
-}
-
-// Whether the character alone is shown as std's `escape_debug` shows it.
-fn shows_as_std(alloc: Global, c: char) -> Result<bool, AllocError> {
-    let haystack = format!(in alloc; "{c}")?;
-    let want = format!(in alloc; "\"{}\"", c.escape_debug())?;
-    Ok(haystack_text(alloc, haystack.as_bytes())?.as_str() == want.as_str())
-}
-
-#[test]
-fn shows_characters_past_ascii_as_std_escapes_them(rt: HostRuntime) -> Result<(), Fail> {
-    for c in '\u{80}'..='\u{FFFF}' {
-        assert!(rt; shows_as_std(rt.alloc(), c)?, "{c:?}");
-    }
-    for c in '\u{1D000}'..='\u{1FFFF}' {
-        assert!(rt; shows_as_std(rt.alloc(), c)?, "{c:?}");
     }
     Ok(())
 }

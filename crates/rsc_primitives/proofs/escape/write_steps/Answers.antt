@@ -1,10 +1,10 @@
-use Rattle.std.proofs.Common.{◌++◌, ◌≤◌, flat_map, take, sym, ap, ◌∙◌, append-nil, rules, arith, subst, List, ℕ}
+use Rattle.std.proofs.Common.{◌++◌, flat_map, take, sym, ap, ◌∙◌, append-nil, rules, arith, subst, List, ℕ}
 use Rattle.std.specs.Fmt.{HasWritten}
 use Rattle.std.proofs.Output.{has_written_append}
 use Rattle.std.proofs.lemmas.List.{nil_from_length}
 use Rattle.rsc_primitives.specs.Escapes.{step_text, EncodesOnlyAscii}
 use Rattle.rsc_primitives.proofs.EscapesLemmas.{EncodesOnlyAscii-behind, piece_written, byte_put}
-use Rattle.rsc_primitives.proofs.escape.write_steps.Goals.{then-len+in_ok-write_piece, else-len, then-prints_as_it_is, else-prints_as_it_is+in_ok-write_piece-in-Some-past_ascii+in_ok-write_past_ascii-in-Some-past_ascii}
+use Rattle.rsc_primitives.proofs.escape.write_steps.Goals.{then-len+in_ok-write_piece, else-len}
 use Rattle.rsc_primitives.proofs.escape.write_steps.Goals as goal
 
 pub steps-preserved-in-None : goal.steps-preserved-in-None
@@ -37,22 +37,15 @@ steps-preserved-in-None g c =
     ]
 
 pub steps-preserved : goal.steps-preserved
-steps-preserved g c =
-    let room : c.if-len.len ≤ 56 = elim c.if-len.branch [
-      | then-len+in_ok-write_piece w ↦ omega (arith, w.len-is)
-      | else-len w ↦ omega (arith, w.len-is, w.if-len.false)
-    ] in (
-      elim c.if-prints_as_it_is.branch [
-        | then-prints_as_it_is w ↦ omega (arith, room, w.len-is, w.put_char-len.ensures)
-        | else-prints_as_it_is+in_ok-write_piece-in-Some-past_ascii+in_ok-write_past_ascii-in-Some-past_ascii w ↦ omega (arith, w.len-is)
-      ],
-      λ only plain.
-          let now = c.steps.invariant.1 only plain in
-          let begins = c.in-Some-past_ascii.ensures in
-          let low = now.3 _ _ begins.0 in
-          let high = begins.1 in
-          absurd (omega arith),
-    )
+steps-preserved g c = (
+  omega arith,
+  λ only plain.
+      let now = c.steps.invariant.1 only plain in
+      let begins = c.in-Some-past_ascii.ensures in
+      let low = now.3 _ _ begins.0 in
+      let high = begins.1 in
+      absurd (omega arith),
+)
 
 pub returns : goal.returns
 returns g c only plain ok =
