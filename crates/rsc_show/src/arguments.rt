@@ -1,5 +1,5 @@
 //! The arguments of `looks` and `classes`.
-ghost use Rattle.std.specs.Prelude.{◌≡◌, ◌≤◌, ◌∷◌, ◌++◌, ℕ, List, All, IfOk, IfSome, Ok, false, map};
+ghost use Rattle.std.specs.Prelude.{◌≡◌, ◌≤◌, ◌∷◌, ◌++◌, ℕ, List, All, IfOk, IfSome, Ok, Some, false, map};
 ghost use Rattle.std.specs.String.{string_bytes};
 ghost use Rattle.hex.specs.Hex.{decode_of};
 ghost use Rattle.rsc_show.specs.declared.arguments.Haystack.{Haystack};
@@ -121,31 +121,23 @@ fn take(alloc: Global, request: &mut Request, next: Next, argument: &str) -> Res
     match next {
         Next::Plain => take_plain(alloc, request, argument),
         Next::Terminator => {
-            let Some(byte) = parse_byte(argument.as_bytes()) else {
-                return Err(refused(alloc, argument, EXPECTED_BYTE));
-            };
-            request.terminator = byte;
+            let byte = parse_byte(argument.as_bytes());
+            request.terminator = expect(alloc, byte, argument, EXPECTED_BYTE)?;
             Ok(Next::Plain)
         }
         Next::Words => {
-            let Some(words) = words_of(argument) else {
-                return Err(refused(alloc, argument, EXPECTED_WORDS));
-            };
-            request.words = words;
+            request.words = expect(alloc, words_of(argument), argument, EXPECTED_WORDS)?;
             Ok(Next::Plain)
         }
         Next::Range => {
-            let Some(range) = parse_range(argument.as_bytes()) else {
-                return Err(refused(alloc, argument, EXPECTED_RANGE));
-            };
-            request.ranges.push(range)?;
+            let range = parse_range(argument.as_bytes());
+            request
+                .ranges
+                .push(expect(alloc, range, argument, EXPECTED_RANGE)?)?;
             Ok(Next::Plain)
         }
         Next::Color => {
-            let Some(color) = color_of(argument) else {
-                return Err(refused(alloc, argument, EXPECTED_COLOR));
-            };
-            request.color = color;
+            request.color = expect(alloc, color_of(argument), argument, EXPECTED_COLOR)?;
             Ok(Next::Plain)
         }
         Next::Hex => {
@@ -157,6 +149,21 @@ fn take(alloc: Global, request: &mut Request, next: Next, argument: &str) -> Res
             Ok(Next::Nothing)
         }
         Next::Nothing => Err(refused(alloc, argument, "nothing after the haystack")),
+    }
+}
+
+// What was found, or the refusal of the argument where it says nothing.
+fn expect<T: Drop>(
+    alloc: Global,
+    found: Option<T>,
+    argument: &str,
+    expected: &str,
+) -> Result<T, ShowError>
+    ensures { IfOk result (λ value. found ≡ Some value) }
+{
+    match found {
+        Some(value) => Ok(value),
+        None => Err(refused(alloc, argument, expected)),
     }
 }
 
@@ -210,10 +217,8 @@ fn after_option(argument: &str) -> Option<Next>
 fn bytes_of(alloc: Global, argument: &str) -> Result<Vec<u8>, ShowError>
     ensures { IfOk result (λ bytes. decode_of argument.now ≡ Ok bytes.items) }
 {
-    match parse_bytes(alloc, argument.as_bytes())? {
-        Some(bytes) => Ok(bytes),
-        None => Err(refused(alloc, argument, "pairs of hexadecimal digits")),
-    }
+    let bytes = parse_bytes(alloc, argument.as_bytes())?;
+    expect(alloc, bytes, argument, "pairs of hexadecimal digits")
 }
 
 // What was expected in place of a name that no assertion has: the names that the fewest edits make of it.

@@ -33,9 +33,7 @@ impl WordClass for Words {
 /// Below 128 both choices are the word bytes.
 pub fn words_agree()
     ensures { (w : Words) → AgreesWithAscii (chosen_words w) }
-{
-    rsc_look::laws::words_agree_with_ascii();
-}
+{}
 
 /// The choice that an argument names.
 pub fn words_of(argument: &str) -> Option<Words>
