@@ -1,6 +1,6 @@
 #!/usr/bin/env bash
 # Refuses each request for memory of rsc_bench in turn. For each command the program answers two lines, and its Nth request
-# fails, for N from 1 up: it must end with status 1, the text of want of memory on standard error, and nothing but answers of
+# fails, for N from 1 up: it must end with status 1, the text of 'out of memory' on standard error, and nothing but answers of
 # earlier lines on standard output, until a run meets no refusal and gives both answers. It is outside the gate, since each
 # N takes a build, of some 20 seconds: `rt try` has no other way to choose the request.
 #
@@ -72,6 +72,8 @@ add looks 'looks 0a StartLF' 'alphabet 4: 00 0a 0b'
 add look 'look WordUnicode 0a 6180 1' 'true'
 add groups 'groups -,x;-,-,x' 'slots 10: 0,4;2,6,8'
 add limited 'limited 6 -;-,-' 'slots 6: 0;2,4'
+add repeated 'groups -,x,x' "duplicate capture group name 'x' found for pattern 0"
+add missing 'groups -,x;' 'no capturing groups found for pattern 1 (either all patterns have zero groups or all patterns have at least one group)'
 
 # What the last run of a case wrote on standard output, on standard error, and its status.
 output_of() {
@@ -117,7 +119,7 @@ for ((request = 1; request <= 200 && ${#answers[@]} > 0; request++)); do
         rm "$folder/cases/$name"
         ;;
       *)
-        echo "$name, request $request: neither want of memory nor the full answer"
+        echo "$name, request $request: neither 'out of memory' nor the full answer"
         output_of "$name"
         error_of "$name"
         failed=$((failed + 1))

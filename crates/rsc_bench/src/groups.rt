@@ -9,7 +9,7 @@ use rsc_primitives::PatternID;
 use std::alloc::{AllocError, Allocator};
 use std::fmt::Write;
 
-// The limit of `groups`, and the greatest that `limited` takes.
+// The greatest limit that `limited` takes.
 const GREATEST_LIMIT: usize = PatternID::LIMIT - 1;
 
 /// The answer to the arguments of `groups`, or `None` where they aren't lists of groups.
@@ -20,7 +20,7 @@ pub fn answer<A: Allocator + Copy + Drop>(
     alloc: A,
     arguments: &[&[u8]],
 ) -> Result<Option<String<A>>, AllocError> {
-    answer_within(alloc, GREATEST_LIMIT, arguments)
+    answer_within(alloc, None, arguments)
 }
 
 /// The answer to the arguments of `limited`, or `None` where they aren't a limit of at most 2147483646 and lists of groups.
@@ -32,7 +32,7 @@ pub fn answer_limited<A: Allocator + Copy + Drop>(
         return Ok(None);
     };
     match parse_limit(limit) {
-        Some(limit) => answer_within(alloc, limit, lists),
+        Some(limit) => answer_within(alloc, Some(limit), lists),
         None => Ok(None),
     }
 }
@@ -49,44 +49,40 @@ fn parse_limit(token: &[u8]) -> Option<usize>
     }
 }
 
-// The answer where no more slots than the limit are allowed.
+// The answer where no more slots than the limit are allowed, if there is one.
 fn answer_within<A: Allocator + Copy + Drop>(
     alloc: A,
-    limit: usize,
+    limit: Option<usize>,
     arguments: &[&[u8]],
 ) -> Result<Option<String<A>>, AllocError>
-    requires { limit ≤ LIMIT_OF_IDS }
+    requires { IfSome limit (λ limit. limit ≤ LIMIT_OF_IDS) }
 {
     match arguments {
         [] => Ok(Some(answer_lists(alloc, limit, &[])?)),
         [lists] => match parse_patterns(alloc, lists)? {
-            Some(patterns) => Ok(Some(answer_patterns(alloc, limit, patterns.as_slice())?)),
+            Some(patterns) => {
+                let lists = slices_of(alloc, patterns.as_slice())?;
+                Ok(Some(answer_lists(alloc, limit, lists.as_slice())?))
+            }
             None => Ok(None),
         },
         _ => Ok(None),
     }
 }
 
-fn answer_patterns<A: Allocator + Copy + Drop>(
-    alloc: A,
-    limit: usize,
-    patterns: &[Vec<Option<&str>, A>],
-) -> Result<String<A>, AllocError>
-    requires { limit ≤ LIMIT_OF_IDS }
-{
-    let lists = slices_of(alloc, patterns)?;
-    answer_lists(alloc, limit, lists.as_slice())
-}
-
 // The slots of the groups, or the displayed refusal.
 fn answer_lists<A: Allocator + Copy + Drop>(
     alloc: A,
-    limit: usize,
+    limit: Option<usize>,
     lists: &[&[Option<&str>]],
 ) -> Result<String<A>, AllocError>
-    requires { limit ≤ LIMIT_OF_IDS }
+    requires { IfSome limit (λ limit. limit ≤ LIMIT_OF_IDS) }
 {
-    match GroupInfo::new_limited(alloc, limit, lists) {
+    let made = match limit {
+        None => GroupInfo::new(alloc, lists),
+        Some(limit) => GroupInfo::new_limited(alloc, limit, lists),
+    };
+    match made {
         Ok(info) => describe(alloc, &info),
         Err(error) => describe_refusal(alloc, &error),
     }
@@ -119,7 +115,7 @@ fn separator_before(pattern: PatternID, group: usize) -> char {
     }
 }
 
-// The displayed refusal, but for want of memory, which stops the run.
+// The displayed refusal. Out of memory is no answer: it stops the run.
 fn describe_refusal<A: Allocator + Copy + Drop>(
     alloc: A,
     error: &GroupInfoError<A>,

@@ -152,12 +152,12 @@ fn answers_limited_groups(rt: HostRuntime) -> Result<(), Fail> {
         ("limited 2147483646 -", "slots 2: 0\n"),
         ("limited 0000000002 -", "slots 2: 0\n"),
         (
-            "limited 2 -,x,x",
-            "too many capture groups (at least 2) were found for pattern 0\n",
-        ),
-        (
             "limited 4 -,x,x",
             "duplicate capture group name 'x' found for pattern 0\n",
+        ),
+        (
+            "limited 4 -,-;-;",
+            "no capturing groups found for pattern 2 (either all patterns have zero groups or all patterns have at least one group)\n",
         ),
         ("limited 0 ", MISSING),
         ("limited 0 x", NAMED),
@@ -173,6 +173,27 @@ fn answers_limited_groups(rt: HostRuntime) -> Result<(), Fail> {
     for (input, want) in rows {
         let answer = answer_to(rt.alloc(), input)?;
         assert_eq!(rt; answer.as_str(), want, "at {input:?}");
+    }
+    Ok(())
+}
+
+// Each list, the least number of groups that its refusal names, and the pattern.
+#[test]
+fn refuses_more_groups_than_the_limit(rt: HostRuntime) -> Result<(), Fail> {
+    let rows = [
+        ("limited 3 -;-", 1, 0),
+        ("limited 5 -;-,-", 2, 1),
+        ("limited 4 -,-;-", 2, 0),
+        ("limited 2 -,x,x", 2, 0),
+        ("limited 1 -,-;", 1, 0),
+        ("limited 1 -,-;-", 1, 0),
+    ];
+    for (input, minimum, pattern) in rows {
+        let answer = answer_to(rt.alloc(), input)?;
+        let want = format!(in rt.alloc();
+            "too many capture groups (at least {minimum}) were found for pattern {pattern}\n"
+        )?;
+        assert_eq!(rt; answer.as_str(), want.as_str(), "at {input:?}");
     }
     Ok(())
 }

@@ -8,7 +8,7 @@ use std::test::Fail;
 const FIRST_ANSWER: &[u8] = b"alphabet 2: 00\n";
 
 // A second line for each command, and its answer.
-const ROWS: [(&str, &str); 6] = [
+const ROWS: [(&str, &str); 7] = [
     (
         "ranges\nranges 61-7a 30-39\n",
         "alphabet 6: 00 30 3a 61 7b\n",
@@ -21,9 +21,13 @@ const ROWS: [(&str, &str); 6] = [
         "ranges\ngroups -,x,x\n",
         "duplicate capture group name 'x' found for pattern 0\n",
     ),
+    (
+        "ranges\ngroups -,x;x\n",
+        "first capture group (at index 0) for pattern 1 has a name (it must be unnamed)\n",
+    ),
 ];
 
-// What a budget gives: `None` is want of memory after whole answers of earlier lines, and otherwise whether both answers are there.
+// What a budget gives: `None` is out of memory after whole answers of earlier lines, and otherwise whether both answers are there.
 fn run_within(alloc: Global, heap: &LocalHeap, lines: &str, answer: &str) -> Option<bool> {
     let mut reader = lines.as_bytes();
     let mut writer = Vec::new(alloc);
