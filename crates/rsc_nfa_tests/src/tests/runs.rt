@@ -1,7 +1,7 @@
 //! The example of the README, and worked rows.
 use rsc_captures::GroupInfo;
 use rsc_look::{AsciiWord, Look, LookMatcher, UnicodeWord};
-use rsc_nfa::{Nfa, State};
+use rsc_nfa::{BuildError, Nfa, State};
 use rsc_primitives::{PatternID, SmallIndex, StateID};
 use rsc_search::{Input, Span};
 use std::alloc::Global;
@@ -64,6 +64,24 @@ fn a_letter(rt: HostRuntime) -> Result<(), Fail> {
     assert!(rt; nfa.check_run(&Input::new(b"m"), &run));
     assert!(rt; nfa.check_run(&Input::new(b"q"), &run));
     assert!(rt; !nfa.check_run(&Input::new(b"M"), &run));
+    Ok(())
+}
+
+#[test]
+fn a_letter_with_a_slot_too_many(rt: HostRuntime) -> Result<(), Fail> {
+    let slot = SmallIndex::must(2);
+    let capture = State::Capture {
+        slot: SmallIndex::ZERO,
+        next: StateID::must(1),
+    };
+    let last = State::Capture {
+        slot,
+        next: StateID::must(3),
+    };
+    let info = GroupInfo::new(rt.alloc(), &[&[None]])?;
+    let states = [capture, range(b'a', b'z', 2), last, accept()];
+    let refused = Nfa::new(rt.alloc(), info, LookMatcher::new(UnicodeWord), &states).err();
+    assert!(rt; refused == Some(BuildError::UnknownSlot { state: 2, slot }));
     Ok(())
 }
 
