@@ -9,7 +9,8 @@ use Rattle.std.proofs.lemmas.Nat.Bits.{bit_at-lt, bit_at-zero, bit_at_above, bit
 use Rattle.std.proofs.Math.Nat.{mod-lt, div-div-eq-div-mul}
 use Rattle.rsc_alphabet.specs.ByteSetLayout.{is_one}
 use Rattle.rsc_alphabet.specs.Partitions.{class_of}
-use Rattle.rsc_alphabet.proofs.PartitionsLemmas.{class_of_more, class_of_none, class_of_same, class_of-parts}
+use Rattle.rsc_alphabet.proofs.PartitionsLemmas.{class_of-parts}
+use Rattle.rsc_alphabet.specs.PartitionsLaws.{class_of_more, class_of_none, class_of_same}
 
 -- ---- shifts and masks
 

@@ -9,7 +9,7 @@ use Rattle.std.proofs.lemmas.Bool.{cases_lt, cases_Bool, cases_eq, eq-eqb, ne_eq
 use Rattle.std.proofs.lemmas.Bool.Decides.{nat_tests}
 use Rattle.rsc_alphabet.specs.ByteSets.{Numbers, begins_run, ends_run, runs}
 use Rattle.rsc_alphabet.specs.Partitions.{edges_of, edges_of_each, changes_at}
-use Rattle.rsc_alphabet.proofs.PartitionsLemmas.{contains-edges_of, contains-joined}
+use Rattle.rsc_alphabet.specs.PartitionsLaws.{contains-edges_of, contains-joined}
 use Rattle.rsc_alphabet.proofs.RunsLemmas.{runs_from, parts_no_run, runs_from_first, runs_from_skip, runs_from_none, parts_no_run-after, parts_no_run-skip}
 
 abbrev pub changes : Numbers → ℕ → Bool

@@ -9,7 +9,7 @@ use Rattle.std.proofs.lemmas.Nat.{and_mask}
 use Rattle.std.proofs.Math.Nat.{mod-eq_of_lt}
 use Rattle.rsc_alphabet.specs.ByteSetLayout.{is_one}
 use Rattle.rsc_alphabet.specs.Partitions.{class_of}
-use Rattle.rsc_alphabet.proofs.PartitionsLemmas.{class_of-le}
+use Rattle.rsc_alphabet.specs.PartitionsLaws.{class_of-le}
 use Rattle.rsc_alphabet.proofs.BitsLemmas.{ones-class_of}
 
 digit : (b : Bool) → nat_eq (cond b 1 0) 1 ≡ b

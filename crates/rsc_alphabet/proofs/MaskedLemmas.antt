@@ -7,9 +7,10 @@ use Rattle.std.specs.FinSet.{contains-empty}
 use Rattle.std.proofs.lemmas.Bool.{cases_lt, cases_eq, eq-eqb, eqb-true, ne_eqb, true≢false, le-leb, lt-leb}
 use Rattle.std.proofs.lemmas.Nat.Bits.{bit_at-zero}
 use Rattle.rsc_alphabet.specs.ByteSets.{begins_run, ends_run}
-use Rattle.rsc_alphabet.specs.ByteSetLayout.{is_one, is_masked, masked, mask_of}
+use Rattle.rsc_alphabet.specs.ByteSetLayout.{is_one, is_masked, masked}
+use Rattle.rsc_primitives.specs.BitsLaws.{mask_of}
 use Rattle.rsc_alphabet.specs.ByteSetsLaws.{is_masked-low, is_masked-high, is_masked-past, contains-masked, masked_is, low_again, high_again}
-use Rattle.rsc_alphabet.proofs.PartitionsLemmas.{contains-inserted, contains-removed}
+use Rattle.rsc_alphabet.specs.PartitionsLaws.{contains-inserted, contains-removed}
 
 -- ---- what a byte's bit says
 

@@ -8,7 +8,7 @@ use Rattle.rsc_alphabet.specs.Ranges.{holds, treats_alike, are_alike, separates}
 use Rattle.rsc_alphabet.specs.SameMembers.{same_bools}
 use Rattle.std.specs.List.{All, Contains}
 use Rattle.std.proofs.lemmas.List.Elements.{All-head, All-tail}
-use Rattle.rsc_alphabet.proofs.PartitionsLemmas.{contains-edges_of, same_class-together}
+use Rattle.rsc_alphabet.specs.PartitionsLaws.{contains-edges_of, same_class-together}
 use Rattle.rsc_alphabet.proofs.RangesLemmas.{are_alike_is, contains-edges_of_range}
 use Rattle.rsc_alphabet.proofs.MaximalRuns.{Contains-first, Contains-later}
 

@@ -12,7 +12,7 @@ use Rattle.rsc_alphabet.specs.Bytes.{from_to}
 use Rattle.rsc_alphabet.specs.BytesLaws.{from_to_none, from_to_last}
 use Rattle.rsc_alphabet.specs.Partitions.{class_of, class_map, edges_of}
 use Rattle.rsc_alphabet.specs.Ranges.{holds, treats_alike, are_alike, separates}
-use Rattle.rsc_alphabet.proofs.PartitionsLemmas.{class_of_more, class_of-rises, contains-edges_of, contains-edges, slice_index-class_map}
+use Rattle.rsc_alphabet.specs.PartitionsLaws.{class_of_more, class_of-rises, contains-edges_of, contains-edges, slice_index-class_map}
 
 all_last : (h : ℕ → Bool) (low high : ℕ) → low ≤ high → list_all h (from_to low (high + 1)) ≡ (list_all h (from_to low high) && h high)
 all_last h low high l = ap (list_all h) (from_to_last low high l) ∙ list_all-append h (from_to low high) (high ∷ []) ∙ ap (λ b. list_all h (from_to low high) && b) (and-true (h high))

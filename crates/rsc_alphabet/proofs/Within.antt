@@ -14,7 +14,7 @@ use Rattle.rsc_alphabet.specs.BytesLaws.{length-from_to, get_or-from_to}
 use Rattle.rsc_alphabet.specs.Partitions.{class_of}
 use Rattle.rsc_alphabet.specs.Symbols.{Symbol, byte, end_of_input, byte_of, number_of}
 use Rattle.rsc_alphabet.specs.Iterators.{class_at, end_of, symbols, elements_of, representing, end_if_unbounded, representatives_of, stride2_of}
-use Rattle.rsc_alphabet.proofs.PartitionsLemmas.{class_of_none, class_of_more, class_of-between}
+use Rattle.rsc_alphabet.specs.PartitionsLaws.{class_of_none, class_of_more, class_of-between}
 
 -- each number of a range is below its end
 pub All-from_to : (low high : ℕ) → All (λ k. k < high) (from_to low high)

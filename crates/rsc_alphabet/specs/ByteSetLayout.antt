@@ -17,11 +17,6 @@ is_masked low high b = if nat_lt b 128 then is_one low b else is_one high (b - 1
 abbrev pub masked : ℕ → ℕ → Numbers
 masked low high = sets.from_list (filter (is_masked low high) bytes)
 
--- the number whose n lowest bits are those at which the test gives true
-unfoldable pub mask_of : (ℕ → Bool) → ℕ → ℕ
-mask_of p zero = 0
-mask_of p (suc n) = (if p n then 1 else 0) * 2 ^ n + mask_of p n
-
 -- the members from `low` on
 abbrev pub members_from : Numbers → ℕ → List ℕ
 members_from s low = filter (λ b. sets.contains s b) (from_to low 256)

@@ -6,6 +6,7 @@ pub mod BytesLaws  -- lists of consecutive numbers: their first element, their p
 pub mod IteratorLayout  -- how far an iterator over a map from byte to class has come
 pub mod Iterators  -- the iterators of any map from byte to class, given as the list of the bytes' classes
 pub mod Partitions  -- partitions of the bytes into intervals
+pub mod PartitionsLaws  -- boundaries, classes and ranges
 pub mod Ranges  -- lists of byte ranges, each by its first and its last byte, and the partition that such a list makes
 pub mod SameMembers  -- two sets are equal if each holds the other's members
 pub mod SymbolLayout  -- how the code holds a symbol

@@ -38,7 +38,8 @@ impl Model for ByteSet {
     ghost use Rattle.std.specs.FinSet as sets;
     ghost use Rattle.std.specs.Coded.{coded_ℕ};
     ghost use Rattle.rsc_alphabet.specs.ByteSets.{Numbers};
-    ghost use Rattle.rsc_alphabet.specs.ByteSetLayout.{masked, mask_of};
+    ghost use Rattle.rsc_primitives.specs.BitsLaws.{mask_of};
+    ghost use Rattle.rsc_alphabet.specs.ByteSetLayout.{masked};
 
     ghost Value = { Numbers };
 

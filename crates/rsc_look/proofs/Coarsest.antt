@@ -14,6 +14,7 @@ use Rattle.rsc_look.specs.Looks.{is_unicode}
 use Rattle.rsc_look.specs.Holds.{byte_before, byte_after, holds_at_bytes, Holds}
 use Rattle.rsc_look.specs.Boundaries.{boundaries_of_each}
 use Rattle.rsc_look.specs.Keeping.{IsHaystack, AreInterchanged, DifferInAscii, Keeps, IsCoarsest, AgreesWithAscii, AgreesWhereAsked, Tells, IsNeeded, IsCoarsestMap}
+use Rattle.rsc_look.specs.KeepingLaws.{next_together, alike_alone, not_told}
 use Rattle.rsc_look.proofs.Marks.{is_word_mark, is_mark, marks_of, contains-boundaries_of_each}
 use Rattle.rsc_look.proofs.BytesKept.{HasMarks, TogetherAt-slice_get, TogetherAt-before, holds_at_bytes-same}
 use Rattle.rsc_look.proofs.Sides.{Holds-bytes, Holds-sides, HoldsAtSides-moves, Interchange, Interchange-from, Interchange-sym}
@@ -61,31 +62,9 @@ Keeps-from p looks t W has a = record {
 
 -- ---- each boundary is needed
 
-one_byte_haystack : (b : ℕ) → b < 256 → IsHaystack (b ∷ [])
-one_byte_haystack b h = All-cons (λ x. x < 256) b [] h (All-nil (λ x. x < 256))
-
--- where there is no boundary between two bytes they are together
-pub next_together : (q : ℕ → Bool) (b : ℕ) → q b ≡ false → Together q b (b + 1)
-next_together q b e x low high is = let same : b ≡ x = omega arith in true≢false (sym is ∙ ap q (sym same) ∙ e)
-
-pub alike_alone : (q : ℕ → Bool) (b : ℕ) → b < 255 → q b ≡ false → AreInterchanged q (b ∷ []) ((b + 1) ∷ [])
-alike_alone q b h e = record {
-  first = one_byte_haystack b (omega arith);
-  second = one_byte_haystack (b + 1) (omega arith);
-  same_length = refl;
-  together = go;
-}
-  where
-    go : (i : ℕ) → i < 1 → Together q (slice_index (b ∷ []) i) (slice_index ((b + 1) ∷ []) i)
-    go zero l = next_together q b e
-    go (suc i) l = absurd (omega arith)
-
 differ_alone : (b : ℕ) → b + 1 < 128 → DifferInAscii (b ∷ []) ((b + 1) ∷ [])
 differ_alone b h zero l n = (omega arith, h)
 differ_alone b h (suc i) l n = absurd (omega arith)
-
-pub not_told : (A B : Type 0) → A ↔ B → (A × (B → ⊥)) ⊎ ((A → ⊥) × B) → ⊥
-not_told A B e t = ⊎_elim (λ p. p.1 (e.0 p.0)) (λ p. p.0 (e.1 p.1)) t
 
 -- a partition that keeps an assertion has each boundary of it
 pub mark_is_needed : (q : ℕ → Bool) (looks : List Look) (l : Look) (t : ℕ) (W : ℕ → Bool) (b : ℕ) → (is_unicode l ≡ true → AgreesWithAscii W) → Keeps q looks t W → Contains looks l → b < 255 → is_mark l t b ≡ true → q b ≡ true

@@ -3,7 +3,7 @@ use Rattle.std.proofs.Common.{◌≡◌, ◌↔◌, ℕ, Bool, true, false, List
 use Rattle.std.proofs.lemmas.Bool.{false_from_ne_true}
 use Rattle.std.specs.Prelude.{IsTrue}
 use Rattle.rsc_primitives.specs.Utf8.{IsInside}
-use Rattle.rsc_primitives.proofs.Utf8Lemmas.{IsInside-begins, IsInside-ends}
+use Rattle.rsc_primitives.specs.Utf8Laws.{IsInside-begins, IsInside-ends}
 use Rattle.rsc_look.specs.declared.assertion.Look.{Look}
 use Rattle.rsc_look.specs.declared.assertion.Look.TheVariants.{WordUnicode}
 use Rattle.rsc_look.specs.declared.side.Side.{Side}

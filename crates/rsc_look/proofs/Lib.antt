@@ -1,4 +1,3 @@
-pub mod AsciiWords  -- both choices of word characters agree with the word bytes below 128
 pub mod Asked  -- a loop over the members of a set that asks each for something
 pub mod BytesKept  -- the twelve assertions on bytes are kept by a partition that has their boundaries
 pub mod Coarsest  -- the boundaries of a list's members make the coarsest partition that keeps them

@@ -9,7 +9,7 @@ use Rattle.std.proofs.lemmas.List.Folds.{list_any-append}
 use Rattle.std.proofs.Math.Bool.{or-false}
 use Rattle.rsc_alphabet.specs.ByteSets.{Numbers}
 use Rattle.rsc_alphabet.specs.Partitions.{edges_of, class_map}
-use Rattle.rsc_alphabet.proofs.PartitionsLemmas.{contains-joined, contains-edges_of, class_map_same}
+use Rattle.rsc_alphabet.specs.PartitionsLaws.{contains-joined, contains-edges_of, class_map_same}
 use Rattle.rsc_look.specs.declared.assertion.Look.{Look}
 use Rattle.rsc_look.specs.declared.assertion.Look.TheVariants.{Start, End, StartLF, EndLF, StartCRLF, EndCRLF}
 use Rattle.rsc_look.specs.Boundaries.{word_boundaries, boundaries_of, boundaries_of_each}

@@ -10,8 +10,8 @@ use Rattle.std.proofs.lemmas.List.{get_or-reverse, length-reverse, take_all}
 use Rattle.std.proofs.lemmas.Option.{slice_get-get_or, slice_get_past, slice_get-map}
 use Rattle.std.proofs.Math.Bool.{and_comm}
 use Rattle.std.proofs.lemmas.Bool.{and_parts, cases_lt}
-use Rattle.rsc_primitives.proofs.EncodingsLemmas.{EncodesAll-std}
-use Rattle.rsc_primitives.proofs.Texts.{place, BeginsAt-place, EndsAt-place}
+use Rattle.rsc_primitives.specs.EncodingsLaws.{EncodesAll-std}
+use Rattle.rsc_primitives.specs.TextsLaws.{place, BeginsAt-place, EndsAt-place}
 use Rattle.rsc_look.specs.declared.assertion.Look.{Look}
 use Rattle.rsc_look.specs.declared.assertion.Look.TheVariants.{Start, StartCRLF, EndCRLF, WordAscii, WordAsciiNegate, WordUnicode, WordUnicodeNegate}
 use Rattle.rsc_look.specs.declared.side.Side.{Side}

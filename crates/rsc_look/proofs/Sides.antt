@@ -4,13 +4,13 @@ use Rattle.std.proofs.Common.{not, ◌&&◌, ap₂, ◌≡◌, ◌↔◌, ℕ, �
 use Rattle.std.specs.Prelude.{IsTrue}
 use Rattle.std.proofs.lemmas.Bool.{cases_eq, cases_Bool}
 use Rattle.rsc_primitives.specs.Utf8.{is_word_byte, BeginsAt, EndsAt, EncodedFrom}
-use Rattle.rsc_primitives.proofs.Utf8Lemmas.{AgreePastAscii, EncodedFrom-agree, BeginsAt-same, EndsAt-same}
+use Rattle.rsc_primitives.specs.Utf8Laws.{AgreePastAscii, EncodedFrom-agree, BeginsAt-same, EndsAt-same}
 use Rattle.rsc_look.specs.declared.assertion.Look.{Look}
 use Rattle.rsc_look.specs.declared.side.Side.{Side}
 use Rattle.rsc_look.specs.declared.side.Side.TheVariants.{Absent, Bad, Word, Other}
 use Rattle.rsc_look.specs.Holds.{IsBefore, IsAfter, HoldsAtSides, holds_at_sides, exactly_one, is_bad, is_word_side, is_absent_or_other, Holds}
 use Rattle.rsc_look.specs.declared.assertion.Look.TheVariants.{WordUnicode, WordUnicodeNegate, WordStartUnicode, WordEndUnicode, WordStartHalfUnicode, WordEndHalfUnicode}
-use Rattle.rsc_primitives.proofs.Decided.{BeginsAt-decided, EndsAt-decided}
+use Rattle.rsc_primitives.specs.DecidedLaws.{BeginsAt-decided, EndsAt-decided}
 use Rattle.rsc_look.specs.SideLayout.{IsSideOf}
 use Rattle.rsc_look.specs.Looks.{is_unicode}
 use Rattle.rsc_look.specs.Keeping.{AreInterchanged, DifferInAscii, AgreesWithAscii}

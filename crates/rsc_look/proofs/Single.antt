@@ -2,7 +2,6 @@
 use Rattle.std.proofs.Common.{◌≡◌, ◌↔◌, ℕ, zero, suc, Bool, true, false, ◌||◌, [], ◌∷◌, sym, ap, ◌∙◌, subst, arith}
 use Rattle.std.proofs.lemmas.Bool.{or_right}
 use Rattle.std.specs.List.{Contains}
-use Rattle.rsc_alphabet.proofs.MaximalRuns.{Contains-first}
 use Rattle.rsc_look.specs.declared.assertion.Look.{Look}
 use Rattle.rsc_look.specs.Holds.{Holds}
 use Rattle.rsc_look.specs.Looks.{is_unicode}
@@ -13,15 +12,12 @@ use Rattle.std.specs.FinSet.{contains-empty, same_set, nat_cmp-IsAntisymmetric}
 use Rattle.std.specs.Ordering.{nat_cmp}
 use Rattle.std.specs.Cmp.{nat_cmp_total}
 use Rattle.rsc_alphabet.specs.ByteSets.{Numbers}
-use Rattle.rsc_alphabet.proofs.PartitionsLemmas.{contains-joined}
+use Rattle.rsc_alphabet.specs.PartitionsLaws.{contains-joined}
 use Rattle.rsc_look.specs.Boundaries.{boundaries_of}
 use Rattle.rsc_look.proofs.BytesKept.{HasMarks}
 use Rattle.rsc_look.proofs.Needed.{place_of, place_of_le, Tells-mark}
+use Rattle.rsc_look.specs.KeepingLaws.{only, first}
 use Rattle.rsc_look.proofs.Coarsest.{kept_at_bytes, kept_at_characters, mark_is_needed}
-
-pub only : (l m : Look) → Contains (l ∷ []) m → l ≡ m
-only l m (zero, p, e) = e
-only l m (suc k, p, e) = absurd (omega arith)
 
 -- a set that got the boundaries of an assertion has them
 has_marks : (old new : Numbers) (l : Look) (t : ℕ) → new ≡ sets.union old (boundaries_of l t) → HasMarks (sets.contains new) (is_mark l t)
@@ -36,8 +32,8 @@ IsExactFor-from old new l t W e a = record {
         at_bytes = λ k c u h j s i r. let z = only l k c in let v : is_unicode l ≡ false = ap is_unicode z ∙ u in subst (λ x. Holds x t W h i ↔ Holds x t W j i) z (kept_at_bytes q l t W m v h j s i);
         at_characters = λ k c u h j s d i r. let z = only l k c in let v : is_unicode l ≡ true = ap is_unicode z ∙ u in subst (λ x. Holds x t W h i ↔ Holds x t W j i) z (kept_at_characters q l t W (a v) m v h j s d i);
       };
-  least = λ q keeps b lt m. mark_is_needed q (l ∷ []) l t W b a keeps (Contains-first l []) lt (sym (contains-boundaries_of l t b) ∙ m);
-  needed = λ b lt m. record { look = l; listed = Contains-first l []; position = place_of l; at_an_end = place_of_le l; tells = Tells-mark l t W b a (sym (contains-boundaries_of l t b) ∙ m) };
+  least = λ q keeps b lt m. mark_is_needed q (l ∷ []) l t W b a keeps (first l) lt (sym (contains-boundaries_of l t b) ∙ m);
+  needed = λ b lt m. record { look = l; listed = first l; position = place_of l; at_an_end = place_of_le l; tells = Tells-mark l t W b a (sym (contains-boundaries_of l t b) ∙ m) };
 }
 
 -- the same of the assertion's own boundaries alone

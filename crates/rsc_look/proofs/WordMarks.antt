@@ -9,7 +9,7 @@ use Rattle.std.specs.FinSet as sets
 use Rattle.std.specs.FinSet.{same_set, nat_cmp-IsAntisymmetric}
 use Rattle.rsc_alphabet.specs.ByteSets.{Numbers}
 use Rattle.rsc_alphabet.specs.Partitions.{changes_at}
-use Rattle.rsc_alphabet.proofs.PartitionsLemmas.{contains-joined}
+use Rattle.rsc_alphabet.specs.PartitionsLaws.{contains-joined}
 use Rattle.rsc_look.specs.Holds.{exactly_one}
 use Rattle.rsc_look.specs.Boundaries.{word_boundaries}
 use Rattle.rsc_look.proofs.Marks.{is_word_mark, contains-word_boundaries}

@@ -14,8 +14,7 @@ use Rattle.std.proofs.Math.Bool.{and-true}
 use Rattle.std.proofs.lemmas.Map.Views.{any-filter_same}
 use Rattle.rsc_alphabet.specs.Bytes.{from_to}
 use Rattle.rsc_alphabet.specs.BytesLaws.{from_to_none, from_to_last}
-use Rattle.rsc_alphabet.specs.ByteSetLayout.{mask_of}
-use Rattle.rsc_alphabet.specs.ByteSetsLaws.{mask_of-lt, is_one-mask_of, mask_of_bits}
+use Rattle.rsc_primitives.specs.BitsLaws.{mask_of, mask_of-lt, has_bit-mask_of, mask_of_bits}
 use Rattle.rsc_look.specs.declared.assertion.Look.{Look}
 use Rattle.rsc_look.specs.declared.assertion.Look.TheVariants.{Start}
 use Rattle.rsc_look.specs.Looks.{repr_of, every_look}
@@ -126,4 +125,4 @@ bits_of-looks_of n l =
 pub looks_of-bits_of : (s : Looks) → looks_of (bits_of s) ≡ s
 looks_of-bits_of s = same_looks (looks_of (bits_of s)) s (λ l.
     contains-looks_of (bits_of s) l ∙ ap (λ n. nat_eq (bit_at n (place_of l)) 1) (bits_of-is s)
-    ∙ is_one-mask_of (λ j. sets.contains s (look_at j)) 18 (place_of l) (place_of-lt l) ∙ ap (λ m. sets.contains s m) (look_at-place_of l))
+    ∙ has_bit-mask_of (λ j. sets.contains s (look_at j)) 18 (place_of l) (place_of-lt l) ∙ ap (λ m. sets.contains s m) (look_at-place_of l))

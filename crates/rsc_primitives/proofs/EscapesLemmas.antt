@@ -6,7 +6,7 @@ use borrow.Rule.Slice.PartMut.{put_mid}
 use Rattle.std.proofs.lemmas.Bool.Decides.{nat_tests}
 use Rattle.std.specs.Char.{is_ascii}
 use Rattle.rsc_primitives.specs.Escapes.{step_text, EncodesOnlyAscii}
-use Rattle.rsc_primitives.proofs.Texts.{behind}
+use Rattle.rsc_primitives.specs.TextsLaws.{behind}
 
 -- behind a byte no character past ASCII is encoded either
 pub EncodesOnlyAscii-behind : (b : ℕ) (h : List ℕ) → EncodesOnlyAscii (b ∷ h) → EncodesOnlyAscii h

@@ -8,7 +8,7 @@ use Rattle.rsc_alphabet.specs.Partitions.{class_map}
 use Rattle.rsc_look.specs.declared.assertion.Look.{Look}
 use Rattle.rsc_look.specs.Boundaries.{boundaries_of}
 use Rattle.rsc_look.specs.Keeping.{IsCoarsestMap, IsExactFor, IsNeeded, Keeps}
-use Rattle.rsc_look.proofs.Single.{only}
+use Rattle.rsc_look.specs.KeepingLaws.{only}
 use Rattle.rsc_show.specs.Ranges.{HasEdge, IsCoarsestParting, IsEdge, IsOfLook, Parts}
 
 -- one more range parts, if its edges are added and no boundary is lost

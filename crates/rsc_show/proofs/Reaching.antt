@@ -5,7 +5,7 @@ use Rattle.std.specs.Char.{IsScalar, encode_utf8, len_utf8}
 use Rattle.std.proofs.lemmas.Bool.{lt-ltb, ltb-true}
 use Rattle.std.proofs.lemmas.Str.{length-encode, len_utf8_bounds}
 use Rattle.rsc_primitives.specs.Utf8.{BeginsAt, EncodedFrom, Encodes, IsInside}
-use Rattle.rsc_primitives.proofs.Utf8Lemmas.{BeginsAt-same, length-slice}
+use Rattle.rsc_primitives.specs.Utf8Laws.{BeginsAt-same, length-slice}
 use Rattle.rsc_show.specs.Sides.{ReachesPast}
 
 -- the encodings are those of std

@@ -5,7 +5,7 @@ use Rattle.std.specs.Ordering.{nat_cmp}
 use Rattle.std.proofs.lemmas.Bool.{lt-ltb}
 use Rattle.rsc_alphabet.specs.Ranges.{separates, treats_alike}
 use Rattle.rsc_alphabet.specs.Partitions.{class_map}
-use Rattle.rsc_alphabet.proofs.PartitionsLemmas.{class_map_same}
+use Rattle.rsc_alphabet.specs.PartitionsLaws.{class_map_same}
 use Rattle.rsc_alphabet.proofs.RangesLemmas.{ends_more, separates_more, same_class_is}
 use Rattle.rsc_alphabet.proofs.byte_class_set.classes_of_ranges.Goals as goal
 

@@ -1,4 +1,4 @@
-use Rattle.rsc_alphabet.proofs.PartitionsLemmas.{first_class, next_class}
+use Rattle.rsc_alphabet.specs.PartitionsLaws.{first_class, next_class}
 use Rattle.rsc_alphabet.proofs.laws.classes_rise_by_one.Goals as goal
 
 pub returns-clause-first : goal.returns-clause-first

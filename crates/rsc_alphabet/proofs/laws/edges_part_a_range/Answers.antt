@@ -1,4 +1,4 @@
-use Rattle.rsc_alphabet.proofs.PartitionsLemmas.{contains-edges}
+use Rattle.rsc_alphabet.specs.PartitionsLaws.{contains-edges}
 use Rattle.rsc_alphabet.proofs.RangeEdges.{edges-boundary, edges-together}
 use Rattle.rsc_alphabet.proofs.laws.edges_part_a_range.Goals as goal
 

@@ -2,7 +2,7 @@ use Rattle.std.proofs.Common.{sym, ap, ◌∙◌, arith}
 use Rattle.std.specs.Int.Count.{ones}
 use Rattle.std.proofs.Math.Nat.{mod-eq_of_lt}
 use Rattle.rsc_alphabet.specs.ByteSetLayout.{is_one}
-use Rattle.rsc_alphabet.proofs.PartitionsLemmas.{class_of-le}
+use Rattle.rsc_alphabet.specs.PartitionsLaws.{class_of-le}
 use Rattle.rsc_alphabet.proofs.BitsLemmas.{ones-class_of}
 use Rattle.rsc_alphabet.proofs.masks.ones.Goals as goal
 

@@ -1,4 +1,4 @@
-use Rattle.rsc_look.proofs.AsciiWords.{is_unicode_word-AgreesWithAscii, is_word_byte-AgreesWithAscii}
+use Rattle.rsc_look.specs.KeepingLaws.{is_unicode_word-AgreesWithAscii, is_word_byte-AgreesWithAscii}
 use Rattle.rsc_look.proofs.laws.words_agree_with_ascii.Goals as goal
 
 pub returns-clause-ascii : goal.returns-clause-ascii

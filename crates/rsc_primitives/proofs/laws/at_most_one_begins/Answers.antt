@@ -1,4 +1,4 @@
-use Rattle.rsc_primitives.proofs.Utf8Lemmas.{BeginsAt-same}
+use Rattle.rsc_primitives.specs.Utf8Laws.{BeginsAt-same}
 use Rattle.rsc_primitives.proofs.laws.at_most_one_begins.Goals as goal
 
 pub returns : goal.returns

@@ -1,4 +1,4 @@
-use Rattle.rsc_primitives.proofs.BoundariesLemmas.{IsBoundary-EncodesAll}
+use Rattle.rsc_primitives.specs.BoundariesLaws.{IsBoundary-EncodesAll}
 use Rattle.rsc_primitives.proofs.laws.boundaries_of_encoded_text.Goals as goal
 
 pub returns : goal.returns

@@ -1,4 +1,4 @@
-use Rattle.rsc_primitives.proofs.EncodingsLemmas.{Encodes-std}
+use Rattle.rsc_primitives.specs.EncodingsLaws.{Encodes-std}
 use Rattle.rsc_primitives.proofs.laws.encoding_is_that_of_std.Goals as goal
 
 pub returns : goal.returns

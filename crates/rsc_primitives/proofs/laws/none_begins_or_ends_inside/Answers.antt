@@ -1,4 +1,4 @@
-use Rattle.rsc_primitives.proofs.Utf8Lemmas.{IsInside-begins, IsInside-ends}
+use Rattle.rsc_primitives.specs.Utf8Laws.{IsInside-begins, IsInside-ends}
 use Rattle.rsc_primitives.proofs.laws.none_begins_or_ends_inside.Goals as goal
 
 pub returns-clause-begins : goal.returns-clause-begins

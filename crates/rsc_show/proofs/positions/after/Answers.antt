@@ -1,6 +1,6 @@
 use Rattle.std.proofs.Common.{drop}
 use Rattle.std.proofs.lemmas.List.{take_rest}
-use Rattle.rsc_primitives.proofs.PartsLemmas.{DecodesTo-ok, DecodesTo-err_at, DecodesTo-at_err, BeginsAt-from_drop}
+use Rattle.rsc_primitives.specs.PartsLaws.{DecodesTo-ok, DecodesTo-err_at, DecodesTo-at_err, BeginsAt-from_drop}
 use Rattle.rsc_show.proofs.Reaching.{refuted}
 use Rattle.rsc_show.proofs.positions.after.Goals as goal
 

@@ -1,4 +1,4 @@
-use Rattle.rsc_primitives.proofs.PartsLemmas.{DecodesLastTo-ok, DecodesLastTo-err, EndsAt-from_take}
+use Rattle.rsc_primitives.specs.PartsLaws.{DecodesLastTo-ok, DecodesLastTo-err, EndsAt-from_take}
 use Rattle.rsc_show.proofs.Reaching.{refuted}
 use Rattle.rsc_show.proofs.positions.before.Goals as goal
 

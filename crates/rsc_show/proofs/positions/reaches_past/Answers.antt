@@ -1,6 +1,6 @@
 use Rattle.std.proofs.Common.{arith, drop}
 use Rattle.std.proofs.lemmas.List.{take_rest}
-use Rattle.rsc_primitives.proofs.PartsLemmas.{DecodesTo-ok, DecodesTo-err_at, DecodesTo-at_err, BeginsAt-from_drop}
+use Rattle.rsc_primitives.specs.PartsLaws.{DecodesTo-ok, DecodesTo-err_at, DecodesTo-at_err, BeginsAt-from_drop}
 use Rattle.rsc_show.proofs.Reaching.{reaches_by_width, not_without_character}
 use Rattle.rsc_show.proofs.positions.reaches_past.Goals as goal
 

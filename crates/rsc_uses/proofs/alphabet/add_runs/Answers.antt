@@ -1,7 +1,7 @@
 use Rattle.std.proofs.Common.{◌∙◌, sym, ap}
 use Rattle.std.specs.FinSet as sets
 use Rattle.rsc_alphabet.specs.Partitions.{edges_of, edges_of_each}
-use Rattle.rsc_alphabet.proofs.PartitionsLemmas.{union_assoc, union_none}
+use Rattle.rsc_alphabet.specs.PartitionsLaws.{union_assoc, union_none}
 use Rattle.rsc_uses.proofs.alphabet.add_runs.Goals as goal
 
 pub loop-start-init : goal.loop-start-init

@@ -1,7 +1,7 @@
 use Rattle.std.proofs.Common.{ap, ◌∙◌, arith}
 use Rattle.std.specs.FinSet as sets
 use Rattle.rsc_alphabet.proofs.MaskedLemmas.{insert_low, insert_high}
-use Rattle.rsc_alphabet.proofs.PartitionsLemmas.{contains-inserted}
+use Rattle.rsc_alphabet.specs.PartitionsLaws.{contains-inserted}
 use Rattle.rsc_alphabet.proofs.byte_set.ByteSet.add.Goals as goal
 
 pub returns-then-byte-lt128-clause-set : goal.returns-then-byte-lt128-clause-set

@@ -1,7 +1,7 @@
 use Rattle.std.proofs.Common.{ap, ℕ, subst}
 use Rattle.rsc_look.specs.Keeping.{IsCoarsestMap}
 use Rattle.rsc_look.specs.Words.{is_unicode_word}
-use Rattle.rsc_look.proofs.AsciiWords.{is_unicode_word-AgreesWithAscii}
+use Rattle.rsc_look.specs.KeepingLaws.{is_unicode_word-AgreesWithAscii}
 use Rattle.rsc_look_tests.proofs.tests.classes.unicode_classes.Goals as goal
 
 pub returns : goal.returns

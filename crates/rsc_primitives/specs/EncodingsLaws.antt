@@ -5,8 +5,8 @@ use Rattle.std.specs.Str.{encode_utf8_all, all_scalars}
 use Rattle.std.proofs.lemmas.Bool.Decides.{nat_tests}
 use Rattle.std.proofs.lemmas.Bool.{and_parts}
 use Rattle.rsc_primitives.specs.Utf8.{Encodes, EncodesAll}
-use Rattle.rsc_primitives.proofs.Utf8Lemmas.{length-Encodes, Encodes-size, Encodes-rest, InScalarRange-Encodes}
-use Rattle.rsc_primitives.proofs.Encode.{Encodes-encode, Encodes-is}
+use Rattle.rsc_primitives.specs.Utf8Laws.{length-Encodes, Encodes-size, Encodes-rest, InScalarRange-Encodes}
+use Rattle.rsc_primitives.specs.EncodeLaws.{Encodes-encode, Encodes-is}
 
 IsScalar-of_InScalarRange : (c : ℕ) → InScalarRange c → IsScalar c
 IsScalar-of_InScalarRange c h = grind (arith, nat_tests)

@@ -4,7 +4,7 @@ use Rattle.std.specs.Char.{len_utf8}
 use Rattle.std.specs.Prelude.{slice_range}
 use Rattle.std.proofs.lemmas.Option.{slice_get_within}
 use Rattle.rsc_primitives.specs.Utf8.{Encodes, EncodedFrom, BeginsAt, EndsAt, DecodesTo, DecodesLastTo}
-use Rattle.rsc_primitives.proofs.Utf8Lemmas.{length-slice, get_or-slice, slice_from_start, length-Encodes-len_utf8}
+use Rattle.rsc_primitives.specs.Utf8Laws.{length-slice, get_or-slice, slice_from_start, length-Encodes-len_utf8}
 
 -- what a place has in the whole list and in the rest
 rest_slice : (h : List ℕ) (s n : ℕ) → slice_range (drop s h) 0 n ≡ slice_range h s (s + n)

@@ -2,8 +2,8 @@
 use Rattle.std.proofs.Common.{◌≡◌, ℕ, ◌+◌, ◌-◌, ◌<◌, ◌≤◌, ◌⊎◌, ◌↔◌, List, [], ◌∷◌, ◌++◌, length, get_or, sym, subst, arith, inl, inr, ⊎_elim, length-append, get_or-append-add}
 use Rattle.std.proofs.lemmas.List.{get_or_append_left}
 use Rattle.rsc_primitives.specs.Utf8.{IsTail, Encodes, EncodesAll, EncodedFrom, BeginsAt, IsBoundary}
-use Rattle.rsc_primitives.proofs.Utf8Lemmas.{Placed-from, Encodes-rest}
-use Rattle.rsc_primitives.proofs.Texts.{ahead, behind}
+use Rattle.rsc_primitives.specs.Utf8Laws.{Placed-from, Encodes-rest}
+use Rattle.rsc_primitives.specs.TextsLaws.{ahead, behind}
 
 abbrev pub BeginsOrEnds : List ℕ → ℕ → Type 0
 BeginsOrEnds h i = ((c : ℕ) × BeginsAt h i c) ⊎ (i ≡ length h)
