@@ -1,10 +1,12 @@
 #!/usr/bin/env python3
-"""Compares docs/DEFINITIONS.md with the definitions that the contracts of public functions cite, and names those that the page lacks.
+"""Compares docs/DEFINITIONS.md with the definitions that the contracts of public functions cite, and names the ones that the page lacks.
 
-    ./check-documents.py [--write]     # --write makes the page's last section anew, which lists the calls that carry each definition
+    ./check-documents.py [--write]     # --write regenerates the page's last section, which lists the calls that carry each definition
 
 A definition is a name of a crate's `specs/` that a `ghost use` line brings into a file; it is on the page if it is there in backquotes, alone
-or behind its module, as `Holds` or `Holds.Holds`.
+or after its module, as `Holds` or `Holds.Holds`.
+
+It also refuses an import of another crate's `proofs` or `specs/..Layout`: the layers compose by contracts, laws and definitions alone.
 """
 import collections
 import re
@@ -46,6 +48,36 @@ def section_of(found):
     return "\n".join(lines)
 
 
+def named_bodies(page):
+    """Returns docs/WRONG_BODIES.md with the function and the goal that each edit names, and the edits that aren't there."""
+    missing = []
+
+    def row(found):
+        crate, _, name = found[2].partition("/")
+        edit = ROOT / "crates" / crate / "wrong-bodies" / f"{name}.edit"
+        if not edit.exists():
+            missing.append(found[2])
+            return found[0]
+        refused = re.search(r"^refused: (.*?):? *$", edit.read_text(encoding="utf-8"), flags=re.M)[1]
+        function, _, goal = refused.rpartition(": ")
+        shown = f"`{function or refused}`" + (f", `{goal}`" if function and goal else "")
+        return f"| {found[1]} | `{found[2]}` | {shown} |"
+
+    return re.sub(r"^\| (.*) \| `(rsc_\w+/\w+)` \| .*\|$", row, page, flags=re.M), missing
+
+
+def reached_into():
+    """Yields each place that imports a lemma of another crate's `proofs/`, or a word of how another crate holds its values."""
+    for file in sorted((ROOT / "crates").glob("*/**/*")):
+        crate = file.relative_to(ROOT / "crates").parts[0]
+        if file.suffix not in (".antt", ".rt") or "out" in file.relative_to(ROOT / "crates" / crate).parts:
+            continue
+        for number, line in enumerate(file.read_text(encoding="utf-8").splitlines(), 1):
+            for of, private in re.findall(r"use Rattle\.(rsc_\w+)\.(proofs|specs\.\w*Layout)\b", line):
+                if of != crate:
+                    yield f"{file.relative_to(ROOT)}:{number}: {private} of {of} is private to that crate"
+
+
 def main():
     file, found = ROOT / "docs/DEFINITIONS.md", cited()
     page, _, _ = file.read_text(encoding="utf-8").partition(HEAD)
@@ -63,7 +95,21 @@ def main():
                 print(f"docs/DEFINITIONS.md lacks `{name}` of {crate}, which {', '.join(sorted(functions)[:3])} cites")
     if file.read_text(encoding="utf-8") != page + section:
         failed += 1
-        print("docs/DEFINITIONS.md: its last section is out of date; ./check-documents.py --write makes it anew")
+        print("docs/DEFINITIONS.md: its last section is out of date; ./check-documents.py --write regenerates it")
+    bodies = ROOT / "docs/WRONG_BODIES.md"
+    page = bodies.read_text(encoding="utf-8")
+    named, missing = named_bodies(page)
+    if "--write" in sys.argv:
+        bodies.write_text(named, encoding="utf-8")
+    for name in missing:
+        failed += 1
+        print(f"docs/WRONG_BODIES.md names {name}, which isn't there")
+    if named != page and "--write" not in sys.argv:
+        failed += 1
+        print("docs/WRONG_BODIES.md is out of date; ./check-documents.py --write regenerates it")
+    for place in reached_into():
+        failed += 1
+        print(place)
     print(f"check-documents: {passed} passed, {failed} failed")
     return 1 if failed else 0
 

@@ -1,5 +1,5 @@
 #!/usr/bin/env python3
-"""Makes what the pages quote of the sources: the lower part of each library's CALLING.md, the program in each README.md, and the examples
+"""Writes what the pages quote of the sources: the lower part of each library's CALLING.md, the program in each README.md, and the examples
 of the libraries' doc comments.
 
     ./quoted-pages.py [--write]          # without --write it says which pages are out of date
@@ -23,7 +23,8 @@ A law is a public function of `{crate}::laws` that does nothing, and whose contr
 
 A contract or a proof of yours may name all of `Rattle.{crate}.specs`: a word `{module}.{word}` of the table below by
 `ghost use Rattle.{crate}.specs.{module}.{{{word}}};`, and a struct or an enum `TYPE` of `src/FILE.rt` by
-`ghost use Rattle.{crate}.specs.declared.FILE.TYPE.{{TYPE}};`. Cite no lemma of `Rattle.{crate}.proofs`: they may change.
+`ghost use Rattle.{crate}.specs.declared.FILE.TYPE.{{TYPE}};`. A proof may also cite the lemmas of `specs/..Laws`, which are about definitions
+alone. `Rattle.{crate}.proofs` and `specs/..Layout` are private: the gate refuses an import of them by another crate.
 """
 
 
@@ -121,6 +122,17 @@ def readme(source, text):
     return re.sub(r"```rust\n.*?```", lambda _: f"```rust\n{(ROOT / source).read_text(encoding='utf-8')}```", text, count=1, flags=re.S)
 
 
+def believed(text):
+    """Returns README.md with the files of definitions that its comment names, and how many lines each has."""
+    found = re.search(r"<!-- believed: (.*?) -->\n(?:.*?\n)?(?=<!-- end -->)", text, flags=re.S)
+    files = []
+    for name in found[1].split():
+        crate, _, module = name.partition("/")
+        count = len((ROOT / "crates" / crate / "specs" / f"{module}.antt").read_text(encoding="utf-8").splitlines())
+        files.append(f"`{module}` of `{crate}` ({count} lines)")
+    return text.replace(found[0], f"<!-- believed: {found[1]} -->\n{', '.join(files)}.\n")
+
+
 def examples(crate):
     """Returns the examples of a library's doc comments, by the items that they are of."""
     file = ROOT / "crates/rsc_uses/src/examples" / f"{crate.removeprefix('rsc_')}.rt"
@@ -172,7 +184,7 @@ def pages():
         file = ROOT / "crates" / crate / "README.md"
         yield file, readme(f"crates/rsc_uses/src/readmes/{crate.removeprefix('rsc_')}.rt", file.read_text(encoding="utf-8"))
     file = ROOT / "README.md"
-    yield file, readme("crates/rsc_example/src/main.rt", file.read_text(encoding="utf-8"))
+    yield file, believed(readme("crates/rsc_example/src/main.rt", file.read_text(encoding="utf-8")))
 
 
 def main():
@@ -184,7 +196,7 @@ def main():
             if "--write" in sys.argv:
                 file.write_text(made, encoding="utf-8")
     if stale and "--write" not in sys.argv:
-        print(f"quoted-pages: out of date: {', '.join(stale)}; ./quoted-pages.py --write makes them anew")
+        print(f"quoted-pages: out of date: {', '.join(stale)}; ./quoted-pages.py --write regenerates them")
     print(f"quoted-pages: {count - len(stale)} passed, {0 if '--write' in sys.argv else len(stale)} failed")
     return 1 if stale and "--write" not in sys.argv else 0
 

@@ -2,7 +2,7 @@
 # The gate, which says what it does as it goes. `./test.sh` proves every crate and its tests from nothing and runs tests and
 # programs (`rt ci`), and then tries what `rt ci` can't: the wrong bodies, many at a time, what must not compile, what is run
 # without a proof, programs as people run them, and what the documents say. `./test.sh quick` proves nothing: it runs all tests
-# and programs, in about a minute.
+# and programs, in two minutes on four processors.
 set -eu
 cd "$(dirname "$0")"
 
@@ -23,7 +23,7 @@ case ${1:-all} in
     ./snippets.sh
     step 4/5 "programs with arguments, on a terminal, without UTF-8, where reading or writing fails"
     ./stored-runs.py
-    step 5/5 "documents: every name that a public contract cites is in docs/DEFINITIONS.md, what pages quote is as the sources are, and each lemma is named somewhere"
+    step 5/5 "documents and layers: every name that a public contract cites is in docs/DEFINITIONS.md, no crate imports what is private to another, what pages quote is as the sources are, and each lemma is named somewhere"
     ./check-documents.py
     ./quoted-pages.py
     ./unused-lemmas.py

@@ -45,6 +45,18 @@ impl<'h> Model for Input<'h> {
     ghost invariant = { λ i. IsSpanWithin i.haystack.now i.span };
 }
 
+/// An input that searches a whole haystack, as [`Input::new`] makes it.
+impl<'h> From<&'h [u8]> for Input<'h> {
+    ghost use Rattle.std.specs.Prelude.{◌≡◌};
+    ghost use Rattle.rsc_search.specs.Inputs.{whole};
+
+    ghost from_gives = { λ haystack input. input ≡ whole haystack.now };
+
+    fn from(haystack: &'h [u8]) -> Input<'h> {
+        Input::new(haystack)
+    }
+}
+
 impl<'h> Input<'h> {
     /// The input that searches a whole haystack, unanchored and not for the earliest match.
     #[inline]

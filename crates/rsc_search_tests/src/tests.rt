@@ -1,5 +1,6 @@
 //! What no contract says: worked values from outside, and shown texts.
 mod memory;
+mod shown;
 
 ghost use Rattle.std.specs.Prelude.{◌≡◌};
 

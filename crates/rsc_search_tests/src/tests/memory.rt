@@ -52,20 +52,66 @@ fn memory_is_refused_until_there_is_enough(rt: HostRuntime) -> Result<(), Fail> 
     Ok(())
 }
 
-// Whether a set of that capacity, and its clone, could be made.
+// Whether a set of that capacity, its clone, and the clone of the set with its last member could be made.
 fn is_answered(alloc: Global, capacity: usize) -> bool {
-    if capacity > 300 {
+    if capacity > 100_000 {
         return false;
     }
-    match PatternSet::new(alloc, capacity) {
-        Ok(set) => set.capacity() == capacity && set.clone().is_ok_and(|copy| copy == set),
-        Err(_) => false,
+    let Ok(mut set) = PatternSet::new(alloc, capacity) else {
+        return false;
+    };
+    let is_cloned = set.clone().is_ok_and(|copy| copy == set);
+    if capacity > 0 {
+        set.insert(PatternID::must(capacity - 1));
+    }
+    is_cloned && set.capacity() == capacity && set.clone().is_ok_and(|copy| copy == set)
+}
+
+// On both sides of a word, and at sizes that no threshold is near.
+#[test]
+fn ample_memory_suffices(rt: HostRuntime) {
+    for capacity in [0, 1, 2, 63, 64, 65, 128, 300, 1_000, 100_000] {
+        assert!(rt; is_answered(rt.alloc(), capacity), "{capacity}");
     }
 }
 
+// Whether each call on a set that takes no memory answers as it should and leaves what is used of the memory as it was.
+fn takes_none(heap: &LocalHeap, set: &mut PatternSet<&LocalHeap>) -> bool {
+    let used = heap.used();
+    let (first, last, past) = (PatternID::ZERO, PatternID::must(319), PatternID::must(320));
+    let is_refused = set.try_insert(past).is_err() && heap.used() == used;
+    let is_inserted = set.try_insert(last).is_ok_and(|new| new) && heap.used() == used;
+    let is_again = set.try_insert(last).is_ok_and(|new| !new) && heap.used() == used;
+    let is_read = set.contains(last) && !set.contains(first) && set.len() == 1;
+    let is_walked = set.iter().next() == Some(last) && set.iter().next_back() == Some(last);
+    set.clear();
+    is_refused
+        && is_inserted
+        && is_again
+        && is_read
+        && is_walked
+        && set.is_empty()
+        && heap.used() == used
+}
+
+// Whether a set is made over memory of that size, and then its calls take none. The clone of the set tells whether there is
+// room for more.
+fn is_made_and_takes_none(alloc: Global, size: usize, has_room: bool) -> Result<bool, Fail> {
+    let heap = LocalHeap::new(alloc, size)?;
+    let Ok(mut set) = PatternSet::new(&heap, 320) else {
+        return Ok(false);
+    };
+    Ok(set.clone().is_ok() == has_room && takes_none(&heap, &mut set))
+}
+
+// Over the least memory that suffices for a set, where there is no room for anything else, and over ample memory.
 #[test]
-fn ample_memory_suffices(rt: HostRuntime) {
-    for capacity in 0..=300usize {
-        assert!(rt; is_answered(rt.alloc(), capacity));
+fn calls_on_a_set_take_no_memory(rt: HostRuntime) -> Result<(), Fail> {
+    let mut is_tried = false;
+    for size in 0..64usize {
+        is_tried = is_tried || is_made_and_takes_none(rt.alloc(), 8 * size, false)?;
     }
+    assert!(rt; is_tried);
+    assert!(rt; is_made_and_takes_none(rt.alloc(), 4096, true)?);
+    Ok(())
 }
