@@ -4,3 +4,4 @@ mod carried;
 mod classes;
 mod look_sets;
 mod matchers;
+mod shown;

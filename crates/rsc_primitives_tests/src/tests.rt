@@ -1,4 +1,5 @@
 mod any_bytes;
 mod escapes;
 mod indices;
+mod shown;
 mod utf8;

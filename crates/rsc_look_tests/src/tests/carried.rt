@@ -38,7 +38,13 @@ pub(super) fn tells<W: WordClass>(
 fn look_matches_start_text(rt: HostRuntime) {
     let marks = "x x- x- x-- x---";
     tells(&rt, &LookMatcher::default(), Look::Start, &LINES, marks);
-    tells(&rt, &LookMatcher::new(AsciiWord), Look::Start, &LINES, marks);
+    tells(
+        &rt,
+        &LookMatcher::new(AsciiWord),
+        Look::Start,
+        &LINES,
+        marks,
+    );
 }
 
 #[test]
@@ -52,90 +58,204 @@ fn look_matches_end_text(rt: HostRuntime) {
 fn look_matches_start_line(rt: HostRuntime) {
     let marks = "x xx x- xx- x-x-";
     tells(&rt, &LookMatcher::default(), Look::StartLF, &LINES, marks);
-    tells(&rt, &LookMatcher::new(AsciiWord), Look::StartLF, &LINES, marks);
+    tells(
+        &rt,
+        &LookMatcher::new(AsciiWord),
+        Look::StartLF,
+        &LINES,
+        marks,
+    );
 }
 
 #[test]
 fn look_matches_end_line(rt: HostRuntime) {
     let marks = "x xx -x x-x -x-x";
     tells(&rt, &LookMatcher::default(), Look::EndLF, &LINES, marks);
-    tells(&rt, &LookMatcher::new(AsciiWord), Look::EndLF, &LINES, marks);
+    tells(
+        &rt,
+        &LookMatcher::new(AsciiWord),
+        Look::EndLF,
+        &LINES,
+        marks,
+    );
 }
 
 #[test]
 fn look_matches_word_ascii(rt: HostRuntime) {
     let marks = "- xx .-. .x- -xx- ----- ....-- --...-- --------- ....x. .x....";
     tells(&rt, &LookMatcher::default(), Look::WordAscii, &WORDS, marks);
-    tells(&rt, &LookMatcher::new(AsciiWord), Look::WordAscii, &WORDS, marks);
+    tells(
+        &rt,
+        &LookMatcher::new(AsciiWord),
+        Look::WordAscii,
+        &WORDS,
+        marks,
+    );
 }
 
 #[test]
 fn look_matches_word_ascii_negate(rt: HostRuntime) {
     let marks = "x -- .x. .-x x--x xxxxx ....xx xx...xx xxxxxxxxx ....-. .-....";
-    tells(&rt, &LookMatcher::default(), Look::WordAsciiNegate, &WORDS, marks);
-    tells(&rt, &LookMatcher::new(AsciiWord), Look::WordAsciiNegate, &WORDS, marks);
+    tells(
+        &rt,
+        &LookMatcher::default(),
+        Look::WordAsciiNegate,
+        &WORDS,
+        marks,
+    );
+    tells(
+        &rt,
+        &LookMatcher::new(AsciiWord),
+        Look::WordAsciiNegate,
+        &WORDS,
+        marks,
+    );
 }
 
 #[test]
 fn look_matches_word_unicode(rt: HostRuntime) {
     let marks = "- xx .-. .x- -xx- x---x ....x- -x...x- x---x---- ....-. .-....";
-    tells(&rt, &LookMatcher::default(), Look::WordUnicode, &WORDS, marks);
+    tells(
+        &rt,
+        &LookMatcher::default(),
+        Look::WordUnicode,
+        &WORDS,
+        marks,
+    );
 }
 
 #[test]
 fn look_matches_word_unicode_negate(rt: HostRuntime) {
     let marks = "x -- .x. .-x x--x ----- ....-x x-...-x --------x ....x. .x....";
-    tells(&rt, &LookMatcher::default(), Look::WordUnicodeNegate, &WORDS, marks);
+    tells(
+        &rt,
+        &LookMatcher::default(),
+        Look::WordUnicodeNegate,
+        &WORDS,
+        marks,
+    );
 }
 
 #[test]
 fn look_matches_word_start_ascii(rt: HostRuntime) {
     let marks = "- x- .-. .-- -x-- ----- ....-- --...-- --------- ....x. .-....";
-    tells(&rt, &LookMatcher::default(), Look::WordStartAscii, &WORDS, marks);
-    tells(&rt, &LookMatcher::new(AsciiWord), Look::WordStartAscii, &WORDS, marks);
+    tells(
+        &rt,
+        &LookMatcher::default(),
+        Look::WordStartAscii,
+        &WORDS,
+        marks,
+    );
+    tells(
+        &rt,
+        &LookMatcher::new(AsciiWord),
+        Look::WordStartAscii,
+        &WORDS,
+        marks,
+    );
 }
 
 #[test]
 fn look_matches_word_end_ascii(rt: HostRuntime) {
     let marks = "- -x .-. .x- --x- ----- ....-- --...-- --------- ....-. .x....";
-    tells(&rt, &LookMatcher::default(), Look::WordEndAscii, &WORDS, marks);
-    tells(&rt, &LookMatcher::new(AsciiWord), Look::WordEndAscii, &WORDS, marks);
+    tells(
+        &rt,
+        &LookMatcher::default(),
+        Look::WordEndAscii,
+        &WORDS,
+        marks,
+    );
+    tells(
+        &rt,
+        &LookMatcher::new(AsciiWord),
+        Look::WordEndAscii,
+        &WORDS,
+        marks,
+    );
 }
 
 #[test]
 fn look_matches_word_start_unicode(rt: HostRuntime) {
     let marks = "- x- .-. .-- -x-- x---- ....-- -x...-- x-------- ....-. .-....";
-    tells(&rt, &LookMatcher::default(), Look::WordStartUnicode, &WORDS, marks);
+    tells(
+        &rt,
+        &LookMatcher::default(),
+        Look::WordStartUnicode,
+        &WORDS,
+        marks,
+    );
 }
 
 #[test]
 fn look_matches_word_end_unicode(rt: HostRuntime) {
     let marks = "- -x .-. .x- --x- ----x ....x- --...x- ----x---- ....-. .-....";
-    tells(&rt, &LookMatcher::default(), Look::WordEndUnicode, &WORDS, marks);
+    tells(
+        &rt,
+        &LookMatcher::default(),
+        Look::WordEndUnicode,
+        &WORDS,
+        marks,
+    );
 }
 
 #[test]
 fn look_matches_word_start_half_ascii(rt: HostRuntime) {
     let marks = "x x- .-. .-x xx-x xxxxx ....xx xx...xx xxxxxxxxx ....x. .-....";
-    tells(&rt, &LookMatcher::default(), Look::WordStartHalfAscii, &WORDS, marks);
-    tells(&rt, &LookMatcher::new(AsciiWord), Look::WordStartHalfAscii, &WORDS, marks);
+    tells(
+        &rt,
+        &LookMatcher::default(),
+        Look::WordStartHalfAscii,
+        &WORDS,
+        marks,
+    );
+    tells(
+        &rt,
+        &LookMatcher::new(AsciiWord),
+        Look::WordStartHalfAscii,
+        &WORDS,
+        marks,
+    );
 }
 
 #[test]
 fn look_matches_word_end_half_ascii(rt: HostRuntime) {
     let marks = "x -x .-. .xx x-xx xxxxx ....xx xx...xx xxxxxxxxx ....-. .x....";
-    tells(&rt, &LookMatcher::default(), Look::WordEndHalfAscii, &WORDS, marks);
-    tells(&rt, &LookMatcher::new(AsciiWord), Look::WordEndHalfAscii, &WORDS, marks);
+    tells(
+        &rt,
+        &LookMatcher::default(),
+        Look::WordEndHalfAscii,
+        &WORDS,
+        marks,
+    );
+    tells(
+        &rt,
+        &LookMatcher::new(AsciiWord),
+        Look::WordEndHalfAscii,
+        &WORDS,
+        marks,
+    );
 }
 
 #[test]
 fn look_matches_word_start_half_unicode(rt: HostRuntime) {
     let marks = "x x- .-. .-x xx-x x---- ....-x xx...-x x-------x ....-. .-....";
-    tells(&rt, &LookMatcher::default(), Look::WordStartHalfUnicode, &WORDS, marks);
+    tells(
+        &rt,
+        &LookMatcher::default(),
+        Look::WordStartHalfUnicode,
+        &WORDS,
+        marks,
+    );
 }
 
 #[test]
 fn look_matches_word_end_half_unicode(rt: HostRuntime) {
     let marks = "x -x .-. .xx x-xx ----x ....xx x-...xx ----x---x ....-. .-....";
-    tells(&rt, &LookMatcher::default(), Look::WordEndHalfUnicode, &WORDS, marks);
+    tells(
+        &rt,
+        &LookMatcher::default(),
+        Look::WordEndHalfUnicode,
+        &WORDS,
+        marks,
+    );
 }
