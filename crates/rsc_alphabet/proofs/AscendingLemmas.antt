@@ -9,7 +9,8 @@ use Rattle.std.proofs.lemmas.Nat.Bits.{bit_at-zero, bit_at_above, bit_at_and}
 use Rattle.rsc_alphabet.specs.Bytes.{from_to}
 use Rattle.rsc_alphabet.specs.BytesLaws.{from_to_none, from_to_parts, filter_none, filter_first, filter_same}
 use Rattle.rsc_alphabet.specs.ByteSets.{Numbers}
-use Rattle.rsc_alphabet.specs.ByteSetLayout.{is_one, members_from, members_left}
+use Rattle.rsc_primitives.specs.BitsLaws.{has_bit}
+use Rattle.rsc_alphabet.specs.ByteSetLayout.{members_from, members_left}
 
 pub filter_parts : (p : ℕ → Bool) (low mid high : ℕ) → low ≤ mid → mid ≤ high → filter p (from_to low high) ≡ filter p (from_to low mid) ++ filter p (from_to mid high)
 filter_parts p low mid high l h = ap (filter p) (from_to_parts low mid high l h) ∙ filter-append p (from_to low mid) (from_to mid high)
@@ -20,9 +21,9 @@ filter_at p low k high l h none is =
     filter_parts p low k high l (omega arith) ∙ ap₂ (λ x y. x ++ y) (filter_none p low k none) (filter_first p k high h is)
 
 -- a word of which nothing was taken
-pub whole_word : (s : Numbers) (number word : ℕ) → number < 4 → ((i : ℕ) → i < 64 → is_one word i ≡ sets.contains s (64 * number + i)) → members_left s number (64 * number) word ≡ members_from s (64 * number)
+pub whole_word : (s : Numbers) (number word : ℕ) → number < 4 → ((i : ℕ) → i < 64 → has_bit word i ≡ sets.contains s (64 * number + i)) → members_left s number (64 * number) word ≡ members_from s (64 * number)
 whole_word s number word l same =
-    ap (λ x. x ++ members_from s (64 * number + 64)) (filter_same (λ b. is_one word (b - 64 * number)) (λ b. sets.contains s b) (64 * number) (64 * number + 64) (λ k low high.
+    ap (λ x. x ++ members_from s (64 * number + 64)) (filter_same (λ b. has_bit word (b - 64 * number)) (λ b. sets.contains s b) (64 * number) (64 * number + 64) (λ k low high.
     let e : 64 * number + (k - 64 * number) ≡ k = omega arith in same (k - 64 * number) (omega arith) ∙ ap (sets.contains s) e))
     ∙ sym (filter_parts (λ b. sets.contains s b) (64 * number) (64 * number + 64) 256 (omega arith) (omega arith))
 
@@ -34,13 +35,13 @@ whole_word_fits number word l fits i is =
 -- a word with nothing left
 pub no_word : (s : Numbers) (number byte : ℕ) → members_left s number byte 0 ≡ members_from s (64 * number + 64)
 no_word s number byte =
-    ap (λ x. x ++ members_from s (64 * number + 64)) (filter_none (λ b. is_one 0 (b - byte)) byte (byte + 64) (λ k low high. rw (bit_at-zero (k - byte)) refl))
+    ap (λ x. x ++ members_from s (64 * number + 64)) (filter_none (λ b. has_bit 0 (b - byte)) byte (byte + 64) (λ k low high. rw (bit_at-zero (k - byte)) refl))
 
 pub none_left : (s : Numbers) (number byte : ℕ) → number ≡ 3 → members_left s number byte 0 ≡ []
 none_left s number byte is = no_word s number byte ∙ let e : 64 * number + 64 ≡ 256 = omega (arith, is) in rw (e, from_to_none 256 256 (omega arith)) refl
 
 -- from a word with nothing left to the next one
-pub next_word : (s : Numbers) (number byte word : ℕ) → number + 1 < 4 → ((i : ℕ) → i < 64 → is_one word i ≡ sets.contains s (64 * (number + 1) + i)) → members_left s (number + 1) (64 * (number + 1)) word ≡ members_left s number byte 0
+pub next_word : (s : Numbers) (number byte word : ℕ) → number + 1 < 4 → ((i : ℕ) → i < 64 → has_bit word i ≡ sets.contains s (64 * (number + 1) + i)) → members_left s (number + 1) (64 * (number + 1)) word ≡ members_left s number byte 0
 next_word s number byte word l same =
     let e : 64 * (number + 1) ≡ 64 * number + 64 = omega arith in
     whole_word s (number + 1) word l same ∙ ap (members_from s) e ∙ sym (no_word s number byte)
@@ -56,23 +57,23 @@ lowest_left s number byte word rest k fits l here below moved =
     ∙ append-nil _)))
   where
     before_moved : ℕ → Bool
-    before_moved b = is_one word (b - byte)
+    before_moved b = has_bit word (b - byte)
 
     after_moved : ℕ → Bool
-    after_moved b = is_one rest (b - (byte + k + 1))
+    after_moved b = has_bit rest (b - (byte + k + 1))
 
-    none : (i : ℕ) → byte ≤ i → i < byte + k → is_one word (i - byte) ≡ false
+    none : (i : ℕ) → byte ≤ i → i < byte + k → has_bit word (i - byte) ≡ false
     none i p q = rw (below (i - byte) (omega arith)) refl
 
-    at_k : is_one word (byte + k - byte) ≡ true
+    at_k : has_bit word (byte + k - byte) ≡ true
     at_k = let e : byte + k - byte ≡ k = omega arith in rw (e, here) refl
 
-    same : (i : ℕ) → byte + k + 1 ≤ i → i < byte + 64 → is_one word (i - byte) ≡ is_one rest (i - (byte + k + 1))
+    same : (i : ℕ) → byte + k + 1 ≤ i → i < byte + 64 → has_bit word (i - byte) ≡ has_bit rest (i - (byte + k + 1))
     same i p q =
         let e : k + (1 + (i - (byte + k + 1))) ≡ i - byte = omega arith in
         ap (λ x. nat_eq x 1) (sym (moved (i - (byte + k + 1)) ∙ ap (bit_at word) e))
 
-    past : (i : ℕ) → byte + 64 ≤ i → i < byte + k + 1 + 64 → is_one rest (i - (byte + k + 1)) ≡ false
+    past : (i : ℕ) → byte + 64 ≤ i → i < byte + k + 1 + 64 → has_bit rest (i - (byte + k + 1)) ≡ false
     past i p q = ap (λ x. nat_eq x 1) (moved (i - (byte + k + 1)) ∙ bit_at_above word 64 (k + (1 + (i - (byte + k + 1)))) fits (omega arith))
 
 -- the same where the lowest bit is 1

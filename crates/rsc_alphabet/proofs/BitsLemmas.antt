@@ -7,7 +7,7 @@ use Rattle.std.proofs.lemmas.Bool.{cases_lt, le-leb, lt-leb}
 use Rattle.std.proofs.lemmas.Nat.{and_mask, pow-add, pow_pos, mod-pow-add}
 use Rattle.std.proofs.lemmas.Nat.Bits.{bit_at-lt, bit_at-zero, bit_at_above, bit_at_and, bit_at_or, bit_at_not, bit_at_ones, bit_at_cat_low, bit_at_cat_high, same_from_bits}
 use Rattle.std.proofs.Math.Nat.{mod-lt, div-div-eq-div-mul}
-use Rattle.rsc_alphabet.specs.ByteSetLayout.{is_one}
+use Rattle.rsc_primitives.specs.BitsLaws.{has_bit}
 use Rattle.rsc_alphabet.specs.Partitions.{class_of}
 use Rattle.rsc_alphabet.proofs.PartitionsLemmas.{class_of-parts}
 use Rattle.rsc_alphabet.specs.PartitionsLaws.{class_of_more, class_of_none, class_of_same}
@@ -31,8 +31,8 @@ bit_at-shl_below n k w i low high =
     bit_at-mod (n * 2 ^ k) w i high ∙ ap (λ x. bit_at x i) (sym e) ∙ bit_at_cat_low n k 0 i low ∙ bit_at-zero i
 
 -- the bits of a number that aren't bits of another one
-pub is_one-difference : (mask other i : ℕ) → other < 2 ^ 128 → i < 128 → is_one (bit_and mask (bit_not w128 other)) i ≡ (is_one mask i && not (is_one other i))
-is_one-difference mask other i fits l =
+pub has_bit-difference : (mask other i : ℕ) → other < 2 ^ 128 → i < 128 → has_bit (bit_and mask (bit_not w128 other)) i ≡ (has_bit mask i && not (has_bit other i))
+has_bit-difference mask other i fits l =
     ap (λ x. nat_eq x 1) (bit_at_and mask (bit_not w128 other) i ∙ ap (min (bit_at mask i)) (bit_at_not w128 other i fits l))
     ∙ digits (bit_at mask i) (bit_at other i) (bit_at-lt mask i) (bit_at-lt other i)
   where
@@ -61,8 +61,8 @@ none_beside k i l h ne =
     ⊎_elim (λ (b : i < k). bit_at-shl_below 1 k 64 i b h) (λ (b : k ≤ i). bit_at-shl 1 k 64 i b h ∙ bit_at_above 1 1 (i - k) (omega arith) (omega arith)) (cases_lt i k)
 
 -- the bits of two numbers
-pub is_one-either : (mask other i : ℕ) → is_one (bit_or mask other) i ≡ (is_one mask i || is_one other i)
-is_one-either mask other i = ap (λ x. nat_eq x 1) (bit_at_or mask other i) ∙ digits (bit_at mask i) (bit_at other i) (bit_at-lt mask i) (bit_at-lt other i)
+pub has_bit-either : (mask other i : ℕ) → has_bit (bit_or mask other) i ≡ (has_bit mask i || has_bit other i)
+has_bit-either mask other i = ap (λ x. nat_eq x 1) (bit_at_or mask other i) ∙ digits (bit_at mask i) (bit_at other i) (bit_at-lt mask i) (bit_at-lt other i)
   where
     digits : (x y : ℕ) → x < 2 → y < 2 → nat_eq (max x y) 1 ≡ (nat_eq x 1 || nat_eq y 1)
     digits zero zero lx ly = refl
@@ -102,12 +102,12 @@ run_within run mask start end fits l inside below above = (
 
 -- a bit is kept if it is in the run
 pub run_kept : (mask run start end i : ℕ) → ((i : ℕ) → start ≤ i → i ≤ end → bit_at run i ≡ 1) → ((i : ℕ) → i < start → bit_at run i ≡ 0) → ((i : ℕ) → end < i → bit_at run i ≡ 0) →
-    is_one (bit_and mask run) i ≡ (nat_le start i && nat_le i end && is_one mask i)
+    has_bit (bit_and mask run) i ≡ (nat_le start i && nat_le i end && has_bit mask i)
 run_kept mask run start end i inside below above =
     ap (λ x. nat_eq x 1) (bit_at_and mask run i) ∙ ⊎_elim
     (λ (h : i < start). rw (below i h, lt-leb start i h) (none (bit_at mask i)))
     (λ (h : start ≤ i). ⊎_elim
-    (λ (k : end < i). rw (above i k, lt-leb i end k) (none (bit_at mask i) ∙ sym (no_more (nat_le start i) (is_one mask i))))
+    (λ (k : end < i). rw (above i k, lt-leb i end k) (none (bit_at mask i) ∙ sym (no_more (nat_le start i) (has_bit mask i))))
     (λ (k : i ≤ end). rw (inside i h k, le-leb start i h, le-leb i end k) (ap (λ x. nat_eq x 1) (omega (arith, bit_at-lt mask i))))
     (cases_lt end i))
     (cases_lt i start)
@@ -129,21 +129,16 @@ ones_digit zero l = refl
 ones_digit (suc zero) l = refl
 ones_digit (suc (suc b)) l = absurd (omega arith)
 
-pub ones-class_of : (n k : ℕ) → ones (n % 2 ^ k) ≡ class_of (is_one n) k
-ones-class_of n zero = let e : n % 1 ≡ 0 = omega arith in rw e (ones_digit 0 (omega arith)) ∙ sym (class_of_none (is_one n))
+pub ones-class_of : (n k : ℕ) → ones (n % 2 ^ k) ≡ class_of (has_bit n) k
+ones-class_of n zero = let e : n % 1 ≡ 0 = omega arith in rw e (ones_digit 0 (omega arith)) ∙ sym (class_of_none (has_bit n))
 ones-class_of n (suc k) =
     let e : suc k ≡ 1 + k = omega arith in
     let f : suc k ≡ k + 1 = omega arith in
     let split : n % 2 ^ (suc k) ≡ bit_at n k * 2 ^ k + n % 2 ^ k = rw e (mod-pow-add n 1 k) in
     ap ones split ∙ ones_cat k (bit_at n k) (n % 2 ^ k) (mod-lt n (pow_pos k))
     ∙ ap₂ (λ x y. x + y) (ones_digit (bit_at n k) (bit_at-lt n k)) (ones-class_of n k)
-    ∙ swap (cond (is_one n k) 1 0) (class_of (is_one n) k)
-    ∙ sym (ap (class_of (is_one n)) f ∙ class_of_more (is_one n) k)
+    ∙ swap (cond (has_bit n k) 1 0) (class_of (has_bit n) k)
+    ∙ sym (ap (class_of (has_bit n)) f ∙ class_of_more (has_bit n) k)
   where
     swap : (x y : ℕ) → x + y ≡ y + x
     swap x y = omega arith
-
--- the bits below a place, in two parts
-pub count_parts : (ends bits a n : ℕ) → ((i : ℕ) → i < n → bit_at bits i ≡ bit_at ends (a + i)) → class_of (is_one ends) (a + n) ≡ class_of (is_one ends) a + class_of (is_one bits) n
-count_parts ends bits a n same =
-    class_of-parts (is_one ends) a n ∙ ap (λ x. class_of (is_one ends) a + x) (class_of_same (λ k. is_one ends (a + k)) (is_one bits) n (λ k l. ap (λ x. nat_eq x 1) (sym (same k l))))

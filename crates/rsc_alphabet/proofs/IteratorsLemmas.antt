@@ -19,7 +19,7 @@ use Rattle.std.proofs.lemmas.List.{ext_get_or, length-map}
 use Rattle.std.specs.FinSet as sets
 use Rattle.std.specs.FinSet.{contains-empty}
 use Rattle.std.specs.Ordering.{nat_cmp}
-use Rattle.rsc_alphabet.specs.ByteSetLayout.{is_one}
+use Rattle.rsc_primitives.specs.BitsLaws.{has_bit}
 use Rattle.rsc_alphabet.specs.ByteSets.{Numbers, members}
 use Rattle.rsc_alphabet.specs.IteratorLayout.{symbols_left, elements_left}
 use Rattle.rsc_alphabet.proofs.AscendingLemmas.{filter_parts}
@@ -98,11 +98,11 @@ representing_are classes s low high l h before after inside =
 pub representing_none : (classes : List ℕ) (low high : ℕ) → high ≤ low → representing classes low high ≡ []
 representing_none classes low high h = rw (from_to_none low high h) refl
 
-pub bytes_between_are : (classes : List ℕ) (changes part s : Numbers) (low high : ℕ) → low < high → high ≤ 256 →
+pub representative_bytes_are : (classes : List ℕ) (changes part s : Numbers) (low high : ℕ) → low < high → high ≤ 256 →
     ((b : ℕ) → b < 256 → sets.contains changes b ≡ not (nat_eq (slice_index classes b) (slice_index classes (b - 1)))) →
     ((b : ℕ) → sets.contains part b ≡ (nat_le low b && nat_le b (high - 1) && sets.contains changes b)) →
     ((b : ℕ) → sets.contains s b ≡ (nat_eq b low || sets.contains part b)) → members s ≡ representing classes low high
-bytes_between_are classes changes part s low high l h changed parted added =
+representative_bytes_are classes changes part s low high l h changed parted added =
     representing_are classes s low high (omega arith) h
     (λ b p. added b ∙ rw (ne_eqb b low (λ e. omega arith), parted b, lt-leb low b p) refl)
     (λ b p q. added b ∙ rw (ne_eqb b low (λ e. omega arith), parted b, le-leb low b (omega arith), lt-leb b (high - 1) (omega arith)) refl)
@@ -126,8 +126,8 @@ by_words s p first second third fourth b l =
     later start low same = let e : start + (b - start) ≡ b = omega arith in rw e at same
 
 -- the word of the bytes 1 to 64, moved up by one byte
-pub first_changes : (classes : List ℕ) (word up i : ℕ) → i < 64 → ((i : ℕ) → i < 64 → is_one word i ≡ not (nat_eq (slice_index classes (1 + i)) (slice_index classes (1 + i - 1)))) →
-    is_one up 0 ≡ false → ((i : ℕ) → 0 < i → i < 64 → is_one up i ≡ is_one word (i - 1)) → is_one up i ≡ not (nat_eq (slice_index classes i) (slice_index classes (i - 1)))
+pub first_changes : (classes : List ℕ) (word up i : ℕ) → i < 64 → ((i : ℕ) → i < 64 → has_bit word i ≡ not (nat_eq (slice_index classes (1 + i)) (slice_index classes (1 + i - 1)))) →
+    has_bit up 0 ≡ false → ((i : ℕ) → 0 < i → i < 64 → has_bit up i ≡ has_bit word (i - 1)) → has_bit up i ≡ not (nat_eq (slice_index classes i) (slice_index classes (i - 1)))
 first_changes classes word up zero l each first others = first ∙ rw (eq-eqb (slice_index classes 0) (slice_index classes 0) refl) refl
 first_changes classes word up (suc k) l each first others =
     let e : suc k - 1 ≡ k = omega arith in
@@ -154,11 +154,11 @@ least_exponent n r k enough below =
     (λ (h : k ≤ r). absurd (omega (arith, pow_mono {i = k} {j = r} h)))
     (cases_lt r k)
 
--- one more byte has its own class
-pub own_class_more : (classes : List ℕ) (b : ℕ) → length classes ≡ 256 → ((k : ℕ) → k < b → slice_index classes k ≡ k) → b < 256 →
-    (k : ℕ) → k < b + 1 → slice_index (set classes b b) k ≡ k
-own_class_more classes b long before h =
-    below_more _ b (λ k l. get_or-set_other classes b k b 0 (omega arith) ∙ before k l) (get_or-set_same classes b b 0 (omega arith))
+-- one more byte has its class
+pub class_more : (f : ℕ → ℕ) (classes : List ℕ) (b : ℕ) → length classes ≡ 256 → ((k : ℕ) → k < b → slice_index classes k ≡ f k) → b < 256 →
+    (k : ℕ) → k < b + 1 → slice_index (set classes b (f b)) k ≡ f k
+class_more f classes b long before h =
+    below_more _ b (λ k l. get_or-set_other classes b k (f b) 0 (omega arith) ∙ before k l) (get_or-set_same classes b (f b) 0 (omega arith))
 
 -- ---- the first representative
 

@@ -7,7 +7,7 @@ use Rattle.std.specs.Int.Bits.{bit_and}
 use Rattle.std.specs.Int.Count.{ones}
 use Rattle.std.proofs.lemmas.Nat.{and_mask}
 use Rattle.std.proofs.Math.Nat.{mod-eq_of_lt}
-use Rattle.rsc_alphabet.specs.ByteSetLayout.{is_one}
+use Rattle.rsc_primitives.specs.BitsLaws.{has_bit}
 use Rattle.rsc_alphabet.specs.Partitions.{class_of}
 use Rattle.rsc_alphabet.specs.PartitionsLaws.{class_of-le}
 use Rattle.rsc_alphabet.proofs.BitsLemmas.{ones-class_of}
@@ -17,22 +17,22 @@ digit true = refl
 digit false = refl
 
 -- a bit of the mask of a list of answers
-bit_of_mask : (ms : List Bool) (i : ℕ) → is_one (mask_l ms) i ≡ get_or ms i false
+bit_of_mask : (ms : List Bool) (i : ℕ) → has_bit (mask_l ms) i ≡ get_or ms i false
 bit_of_mask ms i = ap (λ x. nat_eq x 1) (bit_mask_l ms i) ∙ digit (get_or ms i false)
 
 -- the comparison of a load with one byte
 pub equal_bits : (xs : List ℕ) (first byte i : ℕ) → first + 64 ≤ length xs → i < 64 →
-    is_one (mask_l (map (top 7) (zip2 (λ a b. cond (nat_eq a b) 255 0) (chunk first 64 xs) (replicate 64 byte))) % 2 ^ 64) i ≡ nat_eq (get_or xs (first + i) 0) byte
+    has_bit (mask_l (map (top 7) (zip2 (λ a b. cond (nat_eq a b) 255 0) (chunk first 64 xs) (replicate 64 byte))) % 2 ^ 64) i ≡ nat_eq (get_or xs (first + i) 0) byte
 equal_bits xs first byte i room l =
     let long : length (chunk first 64 xs) ≡ 64 = length-chunk first 64 xs room in
-    ap (λ m. is_one m i) (bitmask_splat w8 nat_eq (chunk first 64 xs) 64 byte long (omega arith))
+    ap (λ m. has_bit m i) (bitmask_splat w8 nat_eq (chunk first 64 xs) 64 byte long (omega arith))
     ∙ bit_of_mask (map (λ x. nat_eq x byte) (chunk first 64 xs)) i
     ∙ get_or-map (λ x. nat_eq x byte) (chunk first 64 xs) i 0 false (omega (arith, long, l))
     ∙ ap (λ x. nat_eq x byte) (get_or-chunk first 64 xs i 0 l)
 
 -- the comparison of a load with that of the bytes before it
 pub unlike_bits : (xs : List ℕ) (first i : ℕ) → 0 < first → first + 64 ≤ length xs → i < 64 →
-    is_one (mask_l (map (top 7) (zip2 (λ a b. cond (not (nat_eq a b)) 255 0) (chunk first 64 xs) (chunk (first - 1) 64 xs))) % 2 ^ 64) i
+    has_bit (mask_l (map (top 7) (zip2 (λ a b. cond (not (nat_eq a b)) 255 0) (chunk first 64 xs) (chunk (first - 1) 64 xs))) % 2 ^ 64) i
     ≡ not (nat_eq (get_or xs (first + i) 0) (get_or xs (first + i - 1) 0))
 unlike_bits xs first i some room l =
     let t : ℕ → ℕ → Bool = λ a b. not (nat_eq a b) in
@@ -42,40 +42,8 @@ unlike_bits xs first i some room l =
     let long_before : length before ≡ 64 = length-chunk (first - 1) 64 xs (omega (arith, room)) in
     let all : length (zip2 t here before) ≡ 64 = length-zip2 t here before (long ∙ sym long_before) ∙ long in
     let e : first - 1 + i ≡ first + i - 1 = omega arith in
-    ap (λ ms. is_one (mask_l ms % 2 ^ 64) i) (tops_compared w8 t here before)
-    ∙ ap (λ m. is_one m i) (mask_l-mod (zip2 t here before) 64 (omega (arith, all)))
+    ap (λ ms. has_bit (mask_l ms % 2 ^ 64) i) (tops_compared w8 t here before)
+    ∙ ap (λ m. has_bit m i) (mask_l-mod (zip2 t here before) 64 (omega (arith, all)))
     ∙ bit_of_mask (zip2 t here before) i
     ∙ get_or-zip2 t here before i 0 0 false (omega (arith, long, l)) (omega (arith, long_before, l))
     ∙ (λ k. t (get_or-chunk first 64 xs i 0 l k) ((get_or-chunk (first - 1) 64 xs i 0 l ∙ ap (λ x. get_or xs x 0) e) k))
-
--- ---- counts
-
--- how many bits of `bits` below a place are 1, and `below` more
-abbrev pub count_with : ℕ → ℕ → ℕ → ℕ
-count_with bits below mask = (ones (bit_and bits mask) + below) % 256
-
-abbrev pub counts : ℕ → ℕ → List ℕ
-counts bits below =
-    count_with bits below 0 ∷ count_with bits below 1 ∷ count_with bits below 3 ∷ count_with bits below 7
-    ∷ count_with bits below 15 ∷ count_with bits below 31 ∷ count_with bits below 63 ∷ count_with bits below 127 ∷ []
-
-count_is : (bits below i : ℕ) → i < 8 → below ≤ 248 → count_with bits below (2 ^ i - 1) ≡ below + class_of (is_one bits) i
-count_is bits below i l small =
-    let counted : ones (bit_and bits (2 ^ i - 1)) ≡ class_of (is_one bits) i = ap ones (and_mask bits i) ∙ ones-class_of bits i in
-    let few : class_of (is_one bits) i ≤ i = class_of-le (is_one bits) i in
-    let e : ones (bit_and bits (2 ^ i - 1)) + below ≡ below + class_of (is_one bits) i = omega (arith, counted) in
-    ap (λ x. x % 256) e ∙ mod-eq_of_lt (omega (arith, few, l, small))
-
-counts_are : (bits below i : ℕ) → i < 8 → below ≤ 248 → get_or (counts bits below) i 0 ≡ below + class_of (is_one bits) i
-counts_are bits below zero l small = count_is bits below 0 (omega arith) small
-counts_are bits below (suc zero) l small = count_is bits below 1 (omega arith) small
-counts_are bits below (suc (suc zero)) l small = count_is bits below 2 (omega arith) small
-counts_are bits below (suc (suc (suc zero))) l small = count_is bits below 3 (omega arith) small
-counts_are bits below (suc (suc (suc (suc zero)))) l small = count_is bits below 4 (omega arith) small
-counts_are bits below (suc (suc (suc (suc (suc zero))))) l small = count_is bits below 5 (omega arith) small
-counts_are bits below (suc (suc (suc (suc (suc (suc zero)))))) l small = count_is bits below 6 (omega arith) small
-counts_are bits below (suc (suc (suc (suc (suc (suc (suc zero))))))) l small = count_is bits below 7 (omega arith) small
-counts_are bits below (suc (suc (suc (suc (suc (suc (suc (suc i)))))))) l small = absurd (omega arith)
-
-pub counts_put : (xs : List ℕ) (first bits below i : ℕ) → first + 8 ≤ length xs → below ≤ 248 → i < 8 → get_or (put_chunk first xs (counts bits below)) (first + i) 0 ≡ below + class_of (is_one bits) i
-counts_put xs first bits below i room small l = get_or-put_chunk_at first xs (counts bits below) i 0 l room ∙ counts_are bits below i l small

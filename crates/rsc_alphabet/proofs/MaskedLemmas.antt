@@ -7,25 +7,25 @@ use Rattle.std.specs.FinSet.{contains-empty}
 use Rattle.std.proofs.lemmas.Bool.{cases_lt, cases_eq, eq-eqb, eqb-true, ne_eqb, true≢false, le-leb, lt-leb}
 use Rattle.std.proofs.lemmas.Nat.Bits.{bit_at-zero}
 use Rattle.rsc_alphabet.specs.ByteSets.{begins_run, ends_run}
-use Rattle.rsc_alphabet.specs.ByteSetLayout.{is_one, is_masked, masked}
-use Rattle.rsc_primitives.specs.BitsLaws.{mask_of}
+use Rattle.rsc_primitives.specs.BitsLaws.{has_bit, mask_of}
+use Rattle.rsc_alphabet.specs.ByteSetLayout.{is_masked, masked}
 use Rattle.rsc_alphabet.specs.ByteSetsLaws.{is_masked-low, is_masked-high, is_masked-past, contains-masked, masked_is, low_again, high_again}
 use Rattle.rsc_alphabet.specs.PartitionsLaws.{contains-inserted, contains-removed}
 
 -- ---- what a byte's bit says
 
-pub contains-low : (low high b : ℕ) → high < 2 ^ 128 → b < 128 → sets.contains (masked low high) b ≡ is_one low b
+pub contains-low : (low high b : ℕ) → high < 2 ^ 128 → b < 128 → sets.contains (masked low high) b ≡ has_bit low b
 contains-low low high b fits l = contains-masked low high fits b ∙ is_masked-low low high b l
 
-pub contains-high : (low high b : ℕ) → high < 2 ^ 128 → 128 ≤ b → sets.contains (masked low high) b ≡ is_one high (b - 128)
+pub contains-high : (low high b : ℕ) → high < 2 ^ 128 → 128 ≤ b → sets.contains (masked low high) b ≡ has_bit high (b - 128)
 contains-high low high b fits l = contains-masked low high fits b ∙ is_masked-high low high b l
 
 -- the same, from the bit's place
-pub contains-at : (low high i : ℕ) → high < 2 ^ 128 → sets.contains (masked low high) (128 + i) ≡ is_one high i
-contains-at low high i fits = let e : 128 + i - 128 ≡ i = omega arith in contains-high low high (128 + i) fits (omega arith) ∙ ap (is_one high) e
+pub contains-at : (low high i : ℕ) → high < 2 ^ 128 → sets.contains (masked low high) (128 + i) ≡ has_bit high i
+contains-at low high i fits = let e : 128 + i - 128 ≡ i = omega arith in contains-high low high (128 + i) fits (omega arith) ∙ ap (has_bit high) e
 
-pub contains-fourth : (low high i : ℕ) → high < 2 ^ 128 → sets.contains (masked low high) (192 + i) ≡ is_one high (64 + i)
-contains-fourth low high i fits = let e : 192 + i - 128 ≡ 64 + i = omega arith in contains-high low high (192 + i) fits (omega arith) ∙ ap (is_one high) e
+pub contains-fourth : (low high i : ℕ) → high < 2 ^ 128 → sets.contains (masked low high) (192 + i) ≡ has_bit high (64 + i)
+contains-fourth low high i fits = let e : 192 + i - 128 ≡ 64 + i = omega arith in contains-high low high (192 + i) fits (omega arith) ∙ ap (has_bit high) e
 
 -- what has a bit is a byte
 pub masked_below : (low high : ℕ) → high < 2 ^ 128 → (b : ℕ) → sets.contains (masked low high) b ≡ true → b < 256
@@ -101,7 +101,7 @@ remove_high low high new b fh fn l here others =
 -- ---- the first and the last bytes of the runs
 
 -- a set of bytes is another one if the bits of both halves say so
-masked_from : (low high : ℕ) → high < 2 ^ 128 → (p : ℕ → Bool) → ((q : ℕ) → q < 128 → is_one low q ≡ p q) → ((i : ℕ) → i < 128 → is_one high i ≡ p (128 + i)) → ((q : ℕ) → 256 ≤ q → p q ≡ false) → (q : ℕ) → sets.contains (masked low high) q ≡ p q
+masked_from : (low high : ℕ) → high < 2 ^ 128 → (p : ℕ → Bool) → ((q : ℕ) → q < 128 → has_bit low q ≡ p q) → ((i : ℕ) → i < 128 → has_bit high i ≡ p (128 + i)) → ((q : ℕ) → 256 ≤ q → p q ≡ false) → (q : ℕ) → sets.contains (masked low high) q ≡ p q
 masked_from low high fits p lower upper past q =
     ⊎_elim
     (λ (h : q < 128). contains-low low high q fits h ∙ lower q h)
@@ -115,31 +115,31 @@ past_bytes : (low high : ℕ) → high < 2 ^ 128 → (b : ℕ) → 256 ≤ b →
 past_bytes low high fits b l = contains-masked low high fits b ∙ is_masked-past low high b fits l
 
 module _ (low high : ℕ) (fits : high < 2 ^ 128) where
-  start_in_low : (up new : ℕ) → is_one up 0 ≡ false → ((i : ℕ) → 0 < i → i < 128 → is_one up i ≡ is_one low (i - 1)) → ((i : ℕ) → i < 128 → is_one new i ≡ (is_one low i && not (is_one up i))) →
-      (q : ℕ) → q < 128 → is_one new q ≡ begins_run (masked low high) q
+  start_in_low : (up new : ℕ) → has_bit up 0 ≡ false → ((i : ℕ) → 0 < i → i < 128 → has_bit up i ≡ has_bit low (i - 1)) → ((i : ℕ) → i < 128 → has_bit new i ≡ (has_bit low i && not (has_bit up i))) →
+      (q : ℕ) → q < 128 → has_bit new q ≡ begins_run (masked low high) q
   start_in_low up new first others each zero l = each 0 l ∙ rw (first, contains-low low high 0 fits l) refl
   start_in_low up new first others each (suc k) l =
       let e : suc k - 1 ≡ k = omega arith in
       each (suc k) l ∙ rw (others (suc k) (omega arith) l, e, contains-low low high (suc k) fits l, contains-low low high k fits (omega arith), ne_eqb (suc k) 0 (λ z. omega arith)) refl
 
-  start_in_high : (up new : ℕ) → is_one up 0 ≡ is_one low 127 → ((i : ℕ) → 0 < i → i < 128 → is_one up i ≡ is_one high (i - 1)) → ((i : ℕ) → i < 128 → is_one new i ≡ (is_one high i && not (is_one up i))) →
-      (i : ℕ) → i < 128 → is_one new i ≡ begins_run (masked low high) (128 + i)
+  start_in_high : (up new : ℕ) → has_bit up 0 ≡ has_bit low 127 → ((i : ℕ) → 0 < i → i < 128 → has_bit up i ≡ has_bit high (i - 1)) → ((i : ℕ) → i < 128 → has_bit new i ≡ (has_bit high i && not (has_bit up i))) →
+      (i : ℕ) → i < 128 → has_bit new i ≡ begins_run (masked low high) (128 + i)
   start_in_high up new first others each zero l = each 0 l ∙ rw (first, contains-at low high 0 fits, contains-low low high 127 fits (omega arith)) refl
   start_in_high up new first others each (suc k) l =
       let e : suc k - 1 ≡ k = omega arith in
       let f : 128 + suc k - 1 ≡ 128 + k = omega arith in
       each (suc k) l ∙ rw (others (suc k) (omega arith) l, e, f, contains-at low high (suc k) fits, contains-at low high k fits, ne_eqb (128 + suc k) 0 (λ z. omega arith)) refl
 
-  end_in_low : (down new : ℕ) → is_one down 127 ≡ is_one high 0 → ((i : ℕ) → i < 127 → is_one down i ≡ is_one low (i + 1)) → ((i : ℕ) → i < 128 → is_one new i ≡ (is_one low i && not (is_one down i))) →
-      (q : ℕ) → q < 128 → is_one new q ≡ ends_run (masked low high) q
+  end_in_low : (down new : ℕ) → has_bit down 127 ≡ has_bit high 0 → ((i : ℕ) → i < 127 → has_bit down i ≡ has_bit low (i + 1)) → ((i : ℕ) → i < 128 → has_bit new i ≡ (has_bit low i && not (has_bit down i))) →
+      (q : ℕ) → q < 128 → has_bit new q ≡ ends_run (masked low high) q
   end_in_low down new last others each q l =
       ⊎_elim
       (λ (h : q < 127). each q l ∙ rw (others q h, contains-low low high q fits l, contains-low low high (q + 1) fits (omega arith), ne_eqb q 255 (λ z. omega arith)) refl)
       (λ (h : 127 ≤ q). let e : q ≡ 127 = omega arith in rw e (each 127 (omega arith) ∙ rw (last, contains-low low high 127 fits (omega arith), contains-at low high 0 fits) refl))
       (cases_lt q 127)
 
-  end_in_high : (down new : ℕ) → is_one down 127 ≡ false → ((i : ℕ) → i < 127 → is_one down i ≡ is_one high (i + 1)) → ((i : ℕ) → i < 128 → is_one new i ≡ (is_one high i && not (is_one down i))) →
-      (i : ℕ) → i < 128 → is_one new i ≡ ends_run (masked low high) (128 + i)
+  end_in_high : (down new : ℕ) → has_bit down 127 ≡ false → ((i : ℕ) → i < 127 → has_bit down i ≡ has_bit high (i + 1)) → ((i : ℕ) → i < 128 → has_bit new i ≡ (has_bit high i && not (has_bit down i))) →
+      (i : ℕ) → i < 128 → has_bit new i ≡ ends_run (masked low high) (128 + i)
   end_in_high down new last others each i l =
       ⊎_elim
       (λ (h : i < 127). let f : 128 + i + 1 ≡ 128 + (i + 1) = omega arith in
@@ -149,8 +149,8 @@ module _ (low high : ℕ) (fits : high < 2 ^ 128) where
 
 -- a bit of the first bytes of the runs, and of the last ones
 pub starts_are : (low high up up2 new new2 : ℕ) → high < 2 ^ 128 → new2 < 2 ^ 128 →
-    is_one up 0 ≡ false → ((i : ℕ) → 0 < i → i < 128 → is_one up i ≡ is_one low (i - 1)) → ((i : ℕ) → i < 128 → is_one new i ≡ (is_one low i && not (is_one up i))) →
-    is_one up2 0 ≡ is_one low 127 → ((i : ℕ) → 0 < i → i < 128 → is_one up2 i ≡ is_one high (i - 1)) → ((i : ℕ) → i < 128 → is_one new2 i ≡ (is_one high i && not (is_one up2 i))) →
+    has_bit up 0 ≡ false → ((i : ℕ) → 0 < i → i < 128 → has_bit up i ≡ has_bit low (i - 1)) → ((i : ℕ) → i < 128 → has_bit new i ≡ (has_bit low i && not (has_bit up i))) →
+    has_bit up2 0 ≡ has_bit low 127 → ((i : ℕ) → 0 < i → i < 128 → has_bit up2 i ≡ has_bit high (i - 1)) → ((i : ℕ) → i < 128 → has_bit new2 i ≡ (has_bit high i && not (has_bit up2 i))) →
     (b : ℕ) → sets.contains (masked new new2) b ≡ begins_run (masked low high) b
 starts_are low high up up2 new new2 fits fits2 first others each first2 others2 each2 =
     masked_from new new2 fits2 (begins_run (masked low high))
@@ -159,8 +159,8 @@ starts_are low high up up2 new new2 fits fits2 first others each first2 others2 
     (λ b l. rw (past_bytes low high fits b l) refl)
 
 pub ends_are : (low high down down2 new new2 : ℕ) → high < 2 ^ 128 → new2 < 2 ^ 128 →
-    is_one down 127 ≡ is_one high 0 → ((i : ℕ) → i < 127 → is_one down i ≡ is_one low (i + 1)) → ((i : ℕ) → i < 128 → is_one new i ≡ (is_one low i && not (is_one down i))) →
-    is_one down2 127 ≡ false → ((i : ℕ) → i < 127 → is_one down2 i ≡ is_one high (i + 1)) → ((i : ℕ) → i < 128 → is_one new2 i ≡ (is_one high i && not (is_one down2 i))) →
+    has_bit down 127 ≡ has_bit high 0 → ((i : ℕ) → i < 127 → has_bit down i ≡ has_bit low (i + 1)) → ((i : ℕ) → i < 128 → has_bit new i ≡ (has_bit low i && not (has_bit down i))) →
+    has_bit down2 127 ≡ false → ((i : ℕ) → i < 127 → has_bit down2 i ≡ has_bit high (i + 1)) → ((i : ℕ) → i < 128 → has_bit new2 i ≡ (has_bit high i && not (has_bit down2 i))) →
     (b : ℕ) → sets.contains (masked new new2) b ≡ ends_run (masked low high) b
 ends_are low high down down2 new new2 fits fits2 last others each last2 others2 each2 =
     masked_from new new2 fits2 (ends_run (masked low high))
@@ -171,7 +171,7 @@ ends_are low high down down2 new new2 fits fits2 last others each last2 others2 
 -- ---- two sets, and the predecessors
 
 pub union_is : (low high low2 high2 new new2 : ℕ) → high < 2 ^ 128 → high2 < 2 ^ 128 → new2 < 2 ^ 128 →
-    ((i : ℕ) → is_one new i ≡ (is_one low i || is_one low2 i)) → ((i : ℕ) → is_one new2 i ≡ (is_one high i || is_one high2 i)) →
+    ((i : ℕ) → has_bit new i ≡ (has_bit low i || has_bit low2 i)) → ((i : ℕ) → has_bit new2 i ≡ (has_bit high i || has_bit high2 i)) →
     (b : ℕ) → sets.contains (masked new new2) b ≡ (sets.contains (masked low high) b || sets.contains (masked low2 high2) b)
 union_is low high low2 high2 new new2 fits fits2 fits3 each each2 =
     masked_from new new2 fits3 (λ b. sets.contains (masked low high) b || sets.contains (masked low2 high2) b)
@@ -180,7 +180,7 @@ union_is low high low2 high2 new new2 fits fits2 fits3 each each2 =
     (λ q l. rw (past_bytes low high fits q l, past_bytes low2 high2 fits2 q l) refl)
 
 pub predecessors_are : (low high down down2 : ℕ) → high < 2 ^ 128 → down2 < 2 ^ 128 →
-    is_one down 127 ≡ is_one high 0 → ((i : ℕ) → i < 127 → is_one down i ≡ is_one low (i + 1)) → is_one down2 127 ≡ false → ((i : ℕ) → i < 127 → is_one down2 i ≡ is_one high (i + 1)) →
+    has_bit down 127 ≡ has_bit high 0 → ((i : ℕ) → i < 127 → has_bit down i ≡ has_bit low (i + 1)) → has_bit down2 127 ≡ false → ((i : ℕ) → i < 127 → has_bit down2 i ≡ has_bit high (i + 1)) →
     (b : ℕ) → sets.contains (masked down down2) b ≡ sets.contains (masked low high) (b + 1)
 predecessors_are low high down down2 fits fits2 last others last2 others2 =
     masked_from down down2 fits2 (λ b. sets.contains (masked low high) (b + 1))
@@ -231,15 +231,15 @@ module _ (low high start end : ℕ) (fits : high < 2 ^ 128) where
       no_more false true = refl
       no_more false false = refl
 
-  pub between_low : (new : ℕ) → end < 128 → ((i : ℕ) → is_one new i ≡ (nat_le start i && nat_le i end && is_one low i)) → (b : ℕ) → sets.contains (masked new 0) b ≡ is_between b
+  pub between_low : (new : ℕ) → end < 128 → ((i : ℕ) → has_bit new i ≡ (nat_le start i && nat_le i end && has_bit low i)) → (b : ℕ) → sets.contains (masked new 0) b ≡ is_between b
   between_low new l each =
       masked_from new 0 (omega arith) is_between
       (λ q h. each q ∙ ap (λ x. nat_le start q && nat_le q end && x) (sym (contains-low low high q fits h)))
       (λ i h. rw (bit_at-zero i) (above_end (128 + i) (omega arith)))
       (λ q h. sym (above_end q (omega arith)))
 
-  in_high : (new : ℕ) → 128 ≤ end → (from : ℕ) → ((i : ℕ) → nat_le from i ≡ nat_le start (128 + i)) → ((i : ℕ) → is_one new i ≡ (nat_le from i && nat_le i (end - 128) && is_one high i)) →
-      (i : ℕ) → is_one new i ≡ is_between (128 + i)
+  in_high : (new : ℕ) → 128 ≤ end → (from : ℕ) → ((i : ℕ) → nat_le from i ≡ nat_le start (128 + i)) → ((i : ℕ) → has_bit new i ≡ (nat_le from i && nat_le i (end - 128) && has_bit high i)) →
+      (i : ℕ) → has_bit new i ≡ is_between (128 + i)
   in_high new k from same each i =
       each i ∙ rw (same i, same_le i (end - 128) (128 + i) end (λ h. omega arith) (λ h. omega arith), sym (contains-at low high i fits)) refl
 
@@ -252,15 +252,15 @@ module _ (low high start end : ℕ) (fits : high < 2 ^ 128) where
       no_member false true = refl
       no_member false false = refl
 
-  pub between_high : (new : ℕ) → new < 2 ^ 128 → 128 ≤ start → 128 ≤ end → ((i : ℕ) → is_one new i ≡ (nat_le (start - 128) i && nat_le i (end - 128) && is_one high i)) → (b : ℕ) → sets.contains (masked 0 new) b ≡ is_between b
+  pub between_high : (new : ℕ) → new < 2 ^ 128 → 128 ≤ start → 128 ≤ end → ((i : ℕ) → has_bit new i ≡ (nat_le (start - 128) i && nat_le i (end - 128) && has_bit high i)) → (b : ℕ) → sets.contains (masked 0 new) b ≡ is_between b
   between_high new new_fits l k each =
       masked_from 0 new new_fits is_between
       (λ q h. rw (bit_at-zero q, lt-leb start q (omega arith)) refl)
       (λ i h. in_high new k (start - 128) (λ i. same_le (start - 128) i start (128 + i) (λ m. omega arith) (λ m. omega arith)) each i)
       past_between
 
-  pub between_both : (new new2 : ℕ) → new2 < 2 ^ 128 → start < 128 → 128 ≤ end → ((i : ℕ) → is_one new i ≡ (nat_le start i && nat_le i 127 && is_one low i)) →
-      ((i : ℕ) → is_one new2 i ≡ (nat_le 0 i && nat_le i (end - 128) && is_one high i)) → (b : ℕ) → sets.contains (masked new new2) b ≡ is_between b
+  pub between_both : (new new2 : ℕ) → new2 < 2 ^ 128 → start < 128 → 128 ≤ end → ((i : ℕ) → has_bit new i ≡ (nat_le start i && nat_le i 127 && has_bit low i)) →
+      ((i : ℕ) → has_bit new2 i ≡ (nat_le 0 i && nat_le i (end - 128) && has_bit high i)) → (b : ℕ) → sets.contains (masked new new2) b ≡ is_between b
   between_both new new2 new_fits l k each each2 =
       masked_from new new2 new_fits is_between
       (λ q h. each q ∙ rw (same_le q 127 q end (λ m. omega arith) (λ m. omega arith), sym (contains-low low high q fits h)) refl)
@@ -269,18 +269,18 @@ module _ (low high start end : ℕ) (fits : high < 2 ^ 128) where
 
 -- ---- the four words
 
-pub word_0 : (low high word number : ℕ) → high < 2 ^ 128 → number ≡ 0 → ((i : ℕ) → i < 64 → bit_at word i ≡ bit_at low i) → (i : ℕ) → i < 64 → is_one word i ≡ sets.contains (masked low high) (64 * number + i)
+pub word_0 : (low high word number : ℕ) → high < 2 ^ 128 → number ≡ 0 → ((i : ℕ) → i < 64 → bit_at word i ≡ bit_at low i) → (i : ℕ) → i < 64 → has_bit word i ≡ sets.contains (masked low high) (64 * number + i)
 word_0 low high word number fits is same i l =
     let e : 64 * number + i ≡ i = omega (arith, is) in rw e (ap (λ x. nat_eq x 1) (same i l) ∙ sym (contains-low low high i fits (omega arith)))
 
-pub word_1 : (low high word number : ℕ) → high < 2 ^ 128 → number ≡ 1 → ((i : ℕ) → i < 64 → bit_at word i ≡ bit_at low (64 + i)) → (i : ℕ) → i < 64 → is_one word i ≡ sets.contains (masked low high) (64 * number + i)
+pub word_1 : (low high word number : ℕ) → high < 2 ^ 128 → number ≡ 1 → ((i : ℕ) → i < 64 → bit_at word i ≡ bit_at low (64 + i)) → (i : ℕ) → i < 64 → has_bit word i ≡ sets.contains (masked low high) (64 * number + i)
 word_1 low high word number fits is same i l =
     let e : 64 * number + i ≡ 64 + i = omega (arith, is) in rw e (ap (λ x. nat_eq x 1) (same i l) ∙ sym (contains-low low high (64 + i) fits (omega arith)))
 
-pub word_2 : (low high word number : ℕ) → high < 2 ^ 128 → number ≡ 2 → ((i : ℕ) → i < 64 → bit_at word i ≡ bit_at high i) → (i : ℕ) → i < 64 → is_one word i ≡ sets.contains (masked low high) (64 * number + i)
+pub word_2 : (low high word number : ℕ) → high < 2 ^ 128 → number ≡ 2 → ((i : ℕ) → i < 64 → bit_at word i ≡ bit_at high i) → (i : ℕ) → i < 64 → has_bit word i ≡ sets.contains (masked low high) (64 * number + i)
 word_2 low high word number fits is same i l =
     let e : 64 * number + i ≡ 128 + i = omega (arith, is) in rw e (ap (λ x. nat_eq x 1) (same i l) ∙ sym (contains-at low high i fits))
 
-pub word_3 : (low high word number : ℕ) → high < 2 ^ 128 → number ≡ 3 → ((i : ℕ) → i < 64 → bit_at word i ≡ bit_at high (64 + i)) → (i : ℕ) → i < 64 → is_one word i ≡ sets.contains (masked low high) (64 * number + i)
+pub word_3 : (low high word number : ℕ) → high < 2 ^ 128 → number ≡ 3 → ((i : ℕ) → i < 64 → bit_at word i ≡ bit_at high (64 + i)) → (i : ℕ) → i < 64 → has_bit word i ≡ sets.contains (masked low high) (64 * number + i)
 word_3 low high word number fits is same i l =
     let e : 64 * number + i ≡ 128 + (64 + i) = omega (arith, is) in rw e (ap (λ x. nat_eq x 1) (same i l) ∙ sym (contains-at low high (64 + i) fits))

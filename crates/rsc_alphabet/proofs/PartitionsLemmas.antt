@@ -13,7 +13,7 @@ use Rattle.std.proofs.Math.Bool.{or-false, or_assoc}
 use Rattle.rsc_alphabet.specs.Bytes.{from_to}
 use Rattle.rsc_alphabet.specs.BytesLaws.{from_to_none, from_to_last, length-from_to}
 use Rattle.rsc_alphabet.specs.ByteSets.{Numbers}
-use Rattle.rsc_alphabet.specs.ByteSetLayout.{is_one}
+use Rattle.rsc_primitives.specs.BitsLaws.{has_bit}
 use Rattle.rsc_alphabet.specs.Partitions.{Together, class_of, class_map, edges_of}
 use Rattle.rsc_alphabet.specs.PartitionsLaws.{class_map_is, class_of_more, class_of_none, class_of_same, contains-edges_of, contains-inserted, contains-joined, contains-removed}
 
@@ -83,21 +83,8 @@ class_of-parts p a (suc n) =
 abbrev is_inner : Numbers → ℕ → Bool
 is_inner ends = sets.contains (sets.remove ends 255)
 
--- the classes of the bytes below 128 by the bits of one number, and of those above by the bits of another
-pub map_of_halves : (ends : Numbers) (low high : ℕ) (classes : List ℕ) → length classes ≡ 256 →
-    ((b : ℕ) → b < 128 → is_one low b ≡ sets.contains ends b) → ((b : ℕ) → b < 128 → is_one high b ≡ sets.contains ends (128 + b)) →
-    ((b : ℕ) → b < 128 → slice_index classes b ≡ class_of (is_one low) b) → ((b : ℕ) → b < 128 → slice_index classes (128 + b) ≡ class_of (is_one low) 128 + class_of (is_one high) b) →
+-- the classes of all bytes, by how many members of the set are below each: the byte 255 is below none
+pub map_of_counts : (ends : Numbers) (classes : List ℕ) → length classes ≡ 256 → ((b : ℕ) → b < 256 → slice_index classes b ≡ class_of (sets.contains ends) b) →
     classes ≡ class_map (is_inner ends)
-map_of_halves ends low high classes long lower upper first last =
-    class_map_is (is_inner ends) classes long (λ k h. ⊎_elim
-    (λ (l : k < 128). first k l ∙ in_low k (omega arith))
-    (λ (l : 128 ≤ k). let e : 128 + (k - 128) ≡ k = omega arith in
-    ap (slice_index classes) (sym e) ∙ last (k - 128) (omega arith) ∙ ap₂ (λ x y. x + y) (in_low 128 (omega arith)) (in_high (k - 128) (omega arith))
-    ∙ sym (class_of-parts (is_inner ends) 128 (k - 128)) ∙ ap (class_of (is_inner ends)) e)
-    (cases_lt k 128))
-  where
-    in_low : (k : ℕ) → k ≤ 128 → class_of (is_one low) k ≡ class_of (is_inner ends) k
-    in_low k l = class_of_same (is_one low) (is_inner ends) k (λ j h. lower j (omega arith) ∙ inner_boundary ends j (omega arith))
-
-    in_high : (k : ℕ) → k < 128 → class_of (is_one high) k ≡ class_of (λ j. is_inner ends (128 + j)) k
-    in_high k l = class_of_same (is_one high) (λ j. is_inner ends (128 + j)) k (λ j h. upper j (omega arith) ∙ inner_boundary ends (128 + j) (omega arith))
+map_of_counts ends classes long each =
+    class_map_is (is_inner ends) classes long (λ b l. each b l ∙ class_of_same (sets.contains ends) (is_inner ends) b (λ k h. inner_boundary ends k (omega arith)))

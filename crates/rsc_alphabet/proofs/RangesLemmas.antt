@@ -140,15 +140,3 @@ separates_more ranges i d k l =
     split true true = refl
     split true false = refl
     split false y = refl
-
--- one more range
-pub ends_more : (r : ℕ × ℕ) (starts ends starts2 ends2 : sets.FinSet nat_cmp) (k : ℕ) → r.0 ≤ r.1 → k < 255 →
-    ((b : ℕ) → sets.contains starts2 b ≡ (nat_eq b r.0 || sets.contains starts b)) → ((b : ℕ) → sets.contains ends2 b ≡ (nat_eq b r.1 || sets.contains ends b)) →
-    (sets.contains starts2 (k + 1) || sets.contains ends2 k) ≡ ((sets.contains starts (k + 1) || sets.contains ends k) || not (treats_alike r k (k + 1)))
-ends_more (s, e) starts ends starts2 ends2 k order within first last =
-    rw (first (k + 1), last k, sym (contains-edges_of_range (s, e) k order within), contains-edges s e k) (by_cases (sets.contains starts (k + 1)) (sets.contains ends k))
-  where
-    by_cases : (x y : Bool) → ((nat_eq (k + 1) s || x) || (nat_eq k e || y)) ≡ ((x || y) || (nat_eq (k + 1) s || (nat_eq k e && nat_lt e 255)))
-    by_cases true y = grind (arith, nat_tests)
-    by_cases false true = grind (arith, nat_tests)
-    by_cases false false = grind (arith, nat_tests)

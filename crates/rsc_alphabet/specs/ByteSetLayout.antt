@@ -2,16 +2,13 @@
 use Rattle.std.specs.Prelude.{ℕ, ◌+◌, ◌-◌, ◌*◌, ◌^◌, ◌==◌, Bool, zero, suc, nat_lt, List, ◌++◌, filter, if◌then◌else◌}
 use Rattle.std.specs.Int.{bit_at}
 use Rattle.std.specs.FinSet as sets
+use Rattle.rsc_primitives.specs.BitsLaws.{has_bit}
 use Rattle.rsc_alphabet.specs.Bytes.{from_to, bytes}
 use Rattle.rsc_alphabet.specs.ByteSets.{Numbers}
 
--- a bit is 1
-abbrev pub is_one : ℕ → ℕ → Bool
-is_one mask i = bit_at mask i == 1
-
 -- bit b of the low number stands for the byte b, and bit b of the high one for the byte b + 128
 abbrev pub is_masked : ℕ → ℕ → ℕ → Bool
-is_masked low high b = if nat_lt b 128 then is_one low b else is_one high (b - 128)
+is_masked low high b = if nat_lt b 128 then has_bit low b else has_bit high (b - 128)
 
 -- the bytes whose bit is 1
 abbrev pub masked : ℕ → ℕ → Numbers
@@ -23,4 +20,4 @@ members_from s low = filter (λ b. sets.contains s b) (from_to low 256)
 
 -- of the 64 numbers from `byte` on those whose bit of `word` is 1, and the members above the word
 abbrev pub members_left : Numbers → ℕ → ℕ → ℕ → List ℕ
-members_left s number byte word = filter (λ b. is_one word (b - byte)) (from_to byte (byte + 64)) ++ members_from s (64 * number + 64)
+members_left s number byte word = filter (λ b. has_bit word (b - byte)) (from_to byte (byte + 64)) ++ members_from s (64 * number + 64)

@@ -12,8 +12,8 @@ use Rattle.std.proofs.Math.Bool.{and-true}
 use Rattle.std.proofs.lemmas.Map.Views.{any-filter_same}
 use Rattle.rsc_alphabet.specs.Bytes.{from_to, bytes}
 use Rattle.rsc_alphabet.specs.ByteSets.{Numbers}
-use Rattle.rsc_alphabet.specs.ByteSetLayout.{is_one, is_masked, masked}
-use Rattle.rsc_primitives.specs.BitsLaws.{mask_of, mask_of_bits}
+use Rattle.rsc_primitives.specs.BitsLaws.{has_bit, mask_of, mask_of_bits}
+use Rattle.rsc_alphabet.specs.ByteSetLayout.{is_masked, masked}
 use Rattle.rsc_alphabet.specs.BytesLaws.{any_from_to}
 
 -- the numbers of a range at which p gives true have q among them exactly if p gives true at q
@@ -26,10 +26,10 @@ any_kept p high q past =
 
 -- ---- the bytes whose bit is 1
 
-pub is_masked-low : (low high b : ℕ) → b < 128 → is_masked low high b ≡ is_one low b
+pub is_masked-low : (low high b : ℕ) → b < 128 → is_masked low high b ≡ has_bit low b
 is_masked-low low high b l = rw (lt-ltb b 128 l) refl
 
-pub is_masked-high : (low high b : ℕ) → 128 ≤ b → is_masked low high b ≡ is_one high (b - 128)
+pub is_masked-high : (low high b : ℕ) → 128 ≤ b → is_masked low high b ≡ has_bit high (b - 128)
 is_masked-high low high b l = rw (le-ltb b 128 l) refl
 
 pub is_masked-past : (low high b : ℕ) → high < 2 ^ 128 → 256 ≤ b → is_masked low high b ≡ false
@@ -53,4 +53,4 @@ pub high_again : (low high : ℕ) → high < 2 ^ 128 → mask_of (λ b. sets.con
 high_again low high fh =
     mask_of_bits high 128 (λ b. sets.contains (masked low high) (b + 128)) fh (λ i l.
     let e : i + 128 - 128 ≡ i = omega arith in
-    contains-masked low high fh (i + 128) ∙ is_masked-high low high (i + 128) (omega arith) ∙ ap (is_one high) e)
+    contains-masked low high fh (i + 128) ∙ is_masked-high low high (i + 128) (omega arith) ∙ ap (has_bit high) e)

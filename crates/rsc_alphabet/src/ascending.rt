@@ -4,7 +4,7 @@ ghost use Rattle.std.specs.Iterator.{YieldsFirst, item_count};
 ghost use Rattle.rsc_alphabet.specs.ByteSets.{members};
 
 use crate::ByteSet;
-use crate::masks::{lowest_bit, shifted_down};
+use crate::masks::{lowest_bit, word_shifted_right};
 use std::marker::Model;
 
 // An iterator over the members of a set, by words of 64 bits, which go by twice as fast as a number of 128. A contract sees it as the list
@@ -58,7 +58,7 @@ impl Iterator for Ascending {
         if self.word & 1 == 1 {
             let member = self.byte as u8;
             self.byte += 1;
-            self.word = shifted_down(self.word, 1);
+            self.word = word_shifted_right(self.word, 1);
             return Some(member);
         }
         while self.word == 0 {
@@ -73,7 +73,7 @@ impl Iterator for Ascending {
         let member = self.byte + usize::from(gap);
         self.byte = member + 1;
         // In two steps, since `gap + 1` may be 64.
-        self.word = shifted_down(shifted_down(self.word, gap), 1);
+        self.word = word_shifted_right(word_shifted_right(self.word, gap), 1);
         Some(member as u8)
     }
 }

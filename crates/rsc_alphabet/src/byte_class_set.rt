@@ -2,11 +2,9 @@
 ghost use Rattle.std.specs.Prelude.{◌≡◌, ℕ, ◌+◌, ◌<◌, ◌≤◌, ◌↔◌, ◌==◌, ◌&&◌, ◌||◌, nat_lt, true, false, IsTrue, All, length, slice_index};
 ghost use Rattle.std.specs.FinSet as sets;
 ghost use Rattle.rsc_alphabet.specs.ByteSets.{runs};
-ghost use Rattle.rsc_alphabet.specs.ByteSetLayout.{is_one};
-ghost use Rattle.rsc_alphabet.specs.Partitions.{changes_at, class_map, class_of, edges_of, edges_of_each};
+ghost use Rattle.rsc_alphabet.specs.Partitions.{changes_at, class_map, edges_of, edges_of_each};
 ghost use Rattle.rsc_alphabet.specs.Ranges.{are_alike, separates};
 
-use crate::masks::{eight_bits, ones, ones_below};
 use crate::{ByteClasses, ByteSet};
 use std::marker::Model;
 
@@ -117,28 +115,11 @@ impl ByteClassSet {
         ensures map { result ≡ class_map (sets.contains self.now) }
         ensures below { (k : ℕ) → sets.contains self.now k ≡ true → k < 255 }
     {
-        let low = self.ends.low_mask();
         let mut classes = ByteClasses::empty();
-        set_classes(&mut classes, 0, low, 0);
-        set_classes(&mut classes, 128, self.ends.high_mask(), ones(low));
+        for byte in 0..=255u8 {
+            classes.set(byte, self.ends.count_below(byte));
+        }
         classes
-    }
-}
-
-// Gives the 128 bytes from `first` on their classes: the number of boundaries below `first`, and of the bits of `ends` below the byte's own.
-fn set_classes(classes: &mut ByteClasses, first: u8, ends: u128, below: u8)
-    requires { (first ≤ 128) × (below ≤ 128) × (length classes.old ≡ 256) }
-    ensures inside { (i : ℕ) → i < 128 → slice_index classes.new (first + i) ≡ below + class_of (is_one ends) i }
-    ensures before { (b : ℕ) → b < first → slice_index classes.new b ≡ slice_index classes.old b }
-    ensures entries { length classes.new ≡ 256 }
-{
-    for part in 0..16u8 {
-        let place = 8 * part;
-        classes.set_eight(
-            first + place,
-            eight_bits(ends, place),
-            below + ones_below(ends, place),
-        );
     }
 }
 
@@ -161,14 +142,9 @@ pub fn classes_of_ranges(ranges: &[(u8, u8)]) -> ByteClasses
     ensures alike { (b c : ℕ) → b < 256 → c < 256 →
         (slice_index result b ≡ slice_index result c) ↔ IsTrue (are_alike ranges.now b c) }
 {
-    // In two sets, so that no addition waits for the one before it.
-    let mut starts = ByteSet::empty();
-    let mut ends = ByteSet::empty();
-    for &(start, end) in ranges {
-        starts.add(start);
-        ends.add(end);
-    }
     let mut partition = ByteClassSet::empty();
-    partition.add_edges(&starts, &ends);
+    for &(start, end) in ranges {
+        partition.set_range(start, end);
+    }
     partition.byte_classes()
 }

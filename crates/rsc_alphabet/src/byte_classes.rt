@@ -6,13 +6,13 @@ ghost use Rattle.rsc_alphabet.specs.Bytes.{bytes};
 ghost use Rattle.rsc_alphabet.specs.Symbols.{byte_of, number_of};
 ghost use Rattle.rsc_alphabet.specs.Iterators.{class_at, end_of, symbol_count, stride2_of, symbols, elements_of, representing, representatives_of};
 ghost use Rattle.rsc_alphabet.specs.ByteSets.{members};
-ghost use Rattle.rsc_alphabet.specs.ByteSetLayout.{is_one};
+ghost use Rattle.rsc_primitives.specs.BitsLaws.{has_bit};
 ghost use Rattle.rsc_alphabet.specs.Partitions.{class_of};
 
 mod iter;
 
-use crate::lanes::{equal_to, set_counts, unlike_before};
-use crate::masks::shifted_up;
+use crate::lanes::{equal_to, unlike_before};
+use crate::masks::word_shifted_left;
 use crate::{ByteSet, Unit};
 pub use iter::{ByteClassElements, ByteClassIter, ByteClassRepresentatives};
 use rsc_primitives::escape::DebugByte;
@@ -244,13 +244,13 @@ impl ByteClasses {
             Bound::Excluded(b) => (usize::from(b), false),
             Bound::Unbounded => (256, true),
         };
-        let bytes = self.bytes_between(first, end);
+        let bytes = self.representative_bytes(first, end);
         ByteClassRepresentatives::new(self, &bytes, with_end)
     }
 
     // The representatives of the bytes from `first` up to, and without, `end`.
     #[inline]
-    fn bytes_between(&self, first: usize, end: usize) -> ByteSet
+    fn representative_bytes(&self, first: usize, end: usize) -> ByteSet
         requires { end ≤ 256 }
         ensures { members result ≡ representing self.now first end }
     {
@@ -263,17 +263,6 @@ impl ByteClasses {
         bytes
     }
 
-    // Gives the eight bytes from `first` on their classes: byte i `below` and how many of the bits of `ends` below bit i are 1.
-    #[inline(always)]
-    pub(crate) fn set_eight(&mut self, first: u8, ends: u8, below: u8)
-        requires { (first ≤ 248) × (below ≤ 248) }
-        ensures here { (i : ℕ) → i < 8 → slice_index self.new (first + i) ≡ below + class_of (is_one ends) i }
-        ensures before { (b : ℕ) → b < first → slice_index self.new b ≡ slice_index self.old b }
-        ensures entries { length self.new ≡ 256 }
-    {
-        set_counts(&mut self.classes, usize::from(first), ends, below);
-    }
-
     // The bytes whose class isn't their predecessor's.
     #[inline]
     fn changes(&self) -> ByteSet
@@ -281,7 +270,7 @@ impl ByteClasses {
     {
         let classes = &self.classes;
         ByteSet::from_words(
-            shifted_up(unlike_before(classes, 1)),
+            word_shifted_left(unlike_before(classes, 1)),
             unlike_before(classes, 64),
             unlike_before(classes, 128),
             unlike_before(classes, 192),

@@ -3,12 +3,13 @@ ghost use Rattle.std.specs.Prelude.{◌≡◌, ℕ, ◌+◌, ◌*◌, ◌%◌, �
 ghost use Rattle.std.specs.FinSet as sets;
 ghost use Rattle.std.specs.Iterator.{YieldsFirst, item_count};
 ghost use Rattle.rsc_alphabet.specs.ByteSets.{members, runs, begins_run, ends_run};
-ghost use Rattle.rsc_alphabet.specs.ByteSetLayout.{is_one};
+ghost use Rattle.rsc_primitives.specs.BitsLaws.{has_bit};
+ghost use Rattle.rsc_alphabet.specs.Partitions.{class_of};
 
 use crate::ascending::Ascending;
 use crate::masks::{
-    difference, either, has_bit, has_bits, joined, lower_word, moved_down, moved_up, upper_word,
-    with_bit, within, without_bit,
+    difference, either, has_bit, has_bits, joined, lower_word, ones, ones_below, shifted_left,
+    shifted_right, upper_word, with_bit, within, without_bit,
 };
 use std::marker::{Model, PhantomData};
 
@@ -200,10 +201,10 @@ impl ByteSet {
     // The set whose words, as `ByteSet::word` gives them, are these.
     #[inline(always)]
     pub(crate) fn from_words(first: u64, second: u64, third: u64, fourth: u64) -> ByteSet
-        ensures first { (i : ℕ) → i < 64 → sets.contains result i ≡ is_one first i }
-        ensures second { (i : ℕ) → i < 64 → sets.contains result (64 + i) ≡ is_one second i }
-        ensures third { (i : ℕ) → i < 64 → sets.contains result (128 + i) ≡ is_one third i }
-        ensures fourth { (i : ℕ) → i < 64 → sets.contains result (192 + i) ≡ is_one fourth i }
+        ensures first { (i : ℕ) → i < 64 → sets.contains result i ≡ has_bit first i }
+        ensures second { (i : ℕ) → i < 64 → sets.contains result (64 + i) ≡ has_bit second i }
+        ensures third { (i : ℕ) → i < 64 → sets.contains result (128 + i) ≡ has_bit third i }
+        ensures fourth { (i : ℕ) → i < 64 → sets.contains result (192 + i) ≡ has_bit fourth i }
     {
         ByteSet {
             low: joined(first, second),
@@ -253,8 +254,8 @@ impl ByteSet {
         ensures { (b : ℕ) → sets.contains result b ≡ sets.contains self.now (b + 1) }
     {
         ByteSet {
-            low: moved_down(self.low, self.high),
-            high: moved_down(self.high, 0),
+            low: shifted_right(self.low, self.high),
+            high: shifted_right(self.high, 0),
         }
     }
 
@@ -264,8 +265,8 @@ impl ByteSet {
         ensures { (b : ℕ) → sets.contains result b ≡ begins_run self.now b }
     {
         ByteSet {
-            low: difference(self.low, moved_up(self.low, 0)),
-            high: difference(self.high, moved_up(self.high, self.low)),
+            low: difference(self.low, shifted_left(self.low, 0)),
+            high: difference(self.high, shifted_left(self.high, self.low)),
         }
     }
 
@@ -275,42 +276,38 @@ impl ByteSet {
         ensures { (b : ℕ) → sets.contains result b ≡ ends_run self.now b }
     {
         ByteSet {
-            low: difference(self.low, moved_down(self.low, self.high)),
-            high: difference(self.high, moved_down(self.high, 0)),
+            low: difference(self.low, shifted_right(self.low, self.high)),
+            high: difference(self.high, shifted_right(self.high, 0)),
         }
     }
 
     // The number that has a byte's bit.
     #[inline(always)]
     fn mask_with(&self, byte: u8) -> u128
-        ensures value { is_one result (byte % 128) ≡ sets.contains self.now byte }
+        ensures value { has_bit result (byte % 128) ≡ sets.contains self.now byte }
         ensures bytes { (b : ℕ) → sets.contains self.now b ≡ true → b < 256 }
     {
         if byte < 128 { self.low } else { self.high }
     }
 
-    // The bits of the bytes 0 to 127.
+    // How many members are below a byte: the bits below its own are counted.
     #[inline(always)]
-    pub(crate) fn low_mask(&self) -> u128
-        ensures { (b : ℕ) → b < 128 → is_one result b ≡ sets.contains self.now b }
-    {
-        self.low
-    }
-
-    // The bits of the bytes 128 to 255.
-    #[inline(always)]
-    pub(crate) fn high_mask(&self) -> u128
-        ensures bits { (b : ℕ) → b < 128 → is_one result b ≡ sets.contains self.now (128 + b) }
+    pub(crate) fn count_below(&self, byte: u8) -> u8
+        ensures count { result ≡ class_of (sets.contains self.now) byte }
         ensures bytes { (b : ℕ) → sets.contains self.now b ≡ true → b < 256 }
     {
-        self.high
+        if byte < 128 {
+            ones_below(self.low, byte)
+        } else {
+            ones(self.low) + ones_below(self.high, byte - 128)
+        }
     }
 
     // The bits of the 64 bytes from 64 * `number` on.
     #[inline]
     pub(crate) fn word(&self, number: u8) -> u64
         requires { number < 4 }
-        ensures { (i : ℕ) → i < 64 → is_one result i ≡ sets.contains self.now (64 * number + i) }
+        ensures { (i : ℕ) → i < 64 → has_bit result i ≡ sets.contains self.now (64 * number + i) }
     {
         match number {
             0 => lower_word(self.low),

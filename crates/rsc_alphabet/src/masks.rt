@@ -1,14 +1,14 @@
 //! The bits of the numbers that hold a set of bytes.
 ghost use Rattle.std.specs.Prelude.{◌≡◌, ◌≢◌, ◌==◌, ◌&&◌, ◌||◌, ◌↔◌, ℕ, ◌+◌, ◌-◌, ◌%◌, ◌<◌, ◌≤◌, nat_le, false, not, IsTrue};
 ghost use Rattle.std.specs.Int.{bit_at};
-ghost use Rattle.rsc_alphabet.specs.ByteSetLayout.{is_one};
+ghost use Rattle.rsc_primitives.specs.BitsLaws.{has_bit};
 ghost use Rattle.rsc_alphabet.specs.Partitions.{class_of};
 
 // Whether a bit is 1. One word is shifted, which takes less time than two, and no branch hangs on the bit.
 #[inline(always)]
 pub(crate) fn has_bit(mask: u128, bit: u8) -> bool
     requires { bit < 128 }
-    ensures { result ≡ is_one mask bit }
+    ensures { result ≡ has_bit mask bit }
 {
     (word_with_bit(mask, bit) >> (bit % 64)) & 1 == 1
 }
@@ -85,7 +85,7 @@ fn run_of_bits(start: u8, end: u8) -> u128
 #[inline(always)]
 pub(crate) fn within(mask: u128, start: u8, end: u8) -> u128
     requires { (start ≤ end) × (end < 128) }
-    ensures { (i : ℕ) → is_one result i ≡ (nat_le start i && nat_le i end && is_one mask i) }
+    ensures { (i : ℕ) → has_bit result i ≡ (nat_le start i && nat_le i end && has_bit mask i) }
 {
     mask & run_of_bits(start, end)
 }
@@ -93,7 +93,7 @@ pub(crate) fn within(mask: u128, start: u8, end: u8) -> u128
 // The bits of a number that aren't bits of another one.
 #[inline(always)]
 pub(crate) fn difference(mask: u128, other: u128) -> u128
-    ensures { (i : ℕ) → i < 128 → is_one result i ≡ (is_one mask i && not (is_one other i)) }
+    ensures { (i : ℕ) → i < 128 → has_bit result i ≡ (has_bit mask i && not (has_bit other i)) }
 {
     mask & !other
 }
@@ -101,25 +101,25 @@ pub(crate) fn difference(mask: u128, other: u128) -> u128
 // The bits of two numbers.
 #[inline(always)]
 pub(crate) fn either(mask: u128, other: u128) -> u128
-    ensures { (i : ℕ) → is_one result i ≡ (is_one mask i || is_one other i) }
+    ensures { (i : ℕ) → has_bit result i ≡ (has_bit mask i || has_bit other i) }
 {
     mask | other
 }
 
-// Each bit one place up. The lowest is the highest of `below`.
+// All bits shifted left by one. The lowest is the highest of `below`.
 #[inline(always)]
-pub(crate) fn moved_up(mask: u128, below: u128) -> u128
-    ensures first { is_one result 0 ≡ is_one below 127 }
-    ensures others { (i : ℕ) → 0 < i → i < 128 → is_one result i ≡ is_one mask (i - 1) }
+pub(crate) fn shifted_left(mask: u128, below: u128) -> u128
+    ensures first { has_bit result 0 ≡ has_bit below 127 }
+    ensures others { (i : ℕ) → 0 < i → i < 128 → has_bit result i ≡ has_bit mask (i - 1) }
 {
     (mask << 1) | (below >> 127)
 }
 
-// Each bit one place down. The highest is the lowest of `above`.
+// All bits shifted right by one. The highest is the lowest of `above`.
 #[inline(always)]
-pub(crate) fn moved_down(mask: u128, above: u128) -> u128
-    ensures last { is_one result 127 ≡ is_one above 0 }
-    ensures others { (i : ℕ) → i < 127 → is_one result i ≡ is_one mask (i + 1) }
+pub(crate) fn shifted_right(mask: u128, above: u128) -> u128
+    ensures last { has_bit result 127 ≡ has_bit above 0 }
+    ensures others { (i : ℕ) → i < 127 → has_bit result i ≡ has_bit mask (i + 1) }
 {
     (mask >> 1) | (above << 127)
 }
@@ -160,38 +160,29 @@ pub(crate) fn lowest_bit(word: u64) -> u8
     word.trailing_zeros() as u8
 }
 
-// Each bit one place up. The lowest is 0.
+// All bits shifted left by one. The lowest is 0.
 #[inline(always)]
-pub(crate) fn shifted_up(word: u64) -> u64
-    ensures first { is_one result 0 ≡ false }
-    ensures others { (i : ℕ) → 0 < i → i < 64 → is_one result i ≡ is_one word (i - 1) }
+pub(crate) fn word_shifted_left(word: u64) -> u64
+    ensures first { has_bit result 0 ≡ false }
+    ensures others { (i : ℕ) → 0 < i → i < 64 → has_bit result i ≡ has_bit word (i - 1) }
 {
     word << 1
 }
 
-// Each bit some places down. The lowest ones are let go.
+// All bits shifted right by some places.
 #[inline(always)]
-pub(crate) fn shifted_down(word: u64, places: u8) -> u64
+pub(crate) fn word_shifted_right(word: u64, places: u8) -> u64
     requires { places < 64 }
     ensures { (i : ℕ) → bit_at result i ≡ bit_at word (places + i) }
 {
     word >> places
 }
 
-// The eight bits from a place on.
-#[inline(always)]
-pub(crate) fn eight_bits(mask: u128, place: u8) -> u8
-    requires { place < 128 }
-    ensures { (i : ℕ) → i < 8 → bit_at result i ≡ bit_at mask (place + i) }
-{
-    ((mask >> place) & 0xFF) as u8
-}
-
 // How many bits below a place are 1.
 #[inline(always)]
 pub(crate) fn ones_below(mask: u128, bit: u8) -> u8
     requires { bit < 128 }
-    ensures count { result ≡ class_of (is_one mask) bit }
+    ensures count { result ≡ class_of (has_bit mask) bit }
     ensures most { result ≤ bit }
 {
     (mask & ((1 << bit) - 1)).count_ones() as u8
@@ -200,7 +191,7 @@ pub(crate) fn ones_below(mask: u128, bit: u8) -> u8
 // How many bits are 1.
 #[inline(always)]
 pub(crate) fn ones(mask: u128) -> u8
-    ensures count { result ≡ class_of (is_one mask) 128 }
+    ensures count { result ≡ class_of (has_bit mask) 128 }
     ensures most { result ≤ 128 }
 {
     mask.count_ones() as u8

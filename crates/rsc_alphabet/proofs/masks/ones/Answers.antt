@@ -1,7 +1,7 @@
 use Rattle.std.proofs.Common.{sym, ap, ◌∙◌, arith}
 use Rattle.std.specs.Int.Count.{ones}
 use Rattle.std.proofs.Math.Nat.{mod-eq_of_lt}
-use Rattle.rsc_alphabet.specs.ByteSetLayout.{is_one}
+use Rattle.rsc_primitives.specs.BitsLaws.{has_bit}
 use Rattle.rsc_alphabet.specs.PartitionsLaws.{class_of-le}
 use Rattle.rsc_alphabet.proofs.BitsLemmas.{ones-class_of}
 use Rattle.rsc_alphabet.proofs.masks.ones.Goals as goal
@@ -10,4 +10,4 @@ pub returns-clause-count : goal.returns-clause-count
 returns-clause-count c = ap ones (sym (mod-eq_of_lt c.ranges.mask.fits)) ∙ ones-class_of c.args.mask 128
 
 pub returns-clause-most : goal.returns-clause-most
-returns-clause-most c = omega (arith, returns-clause-count c, class_of-le (is_one c.args.mask) 128)
+returns-clause-most c = omega (arith, returns-clause-count c, class_of-le (has_bit c.args.mask) 128)

@@ -1,17 +1,16 @@
-use Rattle.std.proofs.Common.{◌≡◌, ◌+◌, sym, ap, ◌∙◌, arith, slice_index}
-use Rattle.rsc_alphabet.specs.ByteSetLayout.{is_one}
+use Rattle.std.proofs.Common.{◌≡◌, ℕ, ◌+◌, ◌<◌, ◌∙◌, arith, length-set, slice_index, slice_set}
+use Rattle.std.specs.FinSet as sets
 use Rattle.rsc_alphabet.specs.Partitions.{class_of}
-use Rattle.rsc_alphabet.proofs.PartitionsLemmas.{boundary_below, map_of_halves}
+use Rattle.rsc_alphabet.proofs.PartitionsLemmas.{boundary_below, map_of_counts}
+use Rattle.rsc_alphabet.proofs.IteratorsLemmas.{class_more}
 use Rattle.rsc_alphabet.proofs.byte_class_set.ByteClassSet.byte_classes.Goals as goal
 
-pub returns-clause-map : goal.returns-clause-map
-returns-clause-map c =
-    let first = c.set_classes.ensures in
-    let last = c.set_classes-2.ensures in
-    rw (← c.self.view_is) (map_of_halves c.self.inside.ends c.low_mask-low.result c.high_mask.result c.set_classes-2.new.classes last.entries c.low_mask-low.ensures c.high_mask.ensures.bits
-    (λ b l. let e : 0 + b ≡ b = omega arith in let z : 0 + class_of (is_one c.low_mask-low.result) b ≡ class_of (is_one c.low_mask-low.result) b = omega arith in
-    last.before b l ∙ ap (slice_index c.set_classes.new.classes) (sym e) ∙ first.inside b l ∙ z)
-    (λ b l. last.inside b l ∙ ap (λ x. x + class_of (is_one c.high_mask.result) b) c.ones.ensures.count))
+pub returns-2-clause-map : goal.returns-2-clause-map
+returns-2-clause-map c =
+    let l = c.loop-byte in
+    let f = class_of (sets.contains c.self.inside.ends) in
+    rw (← c.self.view_is, c.set.ensures, c.count_below.ensures.count) (map_of_counts c.self.inside.ends _ (length-set l.classes l.byte (f l.byte) ∙ l.invariant.0)
+    (λ k h. class_more f l.classes l.byte l.invariant.0 l.invariant.1 (omega arith) k (omega arith)))
 
-pub returns-clause-below : goal.returns-clause-below
-returns-clause-below c = rw (← c.self.view_is) (boundary_below c.self.inside.ends c.high_mask.ensures.bytes)
+pub returns-2-clause-below : goal.returns-2-clause-below
+returns-2-clause-below c = rw (← c.self.view_is) (boundary_below c.self.inside.ends c.count_below.ensures.bytes)

@@ -1,7 +1,7 @@
 use Rattle.std.proofs.Common.{◌+◌, ◌*◌, ◌/◌, ◌%◌, ◌^◌, nat_eq, ap, ap₂, ◌∙◌, arith, max}
 use Rattle.std.proofs.lemmas.Nat.Bits.{bit_at_or, bit_at_above}
 use Rattle.rsc_alphabet.proofs.BitsLemmas.{bit_at-shl, bit_at-shl_below, bit_at-shr}
-use Rattle.rsc_alphabet.proofs.masks.moved_up.Goals as goal
+use Rattle.rsc_alphabet.proofs.masks.shifted_left.Goals as goal
 
 pub returns-clause-first : goal.returns-clause-first
 returns-clause-first c =

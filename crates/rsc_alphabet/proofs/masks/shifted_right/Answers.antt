@@ -2,7 +2,7 @@ use Rattle.std.proofs.Common.{◌≡◌, ◌+◌, ◌*◌, ◌/◌, ◌%◌, ◌
 use Rattle.std.specs.Int.{bit_at}
 use Rattle.std.proofs.lemmas.Nat.Bits.{bit_at_or, bit_at_above}
 use Rattle.rsc_alphabet.proofs.BitsLemmas.{bit_at-shl, bit_at-shl_below, bit_at-shr}
-use Rattle.rsc_alphabet.proofs.masks.moved_down.Goals as goal
+use Rattle.rsc_alphabet.proofs.masks.shifted_right.Goals as goal
 
 pub returns-clause-last : goal.returns-clause-last
 returns-clause-last c =
