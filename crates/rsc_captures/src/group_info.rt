@@ -19,7 +19,7 @@ use crate::order::{add_order, name_at, repeat_in};
 use rsc_primitives::PatternID;
 use std::alloc::{AllocError, Allocator, Global};
 use std::marker::Model;
-use std::rc::Rc;
+use std::sync::Arc;
 
 // How many slots there may be at most: the greatest index is no number of a slot.
 const SLOT_LIMIT: usize = PatternID::LIMIT - 1;
@@ -45,7 +45,7 @@ const SLOT_LIMIT: usize = PatternID::LIMIT - 1;
 #[derive(Drop)]
 #[derive_where(Debug)]
 pub struct GroupInfo<A: Allocator = Global> {
-    inner: Rc<SharedLists<A>, A>,
+    inner: Arc<SharedLists<A>, A>,
 }
 
 impl<A: Allocator> Model for GroupInfo<A> {
@@ -116,7 +116,7 @@ fn build<A: Allocator + Clone + Drop>(
         proposals: proposals_of(alloc.clone()?, lists)?,
     };
     Ok(GroupInfo {
-        inner: Rc::new(alloc, inner)?,
+        inner: Arc::new(alloc, inner)?,
     })
 }
 
@@ -208,8 +208,7 @@ impl<A: Allocator + Clone + Drop> GroupInfo<A> {
     pub fn pattern_names(&self, pid: PatternID) -> GroupInfoPatternNames<'_, A>
         ensures { result ≡ groups_of self.now pid }
     {
-        let inner: &SharedLists<A> = &self.inner;
-        GroupInfoPatternNames::new(inner, pid.as_usize())
+        GroupInfoPatternNames::new(self.lists(), pid.as_usize())
     }
 
     /// All groups by pattern and then by group, each with its pattern, its number and its name, if it has one.
@@ -218,8 +217,7 @@ impl<A: Allocator + Clone + Drop> GroupInfo<A> {
         ensures groups { result ≡ all_names_of self.now }
         ensures count { length result ≡ all_groups self.now }
     {
-        let inner: &SharedLists<A> = &self.inner;
-        GroupInfoAllNames::new(inner)
+        GroupInfoAllNames::new(self.lists())
     }
 
     /// A clone, which shares the memory with its source.
@@ -241,8 +239,7 @@ impl<A: Allocator + Clone + Drop> GroupInfo<A> {
         ensures value { result ≡ length self.now }
         ensures indices { result ≤ LIMIT_OF_IDS + 1 }
     {
-        let inner: &SharedLists<A> = &self.inner;
-        inner.len()
+        self.lists().len()
     }
 
     /// How many groups a pattern has: none where there is no such pattern.
@@ -251,8 +248,7 @@ impl<A: Allocator + Clone + Drop> GroupInfo<A> {
         ensures value { result ≡ group_count self.now pid }
         ensures whole { pid < length self.now → 0 < result }
     {
-        let inner: &SharedLists<A> = &self.inner;
-        inner.group_len(pid.as_usize())
+        self.lists().group_len(pid.as_usize())
     }
 
     /// The name of a group, or `None` where it has none, or where there is no such group.
@@ -260,8 +256,7 @@ impl<A: Allocator + Clone + Drop> GroupInfo<A> {
     pub fn to_name(&self, pid: PatternID, group_index: usize) -> Option<&str>
         ensures { option_copied result ≡ name_of self.now pid group_index }
     {
-        let inner: &SharedLists<A> = &self.inner;
-        inner.name(pid.as_usize(), group_index)
+        self.lists().name(pid.as_usize(), group_index)
     }
 
     /// The group of a pattern that has the name, or `None` where there is none. Names are local to each pattern.
@@ -271,8 +266,7 @@ impl<A: Allocator + Clone + Drop> GroupInfo<A> {
         ensures named { (g : ℕ) → (result ≡ Some g) ↔ (name_of self.now pid g ≡ Some name.now) }
         ensures within { IfSome result (λ g. g < group_count self.now pid) }
     {
-        let inner: &SharedLists<A> = &self.inner;
-        inner.index(pid.as_usize(), name)
+        self.lists().index(pid.as_usize(), name)
     }
 
     /// The slot of a group's start, or `None` where there is no such group.
@@ -281,8 +275,7 @@ impl<A: Allocator + Clone + Drop> GroupInfo<A> {
         ensures value { result ≡ slot_of self.now pid group_index }
         ensures within { IfSome result (λ slot. slot + 1 < 2 * all_groups self.now) }
     {
-        let inner: &SharedLists<A> = &self.inner;
-        inner.slot(pid.as_usize(), group_index)
+        self.lists().slot(pid.as_usize(), group_index)
     }
 
     /// The slots of a group's start and of its end, or `None` where there is no such group.
@@ -303,8 +296,7 @@ impl<A: Allocator + Clone + Drop> GroupInfo<A> {
         ensures owned { (s : ℕ) → s < result → IsOwned self.now s }
         ensures once { (s p g q h : ℕ) → IsSlotOf self.now p g s → IsSlotOf self.now q h s → (p ≡ q) × (g ≡ h) }
     {
-        let inner: &SharedLists<A> = &self.inner;
-        2 * inner.all_group_len()
+        2 * self.lists().all_group_len()
     }
 
     /// How many groups all patterns have.
@@ -312,8 +304,7 @@ impl<A: Allocator + Clone + Drop> GroupInfo<A> {
     pub fn all_group_len(&self) -> usize
         ensures { result ≡ all_groups self.now }
     {
-        let inner: &SharedLists<A> = &self.inner;
-        inner.all_group_len()
+        self.lists().all_group_len()
     }
 
     /// How many slots the first groups have: two for each pattern. They come before all others.
@@ -322,8 +313,7 @@ impl<A: Allocator + Clone + Drop> GroupInfo<A> {
         ensures value { result ≡ 2 * length self.now }
         ensures within { result ≤ 2 * all_groups self.now }
     {
-        let inner: &SharedLists<A> = &self.inner;
-        2 * inner.len()
+        2 * self.lists().len()
     }
 
     /// How many slots all other groups have.
@@ -331,7 +321,15 @@ impl<A: Allocator + Clone + Drop> GroupInfo<A> {
     pub fn explicit_slot_len(&self) -> usize
         ensures { result ≡ 2 * all_groups self.now - 2 * length self.now }
     {
-        let inner: &SharedLists<A> = &self.inner;
-        2 * (inner.all_group_len() - inner.len())
+        let lists = self.lists();
+        2 * (lists.all_group_len() - lists.len())
+    }
+
+    // The lists that all clones share.
+    #[inline]
+    fn lists(&self) -> &SharedLists<A>
+        ensures { result.now ≡ self.now }
+    {
+        &self.inner
     }
 }
