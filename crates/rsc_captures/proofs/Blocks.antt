@@ -10,14 +10,14 @@ use Rattle.rsc_captures.proofs.Places.{Handed}
 use Rattle.std.proofs.lemmas.List.{take-map, get_or-take, get_or-drop, length-take-le, length-drop}
 use Rattle.std.proofs.lemmas.List.Folds.{list_any_at}
 use Rattle.std.proofs.lemmas.List.Sorted.{searchable_from_sorted}
-use Rattle.rsc_captures.specs.Groups.{Groups, groups_in, has_name, is_repeat, AreDistinctBelow}
-use Rattle.rsc_captures.specs.Names.{name_at, name_cmp, IsOrder}
-use Rattle.rsc_captures.specs.Checks.{AreApart, IsRepeatOf}
+use Rattle.rsc_captures.specs.Groups.{Groups, groups_in, has_name}
+use Rattle.rsc_captures.specs.OrderLayout.{name_at, name_cmp, IsOrder}
+use Rattle.rsc_captures.specs.RepeatsLayout.{is_repeat, AreDistinctBelow, IsFirstRepeat, AreApart, IsRepeatOf}
 use Rattle.rsc_captures.proofs.Ordered.{name_total, name_exact, repeat_pair, none_at_split, names_sorted}
 use Rattle.rsc_captures.proofs.Indexed.{get_or_past}
 
 module _ {block : Groups} (order : List ℕ) (is_order : IsOrder order block) where
-  -- a name that a search by halving doesn't find is that of no group
+  -- a name that a binary search doesn't find is that of no group
   pub absent : (name : List ℕ) (i : ℕ)
       → (IsNonDecreasingBy (λ g. ordering_index (name_cmp (name_at block g) (Some name))) order → IsPartitionPoint (λ g. name_cmp (name_at block g) (Some name) ≡ Less) (λ g. name_cmp (name_at block g) (Some name) ≡ Greater) order i)
       → (g : ℕ) → g < length block → name_at block g ≡ Some name → ⊥
@@ -52,9 +52,10 @@ module _ (groups : Groups) (n : ℕ) (within : n ≤ length groups) where
       let repeats : is_repeat (take n groups) h ≡ true = repeat_of_pair (take n groups) g h name before (omega (arith, count)) (in_block g lt ∙ one) (in_block h (omega arith) ∙ other) in
       true≢false (sym repeats ∙ distinct h below)
 
-  pub repeat_in_block : (h : ℕ) → h < n → is_repeat (take n groups) h ≡ true → AreDistinctBelow (take n groups) h → IsRepeatOf groups n h
-  repeat_in_block h lt repeats distinct =
-      let pair = repeat_pair (take n groups) h (omega (arith, count)) repeats in
+  pub repeat_in_block : (h : ℕ) → IsFirstRepeat (take n groups) h → IsRepeatOf groups n h
+  repeat_in_block h first =
+      let lt : h < n = omega (arith, count, first.group) in
+      let pair = repeat_pair (take n groups) h first.group first.repeats in
       record {
         g = pair.g;
         name = pair.name;
@@ -63,12 +64,12 @@ module _ (groups : Groups) (n : ℕ) (within : n ≤ length groups) where
         lesser = pair.lesser;
         one = sym (in_block pair.g (omega (arith, pair.lesser))) ∙ pair.one;
         other = sym (in_block h lt) ∙ pair.other;
-        apart = apart_from_distinct h (omega arith) distinct;
+        apart = apart_from_distinct h (omega arith) first.distinct;
       }
 
-  -- a group behind the block whose name a search finds there
+  -- a group after the block whose name a search finds there
   pub repeat_found : (h g : ℕ) (name : List ℕ) → n ≤ h → h < length groups → name_cmp (name_at (take n groups) g) (Some name) ≡ Equal → name_at groups h ≡ Some name → AreApart groups n h → IsRepeatOf groups n h
-  repeat_found h g name behind lt equal named apart =
+  repeat_found h g name after lt equal named apart =
       let at_g : name_at (take n groups) g ≡ Some name = name_exact _ _ equal in
       let first : g < n = let past = get_or_past (take n groups) g name at_g in omega (arith, past, count) in
       record {
@@ -114,7 +115,7 @@ module _ (groups : Groups) (from end : ℕ) where
       let before : found.g < h = found.lesser in
       repeat_of_pair groups (from + found.g) (from + h) found.name (omega arith) (omega arith) (name_of_rest found.g (omega arith) ∙ found.one) (name_of_rest h (omega arith) ∙ found.other)
 
--- the groups of the block and behind it, as they are handed in
+-- the groups of the block and after it, as they are handed in
 pub rest_in : (groups : Handed) (from end : ℕ) → groups_in (take (end - from) (drop from groups)) ≡ rest (groups_in groups) from end
 rest_in groups from end = sym (ap (take (end - from)) (drop-map option_copied from groups) ∙ take-map option_copied (end - from) (drop from groups))
 

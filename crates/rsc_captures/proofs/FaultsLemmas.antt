@@ -3,7 +3,7 @@ use Rattle.std.proofs.Common.{◌≡◌, ℕ, ◌<◌, ◌≤◌, Option, Some, 
 use Rattle.std.proofs.lemmas.Bool.{cases_lt}
 use Rattle.rsc_captures.specs.Groups.{GroupLists, group_count}
 use Rattle.rsc_captures.specs.Faults.{Fault, TooManyGroups, ComesBefore, place_fault, slots_end, IsClear, IsFirstAtPlace, IsFirstPastLimit, IsFirstFault, IsFaultless, RefusesFor}
-use Rattle.rsc_captures.specs.Checks.{IsDuplicate}
+use Rattle.rsc_captures.specs.FaultsLayout.{IsDuplicate}
 
 module _ {limit : ℕ} {lists : GroupLists} where
   not_clear : (f : Fault) → IsFirstAtPlace limit lists f → IsClear limit lists → ⊥
@@ -49,7 +49,7 @@ module _ {limit : ℕ} {lists : GroupLists} where
       (λ (a : IsFirstPastLimit limit lists f). let le : slots_end lists a.p ≤ limit = faultless.within a.p a.pattern in let lt : limit < slots_end lists a.p = a.past in omega arith)
       first
 
--- a refusal that shows the fault that was found, or want of memory where that is a name that is used twice
+-- a refusal that shows the fault that was found, or none where that is a repeated name and memory is out
 pub refuses_found : (limit : ℕ) (lists : GroupLists) (f : Fault) → IsFirstFault limit lists f → (refusal : Option Fault) → MatchOption refusal (IsDuplicate f) (λ shown. shown ≡ f) → RefusesFor limit lists refusal
 refuses_found limit lists f found (Some shown) same = rw same found
 refuses_found limit lists f found None duplicate = inr (duplicate.0, duplicate.1, rw duplicate.2 at found)

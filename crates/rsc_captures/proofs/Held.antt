@@ -12,7 +12,7 @@ use Rattle.std.proofs.lemmas.Str.{IsCharBoundary-at_seam, IsCharBoundary-end}
 use Rattle.rsc_captures.specs.declared.names.Place.{Place}
 use Rattle.rsc_captures.specs.declared.names.TheConstants.{NO_NAME}
 use Rattle.rsc_captures.specs.Groups.{Groups}
-use Rattle.rsc_captures.specs.Names.{name_held, names_held, place_held, IsCut, AreCut, AreHeld}
+use Rattle.rsc_captures.specs.NamesLayout.{name_held, names_held, place_held, IsCut, AreCut, AreHeld}
 
 module _ (text more : List ℕ) where
   -- a place where the text may be cut is one of the longer text

@@ -1,12 +1,12 @@
 pub mod Lists  -- facts about lists that the layers above share
 pub mod Places  -- the places of a group list as it is handed in
-pub mod Indexed  -- the group of a name, where no name is used twice
+pub mod Indexed  -- the group of a name, where no name is repeated
 pub mod Ordered  -- the groups in the order of their names
 pub mod Blocks  -- a table of the groups of a block in the order of their names, and which groups have the name of a lesser one
-pub mod Repeats  -- the first fault of a pattern, of whose groups those within the limit were looked at for a repeat
+pub mod RepeatsFound  -- a repeated name of a pattern's first groups, as they are handed in
 pub mod Held  -- names in one text, as one more is added
-pub mod Clear  -- lists of which no place, or no place of the patterns before one, is at fault; and the first place at fault
-pub mod Checked  -- which lists have no fault, and whose first fault is a name that is used twice
+pub mod Clear  -- what a place that isn't at fault says
+pub mod FirstFault  -- the first fault of a list, from the first other fault and the first repeated name before it
 pub mod FaultsLemmas  -- the first fault of a list: there is at most one, and a list without a fault has none
 pub mod Firsts  -- where the names of the patterns begin, as one more is pushed
 pub mod Owners  -- each slot is a slot of exactly one group

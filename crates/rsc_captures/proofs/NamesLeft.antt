@@ -12,7 +12,7 @@ module _ (lists : GroupLists) (p : ℕ) where
   pub left_more : (g : ℕ) → g < group_count lists p → names_left lists p g ≡ (p, g, name_of lists p g) ∷ names_left lists p (g + 1)
   left_more g lt = ap (λ (groups : Groups). groups_from p g groups ++ patterns_from (p + 1) (drop (p + 1) lists)) (drop_more (groups_of lists p) g None lt)
 
-  -- behind the last group of a pattern come those of the next
+  -- after the last group of a pattern come those of the next
   left_after : (g : ℕ) → group_count lists p ≤ g → names_left lists p g ≡ patterns_from (p + 1) (drop (p + 1) lists)
   left_after g le = ap (λ (groups : Groups). groups_from p g groups ++ patterns_from (p + 1) (drop (p + 1) lists)) (drop_all g (groups_of lists p) le)
 

@@ -1,8 +1,8 @@
 -- The groups in the order of their names.
-use Rattle.std.proofs.Common.{◌≡◌, ℕ, zero, suc, ◌+◌, ◌-◌, ◌<◌, ◌≤◌, ◌≢◌, ⊎_elim, true, false, List, [], ◌∷◌, ◌++◌, length, take, drop, get_or, Bor, Option, Some, None, Less, Equal, Greater, Result, Ok, Err, is_lt, ltb, refl, ap, sym, ◌∙◌, arith}
+use Rattle.std.proofs.Common.{◌≡◌, ℕ, zero, suc, ◌+◌, ◌-◌, ◌<◌, ◌≤◌, ◌≢◌, ⊎_elim, Bool, true, false, List, [], ◌∷◌, ◌++◌, length, take, drop, get_or, Bor, Option, Some, None, Less, Equal, Greater, Result, Ok, Err, is_lt, ltb, refl, ap, sym, ◌∙◌, arith}
 use mathlib.Core.Bool.{true≢false}
 use Rattle.std.specs.Prelude.{MatchResult}
-use Rattle.std.specs.Option.{option_cmp, option_copied}
+use Rattle.std.specs.Option.{option_cmp, option_copied, option_map_or}
 use Rattle.std.specs.declared.cmp.Ordering.{Ordering}
 use Rattle.std.specs.Ordering.{nat_cmp, ordering_reverse, ordering_then}
 use Rattle.std.specs.Cmp.{IsTotalOrder, first_so, second_so}
@@ -13,7 +13,6 @@ use Rattle.std.proofs.lemmas.Bool.{cases_lt, cases_eq, lt-ltb, ltb-true, false_f
 use Rattle.std.proofs.lemmas.Cmp.{nat_list_cmp_total, nat_cmp_total, then_total, on_total, tied_itself}
 use Rattle.std.proofs.lemmas.List.{get_or-take, get_or_default, length-take, length-take-le, map-id, length-append, append-nil, drop_all}
 use Rattle.std.proofs.lemmas.List.FromFn.{length-range_with_len, get_or-range_with_len, map-range_with_len_more}
-use Rattle.std.proofs.Math.Bool.{or-false}
 use Rattle.std.proofs.Math.Seq.{take-append_seam, drop-append_seam, take-length}
 use Rattle.std.proofs.Math.ListN.{get_or-map as get_or_copied}
 use Rattle.std.proofs.lemmas.List.Folds.{Any-from_list_any, list_any_at}
@@ -22,9 +21,9 @@ use Rattle.std.specs.Prelude.{IsPermutation}
 use Rattle.std.proofs.lemmas.List.Sorted.{length_permutation, searchable_from_sorted, sorted_far, ranks_by}
 use Rattle.std.proofs.lemmas.Map.Keys.{ge_from_not_lt}
 use Rattle.std.proofs.lemmas.Map.Lookups.{exact_bytes}
-use Rattle.rsc_captures.specs.Groups.{Groups, groups_in, has_name, index_of, contains_name, is_repeat, AreDistinctBelow}
-use Rattle.rsc_captures.specs.declared.order.TheConstants.{SCANNED_GROUPS}
-use Rattle.rsc_captures.specs.Names.{name_at, name_cmp, named_cmp, named_group, has_name_of, HasGroups, IsSortedByName, IsIndexed}
+use Rattle.rsc_captures.specs.Groups.{Groups, groups_in, has_name, index_of, stands_before}
+use Rattle.rsc_captures.specs.OrderLayout.{name_at, name_cmp, named_cmp, named_group, has_name_of, HasGroups, IsSortedByName, IsOrder}
+use Rattle.rsc_captures.specs.RepeatsLayout.{is_repeat, AreDistinctBelow}
 use Rattle.rsc_captures.proofs.Places.{Handed}
 use Rattle.rsc_captures.proofs.Indexed.{index_of-is, has_name-is, get_or_past}
 
@@ -107,7 +106,7 @@ pub record IsPair (groups : Groups) (h : ℕ) : Type 0 where
 pub repeat_pair : (groups : Groups) (h : ℕ) → h < length groups → is_repeat groups h ≡ true → IsPair groups h
 repeat_pair groups h lt = by_name (name_at groups h) refl
   where
-    by_name : (name : Option (List ℕ)) → name_at groups h ≡ name → contains_name (take h groups) name ≡ true → IsPair groups h
+    by_name : (name : Option (List ℕ)) → name_at groups h ≡ name → option_map_or (stands_before groups h) name false ≡ true → IsPair groups h
     by_name None at_h found = absurd (true≢false (sym found))
     by_name (Some name) at_h found =
         let earlier = Any-from_list_any (has_name name) (take h groups) found in
@@ -127,21 +126,23 @@ module _ (groups : Groups) where
   repeats_from g h name lt at_g at_h = rw (lt-ltb g h lt, at_g, at_h, has_name-itself name) refl
 
   pub is_repeat-from : (g h : ℕ) → has_name_of groups g h ≡ true → is_repeat groups h ≡ true
-  is_repeat-from g h e = by_name (name_at groups h) (second_so (ltb g h) (contains_name (name_at groups g ∷ []) (name_at groups h)) e)
+  is_repeat-from g h e = by_name (name_at groups h) (second_so (ltb g h) (same_name (name_at groups h)) e)
     where
-      lt : g < h
-      lt = ltb-true g h (first_so (ltb g h) (contains_name (name_at groups g ∷ []) (name_at groups h)) e)
+      same_name : Option (List ℕ) → Bool
+      same_name name = option_map_or (λ name. has_name name (name_at groups g)) name false
 
-      by_name : (name : Option (List ℕ)) → contains_name (name_at groups g ∷ []) name ≡ true → contains_name (take h groups) name ≡ true
+      lt : g < h
+      lt = ltb-true g h (first_so (ltb g h) (same_name (name_at groups h)) e)
+
+      by_name : (name : Option (List ℕ)) → same_name name ≡ true → option_map_or (stands_before groups h) name false ≡ true
       by_name None found = absurd (true≢false (sym found))
       by_name (Some name) found =
-          let named : has_name name (name_at groups g) ≡ true = sym (or-false (has_name name (name_at groups g))) ∙ found in
-          let in_groups : g < length groups = get_or_past groups g name (has_name-is name (name_at groups g) named) in
+          let in_groups : g < length groups = get_or_past groups g name (has_name-is name (name_at groups g) found) in
           let in_taken : g < length (take h groups) = rw length-take (omega (arith, lt, in_groups)) in
-          list_any_at (has_name name) (take h groups) g None in_taken (ap (has_name name) (get_or-take h groups g None lt) ∙ named)
+          list_any_at (has_name name) (take h groups) g None in_taken (ap (has_name name) (get_or-take h groups g None lt) ∙ found)
 
   module _ (order : List ℕ) (sorted : IsSortedByName order groups) where
-    -- what is behind doesn't come before
+    -- what is later isn't less
     not_before : (i j : ℕ) → i ≤ j → j < length order → is_lt (named_cmp (named_group groups (get_or order j 0)) (named_group groups (get_or order i 0))) ≡ false
     not_before i j le lt = sorted_far _ (ranks_by named_total (named_group groups)) order sorted i j 0 le lt
 
@@ -176,7 +177,7 @@ module _ (groups : Groups) where
         at_k : name_at groups (get_or order k 0) ≡ Some name
         at_k = name_between i k (suc k) (omega arith) (omega arith) lt (at_i ∙ sym at_j) ∙ at_j
 
-    -- a group whose name a lesser one has is behind a group that has its name
+    -- a group whose name a lesser one has comes right after a group with its name
     repeat_place : HasGroups order (length groups) → (g : ℕ) → g < length groups → is_repeat groups g ≡ true
         → (k : ℕ) × (k + 1 < length order) × (get_or order (k + 1) 0 ≡ g) × (has_name_of groups (get_or order k 0) (get_or order (k + 1) 0) ≡ true)
     repeat_place complete g lt repeats =
@@ -202,7 +203,7 @@ module _ (groups : Groups) where
         (λ (here : i ≤ k + 1). let next : k + 1 ≡ i = omega (arith, lt, here) in let this : k ≡ i - 1 = omega (arith, next) in rw next (last (rw (next, this) at found)))
         (cases_lt (k + 1) i)
 
-    -- where no group below a bound is behind one that has its name, none repeats a name
+    -- where no group below a bound comes right after one with its name, none repeats a name
     pub distinct_from_order : HasGroups order (length groups) → (n : ℕ) → n ≤ length groups
         → ((k : ℕ) → k + 1 < length order → has_name_of groups (get_or order k 0) (get_or order (k + 1) 0) ≡ true → n ≤ get_or order (k + 1) 0) → AreDistinctBelow groups n
     distinct_from_order complete n le above g lt = false_from_ne_true (is_repeat groups g) (λ repeats.
@@ -223,19 +224,21 @@ module _ (groups : Groups) where
   pub names_sorted : (order : List ℕ) → IsSortedByName order groups → IsSortedByKey (name_at groups) name_cmp order
   names_sorted order sorted k d le lt = not_less _ _ (sorted k d le lt)
 
-  -- what halving answers is the group of the name
-  pub index_from_search : (order : List ℕ) → IsIndexed order groups → SCANNED_GROUPS ≤ length groups → (name : List ℕ) (r : Result ℕ ℕ) → IsBinarySearchResult (λ g. name_cmp (name_at groups g) (Some name)) order r → MatchResult r (λ k. index_of groups name ≡ Some (get_or order k 0)) (λ _. index_of groups name ≡ None)
-  index_from_search order indexed many name (Ok k) found = (index_of-is groups name indexed.distinct (get_or order k 0)).1 (name_exact _ _ (found 0))
-  index_from_search order indexed many name (Err k) split = by_index (index_of groups name) refl
-    where
-      parts : IsPartitionPoint (λ g. name_cmp (name_at groups g) (Some name) ≡ Less) (λ g. name_cmp (name_at groups g) (Some name) ≡ Greater) order k
-      parts = split (searchable_from_sorted name_total (name_at groups) order (Some name) (names_sorted order (indexed.ordered many).sorted))
+  -- what a binary search answers is the group of the name
+  module _ (order : List ℕ) (is_order : IsOrder order groups) (distinct : AreDistinctBelow groups (length groups)) (name : List ℕ) where
+    pub index_from_search : (r : Result ℕ ℕ) → IsBinarySearchResult (λ g. name_cmp (name_at groups g) (Some name)) order r
+        → MatchResult r (λ k. index_of groups name ≡ Some (get_or order k 0)) (λ _. index_of groups name ≡ None)
+    index_from_search (Ok k) found = (index_of-is groups name distinct (get_or order k 0)).1 (name_exact _ _ (found 0))
+    index_from_search (Err k) split = by_index (index_of groups name) refl
+      where
+        parts : IsPartitionPoint (λ g. name_cmp (name_at groups g) (Some name) ≡ Less) (λ g. name_cmp (name_at groups g) (Some name) ≡ Greater) order k
+        parts = split (searchable_from_sorted name_total (name_at groups) order (Some name) (names_sorted order is_order.sorted))
 
-      by_index : (o : Option ℕ) → index_of groups name ≡ o → o ≡ None
-      by_index None e = refl
-      by_index (Some g) e =
-          let named : name_at groups g ≡ Some name = (index_of-is groups name indexed.distinct g).0 e in
-          absurd (none_at_split order name k g parts ((indexed.ordered many).complete g (get_or_past groups g name named)) named)
+        by_index : (o : Option ℕ) → index_of groups name ≡ o → o ≡ None
+        by_index None e = refl
+        by_index (Some g) e =
+            let named : name_at groups g ≡ Some name = (index_of-is groups name distinct g).0 e in
+            absurd (none_at_split order name k g parts (is_order.complete g (get_or_past groups g name named)) named)
 
 pub counted_more : (n : ℕ) → range_with_len 0 n ++ n ∷ [] ≡ range_with_len 0 (n + 1)
 counted_more n =

@@ -6,12 +6,13 @@ use Rattle.std.proofs.lemmas.List.{ext_get_or, get_or-drop, get_or-take, length-
 use Rattle.std.proofs.lemmas.List.FromFn.{length-map-range_with_len, get_or-map-range_with_len}
 use Rattle.std.proofs.lemmas.List.Sums.{sum_by-cons}
 use Rattle.std.proofs.Math.Seq.{take-append_seam, drop-append-add}
-use Rattle.rsc_captures.specs.Groups.{Groups, GroupLists, groups_of, group_count, name_of, AreDistinctBelow}
+use Rattle.rsc_captures.specs.Groups.{Groups, GroupLists, groups_of, group_count, name_of}
 use Rattle.rsc_captures.specs.Faults.{LIMIT_OF_IDS, IsFaultless}
-use Rattle.rsc_captures.specs.Checks.{HasNoOtherFault}
-use Rattle.rsc_captures.specs.Names.{IsIndexed}
+use Rattle.rsc_captures.specs.FaultsLayout.{HasNoOtherFault}
+use Rattle.rsc_captures.specs.RepeatsLayout.{AreDistinctBelow, HasNoRepeatBefore}
+use Rattle.rsc_captures.specs.OrderLayout.{IsOrder}
 use Rattle.rsc_captures.specs.Layout.{groups_before, names_of, lists_held, AreFirsts, IsLaidOut, AreOrdered, IsLayout}
-use Rattle.rsc_captures.proofs.Checked.{clear_distinct, faultless_from}
+use Rattle.rsc_captures.proofs.FirstFault.{clear_distinct, faultless_from}
 use Rattle.rsc_captures.proofs.Clear.{some_group}
 use Rattle.rsc_captures.proofs.Owners.{pattern_in}
 use Rattle.rsc_captures.proofs.Firsts.{groups_more}
@@ -86,9 +87,9 @@ module _ (firsts : List ℕ) (names : Groups) (lists : GroupLists) (are : lists_
       (omega (arith, last, some, is_end, groups_more lists p lt), ap₂ (λ k from. take k (drop from names)) count is_first ∙ sym (part_is p lt))
 
 -- the part of a pattern's groups, as it is cut
-pub part_indexed : (order lent : List ℕ) (lists : GroupLists) (p first len : ℕ) → AreOrdered order lists (length lists) → p < length lists → lent ≡ order → first ≡ groups_before lists p → len ≡ group_count lists p
-    → ((first + len) ≤ length lent) × IsIndexed (take ((first + len) - first) (drop first lent)) (groups_of lists p)
-part_indexed order lent lists p first len ordered lt is_order is_first is_len =
+pub part_ordered : (order lent : List ℕ) (lists : GroupLists) (p first len : ℕ) → AreOrdered order lists (length lists) → p < length lists → lent ≡ order → first ≡ groups_before lists p → len ≡ group_count lists p
+    → ((first + len) ≤ length lent) × IsOrder (take ((first + len) - first) (drop first lent)) (groups_of lists p)
+part_ordered order lent lists p first len ordered lt is_order is_first is_len =
     let count : (first + len) - first ≡ group_count lists p = omega (arith, is_len) in
     let within : groups_before lists p + group_count lists p ≤ groups_before lists (length lists) = groups_within lists p (length lists) lt (omega arith) in
     (rw is_order (omega (arith, within, ordered.count, is_first, is_len)), rw (count, is_first, is_order) (ordered.each p lt))
@@ -101,19 +102,19 @@ part_stays xs a k n le =
 
 -- the order of one more pattern
 pub ordered_more : (order more : List ℕ) (lists : GroupLists) (p : ℕ) → p < length lists → AreOrdered order lists p → take (length order) more ≡ order → length more ≡ length order + group_count lists p
-    → IsIndexed (drop (length order) more) (groups_of lists p) → AreOrdered more lists (p + 1)
+    → IsOrder (drop (length order) more) (groups_of lists p) → AreOrdered more lists (p + 1)
 ordered_more order more lists p lt ordered kept count indexed = record {
   count = count ∙ (omega (arith, ordered.count, groups_more lists p lt));
   each = λ q below. ⊎_elim (λ (before : q < p). earlier q before) (λ (here : p ≤ q). let same : p ≡ q = omega (arith, below, here) in rw same at last) (cases_lt q p);
 }
   where
-    earlier : (q : ℕ) → q < p → IsIndexed (take (group_count lists q) (drop (groups_before lists q) more)) (groups_of lists q)
+    earlier : (q : ℕ) → q < p → IsOrder (take (group_count lists q) (drop (groups_before lists q) more)) (groups_of lists q)
     earlier q before =
         let stays : take (group_count lists q) (drop (groups_before lists q) order) ≡ take (group_count lists q) (drop (groups_before lists q) more) =
         rw kept at (part_stays more (groups_before lists q) (group_count lists q) (length order) (omega (arith, ordered.count, groups_within lists q p before (omega arith)))) in
         rw stays at (ordered.each q before)
 
-    last : IsIndexed (take (group_count lists p) (drop (groups_before lists p) more)) (groups_of lists p)
+    last : IsOrder (take (group_count lists p) (drop (groups_before lists p) more)) (groups_of lists p)
     last =
         let left : length (drop (length order) more) ≤ group_count lists p = rw length-drop (omega (arith, count)) in
         rw (← ordered.count, take_all (group_count lists p) (drop (length order) more) left) indexed
@@ -123,8 +124,8 @@ module _ (firsts order : List ℕ) (names : Groups) (lists : GroupLists) (n : �
   pub held_are : lists_held firsts names ≡ lists
   held_are = rw are (lists_are firsts lists (rw all_patterns firsts_are))
 
-  pub layout_is : HasNoOtherFault LIMIT_OF_IDS lists → AreOrdered order lists n → IsLayout firsts order (lists_held firsts names)
-  layout_is no_other ordered = rw held_are (record {
-    laid_out = record { faultless = faultless_from no_other (λ p lt. (ordered.each p (rw all_patterns at lt)).distinct); firsts_are = rw all_patterns firsts_are };
+  pub layout_is : HasNoOtherFault LIMIT_OF_IDS lists → HasNoRepeatBefore lists n 0 → AreOrdered order lists n → IsLayout firsts order (lists_held firsts names)
+  layout_is no_other none ordered = rw held_are (record {
+    laid_out = record { faultless = faultless_from no_other (rw all_patterns none); firsts_are = rw all_patterns firsts_are };
     ordered = rw all_patterns ordered;
   })

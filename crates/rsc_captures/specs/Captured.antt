@@ -29,7 +29,7 @@ group_span c i = option_and_then (λ q. option_and_then (span_at c.offsets) (fir
 abbrev pub named_span : Captured → List ℕ → Option Span
 named_span c name = option_and_then (group_span c) (option_and_then (λ q. index_of (groups_of c.groups q) name) c.pattern)
 
--- no pattern, and so many slots that aren't set
+-- no pattern, and that many slots, none of them set
 abbrev pub no_offsets : GroupLists → ℕ → Captured
 no_offsets groups count = record { groups = groups; pattern = None; offsets = replicate count None }
 

@@ -1,4 +1,4 @@
--- The fault that a kind of error names, none for want of memory, and what it prints.
+-- The fault that a kind of error names, none where it is out of memory, and what it prints.
 use Rattle.std.specs.Prelude.{ℕ, List, ◌++◌, codes, Option, Some, None}
 use Rattle.std.specs.Fmt.{decimal}
 use Rattle.std.specs.String.{string_bytes}

@@ -14,34 +14,6 @@ use std::alloc::{AllocError, Allocator, Global};
 use std::fmt;
 use std::marker::Model;
 
-// The span whose offsets are in a slot and the next.
-#[inline]
-fn span_at(slots: &[Option<NonMaxUsize>], slot: usize) -> Option<Span>
-    requires { slot + 1 < length slots.now }
-    ensures { result ≡ span_at slots.now slot }
-{
-    let Some(start) = slots[slot] else {
-        return None;
-    };
-    let Some(end) = slots[slot + 1] else {
-        return None;
-    };
-    Some(Span {
-        start: start.get(),
-        end: end.get(),
-    })
-}
-
-// Empties each slot. `fill` writes the last one apart, which takes longer where they are few.
-#[inline]
-fn empty(slots: &mut [Option<NonMaxUsize>])
-    ensures { slots.new ≡ replicate (length slots.old) None }
-{
-    for slot in 0..slots.len() {
-        slots[slot] = None;
-    }
-}
-
 /// The offsets of the groups of a match, if there is a match.
 ///
 /// A search fills the slots and sets the pattern. Nothing is asked of what is in the slots, and no call here fails on
@@ -85,7 +57,7 @@ impl<A: Allocator> Model for Captures<A> {
 impl<A: Allocator + Clone + Drop> Captures<A> {
     ghost use Rattle.rsc_captures.specs.Lending.{LendsSlots};
 
-    // Captures with so many slots, none of them set.
+    // Captures with that many slots, none of them set.
     fn with_slots(
         alloc: A,
         group_info: GroupInfo<A>,
@@ -311,5 +283,33 @@ impl<A: Allocator + Clone + Drop> fmt::Debug for Captures<A> {
             }
         }
         f.write_str("} }")
+    }
+}
+
+// The span whose offsets are in a slot and the next.
+#[inline]
+fn span_at(slots: &[Option<NonMaxUsize>], slot: usize) -> Option<Span>
+    requires { slot + 1 < length slots.now }
+    ensures { result ≡ span_at slots.now slot }
+{
+    let Some(start) = slots[slot] else {
+        return None;
+    };
+    let Some(end) = slots[slot + 1] else {
+        return None;
+    };
+    Some(Span {
+        start: start.get(),
+        end: end.get(),
+    })
+}
+
+// Empties each slot. `fill` writes the last one apart, which takes longer where they are few.
+#[inline]
+fn empty(slots: &mut [Option<NonMaxUsize>])
+    ensures { slots.new ≡ replicate (length slots.old) None }
+{
+    for slot in 0..slots.len() {
+        slots[slot] = None;
     }
 }

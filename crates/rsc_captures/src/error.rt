@@ -2,8 +2,7 @@
 ghost use Rattle.std.specs.Prelude.{◌≡◌, None, Some, MatchOption};
 ghost use Rattle.std.specs.Fmt.{DisplaysOnOk};
 ghost use Rattle.rsc_captures.specs.Kinds.{refusal_text};
-ghost use Rattle.rsc_captures.specs.Checks.{IsDuplicate};
-ghost use Rattle.rsc_captures.specs.Found.{fault_found};
+ghost use Rattle.rsc_captures.specs.FaultsLayout.{fault_found, IsDuplicate};
 
 use crate::faults::Fault;
 use rsc_primitives::{PatternID, PatternIDError};
@@ -46,7 +45,7 @@ pub enum GroupInfoErrorKind<A: Allocator = Global> {
         /// The pattern.
         pattern: PatternID,
     },
-    /// A name is used twice in a pattern.
+    /// A name that a lesser group of its pattern has.
     Duplicate {
         /// The pattern.
         pattern: PatternID,
@@ -57,7 +56,7 @@ pub enum GroupInfoErrorKind<A: Allocator = Global> {
     OutOfMemory,
 }
 
-/// The refusal of a group list. A contract sees it as the fault of the list, or as none for want of memory.
+/// The refusal of a group list. A contract sees it as the fault of the list, or as none where it is out of memory.
 #[derive(Drop)]
 #[derive_where(Debug)]
 pub struct GroupInfoError<A: Allocator = Global> {
@@ -160,8 +159,7 @@ impl<A: Allocator> fmt::Display for GroupInfoErrorKind<A> {
 
 impl<A: Allocator> fmt::Display for GroupInfoError<A> {
     ghost use Rattle.rsc_captures.specs.Kinds.{refusal_text};
-    ghost use Rattle.rsc_captures.specs.Checks.{IsDuplicate};
-    ghost use Rattle.rsc_captures.specs.Found.{fault_found};
+    ghost use Rattle.rsc_captures.specs.FaultsLayout.{fault_found, IsDuplicate};
 
     ghost output = { λ fault. Some (refusal_text fault) };
 
@@ -172,7 +170,7 @@ impl<A: Allocator> fmt::Display for GroupInfoError<A> {
 
 impl<A: Allocator> Error for GroupInfoError<A> {}
 
-/// The error for a fault. Only a name that is used twice takes memory.
+/// The error for a fault. Only a repeated name takes memory.
 pub(crate) fn refusal<A: Allocator + Clone + Drop>(alloc: A, fault: Fault<'_>) -> GroupInfoError<A>
     ensures { MatchOption result (IsDuplicate (fault_found fault.entry)) (λ found. found ≡ fault_found fault.entry) }
 {

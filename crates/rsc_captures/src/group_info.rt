@@ -1,21 +1,21 @@
 //! The groups of all patterns, and the slots of their offsets.
-ghost use Rattle.std.specs.Prelude.{◌≡◌, ℕ, ◌+◌, ◌-◌, ◌*◌, ◌<◌, ◌≤◌, ◌↔◌, length, take, drop, ⊤, [], Some, None, IfOk, IfErr, IfSome, OnOk, MatchOption, MatchResult};
+ghost use Rattle.std.specs.Prelude.{◌≡◌, ℕ, ◌+◌, ◌-◌, ◌*◌, ◌<◌, ◌≤◌, ◌↔◌, length, ⊤, [], Some, None, IfOk, IfErr, IfSome, OnOk, MatchOption, MatchResult};
 ghost use Rattle.std.specs.Option.{option_copied};
-ghost use Rattle.rsc_captures.specs.Groups.{lists_in, groups_of, group_count, name_of, index_of, slot_of, slots_of, all_groups, AreDistinctBelow};
-ghost use Rattle.rsc_captures.specs.Faults.{GREATEST_PATTERN, LIMIT_OF_IDS, IsFaultless, RefusesFor};
-ghost use Rattle.rsc_captures.specs.Checks.{HasNoOtherFault};
+ghost use Rattle.rsc_captures.specs.Groups.{lists_in, groups_of, group_count, name_of, index_of, slot_of, slots_of, all_groups};
+ghost use Rattle.rsc_captures.specs.Faults.{LIMIT_OF_IDS, IsFaultless, RefusesFor};
+ghost use Rattle.rsc_captures.specs.FaultsLayout.{HasNoOtherFault};
 ghost use Rattle.rsc_captures.specs.NameIterators.{all_names_of};
 ghost use Rattle.rsc_captures.specs.SlotOwners.{IsSlotOf, IsOwned};
-ghost use Rattle.rsc_captures.specs.Names.{IsIndexed};
 ghost use Rattle.rsc_captures.specs.Layout.{AreOrdered};
-ghost use Rattle.rsc_captures.specs.Repeats.{IsDuplicateOf, IsFirstDuplicate};
+ghost use Rattle.rsc_captures.specs.RepeatsLayout.{HasNoRepeatBefore, IsFirstRepeatBefore};
 
 use crate::error::{GroupInfoError, refusal};
-use crate::faults::{Fault, check, has_other_fault};
-use crate::layout::{SharedLists, firsts_of, proposals_of};
+use crate::faults::first_other_fault;
+use crate::layout::{SharedLists, firsts_of, hints_of};
 use crate::name_iterators::{GroupInfoAllNames, GroupInfoPatternNames};
-use crate::names::{NameList, room_for};
-use crate::order::{add_order, name_at, repeat_in};
+use crate::names::NameList;
+use crate::order::add_order;
+use crate::repeats::{first_repeat_before, repeat_in_order, repeated};
 use rsc_primitives::PatternID;
 use std::alloc::{AllocError, Allocator, Global};
 use std::marker::Model;
@@ -56,86 +56,21 @@ impl<A: Allocator> Model for GroupInfo<A> {
     ghost view = { λ a. a.inner.value };
 }
 
-// Adds the groups of pattern `p` to the order, and looks for a name that is used twice.
-fn index_pattern<A: Allocator + Clone + Drop>(
-    alloc: A,
-    lists: &[&[Option<&str>]],
-    p: usize,
-    order: &mut Vec<u32, A>,
-) -> Result<(), GroupInfoError<A>>
-    requires pattern { p < length lists.now }
-    requires number { p ≤ GREATEST_PATTERN }
-    requires count { group_count (lists_in lists.now) p ≤ LIMIT_OF_IDS }
-    ensures kept { OnOk result (take (length order.old.items) order.new.items ≡ order.old.items) }
-    ensures len { OnOk result (length order.new.items ≡ length order.old.items + group_count (lists_in lists.now) p) }
-    ensures index { OnOk result (IsIndexed (drop (length order.old.items) order.new.items) (groups_of (lists_in lists.now) p)) }
-    ensures err { IfErr result (λ e. MatchOption e ⊤ (IsDuplicateOf (lists_in lists.now) p)) }
-{
-    let groups = lists[p];
-    let first = order.len();
-    add_order(order, groups)?;
-    if let Some(g) = repeat_in(groups, &order.as_slice()[first..]) {
-        let name = name_at(groups, g).unwrap_or("");
-        return Err(refusal(alloc, Fault::Duplicate(PatternID::must(p), name)));
-    }
-    Ok(())
-}
-
-// The groups of each pattern in the order of their names, where no name is used twice.
-fn order_of<A: Allocator + Clone + Drop>(
-    alloc: A,
-    lists: &[&[Option<&str>]],
-) -> Result<Vec<u32, A>, GroupInfoError<A>>
-    requires { HasNoOtherFault LIMIT_OF_IDS (lists_in lists.now) }
-    ensures ok { IfOk result (λ order. AreOrdered order.items (lists_in lists.now) (length lists.now)) }
-    ensures err { IfErr result (λ e. MatchOption e ⊤ (IsFirstDuplicate (lists_in lists.now))) }
-{
-    let (len, _bytes) = room_for(lists);
-    let mut order: Vec<u32, A> = Vec::with_capacity(alloc.clone()?, len)?;
-    for p in 0..lists.len() {
-        index_pattern(alloc.clone()?, lists, p, &mut order)?;
-    }
-    Ok(order)
-}
-
-// Holds the groups of a list that has no fault besides names that are used twice.
-fn build<A: Allocator + Clone + Drop>(
-    alloc: A,
-    lists: &[&[Option<&str>]],
-) -> Result<GroupInfo<A>, GroupInfoError<A>>
-    requires { HasNoOtherFault LIMIT_OF_IDS (lists_in lists.now) }
-    ensures ok { IfOk result (λ info. info ≡ lists_in lists.now) }
-    ensures distinct { OnOk result ((p : ℕ) → p < length lists.now → AreDistinctBelow (groups_of (lists_in lists.now) p) (group_count (lists_in lists.now) p)) }
-    ensures err { IfErr result (λ e. MatchOption e ⊤ (IsFirstDuplicate (lists_in lists.now))) }
-{
-    let order = order_of(alloc.clone()?, lists)?;
-    let inner = SharedLists {
-        names: NameList::new(alloc.clone()?, lists)?,
-        order,
-        firsts: firsts_of(alloc.clone()?, lists)?,
-        proposals: proposals_of(alloc.clone()?, lists)?,
-    };
-    Ok(GroupInfo {
-        inner: Arc::new(alloc, inner)?,
-    })
-}
-
 impl<A: Allocator + Clone + Drop> GroupInfo<A> {
     /// The groups of these lists: one list for each pattern, with an optional name for each of its groups.
     ///
     /// # Errors
     ///
     /// The first fault of the lists, which are read by pattern and then by group: too many patterns, a pattern without
-    /// groups, a first group with a name, too many groups, a name that is used twice in its pattern. Last comes a pattern
+    /// groups, a first group with a name, too many groups, a name that a lesser group of its pattern has. Last comes a pattern
     /// whose groups, after the first groups of all patterns, have no slots left. Where memory is refused the kind is
-    /// [`OutOfMemory`](crate::GroupInfoErrorKind::OutOfMemory); a list with any fault but a name that is used twice takes none.
+    /// [`OutOfMemory`](crate::GroupInfoErrorKind::OutOfMemory); a list with any fault but a repeated name takes none.
     ///
     /// # Cost
     ///
-    /// Names are sorted, pattern by pattern, and a name that is used twice is read off their order. The names of a list with any other
-    /// fault are sorted in blocks of at most 16,384, on the stack, and those behind a block are looked up there: n names of one pattern
-    /// make at most n²/32768 look-ups of at most 15 comparisons, whatever names they are. The block takes 4 KiB of the stack where a
-    /// pattern has at most 1,024 groups, else 64 KiB.
+    /// Names are sorted, pattern by pattern, and a repeated name is read off their order. The names of a list with any other fault are
+    /// sorted in blocks of 4,096, in a table of 16 KiB on the stack, and those after a block are looked up there: n names of one pattern
+    /// make at most n²/8192 look-ups of at most 13 comparisons, whatever names they are.
     pub fn new(alloc: A, lists: &[&[Option<&str>]]) -> Result<GroupInfo<A>, GroupInfoError<A>>
         ensures groups { IfOk result (λ info. info ≡ lists_in lists.now) }
         ensures faultless { OnOk result (IsFaultless LIMIT_OF_IDS (lists_in lists.now)) }
@@ -144,7 +79,7 @@ impl<A: Allocator + Clone + Drop> GroupInfo<A> {
         GroupInfo::new_limited(alloc, SLOT_LIMIT, lists)
     }
 
-    /// The groups of these lists, as by [`GroupInfo::new`], where at most `limit` slots are allowed in place of 2147483646; the limit itself
+    /// The groups of these lists, as by [`GroupInfo::new`], where at most `limit` slots are allowed instead of 2147483646; the limit itself
     /// may be no greater than that.
     ///
     /// A pattern has too many groups where twice the explicit groups read so far is above the limit, or where its slots
@@ -171,14 +106,11 @@ impl<A: Allocator + Clone + Drop> GroupInfo<A> {
         ensures faultless { OnOk result (IsFaultless limit (lists_in lists.now)) }
         ensures refused { IfErr result (RefusesFor limit (lists_in lists.now)) }
     {
-        // Every fault but a name that is used twice is found without memory; only where there is such a fault are the places
-        // looked at in order, which tells the first.
-        if has_other_fault(limit, lists) {
-            if let Err(fault) = check(limit, lists) {
-                return Err(refusal(alloc, fault));
-            }
-        }
-        build(alloc, lists)
+        let Some((place, other)) = first_other_fault(limit, lists) else {
+            return build(alloc, lists);
+        };
+        let first = first_repeat_before(lists, place).unwrap_or(other);
+        Err(refusal(alloc, first))
     }
 
     /// The group info of no patterns.
@@ -332,4 +264,52 @@ impl<A: Allocator + Clone + Drop> GroupInfo<A> {
     {
         &self.inner
     }
+}
+
+// Holds the groups of a list that has no fault but repeated names.
+fn build<A: Allocator + Clone + Drop>(
+    alloc: A,
+    lists: &[&[Option<&str>]],
+) -> Result<GroupInfo<A>, GroupInfoError<A>>
+    requires { HasNoOtherFault LIMIT_OF_IDS (lists_in lists.now) }
+    ensures ok { IfOk result (λ info. info ≡ lists_in lists.now) }
+    ensures distinct { OnOk result (HasNoRepeatBefore (lists_in lists.now) (length lists.now) 0) }
+    ensures err { IfErr result (λ e. MatchOption e ⊤ (IsFirstRepeatBefore (lists_in lists.now) (length lists.now) 0)) }
+{
+    let names = NameList::new(alloc.clone()?, lists)?;
+    let order = order_of(alloc.clone()?, lists, names.len())?;
+    let firsts = firsts_of(alloc.clone()?, lists)?;
+    let hints = hints_of(alloc.clone()?, lists)?;
+    let inner = SharedLists {
+        names,
+        order,
+        firsts,
+        hints,
+    };
+    Ok(GroupInfo {
+        inner: Arc::new(alloc, inner)?,
+    })
+}
+
+// The groups of each pattern in the order of their names, where no name is repeated.
+fn order_of<A: Allocator + Clone + Drop>(
+    alloc: A,
+    lists: &[&[Option<&str>]],
+    len: usize,
+) -> Result<Vec<u32, A>, GroupInfoError<A>>
+    requires { HasNoOtherFault LIMIT_OF_IDS (lists_in lists.now) }
+    ensures ok { IfOk result (λ order. AreOrdered order.items (lists_in lists.now) (length lists.now)) }
+    ensures distinct { OnOk result (HasNoRepeatBefore (lists_in lists.now) (length lists.now) 0) }
+    ensures err { IfErr result (λ e. MatchOption e ⊤ (IsFirstRepeatBefore (lists_in lists.now) (length lists.now) 0)) }
+{
+    let mut order: Vec<u32, A> = Vec::with_capacity(alloc.clone()?, len)?;
+    for p in 0..lists.len() {
+        let groups = lists[p];
+        let first = order.len();
+        add_order(&mut order, groups)?;
+        if let Some(g) = repeat_in_order(groups, &order.as_slice()[first..]) {
+            return Err(refusal(alloc, repeated(lists, p, g)));
+        }
+    }
+    Ok(order)
 }

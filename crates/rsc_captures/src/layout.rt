@@ -1,36 +1,37 @@
 //! The groups of all patterns, as they are held: their names in one list, and where each pattern's begin there.
 //!
-//! A name is looked for among few groups one by one. Else its hash names a few cells of a table, and each of these proposes a
-//! group: where that group has the name, it is the one. Nothing depends on what the table proposes, so no contract speaks of it.
-//! Where none has the name, the pattern's groups in the order of their names decide, by halving.
+//! A name is looked for among few groups one by one. Otherwise its hash leads to a few slots of a table, and each of these hints at a
+//! group: where that group has the name, it is the one. Nothing depends on the hints, so no contract speaks of them.
+//! Where none has the name, a binary search in the order of the pattern's names decides.
 ghost use Rattle.std.specs.Prelude.{◌≡◌, ◌<◌, ◌≤◌, length, IfOk, IfSome, Some};
 ghost use Rattle.std.specs.Option.{option_copied};
 ghost use Rattle.rsc_captures.specs.Groups.{lists_in, groups_of, group_count, name_of, index_of, slot_of, all_groups};
 ghost use Rattle.rsc_captures.specs.Faults.{LIMIT_OF_IDS, IsFaultless};
-ghost use Rattle.rsc_captures.specs.Checks.{HasNoOtherFault};
+ghost use Rattle.rsc_captures.specs.FaultsLayout.{HasNoOtherFault};
 ghost use Rattle.rsc_captures.specs.Layout.{groups_before, AreFirsts};
-ghost use Rattle.rsc_captures.specs.Names.{name_cmp};
+ghost use Rattle.rsc_captures.specs.OrderLayout.{name_cmp};
 
-use crate::faults::has_name;
-use crate::names::NameList;
-use crate::order::SCANNED_GROUPS;
+use crate::names::{NameList, has_name};
 use std::alloc::{AllocError, Allocator};
 use std::cmp::Ordering;
 use std::hash::{FoldHasher, Hasher};
 use std::marker::Model;
 
-// How many cells of the table a name has.
-const CELLS_OF_A_NAME: usize = 4;
+// With fewer groups than these a name is compared with each.
+const SCANNED_GROUPS: usize = 10;
+
+// How many slots of the table a name has.
+const HINTS_OF_A_NAME: usize = 4;
 
 /// The names of all groups by pattern and then by group; for each pattern its groups in the order of their names; where each
-/// pattern's names begin, and last how many there are; and a table that proposes groups by name.
+/// pattern's names begin, and last how many there are; and a table of hints at groups by name.
 #[derive(Drop)]
 #[derive_where(Debug)]
 pub(crate) struct SharedLists<A: Allocator> {
     pub(crate) names: NameList<A>,
     pub(crate) order: Vec<u32, A>,
     pub(crate) firsts: Vec<usize, A>,
-    pub(crate) proposals: Vec<u32, A>,
+    pub(crate) hints: Vec<u32, A>,
 }
 
 impl<A: Allocator> Model for SharedLists<A> {
@@ -44,92 +45,6 @@ impl<A: Allocator> Model for SharedLists<A> {
     ghost invariant = { λ a. IsLayout a.firsts.items a.order.items (lists_held a.firsts.items a.names) };
 }
 
-// The cell of the table where a name's cells begin, before it is cut to the table's length.
-#[inline]
-fn first_cell(p: usize, name: &str) -> usize {
-    let mut hasher = FoldHasher::default();
-    hasher.write(name.as_bytes());
-    (hasher.finish() as usize).wrapping_add(p.wrapping_mul(CELLS_OF_A_NAME))
-}
-
-// Puts the group into the first free cell of the name.
-fn propose(proposals: &mut [u32], first: usize, group: u32) {
-    let mask = proposals.len().wrapping_sub(1);
-    for i in 0..CELLS_OF_A_NAME {
-        if let Some(held) = proposals.get_mut(first.wrapping_add(i) & mask) {
-            if *held == 0 {
-                *held = group;
-                return;
-            }
-        }
-    }
-}
-
-// Proposes each group of a pattern that has a name.
-fn propose_groups(proposals: &mut [u32], p: usize, groups: &[Option<&str>]) {
-    for (g, group) in groups.iter().enumerate() {
-        if let Some(name) = group {
-            propose(
-                proposals,
-                first_cell(p, name),
-                u32::try_from(g).unwrap_or(0),
-            );
-        }
-    }
-}
-
-// How many groups the table is for: those of the patterns whose groups are not few.
-fn proposed_len(lists: &[&[Option<&str>]]) -> usize {
-    let mut len: usize = 0;
-    for groups in lists {
-        if groups.len() >= SCANNED_GROUPS {
-            len = len.saturating_add(groups.len());
-        }
-    }
-    len
-}
-
-/// A table in which most names find their group: its length is a power of two, 0 is no proposal. There is none where all
-/// patterns have few groups.
-pub(crate) fn proposals_of<A: Allocator>(
-    alloc: A,
-    lists: &[&[Option<&str>]],
-) -> Result<Vec<u32, A>, AllocError> {
-    let proposed = proposed_len(lists);
-    if proposed == 0 {
-        return Ok(Vec::new(alloc));
-    }
-    let length = proposed
-        .checked_next_power_of_two()
-        .unwrap_or(1)
-        .saturating_mul(2);
-    let mut proposals: Vec<u32, A> = vec![in alloc; 0u32; length]?;
-    for (p, groups) in lists.iter().enumerate() {
-        if groups.len() >= SCANNED_GROUPS {
-            propose_groups(&mut proposals, p, groups);
-        }
-    }
-    Ok(proposals)
-}
-
-/// Where each pattern's names begin in the list of all names; last comes how many there are.
-pub(crate) fn firsts_of<A: Allocator>(
-    alloc: A,
-    lists: &[&[Option<&str>]],
-) -> Result<Vec<usize, A>, AllocError>
-    requires { HasNoOtherFault LIMIT_OF_IDS (lists_in lists.now) }
-    ensures { IfOk result (λ firsts. AreFirsts firsts.items (lists_in lists.now) (length lists.now)) }
-{
-    let mut firsts: Vec<usize, A> = Vec::with_capacity(alloc, lists.len() + 1)?;
-    let mut first = 0;
-    firsts.push(first)?;
-    for groups in lists {
-        first += groups.len();
-        firsts.push(first)?;
-    }
-    Ok(firsts)
-}
-
 impl<A: Allocator + Clone + Drop> SharedLists<A> {
     /// How many patterns there are.
     #[inline]
@@ -140,7 +55,7 @@ impl<A: Allocator + Clone + Drop> SharedLists<A> {
         self.firsts.len() - 1
     }
 
-    /// Where the names of a pattern's groups begin, and behind the last pattern how many names there are.
+    /// Where the names of a pattern's groups begin, and after the last pattern how many names there are.
     #[inline]
     pub(crate) fn first(&self, p: usize) -> usize
         requires { p ≤ length self.now }
@@ -186,15 +101,6 @@ impl<A: Allocator + Clone + Drop> SharedLists<A> {
         }
     }
 
-    // The name of a group that the pattern has, if the group has one.
-    #[inline]
-    fn name_within(&self, p: usize, group: usize) -> Option<&str>
-        requires { group < group_count self.now p }
-        ensures { option_copied result ≡ name_of self.now p group }
-    {
-        self.names.get(self.first(p) + group)
-    }
-
     /// The name of a group of a pattern, if there is such a group and it has one.
     #[inline]
     pub(crate) fn name(&self, p: usize, group: usize) -> Option<&str>
@@ -206,17 +112,36 @@ impl<A: Allocator + Clone + Drop> SharedLists<A> {
         self.name_within(p, group)
     }
 
-    // The group that the name's cells propose, if it has the name.
+    /// The first group of the pattern with the name.
+    #[inline]
+    pub(crate) fn index(&self, p: usize, name: &str) -> Option<usize>
+        ensures value { result ≡ index_of (groups_of self.now p) name.now }
+        ensures faultless { IsFaultless LIMIT_OF_IDS self.now }
+    {
+        let count = self.group_len(p);
+        if count == 0 {
+            return None;
+        }
+        if count < SCANNED_GROUPS {
+            return self.find_by_scan(p, name);
+        }
+        if let Some(group) = self.find_by_hash(p, name) {
+            return Some(group);
+        }
+        self.find_by_order(p, name)
+    }
+
+    // The group that the table hints at, if it has the name.
     #[inline]
     fn find_by_hash(&self, p: usize, name: &str) -> Option<usize>
         requires { p < length self.now }
         ensures { IfSome result (λ g. index_of (groups_of self.now p) name.now ≡ Some g) }
     {
-        let mask = self.proposals.len().wrapping_sub(1);
-        let cell = first_cell(p, name);
+        let mask = self.hints.len().wrapping_sub(1);
+        let first = first_hint(p, name);
         let count = self.group_len(p);
-        for i in 0..CELLS_OF_A_NAME {
-            let group = *self.proposals.get(cell.wrapping_add(i) & mask)? as usize;
+        for i in 0..HINTS_OF_A_NAME {
+            let group = *self.hints.get(first.wrapping_add(i) & mask)? as usize;
             if group < count && has_name(self.name_within(p, group), name) {
                 return Some(group);
             }
@@ -249,9 +174,9 @@ impl<A: Allocator + Clone + Drop> SharedLists<A> {
         None
     }
 
-    // The group that has the name, by halving the pattern's part of the order.
+    // The group that has the name, by a binary search in the pattern's part of the order.
     fn find_by_order(&self, p: usize, name: &str) -> Option<usize>
-        requires { SCANNED_GROUPS ≤ group_count self.now p }
+        requires { p < length self.now }
         ensures { result ≡ index_of (groups_of self.now p) name.now }
     {
         let first = self.first(p);
@@ -262,22 +187,94 @@ impl<A: Allocator + Clone + Drop> SharedLists<A> {
         }
     }
 
-    /// The first group of the pattern with the name.
+    // The name of a group that the pattern has, if the group has one.
     #[inline]
-    pub(crate) fn index(&self, p: usize, name: &str) -> Option<usize>
-        ensures value { result ≡ index_of (groups_of self.now p) name.now }
-        ensures faultless { IsFaultless LIMIT_OF_IDS self.now }
+    fn name_within(&self, p: usize, group: usize) -> Option<&str>
+        requires { group < group_count self.now p }
+        ensures { option_copied result ≡ name_of self.now p group }
     {
-        let count = self.group_len(p);
-        if count == 0 {
-            return None;
-        }
-        if count < SCANNED_GROUPS {
-            return self.find_by_scan(p, name);
-        }
-        if let Some(group) = self.find_by_hash(p, name) {
-            return Some(group);
-        }
-        self.find_by_order(p, name)
+        self.names.get(self.first(p) + group)
     }
+}
+
+/// A table in which most names find their group: its length is a power of two, 0 is no hint. There is none where all
+/// patterns have few groups.
+pub(crate) fn hints_of<A: Allocator>(
+    alloc: A,
+    lists: &[&[Option<&str>]],
+) -> Result<Vec<u32, A>, AllocError> {
+    let hinted = hinted_len(lists);
+    if hinted == 0 {
+        return Ok(Vec::new(alloc));
+    }
+    let length = hinted
+        .checked_next_power_of_two()
+        .unwrap_or(1)
+        .saturating_mul(2);
+    let mut hints: Vec<u32, A> = vec![in alloc; 0u32; length]?;
+    for (p, groups) in lists.iter().enumerate() {
+        if groups.len() >= SCANNED_GROUPS {
+            add_hints(&mut hints, p, groups);
+        }
+    }
+    Ok(hints)
+}
+
+/// Where each pattern's names begin in the list of all names; last comes how many there are.
+pub(crate) fn firsts_of<A: Allocator>(
+    alloc: A,
+    lists: &[&[Option<&str>]],
+) -> Result<Vec<usize, A>, AllocError>
+    requires { HasNoOtherFault LIMIT_OF_IDS (lists_in lists.now) }
+    ensures { IfOk result (λ firsts. AreFirsts firsts.items (lists_in lists.now) (length lists.now)) }
+{
+    let mut firsts: Vec<usize, A> = Vec::with_capacity(alloc, lists.len() + 1)?;
+    let mut first = 0;
+    firsts.push(first)?;
+    for groups in lists {
+        first += groups.len();
+        firsts.push(first)?;
+    }
+    Ok(firsts)
+}
+
+// The first of the slots of a name, before it is cut to the table's length.
+#[inline]
+fn first_hint(p: usize, name: &str) -> usize {
+    let mut hasher = FoldHasher::default();
+    hasher.write(name.as_bytes());
+    (hasher.finish() as usize).wrapping_add(p.wrapping_mul(HINTS_OF_A_NAME))
+}
+
+// Puts the group into the first free slot of the name.
+fn add_hint(hints: &mut [u32], first: usize, group: u32) {
+    let mask = hints.len().wrapping_sub(1);
+    for i in 0..HINTS_OF_A_NAME {
+        if let Some(held) = hints.get_mut(first.wrapping_add(i) & mask) {
+            if *held == 0 {
+                *held = group;
+                return;
+            }
+        }
+    }
+}
+
+// Hints at each group of a pattern that has a name.
+fn add_hints(hints: &mut [u32], p: usize, groups: &[Option<&str>]) {
+    for (g, group) in groups.iter().enumerate() {
+        if let Some(name) = group {
+            add_hint(hints, first_hint(p, name), u32::try_from(g).unwrap_or(0));
+        }
+    }
+}
+
+// How many groups the table is for: those of the patterns whose groups are not few.
+fn hinted_len(lists: &[&[Option<&str>]]) -> usize {
+    let mut len: usize = 0;
+    for groups in lists {
+        if groups.len() >= SCANNED_GROUPS {
+            len = len.saturating_add(groups.len());
+        }
+    }
+    len
 }

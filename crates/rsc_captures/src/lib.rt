@@ -11,6 +11,7 @@ mod layout;
 mod name_iterators;
 mod names;
 mod order;
+mod repeats;
 mod span_iterator;
 
 pub use captures::Captures;

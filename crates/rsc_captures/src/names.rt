@@ -4,13 +4,13 @@ ghost use Rattle.std.specs.List.{flat_map};
 ghost use Rattle.std.specs.Option.{option_copied, unwrap_or};
 ghost use Rattle.std.specs.Str.{IsUtf8};
 ghost use Rattle.std.specs.String.{string_bytes};
-ghost use Rattle.rsc_captures.specs.Groups.{groups_in, lists_in};
-ghost use Rattle.rsc_captures.specs.Names.{names_held, place_held, AreCut, AreHeld};
+ghost use Rattle.rsc_captures.specs.Groups.{groups_in, lists_in, has_name};
+ghost use Rattle.rsc_captures.specs.NamesLayout.{names_held, place_held, AreCut, AreHeld};
 
 use std::alloc::{AllocError, Allocator};
 use std::marker::Model;
 
-// What a place has in place of a length where the group has no name. No name is so long.
+// The length of a place where the group has no name. No name has this length.
 const NO_NAME: usize = usize::MAX;
 
 // Where a name begins in the text, and how many bytes it has: a caller who wants no more than its length needs no sum.
@@ -31,13 +31,68 @@ pub(crate) struct NameList<A: Allocator> {
 impl<A: Allocator> Model for NameList<A> {
     ghost use Rattle.rsc_captures.specs.Groups.{Groups};
     ghost use Rattle.std.specs.String.{string_bytes};
-    ghost use Rattle.rsc_captures.specs.Names.{names_held, AreCut};
+    ghost use Rattle.rsc_captures.specs.NamesLayout.{names_held, AreCut};
 
     ghost Value = { Groups };
 
     ghost view = { λ n. names_held (string_bytes n.text) n.places.items };
 
     ghost invariant = { λ n. AreCut (string_bytes n.text) n.places.items };
+}
+
+impl<A: Allocator + Clone + Drop> NameList<A> {
+    /// The names of all groups of these lists, by pattern and then by group.
+    pub(crate) fn new(alloc: A, lists: &[&[Option<&str>]]) -> Result<NameList<A>, AllocError>
+        ensures { IfOk result (λ names. names ≡ flat_map (λ groups. groups) (lists_in lists.now)) }
+    {
+        let (len, bytes) = room_for(lists);
+        let mut text = String::with_capacity(alloc.clone()?, bytes)?;
+        let mut places: Vec<Place, A> = Vec::with_capacity(alloc, len)?;
+        for groups in lists {
+            hold_names(&mut text, &mut places, groups)?;
+        }
+        Ok(NameList { text, places })
+    }
+
+    /// How many groups there are.
+    pub(crate) fn len(&self) -> usize {
+        self.places.len()
+    }
+
+    /// The group's name in the list, if it has one.
+    #[inline]
+    pub(crate) fn get(&self, i: usize) -> Option<&str>
+        requires { i < length self.now }
+        ensures { option_copied result ≡ slice_index_or self.now i None }
+    {
+        let place = self.places[i];
+        if place.length == NO_NAME {
+            return None;
+        }
+        Some(&self.text.as_str()[place.start..place.start + place.length])
+    }
+}
+
+/// Whether the group has the name.
+#[inline]
+pub(crate) fn has_name(group: Option<&str>, name: &str) -> bool
+    ensures { result ≡ has_name name.now (option_copied group.entry) }
+{
+    match group {
+        Some(other) => name == other,
+        None => false,
+    }
+}
+
+// How many groups the lists have, and how many bytes their names have together; less only where that is past the greatest number.
+fn room_for(lists: &[&[Option<&str>]]) -> (usize, usize) {
+    let mut len: usize = 0;
+    let mut bytes: usize = 0;
+    for groups in lists {
+        len = len.saturating_add(groups.len());
+        bytes = bytes.saturating_add(text_len(groups));
+    }
+    (len, bytes)
 }
 
 // How many bytes the names of these groups have together; less only where that is past the greatest number.
@@ -49,17 +104,6 @@ fn text_len(groups: &[Option<&str>]) -> usize {
         }
     }
     len
-}
-
-// How many groups the lists have, and how many bytes their names have together; less only where that is past the greatest number.
-pub(crate) fn room_for(lists: &[&[Option<&str>]]) -> (usize, usize) {
-    let mut len: usize = 0;
-    let mut bytes: usize = 0;
-    for groups in lists {
-        len = len.saturating_add(groups.len());
-        bytes = bytes.saturating_add(text_len(groups));
-    }
-    (len, bytes)
 }
 
 // Adds the name of a group to the text, and says where it is there.
@@ -97,32 +141,4 @@ fn hold_names<A: Allocator>(
         places.push(place)?;
     }
     Ok(())
-}
-
-impl<A: Allocator + Clone + Drop> NameList<A> {
-    /// The names of all groups of these lists, by pattern and then by group.
-    pub(crate) fn new(alloc: A, lists: &[&[Option<&str>]]) -> Result<NameList<A>, AllocError>
-        ensures { IfOk result (λ names. names ≡ flat_map (λ groups. groups) (lists_in lists.now)) }
-    {
-        let (len, bytes) = room_for(lists);
-        let mut text = String::with_capacity(alloc.clone()?, bytes)?;
-        let mut places: Vec<Place, A> = Vec::with_capacity(alloc, len)?;
-        for groups in lists {
-            hold_names(&mut text, &mut places, groups)?;
-        }
-        Ok(NameList { text, places })
-    }
-
-    /// The group's name in the list, if it has one.
-    #[inline]
-    pub(crate) fn get(&self, i: usize) -> Option<&str>
-        requires { i < length self.now }
-        ensures { option_copied result ≡ slice_index_or self.now i None }
-    {
-        let place = self.places[i];
-        if place.length == NO_NAME {
-            return None;
-        }
-        Some(&self.text.as_str()[place.start..place.start + place.length])
-    }
 }

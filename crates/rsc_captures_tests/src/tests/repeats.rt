@@ -103,22 +103,21 @@ fn finds_a_name_that_is_used_twice_in_a_short_list(rt: HostRuntime) -> Result<()
 #[test]
 fn finds_a_name_that_is_used_twice_at_each_edge_of_a_block(rt: HostRuntime) -> Result<(), Fail> {
     let alloc = rt.alloc();
-    let names = names(alloc, 16386)?;
+    let names = names(alloc, 8194)?;
     for (count, earlier, later) in [
-        (1024usize, 1usize, 1023usize),
-        (1024, 1022, 1023),
-        (1025, 1, 1024),
-        (1025, 1023, 1024),
-        (16384, 1, 16383),
-        (16385, 16383, 16384),
-        (16386, 16384, 16385),
+        (4096usize, 1usize, 4095usize),
+        (4097, 1, 4096),
+        (4097, 4095, 4096),
+        (4098, 4096, 4097),
+        (8193, 4095, 8192),
+        (8194, 8192, 8193),
     ] {
         assert!(rt;
             is_refused(alloc, &names, count, &[(earlier, later)], true)?,
             "{earlier}, {later} of {count}"
         );
     }
-    for count in [1024usize, 1025, 16386] {
+    for count in [4096usize, 4097, 8194] {
         assert!(rt; is_refused(alloc, &names, count, &[], true)?, "{count}");
     }
     Ok(())
@@ -127,12 +126,12 @@ fn finds_a_name_that_is_used_twice_at_each_edge_of_a_block(rt: HostRuntime) -> R
 #[test]
 fn names_the_first_of_several(rt: HostRuntime) -> Result<(), Fail> {
     let alloc = rt.alloc();
-    let names = names(alloc, 16386)?;
+    let names = names(alloc, 8194)?;
     // The pair that has to be found comes last.
-    assert!(rt; is_refused(alloc, &names, 16386, &[(1, 16385), (10000, 12000)], true)?);
-    assert!(rt; is_refused(alloc, &names, 16386, &[(10000, 16385), (1, 16384)], true)?);
-    assert!(rt; is_refused(alloc, &names, 16386, &[(1, 9000), (1, 5000), (1, 2)], true)?);
-    assert!(rt; is_refused(alloc, &names, 16385, &[(1, 16384), (3, 16383)], true)?);
+    assert!(rt; is_refused(alloc, &names, 8194, &[(1, 8193), (5000, 6000)], true)?);
+    assert!(rt; is_refused(alloc, &names, 8194, &[(5000, 8193), (1, 8192)], true)?);
+    assert!(rt; is_refused(alloc, &names, 8194, &[(1, 4500), (1, 2500), (1, 2)], true)?);
+    assert!(rt; is_refused(alloc, &names, 8193, &[(1, 8192), (3, 8191)], true)?);
     Ok(())
 }
 

@@ -1,7 +1,7 @@
 use Rattle.std.proofs.Common.{◌++◌, take}
 use Rattle.std.specs.String.{string_bytes}
 use Rattle.rsc_captures.specs.Groups.{groups_in}
-use Rattle.rsc_captures.specs.Names.{names_held, AreHeld}
+use Rattle.rsc_captures.specs.NamesLayout.{names_held, AreHeld}
 use Rattle.rsc_captures.proofs.names.hold_names.Given as goal
 
 -- the names so far are held

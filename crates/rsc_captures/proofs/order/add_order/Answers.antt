@@ -33,18 +33,13 @@ module _ (g : _) (c : goal.After-order-1 g) where
       ≡ c.args.order.now.items ++ c.sort_by_name.new.order
   left = rw (first, lent) (tail_sorted old added c.sort_by_name.new.order c.add_numbers.new.order.items moved c.add_numbers.new.order.len (c.add_numbers.new.order.ok.0 ∙ ap length c.in_ok-add_numbers.ensures))
 
-pub returns-then-groups-ge-SCANNED_GROUPS-clause-len : goal.returns-then-groups-ge-SCANNED_GROUPS-clause-len
-returns-then-groups-ge-SCANNED_GROUPS-clause-len g c =
+pub returns-clause-len : goal.returns-clause-len
+returns-clause-len g c =
     ap length (left g c) ∙ length-append c.args.order.now.items c.sort_by_name.new.order
     ∙ ap (λ n. length c.args.order.now.items + n) (length_permutation _ _ (sorted g c) ∙ length-range_with_len 0 (length c.args.groups.now))
 
-pub returns-then-groups-ge-SCANNED_GROUPS-clause-order : goal.returns-then-groups-ge-SCANNED_GROUPS-clause-order
-returns-then-groups-ge-SCANNED_GROUPS-clause-order g c =
-    λ many. rw (left g c, drop-append_seam c.args.order.now.items c.sort_by_name.new.order) (record {
-      complete = rw (length-map c.args.groups.now option_copied) (λ h lt. Contains-permutation _ _ h (sorted g c) (has_counted (length c.args.groups.now) h lt));
-      sorted = c.sort_by_name.ensures.sorted;
-    })
-
-pub returns-else-groups-ge-SCANNED_GROUPS-clause-len : goal.returns-else-groups-ge-SCANNED_GROUPS-clause-len
-returns-else-groups-ge-SCANNED_GROUPS-clause-len g c =
-    ap length c.in_ok-add_numbers.ensures ∙ length-append c.args.order.now.items (range_with_len 0 (length c.args.groups.now)) ∙ ap (λ n. length c.args.order.now.items + n) (length-range_with_len 0 (length c.args.groups.now))
+pub returns-clause-order : goal.returns-clause-order
+returns-clause-order g c = rw (left g c, drop-append_seam c.args.order.now.items c.sort_by_name.new.order) (record {
+  complete = rw (length-map c.args.groups.now option_copied) (λ h lt. Contains-permutation _ _ h (sorted g c) (has_counted (length c.args.groups.now) h lt));
+  sorted = c.sort_by_name.ensures.sorted;
+})

@@ -1,10 +1,11 @@
 use Rattle.std.proofs.Common.{◌≡◌, true, ap, sym, ◌∙◌}
-use Rattle.rsc_captures.specs.Groups.{groups_of, group_count, name_of, has_name, AreDistinctBelow}
+use Rattle.rsc_captures.specs.Groups.{groups_of, group_count, name_of, has_name}
+use Rattle.rsc_captures.specs.RepeatsLayout.{AreDistinctBelow}
 use Rattle.rsc_captures.proofs.Indexed.{index_of-is, has_name-is}
 use Rattle.rsc_captures.proofs.Parts.{distinct_in}
 use Rattle.rsc_captures.proofs.layout.SharedLists.find_by_hash.Goals as goal
 
--- no name is used twice, so a group that has the name is the first that has it
+-- no name is repeated, so a group that has the name is the first that has it
 pub returns-then-has_name : goal.returns-then-has_name
 returns-then-has_name g c =
     let distinct : AreDistinctBelow (groups_of c.args.self.now c.args.p) (group_count c.args.self.now c.args.p) = distinct_in c.args.self.now c.group_len-count.ensures.faultless c.args.p in

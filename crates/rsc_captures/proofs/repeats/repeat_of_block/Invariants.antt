@@ -1,7 +1,7 @@
 use Rattle.std.proofs.Common.{length}
 use Rattle.rsc_captures.specs.Groups.{groups_in}
-use Rattle.rsc_captures.specs.Checks.{AreApart}
-use Rattle.rsc_captures.proofs.faults.repeat_by_order.Given as goal
+use Rattle.rsc_captures.specs.RepeatsLayout.{AreApart}
+use Rattle.rsc_captures.proofs.repeats.repeat_of_block.Given as goal
 
 -- no group so far has the name of a lesser one of the block
 abbrev pub invariant-loop-g : goal.invariant-loop-g

@@ -1,9 +1,10 @@
 use Rattle.std.proofs.Common.{◌≡◌, ℕ, ◌+◌, ◌<◌, ◌≤◌, true, length, get_or}
-use Rattle.rsc_captures.specs.Groups.{groups_in, is_repeat}
-use Rattle.rsc_captures.specs.Names.{has_name_of}
-use Rattle.rsc_captures.proofs.order.least_repeat.Given as goal
+use Rattle.rsc_captures.specs.Groups.{groups_in}
+use Rattle.rsc_captures.specs.RepeatsLayout.{is_repeat}
+use Rattle.rsc_captures.specs.OrderLayout.{has_name_of}
+use Rattle.rsc_captures.proofs.repeats.least_repeat.Given as goal
 
--- no lesser group so far is behind one that has its name
+-- no lesser group so far comes right after one with its name
 abbrev pub invariant-loop-i : goal.invariant-loop-i
 invariant-loop-i l = record {
   some : 0 < l.i;

@@ -1,14 +1,15 @@
 use Rattle.std.proofs.Common.{◌-◌, ◌≡◌, ◌<◌, ◌≤◌, length, true}
-use Rattle.rsc_captures.specs.Groups.{groups_in, is_repeat}
-use Rattle.rsc_captures.specs.Checks.{AreApart}
-use Rattle.rsc_captures.proofs.faults.first_repeat_of_many.Given as goal
+use Rattle.rsc_captures.specs.Groups.{groups_in}
+use Rattle.rsc_captures.specs.RepeatsLayout.{is_repeat}
+use Rattle.rsc_captures.specs.RepeatsLayout.{AreApart}
+use Rattle.rsc_captures.proofs.repeats.first_repeat.Given as goal
 
 -- no group below the end has the name of a lesser one of the blocks so far, and one at the end is a repeat
 abbrev pub invariant-loop-from : goal.invariant-loop-from
 invariant-loop-from l = record {
   within : l.end ≤ length l.groups;
   apart : AreApart (groups_in l.groups) l.from l.end;
-  table : length l.cells ≡ length l.initial.cells;
+  table : length l.table ≡ length l.initial.table;
   repeats : l.end < length l.groups → is_repeat (groups_in l.groups) l.end ≡ true;
 }
 

@@ -4,10 +4,10 @@ use Rattle.std.specs.Option.{option_copied}
 use Rattle.std.proofs.lemmas.List.{length-map}
 use Rattle.rsc_captures.specs.Groups.{groups_in}
 use Rattle.rsc_captures.proofs.Ordered.{is_repeat-from, above_more, distinct_from_order}
-use Rattle.rsc_captures.proofs.order.least_repeat.Goals.{then-group-least+then-has_name_of, else-group-least, else-group-least-via-then-group-least+else-has_name_of, else-group-least-via-else-group-least}
-use Rattle.rsc_captures.proofs.order.least_repeat.Goals as goal
+use Rattle.rsc_captures.proofs.repeats.least_repeat.Goals.{then-group-least+then-has_name_of, else-group-least, else-group-least-via-then-group-least+else-has_name_of, else-group-least-via-else-group-least}
+use Rattle.rsc_captures.proofs.repeats.least_repeat.Goals as goal
 
--- the group behind has a lesser one's name, or it has not, or it isn't the least
+-- the group has a lesser one's name, or it has not, or it isn't the least
 pub loop-i-preserved : goal.loop-i-preserved
 loop-i-preserved c =
     elim c.if-group-least.branch [
@@ -33,4 +33,4 @@ loop-i-preserved c =
 
 pub returns-clause-distinct : goal.returns-clause-distinct
 returns-clause-distinct c =
-    distinct_from_order (groups_in c.args.groups.now) c.args.order.now c.requires.sorted (rw (← length-map c.args.groups.now option_copied) at c.requires.complete) c.loop-i.least (rw (length-map c.args.groups.now option_copied) c.loop-i.invariant.within) (λ k lt found. c.loop-i.invariant.above k (omega arith) found)
+    distinct_from_order (groups_in c.args.groups.now) c.args.order.now c.requires.sorted c.requires.complete c.loop-i.least (rw (length-map c.args.groups.now option_copied) c.loop-i.invariant.within) (λ k lt found. c.loop-i.invariant.above k (omega arith) found)

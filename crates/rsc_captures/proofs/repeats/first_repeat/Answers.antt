@@ -1,21 +1,21 @@
 use Rattle.std.proofs.Common.{◌≡◌, ◌<◌, ◌≤◌, ◌+◌, ◌-◌, ◌++◌, length, take, drop, ◌∙◌, arith}
 use Rattle.std.proofs.lemmas.List.{length-map, length-append, length-drop, length-take-le}
 use Rattle.rsc_captures.specs.Groups.{groups_in}
-use Rattle.rsc_captures.specs.Checks.{AreApart}
+use Rattle.rsc_captures.specs.RepeatsLayout.{AreApart}
 use Rattle.rsc_captures.proofs.Blocks.{rest, rest_in, length_rest, apart_blocks, repeat_of_rest, distinct_from_apart}
-use Rattle.rsc_captures.proofs.faults.first_repeat_of_many.Goals.{in-Some, in_default}
-use Rattle.rsc_captures.proofs.faults.first_repeat_of_many.Goals as goal
+use Rattle.rsc_captures.proofs.repeats.first_repeat.Goals.{in-Some, in_default}
+use Rattle.rsc_captures.proofs.repeats.first_repeat.Goals as goal
 
 pub loop-from-preserved : goal.loop-from-preserved
 loop-from-preserved c =
     let all : c.loop-from.end ≤ length (groups_in c.args.groups.now) = rw length-map c.loop-from.invariant.within in
-    let fits : c.min-len.result ≤ length c.loop-from.cells = omega (arith, c.min-len.ensures) in
-    let part : length c.put_in_order.new.order ≡ c.min-len.result = c.put_in_order.ensures.len ∙ length-take-le c.min-len.result c.loop-from.cells fits in
-    let kept : length (c.put_in_order.new.order ++ drop c.min-len.result c.loop-from.cells) ≡ length c.loop-from.cells =
+    let fits : c.min-len.result ≤ length c.loop-from.table = omega (arith, c.min-len.ensures) in
+    let part : length c.put_in_order.new.order ≡ c.min-len.result = c.put_in_order.ensures.len ∙ length-take-le c.min-len.result c.loop-from.table fits in
+    let kept : length (c.put_in_order.new.order ++ drop c.min-len.result c.loop-from.table) ≡ length c.loop-from.table =
     rw (length-append, length-drop) (omega (arith, part, fits)) in
-    let block : length (take c.min-len.result (c.put_in_order.new.order ++ drop c.min-len.result c.loop-from.cells)) ≡ c.min-len.result =
-    length-take-le c.min-len.result (c.put_in_order.new.order ++ drop c.min-len.result c.loop-from.cells) (omega (arith, kept, fits)) in
-    elim c.match-repeat_by_order.branch [
+    let block : length (take c.min-len.result (c.put_in_order.new.order ++ drop c.min-len.result c.loop-from.table)) ≡ c.min-len.result =
+    length-take-le c.min-len.result (c.put_in_order.new.order ++ drop c.min-len.result c.loop-from.table) (omega (arith, kept, fits)) in
+    elim c.match-repeat_of_block.branch [
       | in-Some w ↦
           let found = rw (rest_in c.args.groups.now c.loop-from.from c.loop-from.end, block) at w.in-Some.ensures in
           let lt : c.loop-from.from + w.in-Some.g < c.loop-from.end = let group = found.group in omega (arith, group, length_rest (groups_in c.args.groups.now) c.loop-from.from c.loop-from.end all) in
@@ -38,14 +38,14 @@ loop-from-preserved c =
           }
     ]
 
-pub returns-then-end-groups : goal.returns-then-end-groups
-returns-then-end-groups c = record {
+pub returns-then-end-groups-clause-repeat : goal.returns-then-end-groups-clause-repeat
+returns-then-end-groups-clause-repeat c = record {
   group = rw length-map c.if-end-groups.true;
   repeats = c.loop-from.invariant.repeats c.if-end-groups.true;
   distinct = distinct_from_apart (groups_in c.args.groups.now) c.loop-from.from c.loop-from.end (omega arith) (rw length-map (omega arith)) c.loop-from.invariant.apart;
 }
 
-pub returns-else-end-groups : goal.returns-else-end-groups
-returns-else-end-groups c =
+pub returns-else-end-groups-clause-repeat : goal.returns-else-end-groups-clause-repeat
+returns-else-end-groups-clause-repeat c =
     let all : c.loop-from.end ≡ length c.args.groups.now = omega arith in
     rw all at (distinct_from_apart (groups_in c.args.groups.now) c.loop-from.from c.loop-from.end (omega arith) (rw length-map (omega arith)) c.loop-from.invariant.apart)

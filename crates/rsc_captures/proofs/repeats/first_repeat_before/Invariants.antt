@@ -1,0 +1,7 @@
+use Rattle.std.proofs.Common.{◌≡◌, length}
+use Rattle.rsc_captures.specs.Groups.{lists_in}
+use Rattle.rsc_captures.proofs.RepeatsFound.{NoneSoFar}
+use Rattle.rsc_captures.proofs.repeats.first_repeat_before.Given as goal
+
+abbrev pub invariant-loop-p : goal.invariant-loop-p
+invariant-loop-p l = record { none : NoneSoFar (lists_in l.lists) l.p l.place.0 l.place.1; table : length l.table ≡ 4096 }
