@@ -14,3 +14,4 @@ mod readmes;
 pub mod search;
 #[cfg(test)]
 mod tests;
+pub mod threads;

@@ -1,7 +1,7 @@
 //! Each caller, run on values.
 ghost use Rattle.std.specs.Prelude.{◌≡◌, ◌<◌, ℕ, slice_index};
 
-use crate::{alphabet, captures, look, nfa, primitives, search};
+use crate::{alphabet, captures, look, nfa, primitives, search, threads};
 use rsc_alphabet::{ByteClassSet, ByteSet, laws};
 use rsc_captures::{Captures, GroupInfo};
 use rsc_look::{AsciiWord, Look, LookMatcher, LookSet, UnicodeWord};
@@ -308,5 +308,11 @@ fn one_step(rt: HostRuntime) -> Result<(), Fail> {
     let automaton = Nfa::new(rt.alloc(), info, LookMatcher::new(AsciiWord), &states)?;
     assert!(rt; nfa::accepts_one_byte(&automaton, &Input::new(b"q"), from, (b'a', b'z'), next));
     assert!(rt; !automaton.check_run(&Input::new(b"Q"), &[(from, 0), (next, 1)]));
+    Ok(())
+}
+
+#[test]
+fn values_are_shared_by_threads(rt: HostRuntime) -> Result<(), Fail> {
+    assert!(rt; threads::are_shared_by_threads());
     Ok(())
 }
