@@ -1,6 +1,7 @@
 //! Inputs that move on, and sets of patterns.
 ghost use Rattle.std.specs.Prelude.{◌≡◌, ◌↔◌, ◌+◌, ◌<◌, ◌≤◌, ◌++◌, ℕ, All, IsTrue, IfOk, IfSome, is_none, slice_index, slice_range, length, reverse, sum_by, true, ◌%◌, ◌^◌};
 ghost use Rattle.std.specs.Option.{option_copied};
+ghost use Rattle.rsc_search.specs.Inputs.{whole};
 ghost use Rattle.rsc_search.specs.PatternSets.{has_member};
 ghost use Rattle.rsc_search.specs.Spans.{cut};
 
@@ -36,6 +37,13 @@ pub fn all_matches<S: Search>(
         }
     }
     Ok(found)
+}
+
+/// The input that searches all of a text, by the conversion of its bytes.
+pub fn input_of(text: &str) -> Input<'_>
+    ensures { result ≡ whole text.now }
+{
+    Input::from(text.as_bytes())
 }
 
 /// The bytes that are left to search, cut by the input's range.
