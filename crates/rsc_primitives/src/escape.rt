@@ -136,8 +136,8 @@ fn write_piece<W: fmt::Write>(piece: &[u8], f: &mut fmt::Formatter<W>) -> fmt::R
 // Puts the text of a byte that is ASCII or part of no encoding behind the first `len` bytes of a piece, and answers how long it is.
 #[inline(always)]
 fn put_byte(piece: &mut [u8; PIECE_SIZE], len: usize, byte: u8) -> usize
-    requires { len + 8 ≤ 64 }
-    ensures bound { result ≤ 8 }
+    requires { len + STEP_WIDTH ≤ PIECE_SIZE }
+    ensures bound { result ≤ STEP_WIDTH }
     ensures text { take (len + result) piece.new ≡ take len piece.old ++ step_text byte }
 {
     let at = STEP_WIDTH * usize::from(byte);
