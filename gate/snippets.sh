@@ -1,0 +1,70 @@
+#!/usr/bin/env bash
+# What `rt ci` can't check, by snippets of code that are added to a file in a copy of the repository.
+#
+# crates/NAME/must-not-compile/*.snippet is misuse that the borrow checker must refuse: at the end of the crate's root file the
+# check must fail with the words of each of the snippet's lines `// refused: WORDS`.
+#
+# crates/NAME/must-run/*.snippet is tests of calls whose callers the checker doesn't cover: at the end of the file that the first
+# line names, `// added to: FILE`, they are compiled and run without a proof, and each must pass.
+set -u
+cd "$(dirname "$0")/.."
+copy=$(mktemp -d)
+trap 'rm -rf "$copy"' EXIT
+passed=0
+failed=0
+
+# Makes a copy of the repository with a snippet at the end of a file of its crate.
+add() {
+  local snippet=$1 file=$2
+  rm -rf "$copy/repository"
+  mkdir -p "$copy/repository"
+  tar --exclude=out --exclude=wrong-bodies -cf - crates crates.txt HANDLES | tar -xf - -C "$copy/repository"
+  cat "$snippet" >> "$copy/repository/${snippet%%/must-*}/$file"
+}
+
+# Says how a snippet ended, by the status of the command before it, and counts it. What was answered is shown where it failed.
+count() {
+  local status=$? snippet=$1 wanted=$2 answer=$3
+  if [ "$status" -eq 0 ]; then
+    echo "$snippet: $wanted, as it must be"
+    passed=$((passed + 1))
+  else
+    echo "$snippet: NOT $wanted"
+    printf '%s\n' "$answer" | tail -n 5
+    failed=$((failed + 1))
+  fi
+}
+
+# Whether the words of each line `// refused:` of a snippet are among the errors of an answer.
+is_refused() {
+  local words
+  grep -q '^// refused: ' "$1" || return 1
+  while read -r words; do
+    printf '%s' "$2" | grep -F 'error[' | grep -qF "$words" || return 1
+  done < <(sed -n 's/^\/\/ refused: //p' "$1")
+}
+
+# Whether each test of a snippet, of which there is one, is among those that passed.
+is_passed() {
+  local tests test
+  tests=$(sed -n '/^#\[test\]$/{n;s/^fn \([a-z0-9_]*\)(.*/\1/p}' "$1")
+  for test in $tests; do
+    printf '%s\n' "$2" | grep -q "^test .*::$test \.\.\. ok$" || return 1
+  done
+  [ -n "$tests" ]
+}
+
+for snippet in crates/*/must-not-compile/*.snippet; do
+  add "$snippet" src/lib.rt
+  answer=$(cd "$copy/repository/${snippet%%/must-*}" && rt check 2>&1)
+  is_refused "$snippet" "$answer"
+  count "$snippet" refused "$answer"
+done
+for snippet in crates/*/must-run/*.snippet; do
+  add "$snippet" "$(sed -n '1s/^\/\/ added to: //p' "$snippet")"
+  answer=$(cd "$copy/repository/${snippet%%/must-*}" && rt try --test 2>&1)
+  is_passed "$snippet" "$answer"
+  count "$snippet" passed "$answer"
+done
+echo "snippets: $passed passed, $failed failed"
+[ "$failed" -eq 0 ] && [ "$passed" -gt 0 ]

@@ -1,0 +1,152 @@
+#!/usr/bin/env python3
+r"""Runs programs as people do, and compares what they write and their status with what is stored.
+
+    gate/stored-runs.py [CRATE ..]         # by the programs that `rt ci` or `rt run` left in crates/CRATE/out; all crates that have runs without a name
+    gate/stored-runs.py --cases CRATE DIR  # writes the plain runs to DIR as `rt try --cases` takes them, and runs nothing
+
+The runs of a crate are in crates/CRATE/runs/*.txt, which read as a session does:
+
+    # a comment
+    $ CRATE looks StartLF -             the arguments, as a shell splits them; \xHH in them is a byte
+    @ input a\n                         standard input, with \n and \xHH for bytes
+    @ terminal                          what is unusual: standard output is a terminal; a variable NAME=VALUE; `output full`,
+                                        which takes no byte; `output closed`, which nobody reads; `input unreadable`
+    ..                                  any lines
+    and all others                      standard output, a line each; \e is the escape character
+    ! rsc_show: `a`: expected b         a line of standard error
+    [2]                                 the exit status, if not 0
+"""
+import collections
+import glob
+import os
+import pty
+import re
+import shlex
+import subprocess
+import sys
+
+ROOT = os.path.dirname(os.path.dirname(os.path.realpath(__file__)))
+UNREADABLE = "@ input unreadable"
+Run = collections.namedtuple("Run", "name args unusual stdin stdout stderr status")
+
+
+def unescaped(text):
+    """Returns the bytes of a text in which \\n, \\e and \\xHH are written so."""
+    found = re.split(rb"(\\n|\\e|\\x[0-9a-fA-F]{2})", text.encode())
+    known = {b"\\n": b"\n", b"\\e": b"\x1b"}
+    return b"".join(known.get(it) or (bytes([int(it[2:], 16)]) if it[:2] == b"\\x" else it) for it in found)
+
+
+def runs_of(crate):
+    found = []
+    for path in sorted(glob.glob(f"{ROOT}/crates/{crate}/runs/*.txt")):
+        with open(path, encoding="utf-8") as lines:
+            for number, line in enumerate(lines.read().splitlines(), 1):
+                if re.match(rf"\$ {crate}( |$)", line):
+                    args = [unescaped(it) for it in shlex.split(line)[2:]]
+                    found.append(Run(f"{crate}/{os.path.basename(path)}:{number}", args, [], [], [], [], [0]))
+                elif line.startswith("@ input ") and line != UNREADABLE:
+                    found[-1].stdin.append(unescaped(line[8:]))
+                elif line.startswith("@ "):
+                    found[-1].unusual.append(line)
+                elif line.startswith("! "):
+                    found[-1].stderr.append(line[2:].encode())
+                elif re.fullmatch(r"\[\d+\]", line):
+                    found[-1].status[0] = int(line[1:-1])
+                elif not line.startswith("#"):
+                    found[-1].stdout.append(line.replace("\\e", "\x1b").encode())
+    return [it._replace(stdout=without_last_blank(it.stdout)) for it in found]
+
+
+def without_last_blank(lines):
+    """Returns the lines without the empty ones that part a run from the next one."""
+    while lines and not lines[-1]:
+        lines = lines[:-1]
+    return lines
+
+
+def output_to(unusual):
+    """Returns where a run writes to, and where what it writes can be read, or None."""
+    if "@ output full" in unusual:
+        return os.open("/dev/full", os.O_WRONLY), None
+    reader, writer = pty.openpty() if "@ terminal" in unusual else os.pipe()
+    if "@ output closed" in unusual:
+        os.close(reader)
+        reader = None
+    return writer, reader
+
+
+def read_to_end(file):
+    """Returns what is written to a pipe or a terminal until it is closed."""
+    parts = []
+    while True:
+        try:
+            part = os.read(file, 65536)
+        except OSError:  # a terminal that nobody writes to
+            part = b""
+        if not part:
+            return b"".join(parts)
+        parts.append(part)
+
+
+def answer_of(program, run):
+    writer, reader = output_to(run.unusual)
+    variables = dict(it[2:].split("=", 1) for it in run.unusual if "=" in it)
+    unreadable = os.open("/", os.O_RDONLY) if UNREADABLE in run.unusual else None
+    child = subprocess.Popen([program, *run.args], env=variables, stdout=writer, stderr=subprocess.PIPE,
+                             stdin=subprocess.PIPE if unreadable is None else unreadable)
+    os.close(writer)
+    if unreadable is None:
+        try:
+            child.stdin.write(b"".join(run.stdin))
+            child.stdin.close()
+        except BrokenPipeError:
+            pass
+    output = b"" if reader is None else read_to_end(reader).replace(b"\r\n", b"\n")
+    errors = child.stderr.read()
+    return output.splitlines(), errors.splitlines(), child.wait()
+
+
+def agrees(lines, wanted):
+    """Whether the lines are the wanted ones, among which `..` stands for any."""
+    pattern = b"".join(b"(?:[^\n]*\n)*?" if it == b".." else re.escape(it) + b"\n" for it in wanted)
+    return re.fullmatch(pattern, b"".join(it + b"\n" for it in lines)) is not None
+
+
+def judge(crate):
+    passed = failed = 0
+    for run in runs_of(crate):
+        output, errors, status = answer_of(f"{ROOT}/crates/{crate}/out/{crate}", run)
+        if agrees(output, without_last_blank(run.stdout)) and errors == run.stderr and status == run.status[0]:
+            passed += 1
+        else:
+            failed += 1
+            print(f"{run.name}: status {status} for {run.args}")
+            print(b"\n".join(output + [b"! " + it for it in errors]).decode(errors="replace"))
+    return passed, failed
+
+
+def write_cases(crate, folder):
+    os.makedirs(folder, exist_ok=True)
+    for run in runs_of(crate):
+        if not run.unusual and b".." not in run.stdout and all(it.isascii() for it in run.args):
+            path = os.path.join(folder, run.name.replace("/", "-").replace(".txt:", "-"))
+            for ending, text in (("", b"".join(run.stdin)), (".args", b"".join(it + b"\n" for it in run.args)),
+                                 (".stdout", b"".join(it + b"\n" for it in run.stdout))):
+                with open(path + ending, "wb") as file:
+                    file.write(text)
+
+
+def main(words):
+    if words[:1] == ["--cases"]:
+        write_cases(*words[1:])
+        return 0
+    crates = words or sorted(os.path.basename(os.path.dirname(it)) for it in glob.glob(f"{ROOT}/crates/*/runs"))
+    judged = [judge(it) for it in crates]
+    passed, failed = (sum(it) for it in zip(*judged))
+    print(f"stored-runs: {passed} passed, {failed} failed")
+    return 1 if failed or not passed else 0
+
+
+if __name__ == "__main__":
+    sys.exit(main(sys.argv[1:]))

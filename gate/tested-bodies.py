@@ -1,0 +1,88 @@
+#!/usr/bin/env python3
+"""Tries the wrong bodies that no contract refuses: each may prove, and a test must fail over it.
+
+    gate/tested-bodies.py [CRATE ..]      # the edits of crates/CRATE/tested-bodies.edits, of all crates without a name
+
+A contract says nothing of whether memory is there, of the texts that only tests show, and of what a program reads and writes.
+gate/edits.py explains the format of an edit; its fields are `file`, the source file that it changes, and `tests`, the crate whose tests must fail.
+Each is compiled and run without a proof, in a copy of the repository. It passes if a test fails, or
+if the tests don't compile because a type lacks a trait.
+"""
+import concurrent.futures
+import os
+import queue
+import re
+import shutil
+import subprocess
+import sys
+import tempfile
+
+from edits import ROOT, blocks, replaced
+
+
+def edits():
+    """Returns the edits of all crates that are asked for."""
+    found = []
+    for crate in sorted(os.listdir(f"{ROOT}/crates")):
+        path = f"{ROOT}/crates/{crate}/tested-bodies.edits"
+        if os.path.exists(path) and (not sys.argv[1:] or crate in sys.argv[1:]):
+            found += [(crate, *it) for it in blocks(path, ("file", "tests"))]
+    return found
+
+
+def judge(copy, crate, name, fields, pairs):
+    """Runs the tests over one edit in a copy, and returns whether a test fails, with a line that says which."""
+    path = f"{copy}/crates/{crate}/{fields['file']}"
+    with open(path, encoding="utf-8") as file:
+        kept = file.read()
+    text = replaced(kept, pairs)
+    if text is None:
+        return False, f"{crate}/{name}: BAD EDIT: an old text isn't once in {fields['file']}"
+    with open(path, "w", encoding="utf-8") as file:
+        file.write(text)
+    ran = subprocess.run(["rt", "try", "--test"], cwd=f"{copy}/crates/{fields['tests']}", stdin=subprocess.DEVNULL, stdout=subprocess.PIPE, stderr=subprocess.STDOUT, errors="replace")
+    with open(path, "w", encoding="utf-8") as file:
+        file.write(kept)
+    failed = re.findall(r"^test (\S+) \.\.\. FAILED", ran.stdout, flags=re.M)
+    if failed:
+        return True, f"{crate}/{name}: fails {', '.join(failed)[:150]}"
+    bound = re.search(r"error\[unsatisfied-bound\]: (.*)", ran.stdout)
+    if bound:
+        return True, f"{crate}/{name}: its tests don't compile: {bound[1]}"
+    if re.search(r"^test result: ok", ran.stdout, flags=re.M):
+        return False, f"{crate}/{name}: NO TEST FAILS"
+    last = ran.stdout.strip().splitlines()
+    return False, f"{crate}/{name}: NOT JUDGED: {last[-1][:200] if last else 'no output'}"
+
+
+def main():
+    wanted = edits()
+    lanes = min(len(wanted), len(os.sched_getaffinity(0))) or 1
+    passed = failed = 0
+    with tempfile.TemporaryDirectory(prefix="tested-bodies-") as room:
+        copies = queue.Queue()
+        left_out = shutil.ignore_patterns("out", "wrong-bodies", "must-not-compile", "must-run", "runs")
+        for lane in range(lanes):
+            shutil.copytree(f"{ROOT}/crates", f"{room}/{lane}/crates", ignore=left_out)
+            for name in ("crates.txt", "HANDLES"):
+                shutil.copy(f"{ROOT}/{name}", f"{room}/{lane}")
+            copies.put(f"{room}/{lane}")
+
+        def in_a_copy(edit):
+            copy = copies.get()
+            try:
+                return judge(copy, *edit)
+            finally:
+                copies.put(copy)
+
+        with concurrent.futures.ThreadPoolExecutor(lanes) as pool:
+            for is_well, line in pool.map(in_a_copy, wanted):
+                print(line, flush=True)
+                passed += is_well
+                failed += not is_well
+    print(f"tested-bodies: {passed} passed, {failed} failed")
+    return 1 if failed or not passed else 0
+
+
+if __name__ == "__main__":
+    sys.exit(main())

@@ -1,0 +1,123 @@
+#!/usr/bin/env python3
+"""Lists the lemmas that nothing names: declarations of crates/*/proofs/*.antt and of specs/*Laws.antt that no other declaration, answer or source uses.
+
+    gate/unused-lemmas.py [CRATE ..]      # all crates without a name; prints FILE:LINE: NAME, and exits with 1 if there is any
+
+A lemma counts as used where another declaration that is used names it, in its own file or in one that imports it. A tactic may use what is imported
+into a source without naming it, so such an import counts as a use. Whether a lemma can go is for a check from nothing to say.
+"""
+import glob
+import os
+import re
+import sys
+
+ROOT = os.path.dirname(os.path.dirname(os.path.realpath(__file__)))
+WORD = re.compile(r"[^\s(){}\[\],.;:λ⟦⟧]+")
+USING = re.compile(r"crate::proofs::(\w+)::([^\s,()]+)")
+IMPORT = re.compile(r"^\s*(?:pub )?(?:ghost )?use ([\w.]+?)(?:\.\{([^}]*)\}| as (\w+)|);?$")
+
+
+def path_of_module(path, file, crate):
+    """Returns the file of a module named in a file of a crate, or None where it isn't this repository's."""
+    parts = path.split(".")
+    if parts[0] == "lib":
+        parts = ["Rattle", crate, "proofs"] + parts[1:]
+    found = f"{ROOT}/crates/{'/'.join(parts[1:])}.antt"
+    return found if parts[0] == "Rattle" and os.path.isfile(found) else None
+
+
+def declarations(lines):
+    """Yields (name, first line, words) of each declaration, at the margin or in a `module`: its signature, its equations, and what is indented below them."""
+    name, start, words, modules = None, 0, set(), []
+    for number, line in enumerate(lines, 1):
+        if not line.strip() or line.lstrip().startswith("--") or line.startswith(("use ", "pub use ", "pub mod ", "mod ")):
+            continue
+        found = WORD.findall(line)
+        indent = len(line) - len(line.lstrip())
+        while modules and indent < modules[-1][0]:
+            modules.pop()
+        if indent == (modules[-1][0] if modules else 0) and found and found[0] not in ("unfolding", "open"):
+            head = next((it for it in found if it not in ("unfoldable", "abbrev", "record", "data", "pub")), found[0])
+            if head != name:
+                if name:
+                    yield name, start, words
+                name, start, words = head, number, {word for _, of_module in modules for word in of_module}
+            if head == "module":
+                modules.append((indent + 2, set(found)))
+                name = None
+        words.update(found)
+    if name:
+        yield name, start, words
+
+
+def read(file):
+    """Returns the imports of a file (name here: file and name there; None for a whole module) and its lines."""
+    crate = os.path.relpath(file, f"{ROOT}/crates").split(os.sep)[0]
+    imports, modules = {}, {}
+    with open(file, encoding="utf-8") as text:
+        lines = text.read().splitlines()
+    for line in lines:
+        found = IMPORT.match(line)
+        module = found and path_of_module(found[1], file, crate)
+        if not module:
+            continue
+        if found[2] is None:
+            modules[found[3] or found[1].split(".")[-1]] = module
+        for item in (found[2] or "").split(","):
+            there, _, here = item.strip().partition(" as ")
+            imports[here or there] = (module, there)
+    return imports, modules, lines
+
+
+def is_lemma_file(file):
+    below = os.path.relpath(file, f"{ROOT}/crates").split(os.sep)[1:]
+    return len(below) == 2 and below[0] in ("proofs", "specs") and below[1] != "Lib.antt"
+
+
+def is_law_file(file):
+    return not file.endswith("/Rows.antt") and ("/proofs/" in file or file.endswith("Laws.antt"))
+
+
+def main():
+    files = [it for kind in ("antt", "rt") for it in glob.glob(f"{ROOT}/crates/*/**/*.{kind}", recursive=True) if "/out/" not in it]
+    named, places, pending = {}, {}, []
+    for file in files:
+        imports, modules, lines = read(file)
+
+        def targets(words, own):
+            for word in words:
+                if word in imports:
+                    yield imports[word]
+                elif (file, word) in own:
+                    yield file, word
+            for module in (modules[word] for word in words if word in modules):
+                yield from ((module, word) for word in words)
+
+        if not is_lemma_file(file):
+            if file.endswith(".rt"):
+                proofs = f"{ROOT}/crates/{os.path.relpath(file, f'{ROOT}/crates').split(os.sep)[0]}/proofs"
+                pending += list(imports.values()) + [(f"{proofs}/{it[0]}.antt", it[1]) for line in lines for it in USING.findall(line)]
+            pending += targets({word for line in lines if not IMPORT.match(line) for word in WORD.findall(line)}, ())
+            continue
+        found = list(declarations(lines))
+        own = {(file, name) for name, _, _ in found}
+        for name, line, words in found:
+            named[file, name] = named.get((file, name), set()) | set(targets(words, own))
+            places.setdefault((file, name), line)
+    # Definitions are the contracts' vocabulary, and rows are computed examples of them: only lemmas and laws have to be used.
+    pending += [it for it in named if not is_law_file(it[0])]
+    used = set()
+    while pending:
+        it = pending.pop()
+        if it in named and it not in used:
+            used.add(it)
+            pending += named[it]
+    unused = sorted((file, line, name) for (file, name), line in places.items() if (file, name) not in used)
+    unused = [it for it in unused if not sys.argv[1:] or os.path.relpath(it[0], f"{ROOT}/crates").split(os.sep)[0] in sys.argv[1:]]
+    for file, line, name in unused:
+        print(f"{os.path.relpath(file, ROOT)}:{line}: {name}")
+    sys.exit(1 if unused else 0)
+
+
+if __name__ == "__main__":
+    main()

@@ -1,0 +1,231 @@
+#!/usr/bin/env python3
+"""Tries the wrong bodies of each crate, many at a time: each must be refused by the function that it changes, for what that function promises.
+
+    gate/wrong-bodies.py [CRATE ..]                # the edits of crates/CRATE/wrong-bodies, all crates without a name
+    gate/wrong-bodies.py --texts [CRATE ..]        # proves nothing: says in a second which edits don't fit the sources
+    KEEP_OUT=1 gate/wrong-bodies.py [CRATE ..]     # uses what earlier checks kept in out/, while you write
+
+wrong-bodies/FILE.edits has the edits of src/FILE.rt; gate/edits.py explains the format. The fields of an edit are
+
+    refused: span::Span::len: returns    the function that must be refused, without the crate's name, and how the goal begins that must stay unproved
+    apart: extract_from                  if there: functions on whose proof this one's rests, so that their edits are tried apart from this
+    also: set                            if there: functions besides the refused one that the edit changes
+
+`rt ci` tries the edits of crates/CRATE/must-fail one by one, each for the price of a start of the checker, and takes any refusal. Here edits of
+different functions are applied together to a copy, and one check of those functions judges them all: it goes on after a refused function, and the
+callers of a function see its contract alone. An edit passes only if its function is refused at a goal that begins as named (of a proof by hand, `by
+hand at ` and the word that is refused); a goal that is refused because a proof file names what the edit took away does not count. The crates below
+are proved first; `rt ci` proves the crate itself as it is.
+"""
+import collections
+import concurrent.futures
+import glob
+import os
+import pathlib
+import re
+import shutil
+import subprocess
+import sys
+import tempfile
+
+from edits import ROOT, blocks, fault, replaced
+
+Edit = collections.namedtuple("Edit", "name file function goal pairs apart also")
+
+
+def crates():
+    """Returns the crates of crates.txt, each with the crates that it rests on, lowest first."""
+    found = {}
+    with open(f"{ROOT}/crates.txt", encoding="utf-8") as lines:
+        for line in lines:
+            head, colon, below = line.partition("#")[0].partition(":")
+            if colon:
+                found[head.split()[0]] = below.split()
+    found = {name: [it for it in below if it in found] for name, below in found.items()}
+    order = []
+    while len(order) < len(found):
+        order += [it for it in found if it not in order and all(low in order for low in found[it])]
+    return {name: found[name] for name in order}
+
+
+def edits_of(crate):
+    """Returns the edits of a crate, by the source files that they change."""
+    folder, found = f"{ROOT}/crates/{crate}/wrong-bodies", []
+    for path in sorted(glob.glob(f"{folder}/**/*.edits", recursive=True)):
+        source = f"src/{os.path.relpath(path, folder).removesuffix('.edits')}.rt"
+        for name, fields, pairs in blocks(path, ("refused", "apart", "also")):
+            function, _, goal = fields["refused"].rpartition(": ")
+            found.append(Edit(name, source, function, goal, pairs, fields.get("apart", "").split(), fields.get("also", "").split()))
+    return found
+
+
+def apply(edit, texts, folder):
+    """Returns the texts with the edit, or None where a text isn't once in its file."""
+    text = texts.get(edit.file)
+    if text is None:
+        with open(f"{folder}/{edit.file}", encoding="utf-8") as file:
+            text = file.read()
+    text = replaced(text, edit.pairs)
+    return None if text is None else {**texts, edit.file: text}
+
+
+def are_apart(one, other):
+    """Says whether two edits change different functions, neither of which is one on whose proof the other's rests."""
+    ends = [it.function.rpartition("::")[2] for it in (one, other)]
+    return one.function != other.function and ends[0] not in other.apart and ends[1] not in one.apart
+
+
+def batches_of(edits, folder):
+    """Groups the edits so that those of a group are apart and no two change one text; an edit that fits nowhere makes a group of its own."""
+    batches = []
+    for edit in edits:
+        for batch in batches:
+            texts = None if batch[1] is None else apply(edit, batch[1], folder)
+            if texts is not None and all(are_apart(edit, it) for it in batch[0]):
+                batch[0].append(edit)
+                batch[1] = texts
+                break
+        else:
+            batches.append([[edit], apply(edit, {}, folder)])
+    return batches
+
+
+def word_at(path, line, column):
+    """Returns the word of a file at a place, both counted from 1."""
+    with open(path, encoding="utf-8") as file:
+        return re.match(r"\w*", file.read().splitlines()[line - 1][column - 1 :])[0]
+
+
+def refusals(crate, folder, said):
+    """Returns the goals at which each function is refused, from what the checker said; of a proof by hand the word that is refused."""
+    found = collections.defaultdict(set)
+    for line in said.splitlines():
+        at_function = re.match(rf"fn {crate}::(\S+): (?:no proof|not proved)(.*)", line)
+        if at_function:
+            unproved = re.search(r"`search` did not prove ((?:`[^`]+`(?:, )?)+)", at_function[2])
+            found[at_function[1]].update(re.findall(r"`([^`]+)`", unproved[1]) if unproved else [])
+        in_file = re.match(r"(?:\./)?(proofs/(.+)/(Answers|Proof)\.antt):(\d+):(\d+): error: `([^`]+)`: (.*)", line)
+        if in_file and not re.search(r"has no field|is not in scope|has no `|was not admitted|no module", in_file[7]):
+            by_hand = in_file[3] == "Proof" and f"by hand at {word_at(f'{folder}/{in_file[1]}', int(in_file[4]), int(in_file[5]))}"
+            found[in_file[2].replace("/", "::")].add(by_hand or in_file[6])
+    return found
+
+
+def rt(folder, *words):
+    ran = subprocess.run(["rt", *words, "--jobs", "1"], cwd=folder, stdin=subprocess.DEVNULL, stdout=subprocess.PIPE, stderr=subprocess.STDOUT, errors="replace")
+    return ran.returncode, ran.stdout
+
+
+def judge(crate, folder, batch, texts):
+    """Checks the crate with a batch of edits, and returns for each whether it passed, and a line that says so."""
+    if texts is None:
+        return [(False, f"{crate}/{it.name}: BAD EDIT: an old text isn't once in {it.file}") for it in batch]
+    kept = {}
+    for path, text in texts.items():
+        with open(f"{folder}/{path}", encoding="utf-8") as file:
+            kept[path] = file.read()
+        with open(f"{folder}/{path}", "w", encoding="utf-8") as file:
+            file.write(text)
+    status, said = rt(folder, "check", *(word for it in batch for word in ("--only", it.function)))
+    for path, text in kept.items():
+        with open(f"{folder}/{path}", "w", encoding="utf-8") as file:
+            file.write(text)
+    found, results = refusals(crate, folder, said), []
+    for it in batch:
+        goals = sorted(found.get(it.function, ()))
+        if status == 1 and any(goal.startswith(it.goal) for goal in goals):
+            results.append((True, f"{crate}/{it.name}: refused by {it.function}, {', '.join(goals)[:120]}"))
+        elif not found:
+            results.append((False, f"{crate}/{it.name}: NOT JUDGED, the check stopped before the proofs: {said.strip().splitlines()[-1][:200]}"))
+        else:
+            results.append((False, f"{crate}/{it.name}: NOT REFUSED by {it.function} at {it.goal}; what that function leaves unproved: {', '.join(goals) or 'nothing'}"))
+    return results
+
+
+def below(crate, known):
+    """Returns a crate's own name and those of all crates below it."""
+    return {crate}.union(*(below(it, known) for it in known[crate]))
+
+
+def prove(crate, room):
+    """Proves a crate as it is, and builds it for those above; returns why it isn't proved, if so."""
+    status, said = rt(f"{room}/crates/{crate}", "lib")
+    return f"{crate}: NOT PROVED as it is: {said.strip().splitlines()[-1][:200]}" if status else ""
+
+
+def try_crate(crate, known, room, fault):
+    """Tries a crate's edits in a copy of its own, over what its proof kept; returns the results, each with its line."""
+    if fault:
+        return [(False, fault)]
+    own = f"{room}/{crate}"
+    for name in below(crate, known):
+        left_out = [] if name == crate else ["incremental"]
+        shutil.copytree(f"{room}/proved/crates/{name}", f"{own}/crates/{name}", ignore=shutil.ignore_patterns(*left_out))
+    shutil.copy(f"{room}/proved/HANDLES", own)
+    with open(f"{ROOT}/crates.txt", encoding="utf-8") as lines:
+        kept = [it for it in lines if it.partition(":")[0].partition(" ")[0] in below(crate, known)]
+    with open(f"{own}/crates.txt", "w", encoding="utf-8") as file:
+        file.writelines(kept)
+    results, folder = [], f"{own}/crates/{crate}"
+    for batch, texts in batches_of(edits_of(crate), folder):
+        results += judge(crate, folder, batch, texts)
+    shutil.rmtree(own)
+    return results
+
+
+def in_lanes(tasks):
+    """Runs tasks side by side, one a processor, and yields each with what it gave. A task is the keys that it waits for and a call that gets what was given."""
+    left, running, given = list(tasks), {}, {}
+    lanes = max(1, len(os.sched_getaffinity(0)))
+    with concurrent.futures.ThreadPoolExecutor(lanes) as pool:
+        while left or running:
+            for key in [it for it in left if all(low in given for low in tasks[it][0])][: lanes - len(running)]:
+                left.remove(key)
+                running[pool.submit(tasks[key][1], given)] = key
+            for it in concurrent.futures.wait(running, return_when=concurrent.futures.FIRST_COMPLETED).done:
+                key = running.pop(it)
+                given[key] = it.result()
+                yield key, given[key]
+
+
+def faults(crate):
+    """Yields a line for each edit of a crate that doesn't fit its source file."""
+    for it in edits_of(crate):
+        source = pathlib.Path(ROOT, "crates", crate, it.file)
+        text = source.read_text(encoding="utf-8") if source.exists() else ""
+        found = fault(text, it.pairs, [it.function.rpartition("::")[2], *it.also])
+        if found:
+            yield f"{crate}/{it.name}: BAD EDIT of {it.file}: {found}"
+
+
+def main():
+    known = crates()
+    named = [it for it in sys.argv[1:] if it != "--texts"]
+    wanted = [it for it in known if (not named or it in named) and edits_of(it)]
+    unfit = [line for it in wanted for line in faults(it)]
+    if unfit or "--texts" in sys.argv:
+        print(*unfit, f"wrong-bodies: {sum(len(edits_of(it)) for it in wanted) - len(unfit)} fit, {len(unfit)} failed", sep="\n")
+        return 1 if unfit else 0
+    needed = set().union(*(below(it, known) - {it} for it in wanted)) if wanted else set()
+    passed = failed = 0
+    with tempfile.TemporaryDirectory(prefix="wrong-bodies-") as room:
+        left_out = ["must-not-compile", "must-run", "wrong-bodies"] + ([] if os.environ.get("KEEP_OUT") else ["out"])
+        shutil.copytree(f"{ROOT}/crates", f"{room}/proved/crates", ignore=shutil.ignore_patterns(*left_out))
+        for name in ("crates.txt", "HANDLES"):
+            shutil.copy(f"{ROOT}/{name}", f"{room}/proved")
+        # Proofs come first, since other crates wait for them. A crate that no other waits for isn't proved: its edits are checked from nothing.
+        tasks = {(it, "proof"): ([(low, "proof") for low in known[it]], lambda given, it=it: prove(it, f"{room}/proved")) for it in known if it in needed}
+        for crate in wanted:
+            waits = [(it, "proof") for it in below(crate, known) if (it, "proof") in tasks]
+            tasks[crate, "edits"] = waits, lambda given, it=crate, waits=waits: try_crate(it, known, room, next(filter(None, map(given.get, waits)), ""))
+        for (_, kind), results in in_lanes(tasks):
+            for is_well, line in results if kind == "edits" else ():
+                print(line, flush=True)
+                passed += is_well
+                failed += not is_well
+    print(f"wrong-bodies: {passed} passed, {failed} failed")
+    return 1 if failed or not passed else 0
+
+
+if __name__ == "__main__":
+    sys.exit(main())
