@@ -8,7 +8,7 @@ use Rattle.std.specs.Char.{is_ascii}
 use Rattle.rsc_primitives.specs.Escapes.{step_text, EncodesOnlyAscii}
 use Rattle.rsc_primitives.specs.TextsLaws.{behind}
 
--- behind a byte no character past ASCII is encoded either
+-- after a byte no character past ASCII is encoded either
 pub EncodesOnlyAscii-behind : (b : ℕ) (h : List ℕ) → EncodesOnlyAscii (b ∷ h) → EncodesOnlyAscii h
 EncodesOnlyAscii-behind b h only i c p = only (1 + i) c (1 + p.0, behind (b ∷ []) h i p.0 c p.1)
 
@@ -27,7 +27,7 @@ take-put_mid-front a k n xs ys p q =
 pub piece_written : (done part piece t all : List ℕ) (n : ℕ) → n ≡ 0 → (done ++ part) ++ t ≡ all → ((done ++ part) ++ take n piece) ++ t ≡ all
 piece_written done part piece t all n e p = ap (λ m. ((done ++ part) ++ take m piece) ++ t) e ∙ ap (λ l. l ++ t) (append-nil (done ++ part)) ∙ p
 
--- a byte's text follows those that are in the piece
+-- a byte's text follows the texts in the piece
 pub byte_put : (done part piece rest after all : List ℕ) (b : ℕ) → piece ≡ part ++ step_text b → rest ≡ b ∷ after
     → (done ++ part) ++ flat_map step_text rest ≡ all → (done ++ piece) ++ flat_map step_text after ≡ all
 byte_put done part piece rest after all b e f p =

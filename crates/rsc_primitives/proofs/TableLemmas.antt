@@ -23,7 +23,8 @@ at_most : (n m : ℕ) → nat_le n m ≡ true → n ≤ m
 at_most n m e = grind (arith, nat_tests)
 
 pub length_fits : (width : ℕ) (lengths : List ℕ)
-    → map (λ b. nat_le (get_or lengths b 0) width) (range_with_len 0 256) ≡ map (λ b. true) (range_with_len 0 256) → (b : ℕ) → b < 256 → get_or lengths b 0 ≤ width
+    → map (λ b. nat_le (get_or lengths b 0) width) (range_with_len 0 256) ≡ map (λ b. true) (range_with_len 0 256) → (b : ℕ) → b < 256
+    → get_or lengths b 0 ≤ width
 length_fits width lengths e b low = at_most _ width (alike (λ x. nat_le (get_or lengths x 0) width) (λ x. true) false e b low)
 
 abbrev pub is_low : List ℕ → Bool

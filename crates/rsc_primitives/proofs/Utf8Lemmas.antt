@@ -1,127 +1,100 @@
--- The character that begins a list, and the one that ends it, by the places of their bytes.
-use Rattle.std.proofs.Common.{◌≡◌, ℕ, zero, suc, ◌+◌, ◌-◌, ◌*◌, ◌<◌, ◌≤◌, ◌⊎◌, cond, ltb, List, [], ◌∷◌, length, get_or, take, drop, refl, sym, ap, ◌∙◌, subst, arith, length-take, length-drop, get_or-take, get_or-drop, inl, inr, ⊎_elim, Some, ext_get_or, drop-cons}
-use Rattle.std.specs.Int.{IsInRange}
-use Rattle.std.specs.Char.{InScalarRange, len_utf8}
-use Rattle.std.specs.Prelude.{slice_range, slice_get}
-use Rattle.std.proofs.lemmas.Bool.Decides.{nat_tests}
+-- The character that begins a list, and the one that ends it, by the bytes at either end.
+use Rattle.std.proofs.Common.{◌≡◌, ℕ, zero, suc, ◌+◌, ◌-◌, ◌<◌, ◌≤◌, ◌⊎◌, List, [], ◌∷◌, ◌++◌, length, get_or, take, drop, reverse, sym, ap, ◌∙◌, subst, arith, length-append, length-drop, inl, inr, refl, Some}
 use Rattle.std.proofs.lemmas.Option.{slice_get_within, get_or_from_slice_get}
-use Rattle.rsc_primitives.specs.Utf8.{IsTail, OpensThree, OpensFour, Encodes, EncodedFrom, BeginsAt, EndsAt, IsInside}
-use Rattle.rsc_primitives.specs.Utf8Layout.{IsFirstNumber, IsLastNumber}
-use Rattle.rsc_primitives.specs.Utf8Laws.{lead_len, lead_len_pos, slice_one, slice_from_start, Placed-from}
+use Rattle.std.proofs.lemmas.List.{drop_at, reverse-append, reverse-reverse, take_all, take-append-drop}
+use Rattle.std.specs.Prelude.{slice_get, slice_range}
+use Rattle.rsc_primitives.specs.Utf8.{Encodes, BeginsAt, EndsAt}
+use Rattle.rsc_primitives.specs.Utf8Layout.{from_back, EndsLongNumber, BeginsLong, EndsLong}
+use Rattle.rsc_primitives.specs.Utf8Laws.{slice_from_start, slice_one}
 
--- ---- the front of a list, by its bytes
+-- ---- the front of a list
 
-forms_of : (h : List ℕ) (j c : ℕ) → j ≤ length h → Encodes (take j h) c → IsFirstNumber h c
-forms_of h zero c l e = absurd e
-forms_of (a ∷ r) (suc zero) c l e = inl (omega arith, e.0, e.1)
-forms_of (a ∷ b ∷ r) (suc (suc zero)) c l e = inr (inl (omega arith, e.0, e.1, e.2))
-forms_of (a ∷ b ∷ x ∷ r) (suc (suc (suc zero))) c l e = inr (inr (inl (omega arith, e.0, e.1, e.2)))
-forms_of (a ∷ b ∷ x ∷ y ∷ r) (suc (suc (suc (suc zero)))) c l e = inr (inr (inr (omega arith, e.0, e.1, e.2, e.3)))
-forms_of (a ∷ b ∷ x ∷ y ∷ z ∷ r) (suc (suc (suc (suc (suc n))))) c l e = absurd e
-forms_of _ _ c l e = absurd (omega arith)
-
-pub IsFirstNumber-from : (h : List ℕ) (c : ℕ) → BeginsAt h 0 c → IsFirstNumber h c
-IsFirstNumber-from h c p =
-    let e = p.1 in
-    forms_of h p.0 c e.within (subst (λ (x : List ℕ). Encodes x c) (slice_from_start h p.0) e.encoded)
+pub first_of : (h : List ℕ) (c : ℕ) → BeginsAt h 0 c → (get_or h 0 0 ≤ 0x7F) ⊎ BeginsLong h c
+first_of h c p = forms h p.0 c p.1.within (subst (λ (x : List ℕ). Encodes x c) (slice_from_start h p.0) p.1.encoded)
+  where
+    forms : (h : List ℕ) (j c : ℕ) → j ≤ length h → Encodes (take j h) c → (get_or h 0 0 ≤ 0x7F) ⊎ BeginsLong h c
+    forms h zero c l e = absurd e
+    forms (a ∷ r) (suc zero) c l e = inl e.0
+    forms (a ∷ b ∷ r) (suc (suc zero)) c l e = inr (inl (e.0, e.1, e.2))
+    forms (a ∷ b ∷ x ∷ r) (suc (suc (suc zero))) c l e = inr (inr (inl (e.0, e.1, e.2)))
+    forms (a ∷ b ∷ x ∷ y ∷ r) (suc (suc (suc (suc zero)))) c l e = inr (inr (inr (e.0, e.1, e.2, e.3)))
+    forms (a ∷ b ∷ x ∷ y ∷ z ∷ r) (suc (suc (suc (suc (suc n))))) c l e = absurd e
+    forms _ _ c l e = absurd (omega arith)
 
 front : (h : List ℕ) (j c : ℕ) → j ≤ length h → Encodes (take j h) c → BeginsAt h 0 c
 front h j c l e = (j, record { ordered = omega arith; within = l; encoded = subst (λ (x : List ℕ). Encodes x c) (sym (slice_from_start h j)) e })
 
-pub BeginsAt-from : (h : List ℕ) (c : ℕ) → IsFirstNumber h c → BeginsAt h 0 c
-BeginsAt-from h c s =
-    ⊎_elim (λ p. front h 1 c p.0 (one h c p.0 p.1 p.2))
-    (⊎_elim (λ p. front h 2 c p.0 (two h c p.0 p.1 p.2 p.3))
-    (⊎_elim (λ p. front h 3 c p.0 (three h c p.0 p.1 p.2 p.3)) (λ p. front h 4 c p.0 (four h c p.0 p.1 p.2 p.3 p.4)))) s
-  where
-    one : (h : List ℕ) (c : ℕ) → 1 ≤ length h → get_or h 0 0 ≤ 0x7F → c ≡ get_or h 0 0 → Encodes (take 1 h) c
-    one [] c l p q = absurd (omega arith)
-    one (a ∷ r) c l p q = (p, q)
+pub begins_long : (h : List ℕ) (c : ℕ) → BeginsLong h c → BeginsAt h 0 c
+begins_long [] c (inl s) = absurd (omega (arith, s.0))
+begins_long (a ∷ []) c (inl s) = absurd (omega (arith, s.1))
+begins_long (a ∷ b ∷ r) c (inl s) = front (a ∷ b ∷ r) 2 c (omega arith) s
+begins_long [] c (inr (inl s)) = absurd (omega (arith, s.1))
+begins_long (a ∷ []) c (inr (inl s)) = absurd (omega (arith, s.1))
+begins_long (a ∷ b ∷ []) c (inr (inl s)) = absurd (omega (arith, s.1))
+begins_long (a ∷ b ∷ x ∷ r) c (inr (inl s)) = front (a ∷ b ∷ x ∷ r) 3 c (omega arith) s
+begins_long [] c (inr (inr s)) = absurd (omega (arith, s.2))
+begins_long (a ∷ []) c (inr (inr s)) = absurd (omega (arith, s.2))
+begins_long (a ∷ b ∷ []) c (inr (inr s)) = absurd (omega (arith, s.2))
+begins_long (a ∷ b ∷ x ∷ []) c (inr (inr s)) = absurd (omega (arith, s.2))
+begins_long (a ∷ b ∷ x ∷ y ∷ r) c (inr (inr s)) = front (a ∷ b ∷ x ∷ y ∷ r) 4 c (omega arith) s
 
-    two : (h : List ℕ) (c : ℕ) → 2 ≤ length h → IsInRange 0xC2 0xDF (get_or h 0 0) → IsTail (get_or h 1 0) → c ≡ (get_or h 0 0 - 0xC0) * 64 + (get_or h 1 0 - 0x80) → Encodes (take 2 h) c
-    two [] c l p q r = absurd (omega arith)
-    two (a ∷ []) c l p q r = absurd (omega arith)
-    two (a ∷ b ∷ t) c l p q r = (p, q, r)
+-- ---- the back of a list: the front of the reversed list
 
-    three : (h : List ℕ) (c : ℕ) → 3 ≤ length h → OpensThree (get_or h 0 0) (get_or h 1 0) → IsTail (get_or h 2 0) → c ≡ (get_or h 0 0 - 0xE0) * 4096 + (get_or h 1 0 - 0x80) * 64 + (get_or h 2 0 - 0x80) → Encodes (take 3 h) c
-    three [] c l p q r = absurd (omega arith)
-    three (a ∷ []) c l p q r = absurd (omega arith)
-    three (a ∷ b ∷ []) c l p q r = absurd (omega arith)
-    three (a ∷ b ∷ x ∷ t) c l p q r = (p, q, r)
+last_forms : (e rest : List ℕ) (c : ℕ) → Encodes e c
+    → (get_or (reverse e ++ rest) 0 0 ≤ 0x7F) ⊎ EndsLongNumber (get_or (reverse e ++ rest) 3 0) (get_or (reverse e ++ rest) 2 0)
+    (get_or (reverse e ++ rest) 1 0) (get_or (reverse e ++ rest) 0 0) c
+last_forms [] rest c e = absurd e
+last_forms (d ∷ []) rest c e = inl e.0
+last_forms (x ∷ d ∷ []) rest c e = inr (inl (e.0, e.1, e.2))
+last_forms (b ∷ x ∷ d ∷ []) rest c e = inr (inr (inl (e.0, e.1, e.2)))
+last_forms (a ∷ b ∷ x ∷ d ∷ []) rest c e = inr (inr (inr (e.0, e.1, e.2, e.3)))
+last_forms (a ∷ b ∷ x ∷ d ∷ z ∷ r) rest c e = absurd e
 
-    four : (h : List ℕ) (c : ℕ) → 4 ≤ length h → OpensFour (get_or h 0 0) (get_or h 1 0) → IsTail (get_or h 2 0) → IsTail (get_or h 3 0)
-        → c ≡ (get_or h 0 0 - 0xF0) * 262144 + (get_or h 1 0 - 0x80) * 4096 + (get_or h 2 0 - 0x80) * 64 + (get_or h 3 0 - 0x80) → Encodes (take 4 h) c
-    four [] c l p q r s = absurd (omega arith)
-    four (a ∷ []) c l p q r s = absurd (omega arith)
-    four (a ∷ b ∷ []) c l p q r s = absurd (omega arith)
-    four (a ∷ b ∷ x ∷ []) c l p q r s = absurd (omega arith)
-    four (a ∷ b ∷ x ∷ y ∷ t) c l p q r s = (p, q, r, s)
+pub last_of : (h : List ℕ) (c : ℕ) → EndsAt h (length h) c → (from_back h 0 ≤ 0x7F) ⊎ EndsLong h c
+last_of h c p =
+    let rest : slice_range h p.0 (length h) ≡ drop p.0 h = take_all (length h - p.0) (drop p.0 h) (simp length-drop (omega arith)) in
+    let parts : reverse h ≡ reverse (drop p.0 h) ++ reverse (take p.0 h) = ap reverse (sym (take-append-drop p.0 h))
+    ∙ reverse-append (take p.0 h) (drop p.0 h) in
+    rw parts (last_forms (drop p.0 h) (reverse (take p.0 h)) c (subst (λ (x : List ℕ). Encodes x c) rest p.1.encoded))
 
--- ---- the back of a list, by its bytes
+-- an encoding after other bytes
+back : (before e : List ℕ) (c : ℕ) → Encodes e c → EndsAt (before ++ e) (length (before ++ e)) c
+back before e c p =
+    let long : length (before ++ e) ≡ length before + length e = length-append before e in
+    let slice : slice_range (before ++ e) (length before) (length (before ++ e)) ≡ e =
+    ap (λ (t : List ℕ). take (length (before ++ e) - length before) t) (drop_at before e (length before) refl)
+    ∙ take_all (length (before ++ e) - length before) e (omega (arith, long)) in
+    (length before, record { ordered = omega (arith, long); within = omega arith; encoded = subst (λ (x : List ℕ). Encodes x c) (sym slice) p })
 
-lead_len_le : (a : ℕ) → lead_len a ≤ 4
-lead_len_le a = grind (arith, nat_tests)
+back_of : (last rest : List ℕ) (c : ℕ) → Encodes (reverse last) c → EndsAt (reverse (last ++ rest)) (length (reverse (last ++ rest))) c
+back_of last rest c p = rw (reverse-append last rest) (back (reverse rest) (reverse last) c p)
 
-slice_step : (h : List ℕ) (i j : ℕ) → i < j → j ≤ length h → slice_range h i j ≡ get_or h i 0 ∷ slice_range h (suc i) j
-slice_step h i j l w =
-    let e : j - i ≡ suc (j - suc i) = omega arith in
-    let at : i < length h = omega arith in
-    ap (λ n. take n (drop i h)) e ∙ ap (λ (x : List ℕ). take (suc (j - suc i)) x) (drop-cons h i 0 at)
+long_back : (r : List ℕ) (c : ℕ) → EndsLongNumber (get_or r 3 0) (get_or r 2 0) (get_or r 1 0) (get_or r 0 0) c → EndsAt (reverse r) (length (reverse r)) c
+long_back [] c (inl s) = absurd (omega (arith, s.0))
+long_back (d ∷ []) c (inl s) = absurd (omega (arith, s.0))
+long_back (d ∷ x ∷ r) c (inl s) = back_of (d ∷ x ∷ []) r c s
+long_back [] c (inr (inl s)) = absurd (omega (arith, s.1))
+long_back (d ∷ []) c (inr (inl s)) = absurd (grind (arith, s.0))
+long_back (d ∷ x ∷ []) c (inr (inl s)) = absurd (grind (arith, s.0))
+long_back (d ∷ x ∷ b ∷ r) c (inr (inl s)) = back_of (d ∷ x ∷ b ∷ []) r c s
+long_back [] c (inr (inr s)) = absurd (omega (arith, s.2))
+long_back (d ∷ []) c (inr (inr s)) = absurd (omega (arith, s.1))
+long_back (d ∷ x ∷ []) c (inr (inr s)) = absurd (grind (arith, s.0))
+long_back (d ∷ x ∷ b ∷ []) c (inr (inr s)) = absurd (grind (arith, s.0))
+long_back (d ∷ x ∷ b ∷ a ∷ r) c (inr (inr s)) = back_of (d ∷ x ∷ b ∷ a ∷ []) r c s
 
-last_one : (h : List ℕ) → 1 ≤ length h → slice_range h (length h - 1) (length h) ≡ get_or h (length h - 1) 0 ∷ []
-last_one h r = slice_one h (length h - 1) (length h) (omega arith) (omega arith)
-
-last_two : (h : List ℕ) → 2 ≤ length h → slice_range h (length h - 2) (length h) ≡ get_or h (length h - 2) 0 ∷ get_or h (length h - 1) 0 ∷ []
-last_two h r =
-    let i : suc (length h - 2) ≡ length h - 1 = omega arith in
-    slice_step h (length h - 2) (length h) (omega arith) (omega arith)
-    ∙ ap (λ t. get_or h (length h - 2) 0 ∷ t) (ap (λ k. slice_range h k (length h)) i ∙ last_one h (omega arith))
-
-last_three : (h : List ℕ) → 3 ≤ length h → slice_range h (length h - 3) (length h) ≡ get_or h (length h - 3) 0 ∷ get_or h (length h - 2) 0 ∷ get_or h (length h - 1) 0 ∷ []
-last_three h r =
-    let i : suc (length h - 3) ≡ length h - 2 = omega arith in
-    slice_step h (length h - 3) (length h) (omega arith) (omega arith)
-    ∙ ap (λ t. get_or h (length h - 3) 0 ∷ t) (ap (λ k. slice_range h k (length h)) i ∙ last_two h (omega arith))
-
-last_four : (h : List ℕ) → 4 ≤ length h
-    → slice_range h (length h - 4) (length h) ≡ get_or h (length h - 4) 0 ∷ get_or h (length h - 3) 0 ∷ get_or h (length h - 2) 0 ∷ get_or h (length h - 1) 0 ∷ []
-last_four h r =
-    let i : suc (length h - 4) ≡ length h - 3 = omega arith in
-    slice_step h (length h - 4) (length h) (omega arith) (omega arith)
-    ∙ ap (λ t. get_or h (length h - 4) 0 ∷ t) (ap (λ k. slice_range h k (length h)) i ∙ last_three h (omega arith))
-
-back : (h e : List ℕ) (k c : ℕ) → k ≤ length h → slice_range h (length h - k) (length h) ≡ e → Encodes e c → EndsAt h (length h) c
-back h e k c l q p =
-    (length h - k, record { ordered = omega arith; within = omega arith; encoded = subst (λ (x : List ℕ). Encodes x c) (sym q) p })
-
-pub EndsAt-from : (h : List ℕ) (c : ℕ) → IsLastNumber h c → EndsAt h (length h) c
-EndsAt-from h c s =
-    ⊎_elim (λ p. back h _ 1 c p.0 (last_one h p.0) (p.1, p.2))
-    (⊎_elim (λ p. back h _ 2 c p.0 (last_two h p.0) (p.1, p.2, p.3))
-    (⊎_elim (λ p. back h _ 3 c p.0 (last_three h p.0) (p.1, p.2, p.3)) (λ p. back h _ 4 c p.0 (last_four h p.0) (p.1, p.2, p.3, p.4)))) s
-
-sizes : (j n k : ℕ) → n ≡ j + k → 0 < k → k ≤ 4 → (n ≡ j + 1) ⊎ (n ≡ j + 2) ⊎ (n ≡ j + 3) ⊎ (n ≡ j + 4)
-sizes j n k e l u = grind arith
-
-pub IsLastNumber-from : (h : List ℕ) (c : ℕ) → EndsAt h (length h) c → IsLastNumber h c
-IsLastNumber-from h c p =
-    ⊎_elim (λ s. let r : 1 ≤ length h = omega arith in let e = forms 1 _ s (last_one h r) in inl (r, e.0, e.1))
-    (⊎_elim (λ s. let r : 2 ≤ length h = omega arith in let e = forms 2 _ s (last_two h r) in inr (inl (r, e.0, e.1, e.2)))
-    (⊎_elim (λ s. let r : 3 ≤ length h = omega arith in let e = forms 3 _ s (last_three h r) in inr (inr (inl (r, e.0, e.1, e.2))))
-    (λ s. let r : 4 ≤ length h = omega arith in let e = forms 4 _ s (last_four h r) in inr (inr (inr (r, e.0, e.1, e.2, e.3))))))
-    (sizes p.0 (length h) (lead_len (get_or h p.0 0)) size (lead_len_pos (get_or h p.0 0)) (lead_len_le (get_or h p.0 0)))
-  where
-    size : length h ≡ p.0 + lead_len (get_or h p.0 0)
-    size = (Placed-from h p.0 (length h) c p.1).size
-
-    forms : (k : ℕ) (e : List ℕ) → length h ≡ p.0 + k → slice_range h (length h - k) (length h) ≡ e → Encodes e c
-    forms k e s q =
-        let from : p.0 ≡ length h - k = omega arith in
-        subst (λ (x : List ℕ). Encodes x c) (ap (λ j. slice_range h j (length h)) from ∙ q) p.1.encoded
+pub ends_long : (h : List ℕ) (c : ℕ) → EndsLong h c → EndsAt h (length h) c
+ends_long h c s = subst (λ (x : List ℕ). EndsAt x (length x) c) (reverse-reverse h) (long_back (reverse h) c s)
 
 -- a byte of ASCII at the end is the character that ends the list
 pub EndsAt-ascii : (h : List ℕ) (b : ℕ) → slice_get h (length h - 1) ≡ Some b → b < 128 → EndsAt h (length h) b
 EndsAt-ascii h b g low =
     let w : length h - 1 < length h = slice_get_within h (length h - 1) b g in
-    let e : get_or h (length h - 1) 0 ≡ b = get_or_from_slice_get h (length h - 1) b 0 g in
-    EndsAt-from h b (inl (omega arith, omega arith, sym e))
+    let e : get_or h (length h - 1) 0 ≡ b = get_or_from_slice_get h (length h - 1) b 0 g in (
+      length h - 1,
+      record {
+        ordered = omega arith;
+        within = omega arith;
+        encoded = rw (slice_one h (length h - 1) (length h) (omega arith) w, e) (omega arith, refl);
+      },
+    )

@@ -38,7 +38,8 @@ has_bit-mask_of p (suc n) i l =
     ⊎_elim
     (λ (h : i < n). ap (λ x. nat_eq x 1) (bit_at_cat_low (cond (p n) 1 0) n (mask_of p n) i h) ∙ has_bit-mask_of p n i h)
     (λ (h : n ≤ i). let e : i ≡ n = omega arith in let z : n - n ≡ 0 = omega arith in
-    rw e (ap (λ x. nat_eq x 1) (bit_at_cat_high (cond (p n) 1 0) n (mask_of p n) n (mask_of-lt p n) (omega arith) ∙ ap (bit_at (cond (p n) 1 0)) z) ∙ top (p n)))
+    rw e (ap (λ x. nat_eq x 1) (bit_at_cat_high (cond (p n) 1 0) n (mask_of p n) n (mask_of-lt p n) (omega arith) ∙ ap (bit_at (cond (p n) 1 0)) z)
+    ∙ top (p n)))
     (cases_lt i n)
   where
     top : (b : Bool) → nat_eq (bit_at (cond b 1 0) 0) 1 ≡ b

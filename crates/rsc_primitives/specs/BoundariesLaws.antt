@@ -40,7 +40,8 @@ first_encoded e t c i p later b =
     ⊎_elim (λ (z : i ≡ 0). inl (c, (length e, subst (λ n. EncodedFrom (e ++ t) n (length e) c) (sym z) (ahead e t c p))))
     (⊎_elim (λ (q : (0 < i) × (i < length e)). absurd (inside q.0 q.1))
     (λ (q : i ≡ length e + (i - length e)).
-    subst (BeginsOrEnds (e ++ t)) (sym q) (BeginsAt-behind e t (i - length e) (later (i - length e) (boundary_behind e t (i - length e) (subst (IsBoundary (e ++ t)) q b))))))
+    subst (BeginsOrEnds (e ++ t)) (sym q) (BeginsAt-behind e t (i - length e)
+    (later (i - length e) (boundary_behind e t (i - length e) (subst (IsBoundary (e ++ t)) q b))))))
     (place (length e) i)
   where
     inside : 0 < i → i < length e → ⊥
@@ -50,7 +51,8 @@ first_encoded e t c i p later b =
         ⊎_elim (λ (q : i ≡ length (e ++ t)). omega arith) (λ q. tail_not (get_or e i 0) (Encodes-rest e c p i l r) (rw at at q.1)) b
 
 EncodesAll-boundary : (h cs : List ℕ) (i : ℕ) → EncodesAll h cs → IsBoundary h i → BeginsOrEnds h i
-EncodesAll-boundary h [] i p b = subst (λ (x : List ℕ). BeginsOrEnds x i) (sym p) (⊎_elim (λ q. inr q) (λ q. absurd (omega arith)) (subst (λ (x : List ℕ). IsBoundary x i) p b))
+EncodesAll-boundary h [] i p b = subst (λ (x : List ℕ). BeginsOrEnds x i) (sym p)
+    (⊎_elim (λ q. inr q) (λ q. absurd (omega arith)) (subst (λ (x : List ℕ). IsBoundary x i) p b))
 EncodesAll-boundary h (c ∷ cs) i p b =
     subst (λ (x : List ℕ). BeginsOrEnds x i) (sym p.2)
     (first_encoded p.0 p.1 c i p.3 (λ k. EncodesAll-boundary p.1 cs k p.4) (subst (λ (x : List ℕ). IsBoundary x i) p.2 b))

@@ -1,4 +1,4 @@
--- The numbers that number patterns, states and the like: those that fit in four bytes, with room for a count of them in an `i32`.
+-- The numbers of patterns, states and the like, which fit four bytes, with room for a count of them in an `i32`.
 use Rattle.std.specs.Prelude.{ℕ, ◌≤◌, nat_le, ◌==◌, ◌-◌, ◌^◌, if◌then◌else◌, Result, Ok, Err, Option, Some, None}
 
 -- the greatest index: one less than the greatest `i32`

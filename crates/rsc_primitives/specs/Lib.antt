@@ -5,9 +5,9 @@ pub mod EncodeLaws  -- the nine forms are std's encoding, in both directions
 pub mod EncodingsLaws  -- what the encodings are beside std's, and beside one another
 pub mod Escapes  -- bytes shown as text
 pub mod IndexTexts  -- what the refusals of an index print
-pub mod Indices  -- the numbers that number patterns, states and the like: those that fit in four bytes, with room for a count of them in an `i32`
+pub mod Indices  -- the numbers of patterns, states and the like, which fit four bytes, with room for a count of them in an `i32`
 pub mod PartsLaws  -- the characters of a part of a list are those of the whole
 pub mod TextsLaws  -- where the characters of a text are in its bytes
 pub mod Utf8  -- UTF-8 by RFC 3629, section 4: which bytes encode which character, and where in a list of bytes a character is
 pub mod Utf8Laws  -- what the nine forms say of bytes and places, in numbers alone
-pub mod Utf8Layout  -- the character that begins a list of bytes, and the one that ends it, by the places of its bytes: for the readers that look at one after the other
+pub mod Utf8Layout  -- the character that begins a list of bytes, and the one that ends it, by the places of its bytes

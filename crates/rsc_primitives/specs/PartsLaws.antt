@@ -14,8 +14,15 @@ pub BeginsAt-drop : (h : List ℕ) (s j c : ℕ) → EncodedFrom h s j c → Beg
 BeginsAt-drop h s j c e =
     let o = e.ordered in
     let w = e.within in
-    let i : s + (j - s) ≡ j = omega arith in
-    (j - s, record { ordered = omega arith; within = simp length-drop (omega arith); encoded = subst (λ (x : List ℕ). Encodes x c) (sym (rest_slice h s (j - s) ∙ ap (slice_range h s) i)) e.encoded })
+    let i : s + (j - s) ≡ j = omega arith in (
+      j - s,
+      record {
+        ordered = omega arith;
+        within = simp length-drop (omega arith);
+        encoded =
+            subst (λ (x : List ℕ). Encodes x c) (sym (rest_slice h s (j - s) ∙ ap (slice_range h s) i)) e.encoded;
+      },
+    )
 
 -- what an answer says, for a reader that takes it apart
 pub DecodesTo-ok : (h : List ℕ) (r : Option (Result ℕ ℕ)) (f : Result ℕ ℕ) (c : ℕ) → DecodesTo h r → r ≡ Some f → f ≡ Ok c → BeginsAt h 0 c
@@ -45,7 +52,15 @@ pub EndsAt-take : (h : List ℕ) (s c : ℕ) → s ≤ length h → EndsAt h s c
 EndsAt-take h s c l e =
     let p = e.1 in
     let n : length (take s h) ≡ s = simp length-take (omega arith) in
-    rw n (e.0, record { ordered = p.ordered; within = simp length-take (omega arith); encoded = subst (λ (x : List ℕ). Encodes x c) (sym (front_slice h s e.0 p.ordered l)) p.encoded })
+    rw n (
+      e.0,
+      record {
+        ordered = p.ordered;
+        within = simp length-take (omega arith);
+        encoded =
+            subst (λ (x : List ℕ). Encodes x c) (sym (front_slice h s e.0 p.ordered l)) p.encoded;
+      },
+    )
 
 pub EndsAt-from_take : (h : List ℕ) (s c : ℕ) → s ≤ length h → EndsAt (take s h) (length (take s h)) c → EndsAt h s c
 EndsAt-from_take h s c l e =
@@ -56,10 +71,18 @@ EndsAt-from_take h s c l e =
 
 -- what the readers of a part say of the whole
 pub DecodesLastTo-err : (h : List ℕ) (s b : ℕ) → s ≤ length h → DecodesLastTo (take s h) (Some (Err b)) → (0 < s) × ((c : ℕ) → EndsAt h s c → ⊥)
-DecodesLastTo-err h s b l e = (let p = e.0 in let n : length (take s h) ≡ s = simp length-take (omega arith) in omega arith, λ c q. e.2 c (EndsAt-take h s c l q))
+DecodesLastTo-err h s b l e = (
+  let p = e.0 in let n : length (take s h) ≡ s = simp length-take (omega arith) in
+      omega arith,
+  λ c q. e.2 c (EndsAt-take h s c l q),
+)
 
 pub DecodesTo-err_at : (h : List ℕ) (s b : ℕ) → s ≤ length h → DecodesTo (drop s h) (Some (Err b)) → (s < length h) × ((c : ℕ) → BeginsAt h s c → ⊥)
-DecodesTo-err_at h s b l e = (let w = slice_get_within (drop s h) 0 b e.0 in let m : 0 < length h - s = simp length-drop at w in omega arith, λ c q. e.1 c (BeginsAt-drop h s q.0 c q.1))
+DecodesTo-err_at h s b l e = (
+  let w = slice_get_within (drop s h) 0 b e.0 in let m : 0 < length h - s = simp length-drop at w in
+      omega arith,
+  λ c q. e.1 c (BeginsAt-drop h s q.0 c q.1),
+)
 
 pub DecodesLastTo-ok : (h : List ℕ) (r : Option (Result ℕ ℕ)) (f : Result ℕ ℕ) (c : ℕ) → DecodesLastTo h r → r ≡ Some f → f ≡ Ok c → EndsAt h (length h) c
 DecodesLastTo-ok h r f c p e q = rw (e, q) at p

@@ -1,10 +1,9 @@
 -- What the nine forms say of bytes and places, in numbers alone.
-use Rattle.std.proofs.Common.{◌≡◌, ℕ, zero, suc, ◌+◌, ◌-◌, ◌*◌, ◌<◌, ◌≤◌, ◌⊎◌, cond, ltb, List, [], ◌∷◌, length, get_or, take, drop, refl, sym, ap, ◌∙◌, subst, arith, length-take, length-drop, get_or-take, get_or-drop, inl, inr, ⊎_elim, Some, ext_get_or, drop-cons}
+use Rattle.std.proofs.Common.{◌≡◌, ℕ, zero, suc, ◌+◌, ◌-◌, ◌<◌, ◌≤◌, ◌⊎◌, cond, ltb, List, [], ◌∷◌, length, get_or, take, drop, refl, sym, ap, ◌∙◌, subst, arith, length-take, length-drop, get_or-take, get_or-drop, inl, inr, ⊎_elim, ext_get_or, drop-cons}
 use Rattle.std.specs.Int.{IsInRange}
 use Rattle.std.specs.Char.{InScalarRange, len_utf8}
-use Rattle.std.specs.Prelude.{slice_range, slice_get}
+use Rattle.std.specs.Prelude.{slice_range}
 use Rattle.std.proofs.lemmas.Bool.Decides.{nat_tests}
-use Rattle.std.proofs.lemmas.Option.{slice_get_within, get_or_from_slice_get}
 use Rattle.rsc_primitives.specs.Utf8.{IsTail, OpensThree, OpensFour, Encodes, EncodedFrom, BeginsAt, EndsAt, IsInside}
 
 -- how many bytes an encoding takes that begins with this byte
@@ -172,7 +171,8 @@ slice_one k i j one w =
 one_byte : (k : List ℕ) (i j : ℕ) → j ≡ i + 1 → i < length k → get_or k i 0 < 128 → Encodes (slice_range k i j) (get_or k i 0)
 one_byte k i j one w low = subst (λ (x : List ℕ). Encodes x (get_or k i 0)) (sym (slice_one k i j one w)) (omega arith, refl)
 
-same_slice : (h k : List ℕ) (i j : ℕ) → AgreePastAscii h k → Placed h i j → length (slice_range h i j) ≡ j - i → length (slice_range k i j) ≡ j - i → 128 ≤ get_or h i 0 → slice_range h i j ≡ slice_range k i j
+same_slice : (h k : List ℕ) (i j : ℕ) → AgreePastAscii h k → Placed h i j → length (slice_range h i j) ≡ j - i → length (slice_range k i j) ≡ j - i
+    → 128 ≤ get_or h i 0 → slice_range h i j ≡ slice_range k i j
 same_slice h k i j s p l lk big =
     ext_get_or 0 (slice_range h i j) (slice_range k i j) (l ∙ sym lk)
     (λ n q.
@@ -181,7 +181,8 @@ same_slice h k i j s p l lk big =
     let here : n < j - i = omega arith in
     let at : get_or (slice_range h i j) n 0 ≡ get_or h (i + n) 0 = get_or-slice h i j n here in
     let atk : get_or (slice_range k i j) n 0 ≡ get_or k (i + n) 0 = get_or-slice k i j n here in
-    let high : 128 ≤ get_or h (i + n) 0 = ⊎_elim (λ (z : n ≡ 0). subst (λ x. 128 ≤ get_or h x 0) (omega arith) big) (λ (z : 0 < n). (p.rest (i + n) (omega arith) (omega arith)).0) (zero_or n) in
+    let high : 128 ≤ get_or h (i + n) 0 = ⊎_elim (λ (z : n ≡ 0). subst (λ x. 128 ≤ get_or h x 0) (omega arith) big)
+    (λ (z : 0 < n). (p.rest (i + n) (omega arith) (omega arith)).0) (zero_or n) in
     at ∙ sym (tail_agrees h k (i + n) s (omega arith) high) ∙ sym atk)
 
 -- such lists have the same characters past ASCII at the same places, and one-byte characters at the same places
@@ -202,7 +203,15 @@ EncodedFrom-agree h k i j c s e =
     let within : i < length h = let some = p.some in let w = e.within in omega arith in
     let lowk : get_or k i 0 < 128 = ⊎_elim (λ q. let z : get_or k i 0 ≡ c = sym q ∙ sym here in omega arith) (λ q. q.1) (s.each i within) in
     inr (one, here, low, lowk, record { ordered = e.ordered; within = (let w = e.within in omega arith); encoded = one_byte k i j one (omega arith) lowk }))
-    (λ t. inl (record { ordered = e.ordered; within = (let w = e.within in omega arith); encoded = subst (λ (x : List ℕ). Encodes x c) (same_slice h k i j s p l lk (subst (λ x. 128 ≤ x) first t.1)) e.encoded }, t.0))
+    (λ t. inl (
+      record {
+        ordered = e.ordered;
+        within = (let w = e.within in omega arith);
+        encoded =
+            subst (λ (x : List ℕ). Encodes x c) (same_slice h k i j s p l lk (subst (λ x. 128 ≤ x) first t.1)) e.encoded;
+      },
+      t.0,
+    ))
     (Encodes-size (slice_range h i j) c e.encoded)
 
 pub slice_from_start : (h : List ℕ) (j : ℕ) → slice_range h 0 j ≡ take j h

@@ -133,7 +133,7 @@ fn write_piece<W: fmt::Write>(piece: &[u8], f: &mut fmt::Formatter<W>) -> fmt::R
     }
 }
 
-// Puts the text of a byte that is ASCII or part of no encoding behind the first `len` bytes of a piece, and answers how long it is.
+// Puts the text of a byte that is ASCII or part of no encoding after the first `len` bytes of a piece, and answers its length.
 #[inline(always)]
 fn put_byte(piece: &mut [u8; PIECE_SIZE], len: usize, byte: u8) -> usize
     requires { len + STEP_WIDTH ≤ PIECE_SIZE }

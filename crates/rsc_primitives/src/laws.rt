@@ -1,4 +1,4 @@
-//! Laws that a caller may cite: functions that do nothing, and whose contracts are the laws. Those of constants answer the constants.
+//! Laws that a caller can cite: functions that do nothing, and whose contracts are the laws. Those of constants answer the constants.
 ghost use Rattle.std.specs.Prelude.{◌≡◌, ◌↔◌, ◌⊎◌, ◌<◌, ◌≤◌, ◌++◌, ℕ, List, [], length, slice_index, Result, Ok, Some, true, ◌==◌, ◌+◌};
 ghost use Rattle.std.specs.Char.{IsScalar, encode_utf8};
 ghost use Rattle.std.specs.Int.{w32, from_le_bytes, to_le_bytes};
@@ -124,12 +124,12 @@ pub fn conversions_are_exact()
     ensures state_id_from_usize { (n : ℕ) (r : Result ℕ ℕ) → ⟦<StateID as TryFrom<usize>>⟧.try_from_gives n r → r ≡ index_of n }
 {}
 
-/// The bytes that encode a character are those that std's `encode_utf8` writes of it, and nothing else is encoded.
+/// The bytes that encode a character are what std's `encode_utf8` writes for it, and nothing else is encoded.
 pub fn encoding_is_that_of_std()
     ensures { (e : List ℕ) (c : ℕ) → Encodes e c ↔ (IsScalar c × (e ≡ encode_utf8 c)) }
 {}
 
-/// The bytes that encode a list of characters are those that std's `encode_utf8` writes of one after the other.
+/// The bytes that encode a list of characters are what std's `encode_utf8` writes for one after the other.
 pub fn encoding_of_a_list_is_that_of_std()
     ensures { (h cs : List ℕ) → EncodesAll h cs ↔ ((all_scalars cs ≡ true) × (h ≡ encode_utf8_all cs)) }
 {}

@@ -3,12 +3,12 @@ ghost use Rattle.std.specs.Prelude.{◌≡◌, ◌==◌, ◌↔◌, ℕ, ◌-◌
 ghost use Rattle.std.specs.Char.{len_utf8};
 ghost use Rattle.std.specs.Int.{IsInRange, bit_at};
 ghost use Rattle.rsc_primitives.specs.Utf8.{is_word_byte, IsTail, DecodesTo, DecodesLastTo, IsBoundary};
-ghost use Rattle.rsc_primitives.specs.Utf8Layout.{IsLongNumber, EndsLongNumber, IsFirstNumber, IsLastNumber};
+ghost use Rattle.rsc_primitives.specs.Utf8Layout.{IsLongNumber, EndsLongNumber, BeginsLong, EndsLong};
 
 // The word bytes below 128: bit b stands for the byte b.
 const ASCII_WORD_BYTES: u128 = 0x07FF_FFFE_87FF_FFFE_03FF_0000_0000_0000;
 
-// The masks of 128 bits for the bytes 00 to 7F and 80 to FF, in words of 64: one word is loaded and shifted in half the time of two.
+// The masks for the bytes 00 to 7F and 80 to FF, as four `u64`: one is loaded and shifted in half the time of a `u128`.
 static WORD_BYTES: [u64; 4] = [
     (ASCII_WORD_BYTES & 0xFFFF_FFFF_FFFF_FFFF) as u64,
     (ASCII_WORD_BYTES >> 64) as u64,
@@ -135,7 +135,7 @@ fn tail_bits(byte: u8) -> u8
 #[inline(always)]
 fn first_char(bytes: &[u8]) -> Option<char>
     requires { 1 ≤ length bytes.now }
-    ensures { MatchOption result ((n : ℕ) → IsFirstNumber bytes.now n → slice_index bytes.now 0 ≤ 0x7F) (IsFirstNumber bytes.now) }
+    ensures { MatchOption result ((n : ℕ) → BeginsLong bytes.now n → ⊥) (BeginsLong bytes.now) }
 {
     let first = bytes[0];
     if first < 0xC2 || 0xF4 < first {
@@ -152,7 +152,7 @@ fn first_char(bytes: &[u8]) -> Option<char>
 #[inline(never)]
 fn first_char_of_few(bytes: &[u8]) -> Option<char>
     requires { length bytes.now ≤ 3 }
-    ensures { MatchOption result ((n : ℕ) → IsFirstNumber bytes.now n → slice_index bytes.now 0 ≤ 0x7F) (IsFirstNumber bytes.now) }
+    ensures { MatchOption result ((n : ℕ) → BeginsLong bytes.now n → ⊥) (BeginsLong bytes.now) }
 {
     match bytes {
         [a, b] => char_of(*a, *b, 0, 0),
@@ -205,7 +205,7 @@ fn char_of(a: u8, b: u8, c: u8, d: u8) -> Option<char>
 fn last_char(bytes: &[u8]) -> Option<char>
     requires some { 1 ≤ length bytes.now }
     requires past_ascii { 0x80 ≤ slice_index bytes.now (length bytes.now - 1) }
-    ensures { MatchOption result ((n : ℕ) → IsLastNumber bytes.now n → ⊥) (IsLastNumber bytes.now) }
+    ensures { MatchOption result ((n : ℕ) → EndsLong bytes.now n → ⊥) (EndsLong bytes.now) }
 {
     let [.., a, b, c, d] = bytes else {
         return last_char_of_few(bytes);
@@ -220,7 +220,7 @@ fn last_char_of_few(bytes: &[u8]) -> Option<char>
     requires some { 1 ≤ length bytes.now }
     requires few { length bytes.now ≤ 3 }
     requires past_ascii { 0x80 ≤ slice_index bytes.now (length bytes.now - 1) }
-    ensures { MatchOption result ((n : ℕ) → IsLastNumber bytes.now n → ⊥) (IsLastNumber bytes.now) }
+    ensures { MatchOption result ((n : ℕ) → EndsLong bytes.now n → ⊥) (EndsLong bytes.now) }
 {
     match bytes {
         [c, d] => char_ending(0, 0, *c, *d),
@@ -230,7 +230,7 @@ fn last_char_of_few(bytes: &[u8]) -> Option<char>
 }
 
 // The character past ASCII whose encoding ends these four bytes. Each length is one comparison of the bytes' highest bits: where
-// bytes are no text, comparisons of single bytes can't be foretold.
+// bytes are no text, comparisons of single bytes can't be predicted.
 #[inline(always)]
 fn char_ending(a: u8, b: u8, c: u8, d: u8) -> Option<char>
     ensures { MatchOption result ((n : ℕ) → EndsLongNumber a b c d n → ⊥) (EndsLongNumber a b c d) }

@@ -14,7 +14,7 @@ pub const BROKEN_LISTS: [&[u8]; 10] = [
     b"\xF0\x9D\x9B\x83\x80",
 ];
 
-/// The character that begins the bytes: the first 1 to 4 of them are its encoding. `Err` of the first byte if there is none.
+/// The character that begins the bytes: the first 1 to 4 of them are its encoding. `Err` of the first byte if no character begins there.
 pub fn first_character(bytes: &[u8]) -> Option<Result<char, u8>> {
     let first = *bytes.first()?;
     for length in 1..=4usize {
@@ -25,7 +25,7 @@ pub fn first_character(bytes: &[u8]) -> Option<Result<char, u8>> {
     Some(Err(first))
 }
 
-/// The character that ends the bytes: the last 1 to 4 of them are its encoding. `Err` of the last byte if there is none.
+/// The character that ends the bytes: the last 1 to 4 of them are its encoding. `Err` of the last byte if no character ends there.
 pub fn last_character(bytes: &[u8]) -> Option<Result<char, u8>> {
     let last = *bytes.last()?;
     for length in 1..=4usize {
@@ -60,7 +60,7 @@ fn number_of(part: &[u8]) -> u32 {
     }
 }
 
-// The bits of the byte under the mask, moved up by so many places.
+// The bits of the byte under the mask, shifted left by that many places.
 fn low(byte: u8, mask: u8, places: u32) -> u32 {
     u32::from(byte & mask).wrapping_shl(places)
 }

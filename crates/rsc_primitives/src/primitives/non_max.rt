@@ -129,6 +129,11 @@ impl Hash for NonMaxUsize {
 }
 
 impl fmt::Debug for NonMaxUsize {
+    ghost use Rattle.std.specs.Prelude.{Some};
+    ghost use Rattle.std.specs.Fmt.{decimal};
+
+    ghost debug_output = { λ offset. Some (decimal offset) };
+
     fn fmt<W: fmt::Write>(&self, f: &mut fmt::Formatter<W>) -> fmt::Result {
         fmt::Debug::fmt(&self.get(), f)
     }

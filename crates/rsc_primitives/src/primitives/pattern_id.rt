@@ -271,7 +271,7 @@ impl fmt::Display for PatternIDError {
 
 impl Error for PatternIDError {}
 
-/// The iterator over the first indices, made by [`PatternID::iter`]. A contract sees it as the list of those that are left.
+/// The iterator over the first indices, made by [`PatternID::iter`]. A contract sees it as the list of what is left.
 #[derive(Clone, Debug, Drop)]
 pub struct PatternIDIter {
     next_index: usize,

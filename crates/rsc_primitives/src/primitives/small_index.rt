@@ -254,7 +254,7 @@ impl fmt::Display for SmallIndexError {
 
 impl Error for SmallIndexError {}
 
-/// The iterator over the first indices, made by [`SmallIndex::iter`]. A contract sees it as the list of those that are left.
+/// The iterator over the first indices, made by [`SmallIndex::iter`]. A contract sees it as the list of what is left.
 #[derive(Clone, Debug, Drop)]
 pub struct SmallIndexIter {
     next_index: usize,

@@ -253,7 +253,7 @@ impl fmt::Display for StateIDError {
 
 impl Error for StateIDError {}
 
-/// The iterator over the first indices, made by [`StateID::iter`]. A contract sees it as the list of those that are left.
+/// The iterator over the first indices, made by [`StateID::iter`]. A contract sees it as the list of what is left.
 #[derive(Clone, Debug, Drop)]
 pub struct StateIDIter {
     next_index: usize,

@@ -73,7 +73,7 @@ fn shows_a_haystack(rt: HostRuntime) -> Result<(), Fail> {
     Ok(())
 }
 
-// What a budget gives: `None` is want of memory, and otherwise whether the text is the wanted one.
+// What a budget gives: `None` is out of memory, and otherwise whether the text is the wanted one.
 fn text_within(heap: &LocalHeap, haystack: &[u8], want: &str) -> Option<bool> {
     match haystack_text(heap, haystack) {
         Ok(text) => Some(text.as_str() == want),

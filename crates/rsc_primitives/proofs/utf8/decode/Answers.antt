@@ -1,12 +1,12 @@
-use Rattle.std.proofs.Common.{◌≡◌, ◌≤◌, get_or, sym, arith}
+use Rattle.std.proofs.Common.{◌≡◌, get_or, sym, arith, ⊎_elim}
 use Rattle.std.proofs.lemmas.Option.{get_or_from_slice_get}
 use Rattle.rsc_primitives.specs.PartsLaws.{BeginsAt-fits}
-use Rattle.rsc_primitives.proofs.Utf8Lemmas.{IsFirstNumber-from, BeginsAt-from}
+use Rattle.rsc_primitives.proofs.Utf8Lemmas.{first_of, begins_long}
 use Rattle.rsc_primitives.proofs.utf8.decode.Goals as goal
 
 pub returns-in-Some : goal.returns-in-Some
 returns-in-Some c =
-    let begins = BeginsAt-from _ _ c.in-Some.ensures in
+    let begins = begins_long _ _ c.in-Some.ensures in
     record { answer = begins; width = BeginsAt-fits _ _ begins }
 
 pub returns-in-None-2-clause-answer : goal.returns-in-None-2-clause-answer
@@ -14,4 +14,4 @@ returns-in-None-2-clause-answer c =
     let h = c.args.bytes.now in
     let past_ascii = c.if-first-lt128.false in
     let first : get_or h 0 0 ≡ c.in_ok-first.field-0.now = get_or_from_slice_get h 0 _ 0 (sym c.in_ok-first.ensures.value) in
-    (sym c.in_ok-first.ensures.value, λ x b. let ascii : get_or h 0 0 ≤ 0x7F = c.in-None-2.ensures x (IsFirstNumber-from _ x b) in omega arith)
+    (sym c.in_ok-first.ensures.value, λ x b. ⊎_elim (λ ascii. omega (arith, ascii)) (λ long. c.in-None-2.ensures x long) (first_of h x b))
