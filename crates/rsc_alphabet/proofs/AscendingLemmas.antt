@@ -12,25 +12,30 @@ use Rattle.rsc_alphabet.specs.ByteSets.{Numbers}
 use Rattle.rsc_primitives.specs.BitsLaws.{has_bit}
 use Rattle.rsc_alphabet.specs.ByteSetLayout.{members_from, members_left}
 
-pub filter_parts : (p : ℕ → Bool) (low mid high : ℕ) → low ≤ mid → mid ≤ high → filter p (from_to low high) ≡ filter p (from_to low mid) ++ filter p (from_to mid high)
+pub filter_parts : (p : ℕ → Bool) (low mid high : ℕ) → low ≤ mid → mid ≤ high
+    → filter p (from_to low high) ≡ filter p (from_to low mid) ++ filter p (from_to mid high)
 filter_parts p low mid high l h = ap (filter p) (from_to_parts low mid high l h) ∙ filter-append p (from_to low mid) (from_to mid high)
 
 -- the first number of a range at which a test gives true
-filter_at : (p : ℕ → Bool) (low k high : ℕ) → low ≤ k → k < high → ((i : ℕ) → low ≤ i → i < k → p i ≡ false) → p k ≡ true → filter p (from_to low high) ≡ k ∷ filter p (from_to (k + 1) high)
+filter_at : (p : ℕ → Bool) (low k high : ℕ) → low ≤ k → k < high → ((i : ℕ) → low ≤ i → i < k → p i ≡ false) → p k ≡ true
+    → filter p (from_to low high) ≡ k ∷ filter p (from_to (k + 1) high)
 filter_at p low k high l h none is =
     filter_parts p low k high l (omega arith) ∙ ap₂ (λ x y. x ++ y) (filter_none p low k none) (filter_first p k high h is)
 
 -- a word of which nothing was taken
-pub whole_word : (s : Numbers) (number word : ℕ) → number < 4 → ((i : ℕ) → i < 64 → has_bit word i ≡ sets.contains s (64 * number + i)) → members_left s number (64 * number) word ≡ members_from s (64 * number)
+pub whole_word : (s : Numbers) (number word : ℕ) → number < 4 → ((i : ℕ) → i < 64 → has_bit word i ≡ sets.contains s (64 * number + i))
+    → members_left s number (64 * number) word ≡ members_from s (64 * number)
 whole_word s number word l same =
-    ap (λ x. x ++ members_from s (64 * number + 64)) (filter_same (λ b. has_bit word (b - 64 * number)) (λ b. sets.contains s b) (64 * number) (64 * number + 64) (λ k low high.
+    ap (λ x. x ++ members_from s (64 * number + 64)) (filter_same (λ b. has_bit word (b - 64 * number)) (λ b. sets.contains s b) (64 * number)
+    (64 * number + 64) (λ k low high.
     let e : 64 * number + (k - 64 * number) ≡ k = omega arith in same (k - 64 * number) (omega arith) ∙ ap (sets.contains s) e))
     ∙ sym (filter_parts (λ b. sets.contains s b) (64 * number) (64 * number + 64) 256 (omega arith) (omega arith))
 
 -- its bits are those of bytes
 pub whole_word_fits : (number word : ℕ) → number < 4 → word < 2 ^ 64 → (i : ℕ) → bit_at word i ≡ 1 → 64 * number + i < 256
 whole_word_fits number word l fits i is =
-    ⊎_elim (λ (h : i < 64). omega arith) (λ (h : 64 ≤ i). let none : bit_at word i ≡ 0 = bit_at_above word 64 i fits h in absurd (omega (arith, none, is))) (cases_lt i 64)
+    ⊎_elim (λ (h : i < 64). omega arith) (λ (h : 64 ≤ i). let none : bit_at word i ≡ 0 = bit_at_above word 64 i fits h in absurd (omega (arith, none, is)))
+    (cases_lt i 64)
 
 -- a word with nothing left
 pub no_word : (s : Numbers) (number byte : ℕ) → members_left s number byte 0 ≡ members_from s (64 * number + 64)
@@ -41,13 +46,15 @@ pub none_left : (s : Numbers) (number byte : ℕ) → number ≡ 3 → members_l
 none_left s number byte is = no_word s number byte ∙ let e : 64 * number + 64 ≡ 256 = omega (arith, is) in rw (e, from_to_none 256 256 (omega arith)) refl
 
 -- from a word with nothing left to the next one
-pub next_word : (s : Numbers) (number byte word : ℕ) → number + 1 < 4 → ((i : ℕ) → i < 64 → has_bit word i ≡ sets.contains s (64 * (number + 1) + i)) → members_left s (number + 1) (64 * (number + 1)) word ≡ members_left s number byte 0
+pub next_word : (s : Numbers) (number byte word : ℕ) → number + 1 < 4 → ((i : ℕ) → i < 64 → has_bit word i ≡ sets.contains s (64 * (number + 1) + i))
+    → members_left s (number + 1) (64 * (number + 1)) word ≡ members_left s number byte 0
 next_word s number byte word l same =
     let e : 64 * (number + 1) ≡ 64 * number + 64 = omega arith in
     whole_word s (number + 1) word l same ∙ ap (members_from s) e ∙ sym (no_word s number byte)
 
--- the bits above the lowest one that is 1, moved down
-pub lowest_left : (s : Numbers) (number byte word rest k : ℕ) → word < 2 ^ 64 → k < 64 → bit_at word k ≡ 1 → ((i : ℕ) → i < k → bit_at word i ≡ 0) → ((i : ℕ) → bit_at rest i ≡ bit_at word (k + (1 + i))) →
+-- the bits above the lowest one that is 1, shifted right
+pub lowest_left : (s : Numbers) (number byte word rest k : ℕ) → word < 2 ^ 64 → k < 64 → bit_at word k ≡ 1 → ((i : ℕ) → i < k → bit_at word i ≡ 0)
+    → ((i : ℕ) → bit_at rest i ≡ bit_at word (k + (1 + i))) →
     members_left s number byte word ≡ (byte + k) ∷ members_left s number (byte + k + 1) rest
 lowest_left s number byte word rest k fits l here below moved =
     ap (λ x. x ++ members_from s (64 * number + 64)) (filter_at before_moved byte (byte + k) (byte + 64) (omega arith) (omega arith) none at_k
@@ -82,4 +89,5 @@ pub first_left : (s : Numbers) (number byte word rest : ℕ) → word < 2 ^ 64 �
 first_left s number byte word rest fits here moved =
     let e : byte + 0 ≡ byte = omega arith in
     let first : min (bit_at word 0) 1 ≡ 1 = sym (bit_at_and word 1 0) ∙ ap (λ x. bit_at x 0) here in
-    rw e at (lowest_left s number byte word rest 0 fits (omega arith) (omega (arith, first)) (λ i l. absurd (omega arith)) (λ i. let f : 1 + i ≡ 0 + (1 + i) = omega arith in moved i ∙ ap (bit_at word) f))
+    rw e at (lowest_left s number byte word rest 0 fits (omega arith) (omega (arith, first)) (λ i l. absurd (omega arith))
+    (λ i. let f : 1 + i ≡ 0 + (1 + i) = omega arith in moved i ∙ ap (bit_at word) f))

@@ -9,8 +9,7 @@ use Rattle.std.proofs.lemmas.Nat.Bits.{bit_at-lt, bit_at-zero, bit_at_above, bit
 use Rattle.std.proofs.Math.Nat.{mod-lt, div-div-eq-div-mul}
 use Rattle.rsc_primitives.specs.BitsLaws.{has_bit}
 use Rattle.rsc_alphabet.specs.Partitions.{class_of}
-use Rattle.rsc_alphabet.proofs.PartitionsLemmas.{class_of-parts}
-use Rattle.rsc_alphabet.specs.PartitionsLaws.{class_of_more, class_of_none, class_of_same}
+use Rattle.rsc_alphabet.specs.PartitionsLaws.{class_of_more, class_of_none}
 
 -- ---- shifts and masks
 
@@ -31,7 +30,8 @@ bit_at-shl_below n k w i low high =
     bit_at-mod (n * 2 ^ k) w i high ∙ ap (λ x. bit_at x i) (sym e) ∙ bit_at_cat_low n k 0 i low ∙ bit_at-zero i
 
 -- the bits of a number that aren't bits of another one
-pub has_bit-difference : (mask other i : ℕ) → other < 2 ^ 128 → i < 128 → has_bit (bit_and mask (bit_not w128 other)) i ≡ (has_bit mask i && not (has_bit other i))
+pub has_bit-difference : (mask other i : ℕ) → other < 2 ^ 128 → i < 128
+    → has_bit (bit_and mask (bit_not w128 other)) i ≡ (has_bit mask i && not (has_bit other i))
 has_bit-difference mask other i fits l =
     ap (λ x. nat_eq x 1) (bit_at_and mask (bit_not w128 other) i ∙ ap (min (bit_at mask i)) (bit_at_not w128 other i fits l))
     ∙ digits (bit_at mask i) (bit_at other i) (bit_at-lt mask i) (bit_at-lt other i)
@@ -45,11 +45,13 @@ has_bit-difference mask other i fits l =
     digits x (suc (suc y)) lx ly = absurd (omega arith)
 
 -- the bits of a number of two halves are 0 where those of the halves are
-pub none_joined : (whole lower upper i : ℕ) → whole < 2 ^ 128 → ((i : ℕ) → i < 64 → bit_at whole i ≡ bit_at lower i) → ((i : ℕ) → i < 64 → bit_at whole (64 + i) ≡ bit_at upper i) →
+pub none_joined : (whole lower upper i : ℕ) → whole < 2 ^ 128 → ((i : ℕ) → i < 64 → bit_at whole i ≡ bit_at lower i)
+    → ((i : ℕ) → i < 64 → bit_at whole (64 + i) ≡ bit_at upper i) →
     (i < 64 → bit_at lower i ≡ 0) → (64 ≤ i → i < 128 → bit_at upper (i - 64) ≡ 0) → bit_at whole i ≡ 0
 none_joined whole lower upper i fits below above low high =
     ⊎_elim (λ (h : i < 64). below i h ∙ low h) (λ (h : 64 ≤ i).
-    ⊎_elim (λ (k : i < 128). let e : 64 + (i - 64) ≡ i = omega arith in rw e at (above (i - 64) (omega arith) ∙ high h k)) (λ (k : 128 ≤ i). bit_at_above whole 128 i fits k)
+    ⊎_elim (λ (k : i < 128). let e : 64 + (i - 64) ≡ i = omega arith in rw e at (above (i - 64) (omega arith) ∙ high h k))
+    (λ (k : 128 ≤ i). bit_at_above whole 128 i fits k)
     (cases_lt i 128)) (cases_lt i 64)
 
 -- one bit of a word
@@ -58,7 +60,8 @@ one_here k l = let z : k - k ≡ 0 = omega arith in bit_at-shl 1 k 64 k (omega a
 
 pub none_beside : (k i : ℕ) → k < 64 → i < 64 → i ≢ k → bit_at (1 * 2 ^ k % 2 ^ 64) i ≡ 0
 none_beside k i l h ne =
-    ⊎_elim (λ (b : i < k). bit_at-shl_below 1 k 64 i b h) (λ (b : k ≤ i). bit_at-shl 1 k 64 i b h ∙ bit_at_above 1 1 (i - k) (omega arith) (omega arith)) (cases_lt i k)
+    ⊎_elim (λ (b : i < k). bit_at-shl_below 1 k 64 i b h) (λ (b : k ≤ i). bit_at-shl 1 k 64 i b h ∙ bit_at_above 1 1 (i - k) (omega arith) (omega arith))
+    (cases_lt i k)
 
 -- the bits of two numbers
 pub has_bit-either : (mask other i : ℕ) → has_bit (bit_or mask other) i ≡ (has_bit mask i || has_bit other i)
@@ -80,7 +83,8 @@ min_none x = omega arith
 -- no bit of a run is left where all of them are taken out, and only there
 pub run_within : (run mask start end : ℕ) → mask < 2 ^ 128 → end < 128 →
     ((i : ℕ) → start ≤ i → i ≤ end → bit_at run i ≡ 1) → ((i : ℕ) → i < start → bit_at run i ≡ 0) → ((i : ℕ) → end < i → bit_at run i ≡ 0) →
-    (bit_and run (bit_not w128 mask) ≡ 0 → (i : ℕ) → start ≤ i → i ≤ end → bit_at mask i ≡ 1) × (((i : ℕ) → start ≤ i → i ≤ end → bit_at mask i ≡ 1) → bit_and run (bit_not w128 mask) ≡ 0)
+    (bit_and run (bit_not w128 mask) ≡ 0 → (i : ℕ) → start ≤ i → i ≤ end → bit_at mask i ≡ 1) ×
+    (((i : ℕ) → start ≤ i → i ≤ end → bit_at mask i ≡ 1) → bit_and run (bit_not w128 mask) ≡ 0)
 run_within run mask start end fits l inside below above = (
   (λ none i low high.
       let left : min 1 (1 - bit_at mask i) ≡ 0 = sym (left_at i low high) ∙ ap (λ x. bit_at x i) none ∙ bit_at-zero i in
@@ -101,7 +105,8 @@ run_within run mask start end fits l inside below above = (
     no_bit i none = bit_at_and run (bit_not w128 mask) i ∙ rw none (min_none (bit_at (bit_not w128 mask) i) ∙ sym (bit_at-zero i))
 
 -- a bit is kept if it is in the run
-pub run_kept : (mask run start end i : ℕ) → ((i : ℕ) → start ≤ i → i ≤ end → bit_at run i ≡ 1) → ((i : ℕ) → i < start → bit_at run i ≡ 0) → ((i : ℕ) → end < i → bit_at run i ≡ 0) →
+pub run_kept : (mask run start end i : ℕ) → ((i : ℕ) → start ≤ i → i ≤ end → bit_at run i ≡ 1) → ((i : ℕ) → i < start → bit_at run i ≡ 0)
+    → ((i : ℕ) → end < i → bit_at run i ≡ 0) →
     has_bit (bit_and mask run) i ≡ (nat_le start i && nat_le i end && has_bit mask i)
 run_kept mask run start end i inside below above =
     ap (λ x. nat_eq x 1) (bit_at_and mask run i) ∙ ⊎_elim

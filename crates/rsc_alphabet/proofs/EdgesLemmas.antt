@@ -72,23 +72,28 @@ past b k true false l = grind (arith, nat_tests)
 past b k false true l = grind (arith, nat_tests)
 past b k false false l = grind (arith, nat_tests)
 
-skipped : (b k : ℕ) (x y : Bool) → b ≤ 255 → (k ≡ b → x ≡ y) → (nat_lt k 255 && ((nat_le (b + 1) k && x) || (nat_eq (k + 1) (b + 1) && y))) ≡ (nat_lt k 255 && ((nat_le b k && x) || (nat_eq (k + 1) b && false)))
+skipped : (b k : ℕ) (x y : Bool) → b ≤ 255 → (k ≡ b → x ≡ y)
+    → (nat_lt k 255 && ((nat_le (b + 1) k && x) || (nat_eq (k + 1) (b + 1) && y))) ≡ (nat_lt k 255 && ((nat_le b k && x) || (nat_eq (k + 1) b && false)))
 skipped b k true true l at = grind (arith, nat_tests)
 skipped b k true false l at = let ne : k ≢ b = λ e. true≢false (at e) in grind (arith, nat_tests)
 skipped b k false true l at = let ne : k ≢ b = λ e. true≢false (sym (at e)) in grind (arith, nat_tests)
 skipped b k false false l at = grind (arith, nat_tests)
 
 stepped : (b e k : ℕ) (x y : Bool) → b ≤ e → e < 256 → (b ≤ k → k < e → x ≡ false) → (k ≡ e → e < 255 → x ≡ true) → (e < 255 → y ≡ false) →
-    (((nat_lt 0 b && nat_eq (b - 1) k) || (nat_lt e 255 && nat_eq e k)) || (nat_lt k 255 && ((nat_le (e + 1) k && x) || (nat_eq (k + 1) (e + 1) && y)))) ≡ (nat_lt k 255 && ((nat_le b k && x) || (nat_eq (k + 1) b && true)))
-stepped b e k true true from fits inner end next = let ne : 255 ≤ e = ⊎_elim (λ (h : e < 255). absurd (true≢false (next h))) (λ (h : 255 ≤ e). h) (cases_lt e 255) in let out : b ≤ k → k < e → ⊥ = λ p q. true≢false (inner p q) in grind (arith, nat_tests)
+    (((nat_lt 0 b && nat_eq (b - 1) k) || (nat_lt e 255 && nat_eq e k)) || (nat_lt k 255 && ((nat_le (e + 1) k && x) || (nat_eq (k + 1) (e + 1) && y)))) ≡
+    (nat_lt k 255 && ((nat_le b k && x) || (nat_eq (k + 1) b && true)))
+stepped b e k true true from fits inner end next = let ne : 255 ≤ e =
+    ⊎_elim (λ (h : e < 255). absurd (true≢false (next h))) (λ (h : 255 ≤ e). h) (cases_lt e 255) in
+    let out : b ≤ k → k < e → ⊥ = λ p q. true≢false (inner p q) in grind (arith, nat_tests)
 stepped b e k true false from fits inner end next = let out : b ≤ k → k < e → ⊥ = λ p q. true≢false (inner p q) in grind (arith, nat_tests)
-stepped b e k false true from fits inner end next = let ne : 255 ≤ e = ⊎_elim (λ (h : e < 255). absurd (true≢false (next h))) (λ (h : 255 ≤ e). h) (cases_lt e 255) in grind (arith, nat_tests)
+stepped b e k false true from fits inner end next = let ne : 255 ≤ e =
+    ⊎_elim (λ (h : e < 255). absurd (true≢false (next h))) (λ (h : 255 ≤ e). h) (cases_lt e 255) in grind (arith, nat_tests)
 stepped b e k false false from fits inner end next = let out : k ≡ e → e < 255 → ⊥ = λ p q. true≢false (sym (end p q)) in grind (arith, nat_tests)
 
 abbrev pub is_edge : ℕ → ℕ × ℕ → Bool
 is_edge k r = sets.contains (edges_of r) k
 
--- what is true of no runs past the bytes, of the runs behind one that begins here and so with it, and of the runs behind a byte that is no
+-- what is true of no runs past the bytes, of the runs after one that begins here and so with it, and of the runs after a byte that is no
 -- member and so of the same runs, is true of the runs from each place on
 pub for_runs_from : (s : Numbers) (P : ℕ → List (ℕ × ℕ) → Type 0)
     → ((low : ℕ) → 256 ≤ low → P low [])
@@ -106,7 +111,8 @@ for_runs_from s P none first skipped (suc n) low far clean =
     subst (P low) (sym (runs_from_first s low e run.from run.fits run.within run.last clean)) (first low e h clean run
     (for_runs_from s P none first skipped n (e + 1) (omega (arith, run.from)) (parts_no_run-after s low e run.from run.fits run.within run.last))))
     (λ (no : sets.contains s low ≡ false).
-    subst (P low) (sym (runs_from_skip s low (omega arith) no)) (skipped low h no (for_runs_from s P none first skipped n (low + 1) (omega arith) (parts_no_run-skip s low no))))
+    subst (P low) (sym (runs_from_skip s low (omega arith) no))
+    (skipped low h no (for_runs_from s P none first skipped n (low + 1) (omega arith) (parts_no_run-skip s low no))))
     (cases_Bool (sets.contains s low)))
     (λ (h : 256 ≤ low). subst (P low) (sym (runs_from_none s low (omega arith))) (none low h))
     (cases_lt low 256)
@@ -160,7 +166,8 @@ is_ordered r = nat_le r.0 r.1
 
 ordered_from : (s : Numbers) (n low : ℕ) → 256 ≤ low + n → parts_no_run s low ≡ true → list_all is_ordered (runs_from s low) ≡ true
 ordered_from s =
-    for_runs_from s (λ low rs. list_all is_ordered rs ≡ true) (λ low h. refl) (λ low e h clean run rest. rw (le-leb low e run.from) rest) (λ low h none rest. rest)
+    for_runs_from s (λ low rs. list_all is_ordered rs ≡ true) (λ low h. refl) (λ low e h clean run rest. rw (le-leb low e run.from) rest)
+    (λ low h none rest. rest)
 
 pub ordered_runs : (s : Numbers) → list_all is_ordered (runs s) ≡ true
 ordered_runs s = ordered_from s 256 0 (omega arith) (rw (eq-eqb 0 0 refl) refl)
@@ -186,5 +193,6 @@ edges_of_ends s starts ends first last k =
     inside false false = refl
 
 -- what has these boundaries beside the old ones
-pub edges_added : (s old new : Numbers) → ((k : ℕ) → sets.contains new k ≡ (sets.contains old k || changes_at s k)) → new ≡ sets.union old (edges_of_each (runs s))
+pub edges_added : (s old new : Numbers) → ((k : ℕ) → sets.contains new k ≡ (sets.contains old k || changes_at s k))
+    → new ≡ sets.union old (edges_of_each (runs s))
 edges_added s old new each = same_set nat_cmp_total nat_cmp-IsAntisymmetric _ _ (λ k. each k ∙ sym (c-runs old s k))

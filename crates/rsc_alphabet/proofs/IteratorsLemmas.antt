@@ -29,13 +29,26 @@ use Rattle.rsc_alphabet.proofs.AscendingLemmas.{filter_parts}
 pub symbols_left_all : (classes : List ℕ) → symbols_left classes 0 ≡ symbols classes
 symbols_left_all classes = rw (le-leb 0 (slice_index classes 255 + 1) (omega arith)) refl
 
-pub symbols_left_more : (classes : List ℕ) (next : ℕ) → next < slice_index classes 255 + 1 → symbols_left classes next ≡ byte next ∷ symbols_left classes (next + 1)
+pub symbols_left_more : (classes : List ℕ) (next : ℕ) → next < slice_index classes 255 + 1
+    → symbols_left classes next ≡ byte next ∷ symbols_left classes (next + 1)
 symbols_left_more classes next l =
-    rw (from_to_first next (slice_index classes 255 + 1) l, le-leb next (slice_index classes 255 + 1) (omega arith), le-leb (next + 1) (slice_index classes 255 + 1) (omega arith)) refl
+    rw (
+      from_to_first next (slice_index classes 255 + 1) l,
+      le-leb next (slice_index classes 255 + 1) (omega arith),
+      le-leb (next + 1)
+          (slice_index classes 255 + 1) (omega arith),
+    ) refl
 
-pub symbols_left_end : (classes : List ℕ) (next : ℕ) → next ≡ slice_index classes 255 + 1 → symbols_left classes next ≡ end_of classes ∷ symbols_left classes (next + 1)
+pub symbols_left_end : (classes : List ℕ) (next : ℕ) → next ≡ slice_index classes 255 + 1
+    → symbols_left classes next ≡ end_of classes ∷ symbols_left classes (next + 1)
 symbols_left_end classes next e =
-    rw (from_to_none next (slice_index classes 255 + 1) (omega arith), from_to_none (next + 1) (slice_index classes 255 + 1) (omega arith), le-leb next (slice_index classes 255 + 1) (omega arith), lt-leb next (slice_index classes 255 + 1) e) refl
+    rw (
+      from_to_none next (slice_index classes 255 + 1) (omega arith),
+      from_to_none (next + 1) (slice_index classes 255 + 1) (omega arith),
+      le-leb next
+          (slice_index classes 255 + 1) (omega arith),
+      lt-leb next (slice_index classes 255 + 1) e,
+    ) refl
   where
     lt-leb : (a b : ℕ) → a ≡ b → nat_le (a + 1) b ≡ false
     lt-leb a b e = grind (arith, nat_tests)
@@ -76,18 +89,22 @@ elements_of-end classes (byte b) none = cc
 elements_of-end classes (end_of_input n) none = refl
 
 -- the elements of the class whose number is that of a byte unit
-pub elements_of-byte : (classes : List ℕ) (unit : Symbol) (class : ℕ) (s : Numbers) → byte_of unit ≡ Some class → ((b : ℕ) → b < 256 → sets.contains s b ≡ nat_eq (slice_index classes b) class) →
+pub elements_of-byte : (classes : List ℕ) (unit : Symbol) (class : ℕ) (s : Numbers) → byte_of unit ≡ Some class
+    → ((b : ℕ) → b < 256 → sets.contains s b ≡ nat_eq (slice_index classes b) class) →
     elements_left (members s) false ≡ elements_of classes unit
 elements_of-byte classes (byte b) class s is same =
     let e : b ≡ class = cc in
-    rw e (append-nil _ ∙ ap (λ t. map (λ k. byte k) t) (filter_same (λ k. sets.contains s k) (λ k. nat_eq (slice_index classes k) class) 0 256 (λ k low high. same k high)))
+    rw e (append-nil _ ∙ ap (λ t. map (λ k. byte k) t) (filter_same (λ k. sets.contains s k) (λ k. nat_eq (slice_index classes k) class) 0 256
+    (λ k low high. same k high)))
 elements_of-byte classes (end_of_input n) class s is same = cc
 
 -- ---- the representatives of a range
 
 -- a set whose members are the bytes from `low` up to, and without, `high` whose class isn't their predecessor's, and `low`
-representing_are : (classes : List ℕ) (s : Numbers) (low high : ℕ) → low ≤ high → high ≤ 256 → ((b : ℕ) → b < low → sets.contains s b ≡ false) → ((b : ℕ) → high ≤ b → b < 256 → sets.contains s b ≡ false) →
-    ((b : ℕ) → low ≤ b → b < high → sets.contains s b ≡ (nat_eq b low || not (nat_eq (slice_index classes b) (slice_index classes (b - 1))))) → members s ≡ representing classes low high
+representing_are : (classes : List ℕ) (s : Numbers) (low high : ℕ) → low ≤ high → high ≤ 256 → ((b : ℕ) → b < low → sets.contains s b ≡ false)
+    → ((b : ℕ) → high ≤ b → b < 256 → sets.contains s b ≡ false) →
+    ((b : ℕ) → low ≤ b → b < high → sets.contains s b ≡ (nat_eq b low || not (nat_eq (slice_index classes b) (slice_index classes (b - 1)))))
+    → members s ≡ representing classes low high
 representing_are classes s low high l h before after inside =
     filter_parts (λ b. sets.contains s b) 0 low 256 (omega arith) (omega arith)
     ∙ ap₂ (λ x y. x ++ y) (filter_none (λ b. sets.contains s b) 0 low (λ b p q. before b q)) (filter_parts (λ b. sets.contains s b) low high 256 l h)
@@ -115,7 +132,8 @@ members_none = filter_none (λ b. sets.contains sets.empty b) 0 256 (λ b p q. c
 
 -- what a test says of each of the four words
 pub by_words : (s : Numbers) (p : ℕ → Bool) → ((i : ℕ) → i < 64 → sets.contains s i ≡ p i) → ((i : ℕ) → i < 64 → sets.contains s (64 + i) ≡ p (64 + i)) →
-    ((i : ℕ) → i < 64 → sets.contains s (128 + i) ≡ p (128 + i)) → ((i : ℕ) → i < 64 → sets.contains s (192 + i) ≡ p (192 + i)) → (b : ℕ) → b < 256 → sets.contains s b ≡ p b
+    ((i : ℕ) → i < 64 → sets.contains s (128 + i) ≡ p (128 + i)) → ((i : ℕ) → i < 64 → sets.contains s (192 + i) ≡ p (192 + i)) → (b : ℕ) → b < 256
+    → sets.contains s b ≡ p b
 by_words s p first second third fourth b l =
     ⊎_elim (λ (h : b < 64). first b h) (λ (h : 64 ≤ b).
     ⊎_elim (λ (k : b < 128). later 64 h (second (b - 64) (omega arith))) (λ (k : 128 ≤ b).
@@ -125,9 +143,11 @@ by_words s p first second third fourth b l =
     later : (start : ℕ) → start ≤ b → sets.contains s (start + (b - start)) ≡ p (start + (b - start)) → sets.contains s b ≡ p b
     later start low same = let e : start + (b - start) ≡ b = omega arith in rw e at same
 
--- the word of the bytes 1 to 64, moved up by one byte
-pub first_changes : (classes : List ℕ) (word up i : ℕ) → i < 64 → ((i : ℕ) → i < 64 → has_bit word i ≡ not (nat_eq (slice_index classes (1 + i)) (slice_index classes (1 + i - 1)))) →
-    has_bit up 0 ≡ false → ((i : ℕ) → 0 < i → i < 64 → has_bit up i ≡ has_bit word (i - 1)) → has_bit up i ≡ not (nat_eq (slice_index classes i) (slice_index classes (i - 1)))
+-- the word of the bytes 1 to 64, shifted by one byte
+pub first_changes : (classes : List ℕ) (word up i : ℕ) → i < 64
+    → ((i : ℕ) → i < 64 → has_bit word i ≡ not (nat_eq (slice_index classes (1 + i)) (slice_index classes (1 + i - 1)))) →
+    has_bit up 0 ≡ false → ((i : ℕ) → 0 < i → i < 64 → has_bit up i ≡ has_bit word (i - 1))
+    → has_bit up i ≡ not (nat_eq (slice_index classes i) (slice_index classes (i - 1)))
 first_changes classes word up zero l each first others = first ∙ rw (eq-eqb (slice_index classes 0) (slice_index classes 0) refl) refl
 first_changes classes word up (suc k) l each first others =
     let e : suc k - 1 ≡ k = omega arith in
@@ -167,6 +187,7 @@ pub representatives_of-first : (classes : List ℕ) (from to : Bound ℕ) → st
 representatives_of-first classes from to l = (
   _,
   ap (λ t. map (λ b. byte b) t ++ end_if_unbounded classes to)
-      (filter_first (λ b. nat_eq b (start_index from) || not (nat_eq (slice_index classes b) (slice_index classes (b - 1)))) (start_index from) (end_index to 256) l
+      (filter_first (λ b. nat_eq b (start_index from) || not (nat_eq (slice_index classes b) (slice_index classes (b - 1)))) (start_index from)
+      (end_index to 256) l
       (rw (eq-eqb (start_index from) (start_index from) refl) refl)),
 )

@@ -1,16 +1,9 @@
 -- The bits of the masks that comparisons of vectors give, and the counts of bits in a vector.
-use Rattle.std.proofs.Common.{◌≡◌, ℕ, zero, suc, [], ◌∷◌, ◌+◌, ◌-◌, ◌%◌, ◌^◌, ◌<◌, ◌≤◌, Bool, true, false, not, cond, List, length, get_or, map, replicate, nat_eq, refl, sym, ap, ◌∙◌, arith, w8}
-use Rattle.std.specs.Simd.Lanes.{chunk, put_chunk, mask_l, top, zip2}
+use Rattle.std.proofs.Common.{◌≡◌, ℕ, ◌+◌, ◌-◌, ◌%◌, ◌^◌, ◌<◌, ◌≤◌, Bool, true, false, not, cond, List, length, get_or, map, replicate, nat_eq, refl, sym, ap, ◌∙◌, arith, w8}
+use Rattle.std.specs.Simd.Lanes.{chunk, mask_l, top, zip2}
 use Rattle.std.proofs.lemmas.List.{get_or-map}
-use Rattle.std.proofs.lemmas.Simd.{length-chunk, get_or-chunk, bit_mask_l, bitmask_splat, tops_compared, mask_l-mod, length-zip2, get_or-zip2, get_or-put_chunk_at}
-use Rattle.std.specs.Int.Bits.{bit_and}
-use Rattle.std.specs.Int.Count.{ones}
-use Rattle.std.proofs.lemmas.Nat.{and_mask}
-use Rattle.std.proofs.Math.Nat.{mod-eq_of_lt}
+use Rattle.std.proofs.lemmas.Simd.{length-chunk, get_or-chunk, bit_mask_l, bitmask_splat, tops_compared, mask_l-mod, length-zip2, get_or-zip2}
 use Rattle.rsc_primitives.specs.BitsLaws.{has_bit}
-use Rattle.rsc_alphabet.specs.Partitions.{class_of}
-use Rattle.rsc_alphabet.specs.PartitionsLaws.{class_of-le}
-use Rattle.rsc_alphabet.proofs.BitsLemmas.{ones-class_of}
 
 digit : (b : Bool) → nat_eq (cond b 1 0) 1 ≡ b
 digit true = refl
@@ -22,7 +15,8 @@ bit_of_mask ms i = ap (λ x. nat_eq x 1) (bit_mask_l ms i) ∙ digit (get_or ms 
 
 -- the comparison of a load with one byte
 pub equal_bits : (xs : List ℕ) (first byte i : ℕ) → first + 64 ≤ length xs → i < 64 →
-    has_bit (mask_l (map (top 7) (zip2 (λ a b. cond (nat_eq a b) 255 0) (chunk first 64 xs) (replicate 64 byte))) % 2 ^ 64) i ≡ nat_eq (get_or xs (first + i) 0) byte
+    has_bit (mask_l (map (top 7) (zip2 (λ a b. cond (nat_eq a b) 255 0) (chunk first 64 xs) (replicate 64 byte))) % 2 ^ 64) i ≡ nat_eq
+    (get_or xs (first + i) 0) byte
 equal_bits xs first byte i room l =
     let long : length (chunk first 64 xs) ≡ 64 = length-chunk first 64 xs room in
     ap (λ m. has_bit m i) (bitmask_splat w8 nat_eq (chunk first 64 xs) 64 byte long (omega arith))

@@ -49,7 +49,12 @@ members_contained s = filter_passes (λ b. sets.contains s b) bytes
 pub members_exactly : (s : Numbers) (b : ℕ) → b < 256 → Contains (members s) b ↔ (sets.contains s b ≡ true)
 members_exactly s b l = (
   All-contains (λ k. sets.contains s k ≡ true) (members s) b (members_contained s),
-  λ is. Contains-filter (λ k. sets.contains s k) bytes b is (b, rw (length-from_to 0 256) (omega (arith, l)), get_or-from_to 0 256 b b (omega (arith, l)) ∙ omega arith),
+  λ is. Contains-filter (λ k. sets.contains s k) bytes b is (
+    b,
+    rw (length-from_to 0 256) (omega (arith, l)),
+    get_or-from_to 0 256 b b (omega (arith, l))
+        ∙ omega arith,
+  ),
 )
 
 pub members_ascending : (s : Numbers) → IsStrictlyIncreasing (members s)
@@ -63,7 +68,8 @@ members_ascending s =
 -- ---- runs
 
 pub runs_ordered : (s : Numbers) → All (λ r. r.0 ≤ r.1) (runs s)
-runs_ordered s = All-weaker (λ r. is_ordered r ≡ true) (λ r. r.0 ≤ r.1) (λ r h. leb-true r.0 r.1 h) (runs s) (AllPass-from_list_all is_ordered (runs s) (ordered_runs s))
+runs_ordered s = All-weaker (λ r. is_ordered r ≡ true) (λ r. r.0 ≤ r.1) (λ r h. leb-true r.0 r.1 h) (runs s)
+    (AllPass-from_list_all is_ordered (runs s) (ordered_runs s))
 
 not_before : (s : Numbers) (low : ℕ) → parts_no_run s low ≡ true → sets.contains s low ≡ true → low < 256 → (b : ℕ) → b + 1 ≡ low → sets.contains s b ≡ false
 not_before s low clean is l b e =
@@ -92,7 +98,8 @@ maximal s low e l clean run = record {
   after = not_after s e run.last;
 }
 
-runs_are_maximal : (s : Numbers) (n low : ℕ) → 256 ≤ low + n → parts_no_run s low ≡ true → (r : ℕ × ℕ) → Contains (runs_from s low) r → IsMaximalRun s r × (low ≤ r.0)
+runs_are_maximal : (s : Numbers) (n low : ℕ) → 256 ≤ low + n → parts_no_run s low ≡ true → (r : ℕ × ℕ) → Contains (runs_from s low) r
+    → IsMaximalRun s r × (low ≤ r.0)
 runs_are_maximal s =
     for_runs_from s (λ low rs. (r : ℕ × ℕ) → Contains rs r → IsMaximalRun s r × (low ≤ r.0))
     (λ low h r c. absurd (Contains-none r c))
@@ -106,14 +113,17 @@ runs_are_maximal s =
 same_end : (s : Numbers) (low e : ℕ) → EndsAt s low e → (r : ℕ × ℕ) → IsMaximalRun s r → r.0 ≡ low → r.1 ≡ e
 same_end s low e run r m first =
     ⊎_elim
-    (λ (h : r.1 < e). absurd (true≢false (sym (run.within (r.1 + 1) (omega (arith, m.ordered, first)) (omega (arith, h))) ∙ m.after (omega (arith, h, run.fits)))))
+    (λ (h : r.1 < e). absurd (true≢false (sym (run.within (r.1 + 1) (omega (arith, m.ordered, first)) (omega (arith, h)))
+    ∙ m.after (omega (arith, h, run.fits)))))
     (λ (h : e ≤ r.1). ⊎_elim
-    (λ (past : e < r.1). absurd (true≢false (sym (m.members (e + 1) (omega (arith, first, run.from)) (omega (arith, past))) ∙ not_after s e run.last (omega (arith, past, m.fits)))))
+    (λ (past : e < r.1). absurd (true≢false (sym (m.members (e + 1) (omega (arith, first, run.from)) (omega (arith, past)))
+    ∙ not_after s e run.last (omega (arith, past, m.fits)))))
     (λ (l : r.1 ≤ e). omega (arith, h, l))
     (cases_lt e r.1))
     (cases_lt r.1 e)
 
-maximal_are_runs : (s : Numbers) (n low : ℕ) → 256 ≤ low + n → parts_no_run s low ≡ true → (r : ℕ × ℕ) → IsMaximalRun s r → low ≤ r.0 → Contains (runs_from s low) r
+maximal_are_runs : (s : Numbers) (n low : ℕ) → 256 ≤ low + n → parts_no_run s low ≡ true → (r : ℕ × ℕ) → IsMaximalRun s r → low ≤ r.0
+    → Contains (runs_from s low) r
 maximal_are_runs s =
     for_runs_from s (λ low rs. (r : ℕ × ℕ) → IsMaximalRun s r → low ≤ r.0 → Contains rs r)
     (λ low h r m from. absurd (omega (arith, m.ordered, m.fits, from, h)))
@@ -123,7 +133,9 @@ maximal_are_runs s =
     let same : (low, e) ≡ r = ap₂ (λ (x y : ℕ). (x, y)) (sym first) (sym last) in
     subst (λ q. Contains ((low, e) ∷ runs_from s (e + 1)) q) same (Contains-first (low, e) (runs_from s (e + 1))))
     (λ (other : r.0 ≢ low).
-    let past : e < r.0 = ⊎_elim (λ (l : e < r.0). l) (λ (l : r.0 ≤ e). absurd (true≢false (sym (run.within (r.0 - 1) (omega (arith, other, from)) (omega (arith, l))) ∙ m.before (r.0 - 1) (omega (arith, other, from))))) (cases_lt e r.0) in
+    let past : e < r.0 = ⊎_elim (λ (l : e < r.0). l) (λ (l : r.0 ≤ e). absurd
+    (true≢false (sym (run.within (r.0 - 1) (omega (arith, other, from)) (omega (arith, l))) ∙ m.before (r.0 - 1) (omega (arith, other, from)))))
+    (cases_lt e r.0) in
     Contains-later (low, e) (runs_from s (e + 1)) r (rest r m (omega (arith, past))))
     (cases_eq r.0 low))
     (λ low h none rest r m from.
@@ -143,7 +155,8 @@ runs_exactly s r = (
 abbrev Apart : ℕ × ℕ → ℕ × ℕ → Type 0
 Apart r q = r.1 + 1 < q.0
 
-apart_first : (r : ℕ × ℕ) (rs : List (ℕ × ℕ)) → ((q : ℕ × ℕ) → Contains rs q → Apart r q) → AllAdjacentBelow Apart rs (length rs) → AllAdjacentBelow Apart (r ∷ rs) (length (r ∷ rs))
+apart_first : (r : ℕ × ℕ) (rs : List (ℕ × ℕ)) → ((q : ℕ × ℕ) → Contains rs q → Apart r q) → AllAdjacentBelow Apart rs (length rs)
+    → AllAdjacentBelow Apart (r ∷ rs) (length (r ∷ rs))
 apart_first r [] first rest k d l = absurd (omega (arith, l))
 apart_first r (q ∷ rs) first rest zero d l = first q (Contains-first q rs)
 apart_first r (q ∷ rs) first rest (suc k) d l = let e : suc k + 1 ≡ suc (k + 1) = omega arith in rw e (rest k d (omega (arith, l)))

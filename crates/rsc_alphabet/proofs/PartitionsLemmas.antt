@@ -1,28 +1,24 @@
 -- Boundaries, classes and ranges.
-use Rattle.std.proofs.Common.{◌≡◌, ◌↔◌, ◌⊎◌, inl, inr, ⊎_elim, min, max, ℕ, zero, suc, ◌+◌, ◌-◌, ◌<◌, ◌≤◌, Bool, true, false, not, ◌&&◌, ◌||◌, cond, List, [], ◌∷◌, ◌++◌, length, refl, sym, ap, ◌∙◌, arith, nat_eq, nat_lt, ap₂, count_by, slice_index}
-use Rattle.std.specs.List.{list_any}
+use Rattle.std.proofs.Common.{◌≡◌, ℕ, zero, suc, ◌+◌, ◌-◌, ◌*◌, ◌<◌, ◌≤◌, Bool, true, false, not, ◌&&◌, ◌||◌, cond, List, length, refl, sym, ap, ◌∙◌, arith, nat_eq, nat_lt, slice_index}
 use Rattle.std.specs.Ordering.{nat_cmp}
-use Rattle.std.specs.Cmp.{nat_cmp_total, unsigned_tied}
+use Rattle.std.specs.Cmp.{nat_cmp_total}
 use Rattle.std.specs.FinSet as sets
-use Rattle.std.specs.FinSet.{contains-from_list_nat, contains-insert, contains-remove, contains-union, contains-empty, same_set, nat_cmp-IsAntisymmetric}
-use Rattle.std.proofs.lemmas.Bool.{ne_eqb, cases_lt, false_from_ne_true}
+use Rattle.std.specs.FinSet.{contains-empty, same_set, nat_cmp-IsAntisymmetric}
+use Rattle.std.proofs.lemmas.Bool.{ne_eqb}
 use Rattle.std.proofs.lemmas.Bool.Decides.{nat_tests}
-use Rattle.std.proofs.lemmas.List.Sums.{count_by-le-length, sum_by-append}
-use Rattle.std.proofs.lemmas.List.FromFn.{fill_by_all, length-map-range_with_len, get_or-map-range_with_len}
-use Rattle.std.proofs.Math.Bool.{or-false, or_assoc}
-use Rattle.rsc_alphabet.specs.Bytes.{from_to}
-use Rattle.rsc_alphabet.specs.BytesLaws.{from_to_none, from_to_last, length-from_to}
 use Rattle.rsc_alphabet.specs.ByteSets.{Numbers}
 use Rattle.rsc_primitives.specs.BitsLaws.{has_bit}
-use Rattle.rsc_alphabet.specs.Partitions.{Together, class_of, class_map, edges_of}
+use Rattle.rsc_alphabet.specs.Partitions.{ClassesRise, class_of, class_map, edges_of}
 use Rattle.rsc_alphabet.specs.PartitionsLaws.{class_map_is, class_of_more, class_of_none, class_of_same, contains-edges_of, contains-inserted, contains-joined, contains-removed}
 
 -- what `set_range` leaves of the flags, above 0 and at 0
-pub edges_above : (ends : Numbers) (s e : ℕ) → 0 < s → s ≤ e → e < 256 → sets.remove (sets.insert (sets.insert ends (s - 1)) e) 255 ≡ sets.union (sets.remove ends 255) (edges_of (s, e))
+pub edges_above : (ends : Numbers) (s e : ℕ) → 0 < s → s ≤ e → e < 256
+    → sets.remove (sets.insert (sets.insert ends (s - 1)) e) 255 ≡ sets.union (sets.remove ends 255) (edges_of (s, e))
 edges_above ends s e low order high = same_set nat_cmp_total nat_cmp-IsAntisymmetric _ _ (λ q.
     rw (contains-removed, contains-inserted, contains-inserted, contains-joined, contains-removed, contains-edges_of) (by_cases (sets.contains ends q) q))
   where
-    by_cases : (b : Bool) (q : ℕ) → (not (nat_eq q 255) && (nat_eq q e || (nat_eq q (s - 1) || b))) ≡ ((not (nat_eq q 255) && b) || ((nat_lt 0 s && nat_eq (s - 1) q) || (nat_lt e 255 && nat_eq e q)))
+    by_cases : (b : Bool) (q : ℕ) → (not (nat_eq q 255) && (nat_eq q e || (nat_eq q (s - 1) || b))) ≡
+        ((not (nat_eq q 255) && b) || ((nat_lt 0 s && nat_eq (s - 1) q) || (nat_lt e 255 && nat_eq e q)))
     by_cases true q = grind (arith, nat_tests)
     by_cases false q = grind (arith, nat_tests)
 
@@ -30,12 +26,14 @@ pub edges_at_zero : (ends : Numbers) (s e : ℕ) → s ≤ 0 → e < 256 → set
 edges_at_zero ends s e low high = same_set nat_cmp_total nat_cmp-IsAntisymmetric _ _ (λ q.
     rw (contains-removed, contains-inserted, contains-joined, contains-removed, contains-edges_of) (by_cases (sets.contains ends q) q))
   where
-    by_cases : (b : Bool) (q : ℕ) → (not (nat_eq q 255) && (nat_eq q e || b)) ≡ ((not (nat_eq q 255) && b) || ((nat_lt 0 s && nat_eq (s - 1) q) || (nat_lt e 255 && nat_eq e q)))
+    by_cases : (b : Bool) (q : ℕ) → (not (nat_eq q 255) && (nat_eq q e || b)) ≡
+        ((not (nat_eq q 255) && b) || ((nat_lt 0 s && nat_eq (s - 1) q) || (nat_lt e 255 && nat_eq e q)))
     by_cases true q = grind (arith, nat_tests)
     by_cases false q = grind (arith, nat_tests)
 
 pub no_edges : sets.remove (sets.empty {K = ℕ} {R = nat_cmp}) 255 ≡ sets.empty
-no_edges = same_set nat_cmp_total nat_cmp-IsAntisymmetric _ _ (λ q. contains-removed sets.empty 255 q ∙ rw (contains-empty nat_cmp q) (grind (arith, nat_tests)))
+no_edges = same_set nat_cmp_total nat_cmp-IsAntisymmetric _ _
+    (λ q. contains-removed sets.empty 255 q ∙ rw (contains-empty nat_cmp q) (grind (arith, nat_tests)))
 
 -- ---- the boundary 255, which separates nothing
 
@@ -50,14 +48,16 @@ boundary_below ends bytes k is = parts (sets.contains ends k) (bytes k) (sym (co
     parts false low test = grind (arith, nat_tests)
 
 -- the boundaries of a set to which other bytes were added
-pub edges_joined : (ends before after : Numbers) (starts lasts : ℕ → Bool) → ((b : ℕ) → sets.contains before b ≡ (sets.contains ends b || starts b)) → ((b : ℕ) → sets.contains after b ≡ (sets.contains before b || lasts b)) →
+pub edges_joined : (ends before after : Numbers) (starts lasts : ℕ → Bool) → ((b : ℕ) → sets.contains before b ≡ (sets.contains ends b || starts b))
+    → ((b : ℕ) → sets.contains after b ≡ (sets.contains before b || lasts b)) →
     ((b : ℕ) → sets.contains after b ≡ true → b < 256) →
     (k : ℕ) → sets.contains (sets.remove after 255) k ≡ (sets.contains (sets.remove ends 255) k || (nat_lt k 255 && (starts k || lasts k)))
 edges_joined ends before after starts lasts first second bytes k =
     let added : sets.contains after k ≡ ((sets.contains ends k || starts k) || lasts k) = second k ∙ ap (λ x. x || lasts k) (first k) in
     contains-removed after 255 k ∙ rw (added, contains-removed ends 255 k) (by_cases (sets.contains ends k) (starts k) (lasts k) (λ is. bytes k (added ∙ is)))
   where
-    by_cases : (x y z : Bool) → (((x || y) || z) ≡ true → k < 256) → (not (nat_eq k 255) && ((x || y) || z)) ≡ ((not (nat_eq k 255) && x) || (nat_lt k 255 && (y || z)))
+    by_cases : (x y z : Bool) → (((x || y) || z) ≡ true → k < 256)
+        → (not (nat_eq k 255) && ((x || y) || z)) ≡ ((not (nat_eq k 255) && x) || (nat_lt k 255 && (y || z)))
     by_cases true true z f = let l = f refl in grind (arith, nat_tests)
     by_cases true false true f = let l = f refl in grind (arith, nat_tests)
     by_cases true false false f = let l = f refl in grind (arith, nat_tests)
@@ -79,6 +79,21 @@ class_of-parts p a (suc n) =
     regroup : (x y z : ℕ) → x + y + z ≡ x + (y + z)
     regroup x y z = omega arith
 
+-- the classes of a word's bytes, by how many boundaries are below the word
+pub classes_of_word : (p : ℕ → Bool) (n word : ℕ) {below : ℕ} → ((i : ℕ) → i < 64 → has_bit word i ≡ p (64 * n + i)) → below ≡ class_of p (64 * n)
+    → (i : ℕ) → i ≤ 64 → below + class_of (has_bit word) i ≡ class_of p (64 * n + i)
+classes_of_word p n word bits below_is i l =
+    let same = class_of_same (has_bit word) (λ k. p (64 * n + k)) i (λ k h. bits k (omega (arith, h, l))) in
+    omega (arith, below_is, same, class_of-parts p (64 * n) i)
+
+-- ---- maps whose classes rise
+
+pub zeros_rise : (classes : List ℕ) → ((b : ℕ) → b < 256 → slice_index classes b ≡ 0) → ClassesRise classes
+zeros_rise classes none = record { within = λ b l. omega (arith, none b l, none 255 (omega arith)) }
+
+pub bytes_rise : (classes : List ℕ) → ((b : ℕ) → b < 256 → slice_index classes b ≡ b) → ClassesRise classes
+bytes_rise classes own = record { within = λ b l. omega (arith, l, own b l, own 255 (omega arith)) }
+
 -- a boundary but for the byte 255
 abbrev is_inner : Numbers → ℕ → Bool
 is_inner ends = sets.contains (sets.remove ends 255)
@@ -87,4 +102,5 @@ is_inner ends = sets.contains (sets.remove ends 255)
 pub map_of_counts : (ends : Numbers) (classes : List ℕ) → length classes ≡ 256 → ((b : ℕ) → b < 256 → slice_index classes b ≡ class_of (sets.contains ends) b) →
     classes ≡ class_map (is_inner ends)
 map_of_counts ends classes long each =
-    class_map_is (is_inner ends) classes long (λ b l. each b l ∙ class_of_same (sets.contains ends) (is_inner ends) b (λ k h. inner_boundary ends k (omega arith)))
+    class_map_is (is_inner ends) classes long (λ b l. each b l
+    ∙ class_of_same (sets.contains ends) (is_inner ends) b (λ k h. inner_boundary ends k (omega arith)))

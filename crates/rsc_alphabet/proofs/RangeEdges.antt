@@ -32,7 +32,8 @@ moves : (p : ℕ → Bool) (r : ℕ × ℕ) (b c : ℕ) → c < 256 → ((k : �
     → (r.0 ≤ b) × (b ≤ r.1) → b < 256 → (r.0 ≤ c) × (c ≤ r.1)
 moves p r b c small has together within here = (
   ⊎_elim
-      (λ (h : c < r.0). absurd (together (r.0 - 1) (omega arith) (omega arith) (has (r.0 - 1) (omega arith) ((edges-boundary r (r.0 - 1) (omega arith)).1 (inl (omega arith))))))
+      (λ (h : c < r.0). absurd (together (r.0 - 1) (omega arith) (omega arith)
+      (has (r.0 - 1) (omega arith) ((edges-boundary r (r.0 - 1) (omega arith)).1 (inl (omega arith))))))
       (λ (h : r.0 ≤ c). h)
       (cases_lt c r.0),
   ⊎_elim
@@ -50,7 +51,8 @@ from_within r b w = grind (arith, nat_tests)
 Together-sym : (p : ℕ → Bool) (b c : ℕ) → Together p b c → Together p c b
 Together-sym p b c t k l u = t k (omega arith) (omega arith)
 
-pub edges-together : (p : ℕ → Bool) (r : ℕ × ℕ) (b c : ℕ) → b < 256 → c < 256 → ((k : ℕ) → k < 255 → sets.contains (edges_of r) k ≡ true → p k ≡ true) → Together p b c → holds r b ≡ holds r c
+pub edges-together : (p : ℕ → Bool) (r : ℕ × ℕ) (b c : ℕ) → b < 256 → c < 256 → ((k : ℕ) → k < 255 → sets.contains (edges_of r) k ≡ true → p k ≡ true)
+    → Together p b c → holds r b ≡ holds r c
 edges-together p r b c l u has t =
     same_bools (holds r b) (holds r c)
     (λ m. from_within r c (moves p r b c u has t (to_within r b m) l))
@@ -63,7 +65,8 @@ has_edge p k l [] ordered has apart = cc
 has_edge p k l (r ∷ rs) ordered has apart =
     ⊎_elim
     (λ (alike : treats_alike r k (k + 1) ≡ true).
-    has_edge p k l rs (All-tail (λ q. q.0 ≤ q.1) r rs ordered) (λ q c. has q (Contains-later r rs q c)) (sym (ap (λ b. not (b && are_alike rs k (k + 1))) alike) ∙ apart))
+    has_edge p k l rs (All-tail (λ q. q.0 ≤ q.1) r rs ordered) (λ q c. has q (Contains-later r rs q c))
+    (sym (ap (λ b. not (b && are_alike rs k (k + 1))) alike) ∙ apart))
     (λ (other : treats_alike r k (k + 1) ≡ false).
     has r (Contains-first r rs) (contains-edges_of_range r k (All-head (λ q. q.0 ≤ q.1) r rs ordered) l ∙ ap not other))
     (cases_Bool (treats_alike r k (k + 1)))

@@ -2,7 +2,6 @@
 use Rattle.std.proofs.Common.{◌≡◌, ℕ, zero, suc, ◌+◌, ◌-◌, ◌<◌, ◌≤◌, Bool, true, false, not, ◌&&◌, ◌||◌, cond, List, [], ◌∷◌, length, get_or, min, max, refl, sym, ap, ap₂, ◌∙◌, arith, nat_eq, nat_lt, take, ⊎_elim, slice_index}
 use Rattle.std.specs.List.{list_any, list_all}
 use Rattle.std.specs.FinSet as sets
-use Rattle.std.specs.Ordering.{nat_cmp}
 use Rattle.std.proofs.lemmas.Bool.{cases_lt, eq-eqb, eqb-true}
 use Rattle.std.proofs.lemmas.Bool.Decides.{nat_tests}
 use Rattle.std.proofs.lemmas.List.{take_more}
@@ -12,13 +11,15 @@ use Rattle.rsc_alphabet.specs.Bytes.{from_to}
 use Rattle.rsc_alphabet.specs.BytesLaws.{from_to_none, from_to_last}
 use Rattle.rsc_alphabet.specs.Partitions.{class_of, class_map, edges_of}
 use Rattle.rsc_alphabet.specs.Ranges.{holds, treats_alike, are_alike, separates}
-use Rattle.rsc_alphabet.specs.PartitionsLaws.{class_of_more, class_of-rises, contains-edges_of, contains-edges, slice_index-class_map}
+use Rattle.rsc_alphabet.specs.PartitionsLaws.{class_of_more, class_of-rises, contains-edges_of, slice_index-class_map}
 
 all_last : (h : ℕ → Bool) (low high : ℕ) → low ≤ high → list_all h (from_to low (high + 1)) ≡ (list_all h (from_to low high) && h high)
-all_last h low high l = ap (list_all h) (from_to_last low high l) ∙ list_all-append h (from_to low high) (high ∷ []) ∙ ap (λ b. list_all h (from_to low high) && b) (and-true (h high))
+all_last h low high l = ap (list_all h) (from_to_last low high l) ∙ list_all-append h (from_to low high) (high ∷ [])
+    ∙ ap (λ b. list_all h (from_to low high) && b) (and-true (h high))
 
 any_last : (h : ℕ → Bool) (low high : ℕ) → low ≤ high → list_any h (from_to low (high + 1)) ≡ (list_any h (from_to low high) || h high)
-any_last h low high l = ap (list_any h) (from_to_last low high l) ∙ list_any-append h (from_to low high) (high ∷ []) ∙ ap (λ b. list_any h (from_to low high) || b) (or-false (h high))
+any_last h low high l = ap (list_any h) (from_to_last low high l) ∙ list_any-append h (from_to low high) (high ∷ [])
+    ∙ ap (λ b. list_any h (from_to low high) || b) (or-false (h high))
 
 -- what `treats_alike` says of two bytes in order
 alike_up : (ℕ → Bool) → ℕ → ℕ → Bool
@@ -52,7 +53,14 @@ by_parts false false false false = refl
 pair : (h : ℕ → Bool) (c : ℕ) → alike_up h c (c + 1) ≡ ((h c && h (c + 1)) || not (h c || h (c + 1)))
 unfolding alike_up
 pair h c =
-    rw (all_last h c (c + 1) (omega arith), any_last h c (c + 1) (omega arith), all_last h c c (omega arith), any_last h c c (omega arith), from_to_none c c (omega arith)) refl
+    rw (
+      all_last h c (c + 1) (omega arith),
+      any_last h c (c + 1) (omega arith),
+      all_last h c c (omega arith),
+      any_last h c c (omega arith),
+      from_to_none c c
+          (omega arith),
+    ) refl
 
 opened : (h : ℕ → Bool) (b c : ℕ) → b ≤ c → alike_up h b (c + 1) ≡ (alike_up h b c && ((h c && h (c + 1)) || not (h c || h (c + 1))))
 unfolding alike_up
@@ -114,7 +122,8 @@ are_alike_is ranges b c =
     (cases_lt b c)
 
 pub same_class_is : (ranges : List (ℕ × ℕ)) (classes : List ℕ) (b c : ℕ) → classes ≡ class_map (separates ranges) → b < 256 → c < 256 →
-    ((slice_index classes b ≡ slice_index classes c → are_alike ranges b c ≡ true) × (are_alike ranges b c ≡ true → slice_index classes b ≡ slice_index classes c))
+    ((slice_index classes b ≡ slice_index classes c → are_alike ranges b c ≡ true) ×
+    (are_alike ranges b c ≡ true → slice_index classes b ≡ slice_index classes c))
 same_class_is ranges classes b c is lb lc =
     rw is (rw (slice_index-class_map (separates ranges) b lb, slice_index-class_map (separates ranges) c lc) (
       (λ e. are_alike_is ranges b c ∙ eq-eqb _ _ e),
@@ -127,10 +136,12 @@ pub contains-edges_of_range : (r : ℕ × ℕ) (k : ℕ) → r.0 ≤ r.1 → k <
 contains-edges_of_range (s, e) k order within =
     contains-edges_of s e k ∙ by_cases ∙ sym (ap not (treats_alike_up (s, e) k (k + 1) (omega arith) ∙ pair (holds (s, e)) k))
   where
-    by_cases : ((nat_lt 0 s && nat_eq (s - 1) k) || (nat_lt e 255 && nat_eq e k)) ≡ not ((holds (s, e) k && holds (s, e) (k + 1)) || not (holds (s, e) k || holds (s, e) (k + 1)))
+    by_cases : ((nat_lt 0 s && nat_eq (s - 1) k) || (nat_lt e 255 && nat_eq e k)) ≡ not
+        ((holds (s, e) k && holds (s, e) (k + 1)) || not (holds (s, e) k || holds (s, e) (k + 1)))
     by_cases = grind (arith, nat_tests)
 
-pub separates_more : (ranges : List (ℕ × ℕ)) (i : ℕ) (d : ℕ × ℕ) (k : ℕ) → i < length ranges → separates (take (i + 1) ranges) k ≡ (separates (take i ranges) k || not (treats_alike (get_or ranges i d) k (k + 1)))
+pub separates_more : (ranges : List (ℕ × ℕ)) (i : ℕ) (d : ℕ × ℕ) (k : ℕ) → i < length ranges
+    → separates (take (i + 1) ranges) k ≡ (separates (take i ranges) k || not (treats_alike (get_or ranges i d) k (k + 1)))
 separates_more ranges i d k l =
     ap (λ rs. separates rs k) (take_more ranges i d l)
     ∙ ap not (list_all-append (λ r. treats_alike r k (k + 1)) (take i ranges) (get_or ranges i d ∷ []))

@@ -25,34 +25,48 @@ all_bytes : (b : ℕ) → b < 256 → Contains (from_to 0 256) b
 all_bytes b l = (b, rw (length-from_to 0 256) (omega (arith, l)), get_or-from_to 0 256 b b (omega (arith, l)) ∙ omega arith)
 
 -- a byte that begins a class is its representative
-given : (classes : List ℕ) (b : ℕ) → b < 256 → (b == 0 || not (slice_index classes b == slice_index classes (b - 1))) ≡ true → Contains (representing classes 0 256) b
+given : (classes : List ℕ) (b : ℕ) → b < 256 → (b == 0 || not (slice_index classes b == slice_index classes (b - 1))) ≡ true
+    → Contains (representing classes 0 256) b
 given classes b l begins = Contains-filter (λ k. k == 0 || not (slice_index classes k == slice_index classes (k - 1))) (from_to 0 256) b begins (all_bytes b l)
 
-reached : (classes : List ℕ) (b : ℕ) → b < 256 → (r : ℕ) × ((r < 256) × Contains (representing classes 0 256) r × (slice_index classes r ≡ slice_index classes b))
+reached : (classes : List ℕ) (b : ℕ) → b < 256 → (r : ℕ) × ((r < 256) × Contains (representing classes 0 256) r ×
+    (slice_index classes r ≡ slice_index classes b))
 reached classes zero l = (0, (l, given classes 0 l refl, refl))
 reached classes (suc b) l =
     let before : suc b - 1 ≡ b = omega arith in
     let r = reached classes b (omega (arith, l)) in
-    elim (slice_index classes (suc b) == slice_index classes b) as (λ v. (slice_index classes (suc b) == slice_index classes b) ≡ v → (r : ℕ) × ((r < 256) × Contains (representing classes 0 256) r × (slice_index classes r ≡ slice_index classes (suc b)))) [
+    elim (slice_index classes (suc b) == slice_index classes b) as
+    (λ v. (slice_index classes (suc b) == slice_index classes b) ≡ v
+    → (r : ℕ) × ((r < 256) × Contains (representing classes 0 256) r × (slice_index classes r ≡ slice_index classes (suc b)))) [
       | true ↦ λ e. let same : slice_index classes (suc b) ≡ slice_index classes b = grind (arith, nat_tests) in (r.0, (r.1.0, r.1.1, r.1.2 ∙ sym same))
       | false ↦ λ e. (suc b, (l, given classes (suc b) l (rw (before, e) (grind (arith, nat_tests))), refl))
     ] refl
 
-pub class_represented : (classes : List ℕ) (b : ℕ) → b < 256 → (r : ℕ) × ((r < 256) × Contains (representatives_of classes Unbounded Unbounded) (byte r) × (slice_index classes r ≡ slice_index classes b))
+pub class_represented : (classes : List ℕ) (b : ℕ) → b < 256
+    → (r : ℕ) × ((r < 256) × Contains (representatives_of classes Unbounded Unbounded) (byte r) × (slice_index classes r ≡ slice_index classes b))
 class_represented classes b l =
-    let r = reached classes b l in
-    (r.0, (r.1.0, Contains-append_left (map (λ b. byte b) (representing classes 0 256)) (end_of classes ∷ []) (byte r.0) (Contains-map (λ b. byte b) (representing classes 0 256) r.0 r.1.1), r.1.2))
+    let r = reached classes b l in (
+      r.0,
+      (
+        r.1.0,
+        Contains-append_left (map (λ b. byte b) (representing classes 0 256)) (end_of classes ∷ []) (byte r.0)
+            (Contains-map (λ b. byte b) (representing classes 0 256) r.0 r.1.1),
+        r.1.2,
+      ),
+    )
 
 pub end_given : (classes : List ℕ) → Contains (representatives_of classes Unbounded Unbounded) (end_of classes)
 end_given classes = Contains-push (map (λ b. byte b) (representing classes 0 256)) (end_of classes)
 
-pub only_bytes_and_the_end : (classes : List ℕ) (u : Symbol) → Contains (representatives_of classes Unbounded Unbounded) u → ((b : ℕ) × ((b < 256) × (u ≡ byte b))) ⊎ (u ≡ end_of classes)
+pub only_bytes_and_the_end : (classes : List ℕ) (u : Symbol) → Contains (representatives_of classes Unbounded Unbounded) u
+    → ((b : ℕ) × ((b < 256) × (u ≡ byte b))) ⊎ (u ≡ end_of classes)
 only_bytes_and_the_end classes u c =
     let P : Symbol → Type 0 = λ s. ((b : ℕ) × ((b < 256) × (s ≡ byte b))) ⊎ (s ≡ end_of classes) in
     let xs = representing classes 0 256 in
     let all : All P (representatives_of classes Unbounded Unbounded) =
     All-append P (map (λ b. byte b) xs) (end_of classes ∷ [])
-    (All-map P (λ b. byte b) xs (All-filter _ (λ b. P (byte b)) (from_to 0 256) (All-weaker (λ b. b < 256) (λ b. P (byte b)) (λ b l. inl (b, (l, refl))) (from_to 0 256) (All-from_to 0 256))))
+    (All-map P (λ b. byte b) xs (All-filter _ (λ b. P (byte b)) (from_to 0 256)
+    (All-weaker (λ b. b < 256) (λ b. P (byte b)) (λ b l. inl (b, (l, refl))) (from_to 0 256) (All-from_to 0 256))))
     (All-cons P (end_of classes) [] (inr refl) (All-nil P))
     in All-contains P (representatives_of classes Unbounded Unbounded) u all c
 

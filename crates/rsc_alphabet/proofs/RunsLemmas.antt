@@ -32,14 +32,16 @@ begins_later s b l before = rw (before, ne_eqb b 0 (λ e. omega arith)) (elim (s
 ends_earlier : (s : Numbers) (b : ℕ) → b < 255 → sets.contains s (b + 1) ≡ true → ends_run s b ≡ false
 ends_earlier s b l after = rw (after, ne_eqb b 255 (λ e. omega arith)) (elim (sets.contains s b) as (λ v. (v && false) ≡ false) [ true ↦ refl | false ↦ refl ])
 
-module _ (s : Numbers) (b e : ℕ) (from : b ≤ e) (fits : e < 256) (within : (k : ℕ) → b ≤ k → k ≤ e → sets.contains s k ≡ true) (last : ends_run s e ≡ true) where
+module _ (s : Numbers) (b e : ℕ) (from : b ≤ e) (fits : e < 256) (within : (k : ℕ) → b ≤ k → k ≤ e → sets.contains s k ≡ true)
+    (last : ends_run s e ≡ true) where
   first_bytes : begins_run s b ≡ true → filter (begins_run s) (from_to b 256) ≡ b ∷ filter (begins_run s) (from_to (e + 1) 256)
   first_bytes starts =
       filter_first (begins_run s) b 256 (omega arith) starts
       ∙ ap (λ t. b ∷ t) (
       ap (filter (begins_run s)) (from_to_parts (b + 1) (e + 1) 256 (omega arith) (omega arith))
       ∙ filter-append (begins_run s) (from_to (b + 1) (e + 1)) (from_to (e + 1) 256)
-      ∙ ap (λ t. t ++ filter (begins_run s) (from_to (e + 1) 256)) (filter_none (begins_run s) (b + 1) (e + 1) (λ k l h. begins_later s k (omega arith) (within (k - 1) (omega arith) (omega arith)))))
+      ∙ ap (λ t. t ++ filter (begins_run s) (from_to (e + 1) 256))
+      (filter_none (begins_run s) (b + 1) (e + 1) (λ k l h. begins_later s k (omega arith) (within (k - 1) (omega arith) (omega arith)))))
 
   last_bytes : filter (ends_run s) (from_to b 256) ≡ e ∷ filter (ends_run s) (from_to (e + 1) 256)
   last_bytes =
@@ -74,9 +76,11 @@ pub parts_no_run-skip : (s : Numbers) (b : ℕ) → sets.contains s b ≡ false 
 parts_no_run-skip s b none = let e : b + 1 - 1 ≡ b = omega arith in rw (e, none) (grind (arith, nat_tests))
 
 -- the pairs of the first and the last bytes are the runs
-pub zip-runs : (s starts ends : Numbers) → ((b : ℕ) → sets.contains starts b ≡ begins_run s b) → ((b : ℕ) → sets.contains ends b ≡ ends_run s b) → zip (members starts) (members ends) ≡ runs s
+pub zip-runs : (s starts ends : Numbers) → ((b : ℕ) → sets.contains starts b ≡ begins_run s b) → ((b : ℕ) → sets.contains ends b ≡ ends_run s b)
+    → zip (members starts) (members ends) ≡ runs s
 zip-runs s starts ends first last =
-    ap₂ (λ t u. zip t u) (filter_same (λ b. sets.contains starts b) (begins_run s) 0 256 (λ k l h. first k)) (filter_same (λ b. sets.contains ends b) (ends_run s) 0 256 (λ k l h. last k))
+    ap₂ (λ t u. zip t u) (filter_same (λ b. sets.contains starts b) (begins_run s) 0 256 (λ k l h. first k))
+    (filter_same (λ b. sets.contains ends b) (ends_run s) 0 256 (λ k l h. last k))
 
 pub zip_none : {A B : Type 0} (xs : List A) (ys : List B) → ys ≡ [] → zip xs ys ≡ []
 zip_none [] ys none = refl

@@ -39,20 +39,24 @@ elements_have_class classes (byte c) some =
     (filter (λ b. nat_eq (slice_index classes b) c) bytes) (filter_passes (λ b. nat_eq (slice_index classes b) c) bytes))
 elements_have_class classes (end_of_input n) some = cc
 
-pub representatives_within : (classes : List ℕ) (from to : Bound ℕ) → end_index to 256 ≤ 256 → ((b : ℕ) → b < 256 → slice_index classes b ≤ slice_index classes 255) →
+pub representatives_within : (classes : List ℕ) (from to : Bound ℕ) → end_index to 256 ≤ 256
+    → ((b : ℕ) → b < 256 → slice_index classes b ≤ slice_index classes 255) →
     All (λ u. class_at classes u < slice_index classes 255 + 2) (representatives_of classes from to)
 representatives_within classes from to low rises =
-    All-append (λ u. class_at classes u < slice_index classes 255 + 2) (map (λ b. byte b) (representing classes (start_index from) (end_index to 256))) (end_if_unbounded classes to)
+    All-append (λ u. class_at classes u < slice_index classes 255 + 2) (map (λ b. byte b) (representing classes (start_index from) (end_index to 256)))
+    (end_if_unbounded classes to)
     (All-map (λ u. class_at classes u < slice_index classes 255 + 2) (λ b. byte b) (representing classes (start_index from) (end_index to 256))
     (All-filter _ (λ b. slice_index classes b < slice_index classes 255 + 2) (from_to (start_index from) (end_index to 256))
-    (All-weaker (λ b. b < end_index to 256) (λ b. slice_index classes b < slice_index classes 255 + 2) (λ b l. let r = rises b (omega (arith, l, low)) in omega (arith, r))
+    (All-weaker (λ b. b < end_index to 256) (λ b. slice_index classes b < slice_index classes 255 + 2)
+    (λ b l. let r = rises b (omega (arith, l, low)) in omega (arith, r))
     (from_to (start_index from) (end_index to 256)) (All-from_to (start_index from) (end_index to 256)))))
     (ends to)
   where
     ends : (bound : Bound ℕ) → All (λ u. class_at classes u < slice_index classes 255 + 2) (end_if_unbounded classes bound)
     ends (Included n) = All-nil (λ u. class_at classes u < slice_index classes 255 + 2)
     ends (Excluded n) = All-nil (λ u. class_at classes u < slice_index classes 255 + 2)
-    ends Unbounded = All-cons (λ u. class_at classes u < slice_index classes 255 + 2) (end_of classes) [] (omega arith) (All-nil (λ u. class_at classes u < slice_index classes 255 + 2))
+    ends Unbounded = All-cons (λ u. class_at classes u < slice_index classes 255 + 2) (end_of classes) [] (omega arith)
+        (All-nil (λ u. class_at classes u < slice_index classes 255 + 2))
 
 -- ---- the length of a row
 
@@ -75,5 +79,6 @@ exponent_counted n r most enough least =
     not_below : (k : ℕ) → r ≤ k → ¬ (nat_lt (2 ^ k) n ≡ true)
     not_below k l is = let more : 2 ^ r ≤ 2 ^ k = pow_mono {i = r} {j = k} l in grind (arith, nat_tests)
 
-pub stride2_is : (classes : List ℕ) (r : ℕ) → r ≤ 9 → slice_index classes 255 + 2 ≤ 2 ^ r → ((k : ℕ) → slice_index classes 255 + 2 ≤ 2 ^ k → r ≤ k) → r ≡ stride2_of classes
+pub stride2_is : (classes : List ℕ) (r : ℕ) → r ≤ 9 → slice_index classes 255 + 2 ≤ 2 ^ r → ((k : ℕ) → slice_index classes 255 + 2 ≤ 2 ^ k → r ≤ k)
+    → r ≡ stride2_of classes
 stride2_is classes r most enough least = sym (exponent_counted (slice_index classes 255 + 2) r most enough least)

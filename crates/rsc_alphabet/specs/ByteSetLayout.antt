@@ -1,6 +1,5 @@
 -- How the code holds a set of bytes, as two numbers of 128 bits, and how far an iterator over it has come.
-use Rattle.std.specs.Prelude.{ℕ, ◌+◌, ◌-◌, ◌*◌, ◌^◌, ◌==◌, Bool, zero, suc, nat_lt, List, ◌++◌, filter, if◌then◌else◌}
-use Rattle.std.specs.Int.{bit_at}
+use Rattle.std.specs.Prelude.{ℕ, ◌+◌, ◌-◌, ◌*◌, Bool, nat_lt, List, ◌++◌, filter, if◌then◌else◌}
 use Rattle.std.specs.FinSet as sets
 use Rattle.rsc_primitives.specs.BitsLaws.{has_bit}
 use Rattle.rsc_alphabet.specs.Bytes.{from_to, bytes}

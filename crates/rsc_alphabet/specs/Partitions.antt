@@ -1,7 +1,7 @@
 -- Partitions of the bytes into intervals.
 -- A partition is a set of boundaries, numbers from 0 to 254: the boundary k separates the byte k from the byte k + 1.
 -- It is given by a test p, which is asked of these numbers alone.
-use Rattle.std.specs.Prelude.{◌≡◌, ℕ, ◌+◌, ◌-◌, ◌<◌, ◌≤◌, ◌&&◌, ◌||◌, Bool, true, not, min, max, nat_lt, List, [], ◌∷◌, ◌++◌, map, count_by, if◌then◌else◌}
+use Rattle.std.specs.Prelude.{◌≡◌, ℕ, ◌+◌, ◌-◌, ◌<◌, ◌≤◌, ◌&&◌, ◌||◌, slice_index, Bool, true, not, min, max, nat_lt, List, [], ◌∷◌, ◌++◌, map, count_by, if◌then◌else◌}
 use Rattle.std.specs.FinSet as sets
 use Rattle.rsc_alphabet.specs.Bytes.{from_to, bytes}
 use Rattle.rsc_alphabet.specs.ByteSets.{Numbers}
@@ -17,6 +17,10 @@ class_of p b = count_by p (from_to 0 b)
 -- the class map of a partition: the class of each byte
 abbrev pub class_map : (ℕ → Bool) → List ℕ
 class_map p = map (class_of p) bytes
+
+-- the classes rise to that of the byte 255: no byte has a greater one
+pub record ClassesRise (classes : List ℕ) : Type 0 where
+  pub within : (b : ℕ) → b < 256 → slice_index classes b ≤ slice_index classes 255
 
 -- the boundaries of a range: before its first byte and after its last, where there is a byte on the other side
 abbrev pub edges_of : ℕ × ℕ → Numbers

@@ -5,7 +5,7 @@ use Rattle.std.specs.Ordering.{nat_cmp}
 use Rattle.std.specs.Cmp.{nat_cmp_total, unsigned_tied}
 use Rattle.std.specs.FinSet as sets
 use Rattle.std.specs.FinSet.{contains-from_list_nat, contains-insert, contains-remove, contains-union, contains-empty, same_set, nat_cmp-IsAntisymmetric}
-use Rattle.std.proofs.lemmas.Bool.{ne_eqb, cases_lt, false_from_ne_true}
+use Rattle.std.proofs.lemmas.Bool.{cases_lt, false_from_ne_true}
 use Rattle.std.proofs.lemmas.Bool.Decides.{nat_tests}
 use Rattle.std.proofs.lemmas.List.Sums.{count_by-le-length, sum_by-append}
 use Rattle.std.proofs.lemmas.List.FromFn.{fill_by_all, length-map-range_with_len, get_or-map-range_with_len}
@@ -13,7 +13,7 @@ use Rattle.std.proofs.Math.Bool.{or-false, or_assoc}
 use Rattle.rsc_alphabet.specs.Bytes.{from_to}
 use Rattle.rsc_alphabet.specs.BytesLaws.{from_to_none, from_to_last, length-from_to}
 use Rattle.rsc_alphabet.specs.ByteSets.{Numbers}
-use Rattle.rsc_alphabet.specs.Partitions.{Together, class_of, class_map, edges_of}
+use Rattle.rsc_alphabet.specs.Partitions.{ClassesRise, Together, class_of, class_map, edges_of}
 
 -- ---- sets of numbers
 
@@ -56,7 +56,8 @@ contains-edges s e k = contains-edges_of s e k ∙ by_cases
     by_cases = grind (arith, nat_tests)
 
 -- what is a boundary after those of a range were added
-pub c-range : (old : Numbers) (s e k : ℕ) → sets.contains (sets.union old (edges_of (s, e))) k ≡ (sets.contains old k || (nat_eq (k + 1) s || (nat_eq k e && nat_lt e 255)))
+pub c-range : (old : Numbers) (s e k : ℕ) → sets.contains (sets.union old (edges_of (s, e))) k ≡
+    (sets.contains old k || (nat_eq (k + 1) s || (nat_eq k e && nat_lt e 255)))
 c-range old s e k = contains-joined old (edges_of (s, e)) k ∙ ap (λ b. sets.contains old k || b) (contains-edges s e k)
 
 -- ---- classes
@@ -110,7 +111,8 @@ class_of-between p b zero none = let e : b + zero ≡ b = omega arith in rw e
 class_of-between p b (suc n) none =
     let e : b + suc n ≡ b + n + 1 = omega arith in
     let here : p (b + n) ≡ false = false_from_ne_true (p (b + n)) (none (b + n) (omega arith) (omega arith)) in
-    rw (e, class_of_more p (b + n), here) (let z : class_of p (b + n) + 0 ≡ class_of p (b + n) = omega arith in rw z (class_of-between p b n (λ k l h. none k l (omega arith))))
+    rw (e, class_of_more p (b + n), here) (let z : class_of p (b + n) + 0 ≡ class_of p (b + n) = omega arith in
+    rw z (class_of-between p b n (λ k l h. none k l (omega arith))))
 
 class_of-past : (p : ℕ → Bool) (b k c : ℕ) → b ≤ k → k < c → p k ≡ true → class_of p b < class_of p c
 class_of-past p b k c l h is =
@@ -126,7 +128,8 @@ same_class-up p b c l =
     let least : min b c ≡ b = omega arith in
     let most : max b c ≡ c = omega arith in (
       (λ same k low high is. let past : class_of p b < class_of p c = class_of-past p b k c (omega arith) (omega arith) is in omega arith),
-      (λ together. let e : b + (c - b) ≡ c = omega arith in sym (rw e at (class_of-between p b (c - b) (λ k low high. together k (omega arith) (omega arith))))),
+      (λ together. let e : b + (c - b) ≡ c = omega arith in sym
+          (rw e at (class_of-between p b (c - b) (λ k low high. together k (omega arith) (omega arith))))),
     )
 
 pub same_class-together : (p : ℕ → Bool) (b c : ℕ) → (class_of p b ≡ class_of p c) ↔ Together p b c
@@ -161,6 +164,9 @@ pub class_within : (p : ℕ → Bool) (b : ℕ) → b < 256 → slice_index (cla
 class_within p b l =
     let e : b + (255 - b) ≡ 255 = omega arith in
     rw (slice_index-class_map p b l, slice_index-class_map p 255 (omega arith)) (rw e at (class_of-rises p b (255 - b)))
+
+pub class_map-rises : (p : ℕ → Bool) → ClassesRise (class_map p)
+class_map-rises p = record { within = class_within p }
 
 class_of_reached : (p : ℕ → Bool) (n c : ℕ) → c ≤ class_of p n → (b : ℕ) × ((b ≤ n) × (class_of p b ≡ c))
 class_of_reached p zero c l = (0, (omega arith, omega (arith, class_of_none p)))

@@ -1,7 +1,8 @@
 -- The symbols that an automaton reads: bytes, and the end of the input.
-use Rattle.std.specs.Prelude.{ℕ, Bool, false, Option, Some, None}
+use Rattle.std.specs.Prelude.{ℕ, Bool, false, List, Option, Some, None, codes}
 use Rattle.std.specs.declared.cmp.Ordering.{Ordering}
 use Rattle.std.specs.Ordering.{nat_cmp, on, then_cmp}
+use Rattle.rsc_primitives.specs.Escapes.{byte_text}
 use Rattle.rsc_primitives.specs.Utf8.{is_word_byte}
 
 -- a byte, or an end of the input with the number that stands for it
@@ -25,6 +26,11 @@ number_of (end_of_input n) = n
 abbrev pub is_word_symbol : Symbol → Bool
 is_word_symbol (byte b) = is_word_byte b
 is_word_symbol (end_of_input n) = false
+
+-- how a symbol is shown
+abbrev pub symbol_text : Symbol → List ℕ
+symbol_text (byte b) = byte_text b
+symbol_text (end_of_input n) = codes "EOI"
 
 -- bytes come before ends of the input
 abbrev pub rank_of : Symbol → ℕ

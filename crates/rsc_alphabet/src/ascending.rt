@@ -7,7 +7,7 @@ use crate::ByteSet;
 use crate::masks::{lowest_bit, word_shifted_right};
 use std::marker::Model;
 
-// An iterator over the members of a set, by words of 64 bits, which go by twice as fast as a number of 128. A contract sees it as the list
+// An iterator over the members of a set, one `u64` after the other, which is twice as fast as a `u128`. A contract sees it as the list
 // of the members that are left.
 #[derive(Debug, Drop)]
 pub(crate) struct Ascending {

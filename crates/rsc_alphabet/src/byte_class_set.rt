@@ -1,10 +1,12 @@
 //! Partitions of the bytes into intervals, and the class maps that they make.
-ghost use Rattle.std.specs.Prelude.{◌≡◌, ℕ, ◌+◌, ◌<◌, ◌≤◌, ◌↔◌, ◌==◌, ◌&&◌, ◌||◌, nat_lt, true, false, IsTrue, All, length, slice_index};
+ghost use Rattle.std.specs.Prelude.{◌≡◌, ℕ, ◌+◌, ◌*◌, ◌<◌, ◌≤◌, ◌↔◌, ◌==◌, ◌&&◌, ◌||◌, nat_lt, true, false, IsTrue, All, length, slice_index};
 ghost use Rattle.std.specs.FinSet as sets;
 ghost use Rattle.rsc_alphabet.specs.ByteSets.{runs};
-ghost use Rattle.rsc_alphabet.specs.Partitions.{changes_at, class_map, edges_of, edges_of_each};
+ghost use Rattle.rsc_alphabet.specs.Partitions.{ClassesRise, changes_at, class_map, class_of, edges_of, edges_of_each};
+ghost use Rattle.rsc_primitives.specs.BitsLaws.{has_bit};
 ghost use Rattle.rsc_alphabet.specs.Ranges.{are_alike, separates};
 
+use crate::masks::{ones, ones_below};
 use crate::{ByteClasses, ByteSet};
 use std::marker::Model;
 
@@ -114,12 +116,32 @@ impl ByteClassSet {
     pub fn byte_classes(&self) -> ByteClasses
         ensures map { result ≡ class_map (sets.contains self.now) }
         ensures below { (k : ℕ) → sets.contains self.now k ≡ true → k < 255 }
+        ensures rise { ClassesRise result }
     {
         let mut classes = ByteClasses::empty();
-        for byte in 0..=255u8 {
-            classes.set(byte, self.ends.count_below(byte));
+        let mut below = 0;
+        for number in 0..4u8 {
+            let word = self.ends.word(number);
+            set_classes(&mut classes, number, word, below);
+            below += ones(word);
         }
         classes
+    }
+}
+
+// Gives each of the 64 bytes of a word its class: how many boundaries are below the word, and in it below the byte. No class waits
+// for the one before it.
+#[inline(always)]
+fn set_classes(classes: &mut ByteClasses, number: u8, word: u64, below: u32)
+    requires len { length classes.old ≡ 256 }
+    requires number { number < 4 }
+    requires below { below ≤ 64 * number }
+    ensures len { length classes.new ≡ 256 }
+    ensures before { (k : ℕ) → k < 64 * number → slice_index classes.new k ≡ slice_index classes.old k }
+    ensures here { (i : ℕ) → i < 64 → slice_index classes.new (64 * number + i) ≡ below + class_of (has_bit word) i }
+{
+    for bit in 0..64u8 {
+        classes.set(64 * number + bit, (below + ones_below(word, bit)) as u8);
     }
 }
 
@@ -141,6 +163,7 @@ pub fn classes_of_ranges(ranges: &[(u8, u8)]) -> ByteClasses
     ensures counts { result ≡ class_map (separates ranges.now) }
     ensures alike { (b c : ℕ) → b < 256 → c < 256 →
         (slice_index result b ≡ slice_index result c) ↔ IsTrue (are_alike ranges.now b c) }
+    ensures rise { ClassesRise result }
 {
     let mut partition = ByteClassSet::empty();
     for &(start, end) in ranges {

@@ -7,7 +7,7 @@ ghost use Rattle.rsc_alphabet.specs.Symbols.{byte_of, number_of};
 ghost use Rattle.rsc_alphabet.specs.Iterators.{class_at, end_of, symbol_count, stride2_of, symbols, elements_of, representing, representatives_of};
 ghost use Rattle.rsc_alphabet.specs.ByteSets.{members};
 ghost use Rattle.rsc_primitives.specs.BitsLaws.{has_bit};
-ghost use Rattle.rsc_alphabet.specs.Partitions.{class_of};
+ghost use Rattle.rsc_alphabet.specs.Partitions.{ClassesRise, class_of};
 
 mod iter;
 
@@ -20,10 +20,10 @@ use std::fmt;
 use std::marker::Model;
 use std::ops::Bound;
 
-/// A map from byte to class, by which an automaton needs one transition for each class instead of one for each byte.
+/// A map from byte to class, so that an automaton needs one transition for each class instead of one for each byte.
 ///
 /// A contract sees it as the list of the classes of the bytes 0 to 255. Any such map can be made by [`ByteClasses::set`];
-/// those that [`crate::ByteClassSet::byte_classes`] makes rise from 0 by at most one a byte. The calls that number the
+/// the classes that [`crate::ByteClassSet::byte_classes`] makes rise from 0 by at most one a byte. The calls that number the
 /// classes, as [`ByteClasses::alphabet_len`], go by the class of the byte 255 alone.
 #[derive(Clone, Copy)]
 pub struct ByteClasses {
@@ -58,6 +58,7 @@ impl ByteClasses {
     pub fn empty() -> ByteClasses
         ensures len { length result ≡ 256 }
         ensures zero { (b : ℕ) → b < 256 → slice_index result b ≡ 0 }
+        ensures rise { ClassesRise result }
     {
         ByteClasses { classes: [0; 256] }
     }
@@ -66,6 +67,7 @@ impl ByteClasses {
     pub fn singletons() -> ByteClasses
         ensures list { result ≡ bytes }
         ensures own { (b : ℕ) → b < 256 → slice_index result b ≡ b }
+        ensures rise { ClassesRise result }
     {
         let mut classes = ByteClasses::empty();
         for byte in 0..=255u8 {
@@ -104,7 +106,7 @@ impl ByteClasses {
 
     /// How many symbols there are: the classes 0 to that of the byte 255, and one more, the end of the input.
     ///
-    /// It is one more than the number of classes, since an automaton has a transition for the end of the input too, by which it
+    /// It is one more than the number of classes, since an automaton has a transition for the end of the input too, with which it
     /// decides what looks at the next byte, as `$` and `\b` do.
     ///
     /// # Examples
@@ -205,7 +207,7 @@ impl ByteClasses {
     /// The first byte of a range, each later one whose class differs from its predecessor's, and then, where the range
     /// has no end, the end of the input.
     ///
-    /// Whoever computes something for each class, as where a state leads, needs to do so for the representatives alone.
+    /// To compute something for each class, such as where a state leads, compute it for the representatives alone.
     ///
     /// # Examples
     ///

@@ -290,24 +290,12 @@ impl ByteSet {
         if byte < 128 { self.low } else { self.high }
     }
 
-    // How many members are below a byte: the bits below its own are counted.
-    #[inline(always)]
-    pub(crate) fn count_below(&self, byte: u8) -> u8
-        ensures count { result ≡ class_of (sets.contains self.now) byte }
-        ensures bytes { (b : ℕ) → sets.contains self.now b ≡ true → b < 256 }
-    {
-        if byte < 128 {
-            ones_below(self.low, byte)
-        } else {
-            ones(self.low) + ones_below(self.high, byte - 128)
-        }
-    }
-
     // The bits of the 64 bytes from 64 * `number` on.
     #[inline]
     pub(crate) fn word(&self, number: u8) -> u64
         requires { number < 4 }
-        ensures { (i : ℕ) → i < 64 → has_bit result i ≡ sets.contains self.now (64 * number + i) }
+        ensures bits { (i : ℕ) → i < 64 → has_bit result i ≡ sets.contains self.now (64 * number + i) }
+        ensures bytes { (b : ℕ) → sets.contains self.now b ≡ true → b < 256 }
     {
         match number {
             0 => lower_word(self.low),
@@ -318,7 +306,7 @@ impl ByteSet {
     }
 }
 
-/// The iterator over a set's members, made by [`ByteSet::iter`]. A contract sees it as the list of those that are left.
+/// The iterator over a set's members, made by [`ByteSet::iter`]. A contract sees it as the list of what is left.
 #[derive(Debug, Drop)]
 pub struct ByteSetIter<'a> {
     left: Ascending,
@@ -346,7 +334,7 @@ impl<'a> Iterator for ByteSetIter<'a> {
     }
 }
 
-/// The iterator over a set's maximal runs, made by [`ByteSet::iter_ranges`]. A contract sees it as the list of those that are left.
+/// The iterator over a set's maximal runs, made by [`ByteSet::iter_ranges`]. A contract sees it as the list of what is left.
 #[derive(Debug, Drop)]
 pub struct ByteSetRangeIter<'a> {
     starts: Ascending,

@@ -1,4 +1,4 @@
-//! Laws of sets, partitions, class maps and trait impls that a caller may cite: functions that do nothing, and whose contracts are the laws.
+//! Laws of sets, partitions, class maps and trait impls that a caller can cite: functions that do nothing, and whose contracts are the laws.
 ghost use Rattle.std.specs.Prelude.{true, ◌≡◌, ◌↔◌, ◌⊎◌, ◌+◌, ◌<◌, ◌≤◌, ◌∷◌, ℕ, Bool, List, length, slice_index, slice_get, Some, All, IsTrue, ◌==◌, ◌&&◌, ◌||◌, nat_lt};
 ghost use Rattle.std.specs.List.{Contains, AllAdjacentBelow};
 ghost use Rattle.std.specs.List.Sorted.{IsStrictlyIncreasing};
@@ -8,14 +8,14 @@ ghost use Rattle.std.specs.declared.ops.Bound.TheVariants.{Unbounded};
 ghost use Rattle.std.specs.Range.Bound.{start_index, end_index};
 ghost use Rattle.rsc_alphabet.specs.Bytes.{bytes};
 ghost use Rattle.rsc_alphabet.specs.ByteSets.{Numbers, members, runs, IsMaximalRun};
-ghost use Rattle.rsc_alphabet.specs.Partitions.{Together, class_map, edges_of, edges_of_each, changes_at};
+ghost use Rattle.rsc_alphabet.specs.Partitions.{ClassesRise, Together, class_map, edges_of, edges_of_each, changes_at};
 ghost use Rattle.rsc_alphabet.specs.Ranges.{holds, are_alike};
 ghost use Rattle.rsc_alphabet.specs.Symbols.{Symbol, byte, symbol_cmp};
 ghost use Rattle.rsc_alphabet.specs.Iterators.{end_of, symbols, symbol_count, representatives_of};
 
 use crate::{ByteClassSet, ByteClasses, ByteSet, Unit};
 
-/// Two bytes have one class exactly if they are together: whoever has a class map need never count boundaries.
+/// Two bytes have one class exactly if they are together: with a class map nobody need count boundaries.
 pub fn one_class_is_together()
     ensures { (p : ℕ → Bool) (b c : ℕ) → b < 256 → c < 256 →
         (slice_index (class_map p) b ≡ slice_index (class_map p) c) ↔ Together p b c }
@@ -23,6 +23,7 @@ pub fn one_class_is_together()
 
 /// The classes of a partition start at 0, and rise by at most 1 from a byte to the next.
 pub fn classes_rise_by_one()
+    ensures rise { (p : ℕ → Bool) → ClassesRise (class_map p) }
     ensures first { (p : ℕ → Bool) → slice_index (class_map p) 0 ≡ 0 }
     ensures next { (p : ℕ → Bool) (b : ℕ) → b < 255 →
         (slice_index (class_map p) (b + 1) ≡ slice_index (class_map p) b)

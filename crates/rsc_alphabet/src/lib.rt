@@ -1,4 +1,18 @@
 //! The alphabets of finite automata: sets of bytes, partitions of the bytes into intervals, and maps from a byte to its class.
+//!
+//! A dense table of an automaton has a row for each state and a column for each symbol. Most automata tell few bytes apart, so a column serves a whole
+//! class of bytes. A [`ByteClassSet`] collects where one class ends and the next begins, and [`ByteClasses`] maps each byte to its class.
+//!
+//! The end of the input is a symbol of its own, a [`Unit`] after all classes: an assertion such as `$` is decided when the byte after a position
+//! is known, so an automaton takes one more step at the end. The number of symbols, [`ByteClasses::alphabet_len`], counts it.
+//!
+//! Classes are intervals, in the order of their bytes, so a partition is the set of its boundaries, and a range of bytes adds two of them.
+//!
+//! ```
+//! let mut set = ByteClassSet::empty();
+//! set.set_range(b'a', b'z');
+//! assert!(set.byte_classes().alphabet_len() == 4);
+//! ```
 #![tactic(auto)]
 
 mod ascending;
@@ -6,7 +20,7 @@ mod byte_class_set;
 mod byte_classes;
 mod byte_set;
 mod lanes;
-/// Laws that a caller may cite.
+/// Laws that a caller can cite.
 pub mod laws;
 mod masks;
 mod unit;

@@ -164,7 +164,7 @@ impl Unit {
         self.as_eoi().is_some()
     }
 
-    /// Whether this is a word byte: a digit, a letter or `_` of ASCII. An end of the input is none.
+    /// Whether this is a word byte: a digit, a letter or `_` of ASCII. An end of the input is not.
     #[inline]
     pub fn is_word_byte(self) -> bool
         ensures { result ≡ is_word_symbol self }
@@ -177,6 +177,11 @@ impl Unit {
 }
 
 impl fmt::Debug for Unit {
+    ghost use Rattle.std.specs.Prelude.{Some};
+    ghost use Rattle.rsc_alphabet.specs.Symbols.{symbol_text};
+
+    ghost debug_output = { λ u. Some (symbol_text u) };
+
     fn fmt<W: fmt::Write>(&self, f: &mut fmt::Formatter<W>) -> fmt::Result {
         match self.0 {
             UnitKind::U8(byte) => fmt::Debug::fmt(&DebugByte(byte), f),

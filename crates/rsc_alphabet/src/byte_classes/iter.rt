@@ -9,7 +9,7 @@ use crate::{ByteClasses, ByteSet, Unit};
 use std::marker::{Model, PhantomData};
 
 /// The iterator over the classes as units, made by [`crate::ByteClasses::iter`].
-/// A contract sees it as the list of those that are left.
+/// A contract sees it as the list of what is left.
 #[derive(Debug, Drop)]
 pub struct ByteClassIter<'a> {
     pub(super) classes: &'a ByteClasses,
@@ -49,7 +49,7 @@ impl<'a> Iterator for ByteClassIter<'a> {
 }
 
 /// The iterator over the elements of a class, made by [`crate::ByteClasses::elements`].
-/// A contract sees it as the list of those that are left.
+/// A contract sees it as the list of what is left.
 #[derive(Debug, Drop)]
 pub struct ByteClassElements<'a> {
     left: Ascending,
@@ -101,7 +101,7 @@ impl<'a> Iterator for ByteClassElements<'a> {
 }
 
 /// The iterator over a range's representatives, made by [`crate::ByteClasses::representatives`].
-/// A contract sees it as the list of those that are left.
+/// A contract sees it as the list of what is left.
 #[derive(Debug, Drop)]
 pub struct ByteClassRepresentatives<'a> {
     classes: &'a ByteClasses,

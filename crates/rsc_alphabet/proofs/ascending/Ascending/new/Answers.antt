@@ -6,4 +6,4 @@ pub invariant_of-result : goal.invariant_of-result
 invariant_of-result c = (omega arith, whole_word_fits 0 c.word.result (omega arith) (omega (arith, c.word.type_inv)))
 
 pub returns : goal.returns
-returns c = whole_word c.args.set 0 c.word.result (omega arith) c.word.ensures
+returns c = whole_word c.args.set 0 c.word.result (omega arith) c.word.ensures.bits

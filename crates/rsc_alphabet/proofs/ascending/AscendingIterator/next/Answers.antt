@@ -26,7 +26,7 @@ loop-self-preserved c =
     rw c.from.ensures (
       omega (arith, c.loop-self.invariant.0),
       whole_word_fits (s.number + 1) c.word-self-inside.result (omega (arith, c.loop-self.invariant.0)) (omega (arith, c.word-self-inside.type_inv)),
-      next_word s.set s.number s.byte c.word-self-inside.result (omega (arith, c.loop-self.invariant.0)) c.word-self-inside.ensures
+      next_word s.set s.number s.byte c.word-self-inside.result (omega (arith, c.loop-self.invariant.0)) c.word-self-inside.ensures.bits
           ∙ sym (ap (members_left s.set s.number s.byte) c.loop-self-test.true) ∙ c.loop-self.invariant.2,
     )
 

@@ -1,0 +1,77 @@
+//! Shown texts, and the traits of each type.
+use rsc_alphabet::{
+    ByteClassElements, ByteClassIter, ByteClassRepresentatives, ByteClassSet, ByteClasses, ByteSet,
+    ByteSetIter, ByteSetRangeIter, Unit,
+};
+use std::fmt;
+use std::test::Fail;
+
+#[test]
+fn each_unit_is_shown(rt: HostRuntime) -> Result<(), Fail> {
+    let alloc = rt.alloc();
+    for byte in 0..=255u8 {
+        let unit = Unit::u8(byte);
+        let text = format!(in alloc; "{unit:?}")?;
+        let want = match byte {
+            b' ' => String::from_str(alloc, "' '")?,
+            b'\t' => String::from_str(alloc, "\\t")?,
+            b'\n' => String::from_str(alloc, "\\n")?,
+            b'\r' => String::from_str(alloc, "\\r")?,
+            b'"' => String::from_str(alloc, "\\\"")?,
+            b'\'' => String::from_str(alloc, "\\'")?,
+            b'\\' => String::from_str(alloc, "\\\\")?,
+            0x21..=0x7E => format!(in alloc; "{}", char::from(byte))?,
+            _ => format!(in alloc; "\\x{byte:02X}")?,
+        };
+        assert_eq!(rt; text.as_str(), want.as_str());
+    }
+    for count in 0..=256usize {
+        let unit = Unit::eoi(count);
+        assert_eq!(rt; format!(in alloc; "{unit:?}")?.as_str(), "EOI");
+    }
+    Ok(())
+}
+
+#[test]
+fn each_range_of_each_class_is_shown(rt: HostRuntime) -> Result<(), Fail> {
+    let alloc = rt.alloc();
+    let mut classes = ByteClasses::empty();
+    for byte in [b'Z', b'a', b'b', b'c', 0xFF] {
+        classes.set(byte, 1);
+    }
+    assert_eq!(rt;
+        format!(in alloc; "{classes:?}")?.as_str(),
+        "ByteClasses(0 => [\\x00-Y[-`d-\\xFE], 1 => [Za-c\\xFF], 2 => [EOI])"
+    );
+    // A class that no byte has is shown without a range.
+    classes.set(0xFF, 3);
+    assert_eq!(rt;
+        format!(in alloc; "{classes:?}")?.as_str(),
+        "ByteClasses(0 => [\\x00-Y[-`d-\\xFE], 1 => [Za-c], 2 => [], 3 => [\\xFF], 4 => [EOI])"
+    );
+    Ok(())
+}
+
+fn is_copied<T: Clone + Copy + Eq + fmt::Debug>() {}
+
+fn is_ordered<T: Clone + Copy + Ord + fmt::Debug>() {}
+
+fn is_cloned<T: Clone + Default + fmt::Debug>() {}
+
+fn has_default<T: Clone + Copy + Default + fmt::Debug>() {}
+
+fn is_walked<T: Iterator + fmt::Debug>() {}
+
+#[test]
+fn traits_of_each_type(_rt: HostRuntime) {
+    is_ordered::<Unit>();
+    is_copied::<ByteSet>();
+    has_default::<ByteSet>();
+    has_default::<ByteClasses>();
+    is_cloned::<ByteClassSet>();
+    is_walked::<ByteClassIter<'_>>();
+    is_walked::<ByteClassElements<'_>>();
+    is_walked::<ByteClassRepresentatives<'_>>();
+    is_walked::<ByteSetIter<'_>>();
+    is_walked::<ByteSetRangeIter<'_>>();
+}
