@@ -1,10 +1,9 @@
 -- A loop over the members of a set that asks each for something.
-use Rattle.std.proofs.Common.{◌≡◌, ◌↔◌, ◌≢◌, Bool, true, false, ◌||◌, List, [], ◌∷◌, refl, sym, ap, ◌∙◌, subst, nat_eq, ◌⊎◌, inl, inr, ⊎_elim, true≢false}
-use Rattle.std.specs.Prelude.{IsTrue}
+use Rattle.std.proofs.Common.{[], ◌≡◌, ◌≢◌, true, ◌||◌, List, ◌∷◌, sym, ap, ◌∙◌, subst, nat_eq, ◌⊎◌, inl, inr, ⊎_elim, true≢false}
 use Rattle.std.specs.Cmp.{unsigned_tied}
 use Rattle.std.specs.FinSet as sets
 use Rattle.std.specs.FinSet.{contains-empty, contains-insert}
-use Rattle.std.proofs.lemmas.Bool.{cases_eq, eq-eqb, ne_eqb}
+use Rattle.std.proofs.lemmas.Bool.{cases_eq, ne_eqb}
 use Rattle.std.proofs.Math.Bool.{or-true}
 use Rattle.rsc_look.specs.declared.assertion.Look.{Look}
 use Rattle.rsc_look.specs.Looks.{repr_of}
@@ -22,15 +21,11 @@ contains-members s l = contains-filtered (λ m. sets.contains s m) l
 pub HasAsked-none : (s : Looks) (rest : List Look) (P : Look → Type 0) → rest ≡ members s → HasAsked s rest P
 HasAsked-none s rest P e = rw e (record { asked = λ l h. inl (contains-members s l ∙ h); left = λ l h. sym (contains-members s l) ∙ h })
 
-with_first : (x : Look) (rest : List Look) (l : Look) → sets.contains (sets.from_list {R = look_cmp} (x ∷ rest)) l ≡ (nat_eq (repr_of l) (repr_of x) || sets.contains (sets.from_list {R = look_cmp} rest) l)
+with_first : (x : Look) (rest : List Look) (l : Look)
+    → sets.contains (sets.from_list {R = look_cmp} (x ∷ rest)) l ≡ (nat_eq (repr_of l) (repr_of x) || sets.contains (sets.from_list {R = look_cmp} rest) l)
 with_first x rest l =
-    contains-insert look_cmp_total (sets.from_list rest) x l ∙ ap (λ b. b || sets.contains (sets.from_list {R = look_cmp} rest) l) (unsigned_tied (repr_of l) (repr_of x))
-
--- the first of those that are left is a member
-pub HasAsked-first : (s : Looks) (x : Look) (all rest : List Look) (P : Look → Type 0) → HasAsked s all P → all ≡ x ∷ rest → sets.contains s x ≡ true
-HasAsked-first s x all rest P a e =
-    a.left x (ap (λ (r : List Look). sets.contains (sets.from_list {R = look_cmp} r) x) e ∙ with_first x rest x
-    ∙ ap (λ b. b || sets.contains (sets.from_list {R = look_cmp} rest) x) (eq-eqb (repr_of x) (repr_of x) refl))
+    contains-insert look_cmp_total (sets.from_list rest) x l
+    ∙ ap (λ b. b || sets.contains (sets.from_list {R = look_cmp} rest) l) (unsigned_tied (repr_of l) (repr_of x))
 
 pub HasAsked-more : (s : Looks) (x : Look) (all rest : List Look) (P : Look → Type 0) → HasAsked s all P → all ≡ x ∷ rest → P x → HasAsked s rest P
 HasAsked-more s x all rest P a e p = record {
@@ -42,15 +37,13 @@ HasAsked-more s x all rest P a e p = record {
       (cases_eq (repr_of l) (repr_of x)))
       (λ (q : P l). inr q)
       (a.asked l h);
-  left = λ l h. a.left l (ap (λ (r : List Look). sets.contains (sets.from_list {R = look_cmp} r) l) e ∙ with_first x rest l ∙ ap (λ b. nat_eq (repr_of l) (repr_of x) || b) h ∙ or-true (nat_eq (repr_of l) (repr_of x)));
+  left = λ l h. a.left l (ap (λ (r : List Look). sets.contains (sets.from_list {R = look_cmp} r) l) e ∙ with_first x rest l
+      ∙ ap (λ b. nat_eq (repr_of l) (repr_of x) || b) h ∙ or-true (nat_eq (repr_of l) (repr_of x)));
 }
 
 pub HasAsked-all : (s : Looks) (rest : List Look) (P : Look → Type 0) → HasAsked s rest P → rest ≡ [] → (l : Look) → sets.contains s l ≡ true → P l
 HasAsked-all s rest P a e l h = ⊎_elim
-    (λ (q : sets.contains (sets.from_list {R = look_cmp} rest) l ≡ true). absurd (true≢false (sym q ∙ ap (λ (r : List Look). sets.contains (sets.from_list {R = look_cmp} r) l) e ∙ contains-empty look_cmp l)))
+    (λ (q : sets.contains (sets.from_list {R = look_cmp} rest) l ≡ true). absurd
+    (true≢false (sym q ∙ ap (λ (r : List Look). sets.contains (sets.from_list {R = look_cmp} r) l) e ∙ contains-empty look_cmp l)))
     (λ (q : P l). q)
     (a.asked l h)
-
--- an assertion that P doesn't hold of refutes all
-pub refuted : (s : Looks) (x : Look) (all rest : List Look) (P : Look → Type 0) (r : Bool) → HasAsked s all P → all ≡ x ∷ rest → IsTrue r ↔ P x → r ≡ false → IsTrue false ↔ ((l : Look) → sets.contains s l ≡ true → P l)
-refuted s x all rest P r a e is fails = ((λ h. absurd (true≢false (sym h))), (λ each. sym fails ∙ is.1 (each x (HasAsked-first s x all rest P a e))))

@@ -7,7 +7,7 @@ use Rattle.std.proofs.lemmas.Bool.{or_left, or_right, cases_lt}
 use Rattle.rsc_primitives.specs.Utf8.{is_word_byte}
 use Rattle.rsc_look.specs.declared.assertion.Look.{Look}
 use Rattle.rsc_look.specs.declared.assertion.Look.TheVariants.{Start, End, StartLF, EndLF, StartCRLF, EndCRLF, WordAscii, WordAsciiNegate, WordStartAscii, WordEndAscii, WordStartHalfAscii, WordEndHalfAscii}
-use Rattle.rsc_look.specs.Holds.{byte_before, is_byte, is_word_at, holds_at_bytes}
+use Rattle.rsc_look.specs.Holds.{byte_before, is_byte, is_word_neighbor, holds_at_bytes}
 use Rattle.rsc_alphabet.specs.Partitions.{Together}
 use Rattle.rsc_look.specs.Keeping.{AreInterchanged}
 use Rattle.rsc_look.proofs.Marks.{is_edge, is_word_mark, is_mark}
@@ -42,7 +42,8 @@ above x a = grind (arith, nat_tests)
 at_low_line : (a : ℕ) → eqb a 0x5F ≡ (leb a 0x5F && not (leb a 0x5E))
 at_low_line a = grind (arith, nat_tests)
 
-is_word_byte-between : (a : ℕ) → is_word_byte a ≡ word_between (leb a 0x2F) (leb a 0x39) (leb a 0x40) (leb a 0x5A) (leb a 0x5E) (leb a 0x5F) (leb a 0x60) (leb a 0x7A)
+is_word_byte-between : (a : ℕ)
+    → is_word_byte a ≡ word_between (leb a 0x2F) (leb a 0x39) (leb a 0x40) (leb a 0x5A) (leb a 0x5E) (leb a 0x5F) (leb a 0x60) (leb a 0x7A)
 is_word_byte-between a =
     let e1 : leb 0x30 a ≡ not (leb a 0x2F) = above 0x2F a in
     let e2 : leb 0x41 a ≡ not (leb a 0x40) = above 0x40 a in
@@ -99,7 +100,7 @@ same_byte p (Some a) (Some b) t s h = Together-eqb p a b t h.0 h.1 s h.2
 same_byte p None (Some b) t s h = absurd h
 same_byte p (Some a) None t s h = absurd h
 
-same_word : (p : ℕ → Bool) (a b : Option ℕ) → HasMarks p is_word_mark → TogetherAt p a b → is_word_at a ≡ is_word_at b
+same_word : (p : ℕ → Bool) (a b : Option ℕ) → HasMarks p is_word_mark → TogetherAt p a b → is_word_neighbor a ≡ is_word_neighbor b
 same_word p None None s h = refl
 same_word p (Some a) (Some b) s h = Together-is_word_byte p a b s h.2
 same_word p None (Some b) s h = absurd h

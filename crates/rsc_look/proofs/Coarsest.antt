@@ -1,20 +1,18 @@
 -- The boundaries of a list's members make the coarsest partition that keeps them.
-use Rattle.std.proofs.Common.{◌≡◌, ◌↔◌, ℕ, zero, suc, ◌+◌, ◌<◌, Bool, true, false, List, [], ◌∷◌, refl, sym, ap, ◌∙◌, subst, arith, ◌⊎◌, ⊎_elim, true≢false}
+use Rattle.std.proofs.Common.{[], ◌≡◌, ◌↔◌, ℕ, zero, suc, ◌+◌, ◌<◌, Bool, true, false, List, ◌∷◌, refl, sym, ap, ◌∙◌, subst, arith, true≢false}
 use Rattle.std.specs.Prelude.{slice_index, length}
 use Rattle.std.specs.List.{Contains, Any}
 use Rattle.std.specs.FinSet as sets
 use Rattle.std.proofs.lemmas.List.Folds.{list_any_at, Any-from_list_any}
-use Rattle.std.proofs.lemmas.List.Elements.{All-cons, All-nil}
 use Rattle.std.proofs.lemmas.Bool.{true_from_ne_false}
 use Rattle.rsc_alphabet.specs.Partitions.{Together, class_map}
-use Rattle.rsc_alphabet.specs.SameMembers.{same_bools}
 use Rattle.rsc_look.specs.declared.assertion.Look.{Look}
 use Rattle.rsc_look.specs.declared.assertion.Look.TheVariants.{Start, End, StartLF, EndLF, StartCRLF, EndCRLF}
 use Rattle.rsc_look.specs.Looks.{is_unicode}
 use Rattle.rsc_look.specs.Holds.{byte_before, byte_after, holds_at_bytes, Holds}
 use Rattle.rsc_look.specs.Boundaries.{boundaries_of_each}
 use Rattle.rsc_look.specs.Keeping.{IsHaystack, AreInterchanged, DifferInAscii, Keeps, IsCoarsest, AgreesWithAscii, AgreesWhereAsked, Tells, IsNeeded, IsCoarsestMap}
-use Rattle.rsc_look.specs.KeepingLaws.{next_together, alike_alone, not_told}
+use Rattle.rsc_look.specs.KeepingLaws.{alike_alone, not_told}
 use Rattle.rsc_look.proofs.Marks.{is_word_mark, is_mark, marks_of, contains-boundaries_of_each}
 use Rattle.rsc_look.proofs.BytesKept.{HasMarks, TogetherAt-slice_get, TogetherAt-before, holds_at_bytes-same}
 use Rattle.rsc_look.proofs.Sides.{Holds-bytes, Holds-sides, HoldsAtSides-moves, Interchange, Interchange-from, Interchange-sym}
@@ -36,12 +34,14 @@ pub kept_at_bytes : (p : ℕ → Bool) (l : Look) (t : ℕ) (W : ℕ → Bool) �
     → (i : ℕ) → Holds l t W h i ↔ Holds l t W k i
 kept_at_bytes p l t W m e h k s i =
     let same : holds_at_bytes l t (byte_before h i) (byte_after h i) ≡ holds_at_bytes l t (byte_before k i) (byte_after k i) =
-    holds_at_bytes-same p l t m (byte_before h i) (byte_before k i) (byte_after h i) (byte_after k i) (TogetherAt-before p h k i s) (TogetherAt-slice_get p h k i s) in
+    holds_at_bytes-same p l t m (byte_before h i) (byte_before k i) (byte_after h i) (byte_after k i) (TogetherAt-before p h k i s)
+    (TogetherAt-slice_get p h k i s) in
     let a = Holds-bytes l t W h i e in
     let b = Holds-bytes l t W k i e in
     ((λ x. b.1 (sym same ∙ a.0 x)), (λ x. a.1 (same ∙ b.0 x)))
 
-pub kept_at_characters : (p : ℕ → Bool) (l : Look) (t : ℕ) (W : ℕ → Bool) → AgreesWithAscii W → HasMarks p (is_mark l t) → is_unicode l ≡ true → (h k : List ℕ) → AreInterchanged p h k → DifferInAscii h k
+pub kept_at_characters : (p : ℕ → Bool) (l : Look) (t : ℕ) (W : ℕ → Bool) → AgreesWithAscii W → HasMarks p (is_mark l t) → is_unicode l ≡ true
+    → (h k : List ℕ) → AreInterchanged p h k → DifferInAscii h k
     → (i : ℕ) → Holds l t W h i ↔ Holds l t W k i
 kept_at_characters p l t W ascii m e h k s d i =
     let words : HasMarks p is_word_mark = λ b q x. m b q (is_mark-unicode l t b e ∙ x) in
@@ -67,7 +67,8 @@ differ_alone b h zero l n = (omega arith, h)
 differ_alone b h (suc i) l n = absurd (omega arith)
 
 -- a partition that keeps an assertion has each boundary of it
-pub mark_is_needed : (q : ℕ → Bool) (looks : List Look) (l : Look) (t : ℕ) (W : ℕ → Bool) (b : ℕ) → (is_unicode l ≡ true → AgreesWithAscii W) → Keeps q looks t W → Contains looks l → b < 255 → is_mark l t b ≡ true → q b ≡ true
+pub mark_is_needed : (q : ℕ → Bool) (looks : List Look) (l : Look) (t : ℕ) (W : ℕ → Bool) (b : ℕ) → (is_unicode l ≡ true → AgreesWithAscii W)
+    → Keeps q looks t W → Contains looks l → b < 255 → is_mark l t b ≡ true → q b ≡ true
 mark_is_needed q looks l t W b a keeps c lt m = true_from_ne_false (q b) (λ e. go e (is_unicode l) refl)
   where
     told : Tells l t W (b ∷ []) ((b + 1) ∷ []) (place_of l)
@@ -75,13 +76,16 @@ mark_is_needed q looks l t W b a keeps c lt m = true_from_ne_false (q b) (λ e. 
 
     go : q b ≡ false → (u : Bool) → is_unicode l ≡ u → ⊥
     go e false f = not_told _ _ (keeps.at_bytes l c f (b ∷ []) ((b + 1) ∷ []) (alike_alone q b lt e) (place_of l) (place_of_le l)) told
-    go e true f = not_told _ _ (keeps.at_characters l c f (b ∷ []) ((b + 1) ∷ []) (alike_alone q b lt e) (differ_alone b (below_127 b (sym (is_mark-unicode l t b f) ∙ m))) (place_of l) (place_of_le l)) told
+    go e true f = not_told _ _
+        (keeps.at_characters l c f (b ∷ []) ((b + 1) ∷ []) (alike_alone q b lt e) (differ_alone b (below_127 b (sym (is_mark-unicode l t b f) ∙ m)))
+        (place_of l) (place_of_le l)) told
 
 -- the member whose boundary it is
 member_with : (looks : List Look) (t b : ℕ) → sets.contains (boundaries_of_each looks t) b ≡ true → Any (λ l. is_mark l t b ≡ true) looks
 member_with looks t b m = Any-from_list_any (λ l. is_mark l t b) looks (sym (contains-boundaries_of_each looks t b) ∙ m)
 
-boundaries-IsCoarsest : (looks : List Look) (t : ℕ) (W : ℕ → Bool) → AgreesWhereAsked W looks → IsCoarsest (sets.contains (boundaries_of_each looks t)) looks t W
+boundaries-IsCoarsest : (looks : List Look) (t : ℕ) (W : ℕ → Bool) → AgreesWhereAsked W looks
+    → IsCoarsest (sets.contains (boundaries_of_each looks t)) looks t W
 boundaries-IsCoarsest looks t W a = record {
   keeps = Keeps-from (sets.contains (boundaries_of_each looks t)) looks t W (λ b lt m. contains-boundaries_of_each looks t b ∙ m) a;
   least = λ q keeps b lt m.
@@ -90,24 +94,22 @@ boundaries-IsCoarsest looks t W a = record {
       mark_is_needed q looks y.1 t W b (a y.1 c) keeps c lt y.4;
 }
 
-boundaries-IsNeeded : (looks : List Look) (t : ℕ) (W : ℕ → Bool) (b : ℕ) → AgreesWhereAsked W looks → sets.contains (boundaries_of_each looks t) b ≡ true → IsNeeded b looks t W
+boundaries-IsNeeded : (looks : List Look) (t : ℕ) (W : ℕ → Bool) (b : ℕ) → AgreesWhereAsked W looks → sets.contains (boundaries_of_each looks t) b ≡ true
+    → IsNeeded b looks t W
 boundaries-IsNeeded looks t W b a m =
     let y : Any (λ l. is_mark l t b ≡ true) looks = member_with looks t b m in
     let c : Contains looks y.1 = (y.0, y.2, y.3) in
     record { look = y.1; listed = c; position = place_of y.1; at_an_end = place_of_le y.1; tells = Tells-mark y.1 t W b (a y.1 c) y.4 }
 
 -- the class map of the members' boundaries is that of the coarsest partition
-pub IsCoarsestMap-from : (m : List ℕ) (looks : List Look) (t : ℕ) (W : ℕ → Bool) → m ≡ class_map (sets.contains (boundaries_of_each looks t)) → AgreesWhereAsked W looks → IsCoarsestMap m looks t W
+pub IsCoarsestMap-from : (m : List ℕ) (looks : List Look) (t : ℕ) (W : ℕ → Bool) → m ≡ class_map (sets.contains (boundaries_of_each looks t))
+    → AgreesWhereAsked W looks → IsCoarsestMap m looks t W
 IsCoarsestMap-from m looks t W is a = record {
   boundaries = sets.contains (boundaries_of_each looks t);
   classes = is;
   coarsest = boundaries-IsCoarsest looks t W a;
   needed = λ b lt e. boundaries-IsNeeded looks t W b a e;
 }
-
--- two coarsest partitions have the same boundaries
-pub IsCoarsest-same : (p q : ℕ → Bool) (looks : List Look) (t : ℕ) (W : ℕ → Bool) → IsCoarsest p looks t W → IsCoarsest q looks t W → (b : ℕ) → b < 255 → p b ≡ q b
-IsCoarsest-same p q looks t W f g b l = same_bools (p b) (q b) (f.least q g.keeps b l) (g.least p f.keeps b l)
 
 -- haystacks whose bytes at each index have one class are interchanged, where one class is to be together
 pub AreInterchanged-from_classes : (m : List ℕ) (p : ℕ → Bool) (h k : List ℕ)
@@ -118,5 +120,6 @@ AreInterchanged-from_classes m p h k one classes first second len same = record 
   first = first;
   second = second;
   same_length = len;
-  together = λ j lt. (one p (slice_index h j) (slice_index k j) (first j 0 lt) (second j 0 (subst (λ n. j < n) len lt))).0 (subst (λ c. slice_index c (slice_index h j) ≡ slice_index c (slice_index k j)) classes (same j lt));
+  together = λ j lt. (one p (slice_index h j) (slice_index k j) (first j 0 lt) (second j 0 (subst (λ n. j < n) len lt))).0
+      (subst (λ c. slice_index c (slice_index h j) ≡ slice_index c (slice_index k j)) classes (same j lt));
 }

@@ -20,7 +20,8 @@ use Rattle.rsc_look.proofs.LookSetLemmas.{looks_of-none, repr_of-lt}
 filter-map : (p : Look → Bool) (ks : List ℕ) → filter p (map look_at ks) ≡ map look_at (filter (λ k. p (look_at k)) ks)
 filter-map p [] = refl
 filter-map p (k ∷ ks) =
-    elim (p (look_at k)) as (λ v. cond v (look_at k ∷ filter p (map look_at ks)) (filter p (map look_at ks)) ≡ map look_at (cond v (k ∷ filter (λ j. p (look_at j)) ks) (filter (λ j. p (look_at j)) ks))) [
+    elim (p (look_at k)) as (λ v. cond v (look_at k ∷ filter p (map look_at ks)) (filter p (map look_at ks)) ≡ map look_at
+    (cond v (k ∷ filter (λ j. p (look_at j)) ks) (filter (λ j. p (look_at j)) ks))) [
       | true ↦ ap (λ t. look_at k ∷ t) (filter-map p ks)
       | false ↦ filter-map p ks
     ]
@@ -47,13 +48,15 @@ first_member s k l is none =
     q : ℕ → Bool
     q j = sets.contains (sets.remove s (look_at k)) (look_at j)
 
-    without : (j : ℕ) → sets.contains (sets.remove s (look_at k)) (look_at j) ≡ (not (nat_eq (repr_of (look_at j)) (repr_of (look_at k))) && sets.contains s (look_at j))
+    without : (j : ℕ) → sets.contains (sets.remove s (look_at k)) (look_at j) ≡
+        (not (nat_eq (repr_of (look_at j)) (repr_of (look_at k))) && sets.contains s (look_at j))
     without j = contains-remove look_cmp_total s (look_at k) (look_at j) ∙ ap (λ b. not b && sets.contains s (look_at j)) (tied (look_at j) (look_at k))
 
     gone : (j : ℕ) → j < k + 1 → q j ≡ false
     gone j h = without j ∙ ⊎_elim
         (λ (e : j ≡ k). ap (λ b. not b && p j) (eq-eqb (repr_of (look_at j)) (repr_of (look_at k)) (ap (λ i. repr_of (look_at i)) e)))
-        (λ (ne : j ≢ k). ap (λ b. not (nat_eq (repr_of (look_at j)) (repr_of (look_at k))) && b) (none j (omega arith)) ∙ and-false (not (nat_eq (repr_of (look_at j)) (repr_of (look_at k)))))
+        (λ (ne : j ≢ k). ap (λ b. not (nat_eq (repr_of (look_at j)) (repr_of (look_at k))) && b) (none j (omega arith))
+        ∙ and-false (not (nat_eq (repr_of (look_at j)) (repr_of (look_at k)))))
         (cases_eq j k)
 
     kept : (j : ℕ) → k + 1 ≤ j → j < 18 → q j ≡ p j
@@ -61,7 +64,9 @@ first_member s k l is none =
         let same : j ≡ k = sym (place_of-look_at j high) ∙ ap place_of (repr_of-injective (look_at j) (look_at k) e) ∙ place_of-look_at k l in omega arith))
 
 pub no_member : (s : Looks) → s ≡ sets.empty → members s ≡ []
-no_member s e = members-at s ∙ ap (map look_at) (filter_none (λ k. sets.contains s (look_at k)) 0 18 (λ k low high. ap (λ t. sets.contains t (look_at k)) e ∙ contains-empty look_cmp (look_at k)))
+no_member s e = members-at s
+    ∙ ap (map look_at) (filter_none (λ k. sets.contains s (look_at k)) 0 18 (λ k low high. ap (λ t. sets.contains t (look_at k)) e
+    ∙ contains-empty look_cmp (look_at k)))
 
 -- the bit found by `trailing_zeros`
 pub first_by_bits : (n : ℕ) → 0 < n → n < 2 ^ 18 → (k : ℕ) → k ≡ trailing_zeros w32 n
@@ -73,7 +78,8 @@ first_by_bits n pos h k e =
       small,
       first_member (looks_of n) k small
           (contains-looks_of n (look_at k) ∙ ap (λ p. nat_eq (bit_at n p) 1) (place_of-look_at k small) ∙ ap (λ x. nat_eq x 1) one)
-          (λ j l. contains-looks_of n (look_at j) ∙ ap (λ p. nat_eq (bit_at n p) 1) (place_of-look_at j (omega arith)) ∙ ap (λ x. nat_eq x 1) (found.2 j (rw e at l))),
+          (λ j l. contains-looks_of n (look_at j) ∙ ap (λ p. nat_eq (bit_at n p) 1) (place_of-look_at j (omega arith))
+          ∙ ap (λ x. nat_eq x 1) (found.2 j (rw e at l))),
     )
   where
     below : (n k : ℕ) → n < 2 ^ 18 → bit_at n k ≡ 1 → k < 18
@@ -92,7 +98,8 @@ shifted k l =
     let small : 2 ^ k < 2 ^ 32 = subst (λ x. x < 2 ^ 32) (repr_of-look_at k l) (let m = repr_of-lt (look_at k) in omega arith) in
     rw one (omega (arith, small))
 
-pub first_some : (n : ℕ) (r : Option Look) → (n ≡ 0 → ⊥) → n < 2 ^ 18 → ((l : Look) → (r ≡ Some l) ↔ (repr_of l ≡ 1 * 2 ^ trailing_zeros w32 n % 2 ^ 32)) → IsFirstMember (looks_of n) r
+pub first_some : (n : ℕ) (r : Option Look) → (n ≡ 0 → ⊥) → n < 2 ^ 18 → ((l : Look) → (r ≡ Some l) ↔ (repr_of l ≡ 1 * 2 ^ trailing_zeros w32 n % 2 ^ 32))
+    → IsFirstMember (looks_of n) r
 first_some n r some h is =
     let k = trailing_zeros w32 n in
     let found = first_by_bits n (omega arith) h k refl in

@@ -7,24 +7,24 @@ use Rattle.rsc_primitives.specs.Utf8Laws.{IsInside-begins, IsInside-ends}
 use Rattle.rsc_look.specs.declared.assertion.Look.{Look}
 use Rattle.rsc_look.specs.declared.assertion.Look.TheVariants.{WordUnicode}
 use Rattle.rsc_look.specs.declared.side.Side.{Side}
-use Rattle.rsc_look.specs.declared.side.Side.TheVariants.{Absent, Bad, Word, Other}
+use Rattle.rsc_look.specs.declared.side.Side.TheVariants.{Absent, Invalid, Word, Other}
 use Rattle.rsc_look.specs.Holds.{IsBefore, IsAfter, holds_at_sides, Holds}
 use Rattle.rsc_look.specs.Looks.{is_unicode}
 use Rattle.rsc_look.proofs.Sides.{Holds-sides}
 
-bad_before : (W : ℕ → Bool) (h : List ℕ) (i : ℕ) (a : Side) → IsInside h i → IsBefore W h i a → a ≡ Bad
+bad_before : (W : ℕ → Bool) (h : List ℕ) (i : ℕ) (a : Side) → IsInside h i → IsBefore W h i a → a ≡ Invalid
 bad_before W h i Absent s p = let f = s.after_first in absurd (omega arith)
-bad_before W h i Bad s p = refl
+bad_before W h i Invalid s p = refl
 bad_before W h i Word s p = absurd (IsInside-ends h i p.0 s p.1)
 bad_before W h i Other s p = absurd (IsInside-ends h i p.0 s p.1)
 
-bad_after : (W : ℕ → Bool) (h : List ℕ) (i : ℕ) (a : Side) → IsInside h i → IsAfter W h i a → a ≡ Bad
+bad_after : (W : ℕ → Bool) (h : List ℕ) (i : ℕ) (a : Side) → IsInside h i → IsAfter W h i a → a ≡ Invalid
 bad_after W h i Absent s p = let f = s.before_last in let w = s.encoded.within in absurd (omega arith)
-bad_after W h i Bad s p = refl
+bad_after W h i Invalid s p = refl
 bad_after W h i Word s p = absurd (IsInside-begins h i p.0 s p.1)
 bad_after W h i Other s p = absurd (IsInside-begins h i p.0 s p.1)
 
-neither : (l : Look) → holds_at_sides l Bad Bad ≡ false
+neither : (l : Look) → holds_at_sides l Invalid Invalid ≡ false
 neither WordUnicode = refl
 neither _ = refl
 
@@ -33,8 +33,9 @@ Holds-inside l t W h i u s p =
     let q = (Holds-sides l t W h i u).0 p in
     let a = bad_before W h i q.before s q.is_before in
     let b = bad_after W h i q.after s q.is_after in
-    let e : holds_at_sides l Bad Bad ≡ true = rw (a, b) at q.holds in
+    let e : holds_at_sides l Invalid Invalid ≡ true = rw (a, b) at q.holds in
     true≢false (sym e ∙ neither l)
 
-pub matches_inside : (l : Look) (t : ℕ) (W : ℕ → Bool) (h : List ℕ) (i : ℕ) (r : Bool) → IsTrue r ↔ Holds l t W h i → is_unicode l ≡ true → IsInside h i → r ≡ false
+pub matches_inside : (l : Look) (t : ℕ) (W : ℕ → Bool) (h : List ℕ) (i : ℕ) (r : Bool) → IsTrue r ↔ Holds l t W h i → is_unicode l ≡ true
+    → IsInside h i → r ≡ false
 matches_inside l t W h i r e u s = false_from_ne_true r (λ x. Holds-inside l t W h i u s (e.0 x))

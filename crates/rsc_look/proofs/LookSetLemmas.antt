@@ -33,7 +33,8 @@ single_bit : (l m : Look) → has_bit (repr_of l) m ≡ nat_eq (repr_of m) (repr
 single_bit l m = ⊎_elim
     (λ (e : place_of m ≡ place_of l).
     let same : m ≡ l = place_of-injective m l e in
-    ap (λ n. nat_eq (bit_at n (place_of m)) 1) (repr_of-pow l) ∙ ap (λ k. nat_eq (bit_at (2 ^ place_of l) k) 1) e ∙ ap (λ n. nat_eq n 1) (bit_at-pow_same (place_of l))
+    ap (λ n. nat_eq (bit_at n (place_of m)) 1) (repr_of-pow l) ∙ ap (λ k. nat_eq (bit_at (2 ^ place_of l) k) 1) e
+    ∙ ap (λ n. nat_eq n 1) (bit_at-pow_same (place_of l))
     ∙ sym (eq-eqb (repr_of m) (repr_of l) (ap repr_of same)))
     (λ (ne : place_of m ≢ place_of l).
     ap (λ n. nat_eq (bit_at n (place_of m)) 1) (repr_of-pow l) ∙ ap (λ n. nat_eq n 1) (bit_at-pow_other (place_of l) (place_of m) ne)
@@ -72,7 +73,8 @@ has_bit-not b l h =
 -- ---- the operations
 
 pub looks_of-none : looks_of 0 ≡ sets.empty
-looks_of-none = same_looks (looks_of 0) sets.empty (λ l. contains-looks_of 0 l ∙ ap (λ n. nat_eq n 1) (bit_at-zero (place_of l)) ∙ sym (contains-empty look_cmp l))
+looks_of-none = same_looks (looks_of 0) sets.empty (λ l. contains-looks_of 0 l ∙ ap (λ n. nat_eq n 1) (bit_at-zero (place_of l))
+    ∙ sym (contains-empty look_cmp l))
 
 all_bits : (l : Look) → has_bit 262143 l ≡ true
 all_bits Start = refl
@@ -141,7 +143,8 @@ none_by_bits n h = (
 pub same_by_bits : (a b : ℕ) → a < 2 ^ 18 → b < 2 ^ 18 → nat_eq a b ≡ same_members (looks_of a) (looks_of b)
 same_by_bits a b la lb = same_bools (nat_eq a b) (same_members (looks_of a) (looks_of b))
     (λ t. same_to look_cmp_total look_cmp-IsAntisymmetric (looks_of a) (looks_of b) (ap looks_of (eqb-true a b t)))
-    (λ t. eq-eqb a b (sym (bits_of-looks_of a la) ∙ ap bits_of (same_from look_cmp_total look_cmp-IsAntisymmetric (looks_of a) (looks_of b) t) ∙ bits_of-looks_of b lb))
+    (λ t. eq-eqb a b (sym (bits_of-looks_of a la) ∙ ap bits_of (same_from look_cmp_total look_cmp-IsAntisymmetric (looks_of a) (looks_of b) t)
+    ∙ bits_of-looks_of b lb))
 
 eighteen : length every_look ≡ 18
 unfolding every_look
@@ -169,7 +172,8 @@ members-looks_of n = ap (λ (p : Look → Bool). filter p every_look) (λ i l. c
 
 pub count_by_bits : (n : ℕ) → n < 2 ^ 18 → count_ones n ≡ length (members (looks_of n))
 count_by_bits n h =
-    ap count_ones (as_mask n h) ∙ ones-mask_l (has_bit n) every_look ∙ sym (length-filter (has_bit n) every_look) ∙ sym (ap (λ (x : List Look). length x) (members-looks_of n))
+    ap count_ones (as_mask n h) ∙ ones-mask_l (has_bit n) every_look ∙ sym (length-filter (has_bit n) every_look)
+    ∙ sym (ap (λ (x : List Look). length x) (members-looks_of n))
 
 -- ---- a set from its bits
 

@@ -55,7 +55,8 @@ contains-boundaries_of _ t b = contains-word_boundaries b
 pub contains-boundaries_of_each : (looks : List Look) (t b : ℕ) → sets.contains (boundaries_of_each looks t) b ≡ marks_of looks t b
 contains-boundaries_of_each [] t b = contains-empty nat_cmp b
 contains-boundaries_of_each (l ∷ rest) t b =
-    contains-joined (boundaries_of l t) (boundaries_of_each rest t) b ∙ ap₂ (λ x y. x || y) (contains-boundaries_of l t b) (contains-boundaries_of_each rest t b)
+    contains-joined (boundaries_of l t) (boundaries_of_each rest t) b
+    ∙ ap₂ (λ x y. x || y) (contains-boundaries_of l t b) (contains-boundaries_of_each rest t b)
 
 -- ---- a loop over a list, for a set that has the boundaries of its members so far
 
@@ -69,11 +70,13 @@ pub HasBoundaries-more : (s new : Numbers) (looks : List Look) (i : ℕ) (d : Lo
     → new ≡ sets.union s (boundaries_of (get_or looks i d) t) → HasBoundaries new (take (i + 1) looks) t
 HasBoundaries-more s new looks i d t h has e b =
     let l = get_or looks i d in
-    ap (λ u. sets.contains u b) e ∙ contains-joined s (boundaries_of l t) b ∙ ap₂ (λ x y. x || y) (has b) (contains-boundaries_of l t b ∙ sym (or-false (is_mark l t b)))
+    ap (λ u. sets.contains u b) e ∙ contains-joined s (boundaries_of l t) b
+    ∙ ap₂ (λ x y. x || y) (has b) (contains-boundaries_of l t b ∙ sym (or-false (is_mark l t b)))
     ∙ sym (ap (λ (x : List Look). marks_of x t b) (take_more looks i d h) ∙ list_any-append (λ x. is_mark x t b) (take i looks) (l ∷ []))
 
 -- after the loop over the whole list
-pub classes_whole : (looks : List Look) (t n : ℕ) (s : Numbers) (m : List ℕ) → length looks ≤ n → HasBoundaries s (take n looks) t → m ≡ class_map (sets.contains s) → m ≡ class_map (sets.contains (boundaries_of_each looks t))
+pub classes_whole : (looks : List Look) (t n : ℕ) (s : Numbers) (m : List ℕ) → length looks ≤ n → HasBoundaries s (take n looks) t
+    → m ≡ class_map (sets.contains s) → m ≡ class_map (sets.contains (boundaries_of_each looks t))
 classes_whole looks t n s m l has is =
     is ∙ class_map_same (sets.contains s) (sets.contains (boundaries_of_each looks t)) (λ b lt.
     has b ∙ ap (λ (x : List Look). marks_of x t b) (take_all n looks l) ∙ sym (contains-boundaries_of_each looks t b))

@@ -16,7 +16,7 @@ use Rattle.rsc_look.specs.declared.assertion.Look.{Look}
 use Rattle.rsc_look.specs.declared.assertion.Look.TheVariants.{Start, StartCRLF, EndCRLF, WordAscii, WordAsciiNegate, WordUnicode, WordUnicodeNegate}
 use Rattle.rsc_look.specs.declared.side.Side.{Side}
 use Rattle.rsc_look.specs.declared.side.Side.TheVariants.{Absent, Word, Other}
-use Rattle.rsc_look.specs.Holds.{byte_before, byte_after, is_byte, is_word_at, exactly_one, holds_at_bytes, holds_at_sides, is_bad, is_word_side, IsBefore, IsAfter, Holds}
+use Rattle.rsc_look.specs.Holds.{byte_before, byte_after, is_byte, is_word_neighbor, exactly_one, holds_at_bytes, holds_at_sides, is_invalid, is_word_side, IsBefore, IsAfter, Holds}
 use Rattle.rsc_look.specs.Looks.{is_unicode, reversed}
 use Rattle.rsc_look.specs.Mirrors.{is_crlf, exchanged, mirror, EndsFirst, IsTextMirrored}
 use Rattle.rsc_look.proofs.Sides.{Holds-bytes, Holds-sides, HoldsAtSides-is, HoldsAtSides-from}
@@ -67,11 +67,12 @@ is_lf-map (Some x) = grind (arith, nat_tests)
 bytes_reversed : (l : Look) (t : ℕ) (p n : Option ℕ) → is_crlf l ≡ false → holds_at_bytes (reversed l) t n p ≡ holds_at_bytes l t p n
 bytes_reversed StartCRLF t p n e = absurd (true≢false e)
 bytes_reversed EndCRLF t p n e = absurd (true≢false e)
-bytes_reversed WordAscii t p n e = exactly_one_comm (is_word_at n) (is_word_at p)
-bytes_reversed WordAsciiNegate t p n e = ap not (exactly_one_comm (is_word_at n) (is_word_at p))
+bytes_reversed WordAscii t p n e = exactly_one_comm (is_word_neighbor n) (is_word_neighbor p)
+bytes_reversed WordAsciiNegate t p n e = ap not (exactly_one_comm (is_word_neighbor n) (is_word_neighbor p))
 bytes_reversed _ t p n e = refl
 
-crlf_reversed : (l : Look) (t : ℕ) (p n : Option ℕ) → is_crlf l ≡ true → holds_at_bytes (reversed l) t (option_map exchanged n) (option_map exchanged p) ≡ holds_at_bytes l t p n
+crlf_reversed : (l : Look) (t : ℕ) (p n : Option ℕ) → is_crlf l ≡ true
+    → holds_at_bytes (reversed l) t (option_map exchanged n) (option_map exchanged p) ≡ holds_at_bytes l t p n
 crlf_reversed StartCRLF t p n e = let a = is_none-map p in let b = is_cr-map p in let d = is_lf-map p in let f = is_cr-map n in rw (a, b, d, f)
 crlf_reversed EndCRLF t p n e = let a = is_none-map n in let b = is_cr-map n in let d = is_lf-map n in let f = is_lf-map p in rw (a, b, d, f)
 crlf_reversed _ t p n e = absurd (true≢false (sym e))
@@ -85,7 +86,7 @@ negate_comm x y u v = let e = and_comm (not x) (not y) in let f = exactly_one_co
 
 sides_reversed : (l : Look) (a b : Side) → holds_at_sides (reversed l) b a ≡ holds_at_sides l a b
 sides_reversed WordUnicode a b = exactly_one_comm (is_word_side b) (is_word_side a)
-sides_reversed WordUnicodeNegate a b = negate_comm (is_bad b) (is_bad a) (is_word_side b) (is_word_side a)
+sides_reversed WordUnicodeNegate a b = negate_comm (is_invalid b) (is_invalid a) (is_word_side b) (is_word_side a)
 sides_reversed _ a b = refl
 
 -- ---- the assertions on bytes
@@ -93,13 +94,18 @@ sides_reversed _ a b = refl
 same_tests : (A B : Type 0) (x y : Bool) → A ↔ IsTrue x → B ↔ IsTrue y → x ≡ y → A ↔ B
 same_tests A B x y f g e = ((λ a. g.1 (sym e ∙ f.0 a)), (λ b. f.1 (e ∙ g.0 b)))
 
-bytes_mirrored : (l : Look) (t : ℕ) (h : List ℕ) (i : ℕ) → i ≤ length h → holds_at_bytes l t (byte_before h i) (byte_after h i) ≡ holds_at_bytes (reversed l) t (byte_before (mirror l h) (length h - i)) (byte_after (mirror l h) (length h - i))
+bytes_mirrored : (l : Look) (t : ℕ) (h : List ℕ) (i : ℕ) → i ≤ length h
+    → holds_at_bytes l t (byte_before h i) (byte_after h i) ≡ holds_at_bytes (reversed l) t (byte_before (mirror l h) (length h - i))
+    (byte_after (mirror l h) (length h - i))
 bytes_mirrored l t h i o = go (is_crlf l) refl
   where
     e : (length h - i) + i ≡ length h
     e = omega arith
 
-    go : (x : Bool) → is_crlf l ≡ x → holds_at_bytes l t (byte_before h i) (byte_after h i) ≡ holds_at_bytes (reversed l) t (byte_before (cond x (map exchanged (reverse h)) (reverse h)) (length h - i)) (byte_after (cond x (map exchanged (reverse h)) (reverse h)) (length h - i))
+    go : (x : Bool) → is_crlf l ≡ x
+        → holds_at_bytes l t (byte_before h i) (byte_after h i) ≡ holds_at_bytes (reversed l) t
+        (byte_before (cond x (map exchanged (reverse h)) (reverse h)) (length h - i))
+        (byte_after (cond x (map exchanged (reverse h)) (reverse h)) (length h - i))
     go true c =
         let p = before-map (reverse h) (length h - i) ∙ ap (option_map exchanged) (before-reverse h i (length h - i) e) in
         let q = slice_get-map exchanged (reverse h) (length h - i) ∙ ap (option_map exchanged) (after-reverse h i (length h - i) e) in
@@ -109,8 +115,10 @@ bytes_mirrored l t h i o = go (is_crlf l) refl
         let q = after-reverse h i (length h - i) e in
         rw (p, q) (sym (bytes_reversed l t (byte_before h i) (byte_after h i) c))
 
-pub Holds-mirror : (l : Look) (t : ℕ) (W : ℕ → Bool) (h : List ℕ) (i : ℕ) → is_unicode l ≡ false → i ≤ length h → Holds l t W h i ↔ Holds (reversed l) t W (mirror l h) (length h - i)
-Holds-mirror l t W h i u o = same_tests _ _ _ _ (Holds-bytes l t W h i u) (Holds-bytes (reversed l) t W (mirror l h) (length h - i) (is_unicode-reversed l ∙ u)) (bytes_mirrored l t h i o)
+pub Holds-mirror : (l : Look) (t : ℕ) (W : ℕ → Bool) (h : List ℕ) (i : ℕ) → is_unicode l ≡ false → i ≤ length h → Holds l t W h i
+    ↔ Holds (reversed l) t W (mirror l h) (length h - i)
+Holds-mirror l t W h i u o = same_tests _ _ _ _ (Holds-bytes l t W h i u)
+    (Holds-bytes (reversed l) t W (mirror l h) (length h - i) (is_unicode-reversed l ∙ u)) (bytes_mirrored l t h i o)
 
 -- ---- the assertions on characters, at the places of a text
 
@@ -118,7 +126,8 @@ side_by : (ℕ → Bool) → Option ℕ → Side
 side_by W None = Absent
 side_by W (Some c) = cond (W c) Word Other
 
-before_place : (W : ℕ → Bool) (cs : List ℕ) (k : ℕ) → all_scalars cs ≡ true → k ≤ length cs → IsBefore W (encode_utf8_all cs) (place cs k) (side_by W (byte_before cs k))
+before_place : (W : ℕ → Bool) (cs : List ℕ) (k : ℕ) → all_scalars cs ≡ true → k ≤ length cs
+    → IsBefore W (encode_utf8_all cs) (place cs k) (side_by W (byte_before cs k))
 unfolding side_by
 before_place W cs zero s l = refl
 before_place W cs (suc k) s l = let g = slice_get-get_or cs k 0 l in rw g (go (W (get_or cs k 0)) refl)
@@ -127,7 +136,8 @@ before_place W cs (suc k) s l = let g = slice_get-get_or cs k 0 l in rw g (go (W
     go true e = (get_or cs k 0, EndsAt-place cs k s l, e)
     go false e = (get_or cs k 0, EndsAt-place cs k s l, e)
 
-after_place : (W : ℕ → Bool) (cs : List ℕ) (k : ℕ) → all_scalars cs ≡ true → k ≤ length cs → IsAfter W (encode_utf8_all cs) (place cs k) (side_by W (byte_after cs k))
+after_place : (W : ℕ → Bool) (cs : List ℕ) (k : ℕ) → all_scalars cs ≡ true → k ≤ length cs
+    → IsAfter W (encode_utf8_all cs) (place cs k) (side_by W (byte_after cs k))
 unfolding side_by
 after_place W cs k s l =
     ⊎_elim
@@ -139,19 +149,23 @@ after_place W cs k s l =
     go i true e = (get_or cs k 0, BeginsAt-place cs k s i, e)
     go i false e = (get_or cs k 0, BeginsAt-place cs k s i, e)
 
-Holds-place : (l : Look) (t : ℕ) (W : ℕ → Bool) (cs : List ℕ) (k : ℕ) → is_unicode l ≡ true → all_scalars cs ≡ true → k ≤ length cs → Holds l t W (encode_utf8_all cs) (place cs k) ↔ IsTrue (holds_at_sides l (side_by W (byte_before cs k)) (side_by W (byte_after cs k)))
+Holds-place : (l : Look) (t : ℕ) (W : ℕ → Bool) (cs : List ℕ) (k : ℕ) → is_unicode l ≡ true → all_scalars cs ≡ true → k ≤ length cs
+    → Holds l t W (encode_utf8_all cs) (place cs k) ↔ IsTrue (holds_at_sides l (side_by W (byte_before cs k)) (side_by W (byte_after cs k)))
 Holds-place l t W cs k u s o =
     let h = Holds-sides l t W (encode_utf8_all cs) (place cs k) u in
     let p = before_place W cs k s o in
-    let q = after_place W cs k s o in
-    ((λ x. HoldsAtSides-is l W (encode_utf8_all cs) (place cs k) _ _ p q (h.0 x)), (λ x. h.1 (HoldsAtSides-from l W (encode_utf8_all cs) (place cs k) _ _ p q x)))
+    let q = after_place W cs k s o in (
+      (λ x. HoldsAtSides-is l W (encode_utf8_all cs) (place cs k) _ _ p q (h.0 x)),
+      (λ x. h.1 (HoldsAtSides-from l W (encode_utf8_all cs) (place cs k) _ _ p q x)),
+    )
 
 scalars_reversed : (xs ys : List ℕ) → all_scalars xs ≡ true → all_scalars ys ≡ true → all_scalars (reverse_aux xs ys) ≡ true
 scalars_reversed [] ys p q = q
 scalars_reversed (x ∷ xs) ys p q = let b = and_parts (scalar x) (all_scalars xs) p in let e = b.0 in scalars_reversed xs (x ∷ ys) b.1 (rw (e, q))
 
 -- the answer of `matches`, and the mirrors
-pub matches_mirror : (l : Look) (t : ℕ) (W : ℕ → Bool) (h : List ℕ) (i : ℕ) (r : Bool) → i ≤ length h → IsTrue r ↔ Holds l t W h i → is_unicode l ≡ false → IsTrue r ↔ Holds (reversed l) t W (mirror l h) (length h - i)
+pub matches_mirror : (l : Look) (t : ℕ) (W : ℕ → Bool) (h : List ℕ) (i : ℕ) (r : Bool) → i ≤ length h → IsTrue r ↔ Holds l t W h i → is_unicode l ≡ false
+    → IsTrue r ↔ Holds (reversed l) t W (mirror l h) (length h - i)
 matches_mirror l t W h i r o e u = let m = Holds-mirror l t W h i u o in ((λ x. m.0 (e.0 x)), (λ x. e.1 (m.1 x)))
 
 pub Holds-text_mirror : (l : Look) (t : ℕ) (W : ℕ → Bool) (cs : List ℕ) (k : ℕ) → is_unicode l ≡ true → all_scalars cs ≡ true → k ≤ length cs
@@ -173,7 +187,8 @@ ends_first h i cs k e =
     let front = (EncodesAll-std e.front (take k cs)).0 e.front_text in
     (whole.0, whole.1, e.front_length ∙ ap (λ (x : List ℕ). length x) front.1)
 
-pub matches_text_mirror : (l : Look) (t : ℕ) (W : ℕ → Bool) (h : List ℕ) (i : ℕ) (r : Bool) → IsTrue r ↔ Holds l t W h i → is_unicode l ≡ true → IsTextMirrored l t W h i (IsTrue r)
+pub matches_text_mirror : (l : Look) (t : ℕ) (W : ℕ → Bool) (h : List ℕ) (i : ℕ) (r : Bool) → IsTrue r ↔ Holds l t W h i → is_unicode l ≡ true
+    → IsTextMirrored l t W h i (IsTrue r)
 matches_text_mirror l t W h i r e u cs k m j s o =
     let here = ends_first h i cs k s in
     let there = ends_first m j (reverse cs) (length cs - k) o in

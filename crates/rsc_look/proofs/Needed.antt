@@ -74,7 +74,8 @@ sides_alone W b (suc (suc i)) l w h = absurd (omega arith)
 
 -- ---- from tests to facts
 
-Tells-from : (A B : Type 0) (x y : Bool) → (A → x ≡ true) → (x ≡ true → A) → (B → y ≡ true) → (y ≡ true → B) → exactly_one x y ≡ true → (A × (B → ⊥)) ⊎ ((A → ⊥) × B)
+Tells-from : (A B : Type 0) (x y : Bool) → (A → x ≡ true) → (x ≡ true → A) → (B → y ≡ true) → (y ≡ true → B) → exactly_one x y ≡ true → (A × (B → ⊥))
+    ⊎ ((A → ⊥) × B)
 Tells-from A B true true f g m n e = absurd (true≢false (sym e))
 Tells-from A B true false f g m n e = inl (g refl, λ b. true≢false (sym (m b)))
 Tells-from A B false true f g m n e = inr ((λ a. true≢false (sym (f a))), n refl)
@@ -82,9 +83,12 @@ Tells-from A B false false f g m n e = absurd (true≢false (sym e))
 
 tells_bytes : (l : Look) (t : ℕ) (W : ℕ → Bool) (b : ℕ) → is_unicode l ≡ false → exactly_one (alone_at_bytes l t b) (alone_at_bytes l t (b + 1)) ≡ true
     → Tells l t W (b ∷ []) ((b + 1) ∷ []) (place_of l)
-tells_bytes l t W b e x = rw e (Tells-from (IsTrue (alone_at_bytes l t b)) (IsTrue (alone_at_bytes l t (b + 1))) (alone_at_bytes l t b) (alone_at_bytes l t (b + 1)) (λ q. q) (λ q. q) (λ q. q) (λ q. q) x)
+tells_bytes l t W b e x =
+    rw e (Tells-from (IsTrue (alone_at_bytes l t b)) (IsTrue (alone_at_bytes l t (b + 1))) (alone_at_bytes l t b) (alone_at_bytes l t (b + 1)) (λ q. q)
+    (λ q. q) (λ q. q) (λ q. q) x)
 
-tells_sides : (l : Look) (t : ℕ) (W : ℕ → Bool) (b : ℕ) → is_unicode l ≡ true → AgreesWithAscii W → b + 1 < 128 → exactly_one (alone_at_sides l b) (alone_at_sides l (b + 1)) ≡ true
+tells_sides : (l : Look) (t : ℕ) (W : ℕ → Bool) (b : ℕ) → is_unicode l ≡ true → AgreesWithAscii W → b + 1 < 128
+    → exactly_one (alone_at_sides l b) (alone_at_sides l (b + 1)) ≡ true
     → Tells l t W (b ∷ []) ((b + 1) ∷ []) (place_of l)
 tells_sides l t W b e a lt x =
     let here : b < 128 = omega arith in
@@ -97,14 +101,16 @@ tells_sides l t W b e a lt x =
 -- ---- the boundaries, one by one
 
 -- a test that each number of a list passes
-each_passes_step : (test : ℕ → Bool) (x b : ℕ) (m h u v : Bool) → nat_eq x b ≡ u → test x ≡ v → (m ≡ true → h ≡ true → test b ≡ true) → (u || m) ≡ true → (v && h) ≡ true → test b ≡ true
+each_passes_step : (test : ℕ → Bool) (x b : ℕ) (m h u v : Bool) → nat_eq x b ≡ u → test x ≡ v → (m ≡ true → h ≡ true → test b ≡ true) → (u || m) ≡ true
+    → (v && h) ≡ true → test b ≡ true
 each_passes_step test x b m h true true e f r p q = let s : b ≡ x = grind (arith, nat_tests) in ap test s ∙ f
 each_passes_step test x b m h false true e f r p q = r p q
 each_passes_step test x b m h u false e f r p q = absurd (true≢false (sym q))
 
 each_passes : (test : ℕ → Bool) (xs : List ℕ) (b : ℕ) → list_any (λ x. nat_eq x b) xs ≡ true → list_all test xs ≡ true → test b ≡ true
 each_passes test [] b m h = absurd (true≢false (sym m))
-each_passes test (x ∷ xs) b m h = each_passes_step test x b (list_any (λ x. nat_eq x b) xs) (list_all test xs) (nat_eq x b) (test x) refl refl (each_passes test xs b) m h
+each_passes test (x ∷ xs) b m h = each_passes_step test x b (list_any (λ x. nat_eq x b) xs) (list_all test xs) (nat_eq x b) (test x) refl refl
+    (each_passes test xs b) m h
 
 pub below_127 : (b : ℕ) → is_word_mark b ≡ true → b + 1 < 128
 below_127 b m = let e = each_passes (λ x. nat_lt (x + 1) 128) word_marks b m refl in grind (arith, nat_tests)
@@ -117,7 +123,8 @@ tells_word_bytes l t W b e h m = tells_bytes l t W b e (each_passes (λ x. exact
 tells_word_sides : (l : Look) (t : ℕ) (W : ℕ → Bool) (b : ℕ) → is_unicode l ≡ true → AgreesWithAscii W
     → list_all (λ x. exactly_one (alone_at_sides l x) (alone_at_sides l (x + 1))) word_marks ≡ true → is_word_mark b ≡ true
     → Tells l t W (b ∷ []) ((b + 1) ∷ []) (place_of l)
-tells_word_sides l t W b e a h m = tells_sides l t W b e a (below_127 b m) (each_passes (λ x. exactly_one (alone_at_sides l x) (alone_at_sides l (x + 1))) word_marks b m h)
+tells_word_sides l t W b e a h m = tells_sides l t W b e a (below_127 b m)
+    (each_passes (λ x. exactly_one (alone_at_sides l x) (alone_at_sides l (x + 1))) word_marks b m h)
 
 tells_line : (t b : ℕ) → is_edge t b ≡ true → exactly_one (eqb b t) (eqb (b + 1) t) ≡ true
 tells_line t b m = grind (arith, nat_tests)
@@ -126,13 +133,16 @@ crlf_listed : (b : ℕ) → (is_edge 13 b || is_edge 10 b) ≡ true → list_any
 crlf_listed b m = grind (arith, nat_tests)
 
 -- each boundary of an assertion is told by it
-pub Tells-mark : (l : Look) (t : ℕ) (W : ℕ → Bool) (b : ℕ) → (is_unicode l ≡ true → AgreesWithAscii W) → is_mark l t b ≡ true → Tells l t W (b ∷ []) ((b + 1) ∷ []) (place_of l)
+pub Tells-mark : (l : Look) (t : ℕ) (W : ℕ → Bool) (b : ℕ) → (is_unicode l ≡ true → AgreesWithAscii W) → is_mark l t b ≡ true
+    → Tells l t W (b ∷ []) ((b + 1) ∷ []) (place_of l)
 Tells-mark Start t W b a m = absurd (true≢false (sym m))
 Tells-mark End t W b a m = absurd (true≢false (sym m))
 Tells-mark StartLF t W b a m = tells_bytes StartLF t W b refl (tells_line t b m)
 Tells-mark EndLF t W b a m = tells_bytes EndLF t W b refl (tells_line t b m)
-Tells-mark StartCRLF t W b a m = tells_bytes StartCRLF t W b refl (each_passes (λ x. exactly_one (alone_at_bytes StartCRLF t x) (alone_at_bytes StartCRLF t (x + 1))) (12 ∷ 13 ∷ 9 ∷ 10 ∷ []) b (crlf_listed b m) refl)
-Tells-mark EndCRLF t W b a m = tells_bytes EndCRLF t W b refl (each_passes (λ x. exactly_one (alone_at_bytes EndCRLF t x) (alone_at_bytes EndCRLF t (x + 1))) (12 ∷ 13 ∷ 9 ∷ 10 ∷ []) b (crlf_listed b m) refl)
+Tells-mark StartCRLF t W b a m = tells_bytes StartCRLF t W b refl
+    (each_passes (λ x. exactly_one (alone_at_bytes StartCRLF t x) (alone_at_bytes StartCRLF t (x + 1))) (12 ∷ 13 ∷ 9 ∷ 10 ∷ []) b (crlf_listed b m) refl)
+Tells-mark EndCRLF t W b a m = tells_bytes EndCRLF t W b refl
+    (each_passes (λ x. exactly_one (alone_at_bytes EndCRLF t x) (alone_at_bytes EndCRLF t (x + 1))) (12 ∷ 13 ∷ 9 ∷ 10 ∷ []) b (crlf_listed b m) refl)
 Tells-mark WordAscii t W b a m = tells_word_bytes WordAscii t W b refl refl m
 Tells-mark WordAsciiNegate t W b a m = tells_word_bytes WordAsciiNegate t W b refl refl m
 Tells-mark WordUnicode t W b a m = tells_word_sides WordUnicode t W b refl (a refl) refl m

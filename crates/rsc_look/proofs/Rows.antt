@@ -3,7 +3,7 @@ use Rattle.std.proofs.Common.{◌≡◌, ℕ, Bool, true, false, List, [], ◌�
 use Rattle.std.specs.FinSet as sets
 use Rattle.rsc_look.specs.declared.assertion.Look.{Look}
 use Rattle.rsc_look.specs.declared.assertion.Look.TheVariants.{StartLF, EndLF, StartCRLF, EndCRLF, WordAscii, WordUnicode, WordUnicodeNegate, WordStartHalfUnicode}
-use Rattle.rsc_look.specs.declared.side.Side.TheVariants.{Bad, Word, Other}
+use Rattle.rsc_look.specs.declared.side.Side.TheVariants.{Invalid, Word, Other}
 use Rattle.rsc_look.specs.Looks.{every_look}
 use Rattle.rsc_look.specs.LookSets.{bits_of}
 use Rattle.rsc_look.specs.LookSetLaws.{bits_of-looks_of}
@@ -38,13 +38,13 @@ mirror_of_crlf : mirror StartCRLF (13 ∷ 10 ∷ 0x61 ∷ []) ≡ 0x61 ∷ 13 �
 mirror_of_crlf = refl
 
 -- a side whose bytes are no character
-bad_after_word : holds_at_sides WordUnicode Word Bad ≡ true
+bad_after_word : holds_at_sides WordUnicode Word Invalid ≡ true
 bad_after_word = refl
 
-bad_before_word_negated : holds_at_sides WordUnicodeNegate Bad Other ≡ false
+bad_before_word_negated : holds_at_sides WordUnicodeNegate Invalid Other ≡ false
 bad_before_word_negated = refl
 
-bad_before_half_start : holds_at_sides WordStartHalfUnicode Bad Word ≡ false
+bad_before_half_start : holds_at_sides WordStartHalfUnicode Invalid Word ≡ false
 bad_before_half_start = refl
 
 -- the line terminators 0 and 255 have one boundary each

@@ -7,8 +7,8 @@ use Rattle.rsc_primitives.specs.Utf8.{is_word_byte, BeginsAt, EndsAt, EncodedFro
 use Rattle.rsc_primitives.specs.Utf8Laws.{AgreePastAscii, EncodedFrom-agree, BeginsAt-same, EndsAt-same}
 use Rattle.rsc_look.specs.declared.assertion.Look.{Look}
 use Rattle.rsc_look.specs.declared.side.Side.{Side}
-use Rattle.rsc_look.specs.declared.side.Side.TheVariants.{Absent, Bad, Word, Other}
-use Rattle.rsc_look.specs.Holds.{IsBefore, IsAfter, HoldsAtSides, holds_at_sides, exactly_one, is_bad, is_word_side, is_absent_or_other, Holds}
+use Rattle.rsc_look.specs.declared.side.Side.TheVariants.{Absent, Invalid, Word, Other}
+use Rattle.rsc_look.specs.Holds.{IsBefore, IsAfter, HoldsAtSides, holds_at_sides, exactly_one, is_invalid, is_word_side, is_edge_or_non_word, Holds}
 use Rattle.rsc_look.specs.declared.assertion.Look.TheVariants.{WordUnicode, WordUnicodeNegate, WordStartUnicode, WordEndUnicode, WordStartHalfUnicode, WordEndHalfUnicode}
 use Rattle.rsc_primitives.specs.DecidedLaws.{BeginsAt-decided, EndsAt-decided}
 use Rattle.rsc_look.specs.SideLayout.{IsSideOf}
@@ -32,53 +32,56 @@ not_both W c d e t f = true≢false (sym t ∙ ap W e ∙ f)
 
 pub IsBefore-same : (W : ℕ → Bool) (h : List ℕ) (i : ℕ) (a b : Side) → IsBefore W h i a → IsBefore W h i b → a ≡ b
 IsBefore-same W h i Absent Absent p q = refl
-IsBefore-same W h i Absent Bad p q = absurd (omega arith)
+IsBefore-same W h i Absent Invalid p q = absurd (omega arith)
 IsBefore-same W h i Absent Word p q = absurd (ends_after_start h q.0 (subst (λ x. EndsAt h x q.0) p q.1))
 IsBefore-same W h i Absent Other p q = absurd (ends_after_start h q.0 (subst (λ x. EndsAt h x q.0) p q.1))
-IsBefore-same W h i Bad Absent p q = absurd (omega arith)
-IsBefore-same W h i Bad Bad p q = refl
-IsBefore-same W h i Bad Word p q = absurd (p.1 q.0 q.1)
-IsBefore-same W h i Bad Other p q = absurd (p.1 q.0 q.1)
+IsBefore-same W h i Invalid Absent p q = absurd (omega arith)
+IsBefore-same W h i Invalid Invalid p q = refl
+IsBefore-same W h i Invalid Word p q = absurd (p.1 q.0 q.1)
+IsBefore-same W h i Invalid Other p q = absurd (p.1 q.0 q.1)
 IsBefore-same W h i Word Absent p q = absurd (ends_after_start h p.0 (subst (λ x. EndsAt h x p.0) q p.1))
-IsBefore-same W h i Word Bad p q = absurd (q.1 p.0 p.1)
+IsBefore-same W h i Word Invalid p q = absurd (q.1 p.0 p.1)
 IsBefore-same W h i Word Word p q = refl
 IsBefore-same W h i Word Other p q = absurd (not_both W p.0 q.0 (EndsAt-same h i p.0 q.0 p.1 q.1) p.2 q.2)
 IsBefore-same W h i Other Absent p q = absurd (ends_after_start h p.0 (subst (λ x. EndsAt h x p.0) q p.1))
-IsBefore-same W h i Other Bad p q = absurd (q.1 p.0 p.1)
+IsBefore-same W h i Other Invalid p q = absurd (q.1 p.0 p.1)
 IsBefore-same W h i Other Word p q = absurd (not_both W q.0 p.0 (EndsAt-same h i q.0 p.0 q.1 p.1) q.2 p.2)
 IsBefore-same W h i Other Other p q = refl
 
 pub IsAfter-same : (W : ℕ → Bool) (h : List ℕ) (i : ℕ) (a b : Side) → IsAfter W h i a → IsAfter W h i b → a ≡ b
 IsAfter-same W h i Absent Absent p q = refl
-IsAfter-same W h i Absent Bad p q = absurd (omega arith)
+IsAfter-same W h i Absent Invalid p q = absurd (omega arith)
 IsAfter-same W h i Absent Word p q = absurd (begins_before_end h q.0 (subst (λ x. BeginsAt h x q.0) p q.1))
 IsAfter-same W h i Absent Other p q = absurd (begins_before_end h q.0 (subst (λ x. BeginsAt h x q.0) p q.1))
-IsAfter-same W h i Bad Absent p q = absurd (omega arith)
-IsAfter-same W h i Bad Bad p q = refl
-IsAfter-same W h i Bad Word p q = absurd (p.1 q.0 q.1)
-IsAfter-same W h i Bad Other p q = absurd (p.1 q.0 q.1)
+IsAfter-same W h i Invalid Absent p q = absurd (omega arith)
+IsAfter-same W h i Invalid Invalid p q = refl
+IsAfter-same W h i Invalid Word p q = absurd (p.1 q.0 q.1)
+IsAfter-same W h i Invalid Other p q = absurd (p.1 q.0 q.1)
 IsAfter-same W h i Word Absent p q = absurd (begins_before_end h p.0 (subst (λ x. BeginsAt h x p.0) q p.1))
-IsAfter-same W h i Word Bad p q = absurd (q.1 p.0 p.1)
+IsAfter-same W h i Word Invalid p q = absurd (q.1 p.0 p.1)
 IsAfter-same W h i Word Word p q = refl
 IsAfter-same W h i Word Other p q = absurd (not_both W p.0 q.0 (BeginsAt-same h i p.0 q.0 p.1 q.1) p.2 q.2)
 IsAfter-same W h i Other Absent p q = absurd (begins_before_end h p.0 (subst (λ x. BeginsAt h x p.0) q p.1))
-IsAfter-same W h i Other Bad p q = absurd (q.1 p.0 p.1)
+IsAfter-same W h i Other Invalid p q = absurd (q.1 p.0 p.1)
 IsAfter-same W h i Other Word p q = absurd (not_both W q.0 p.0 (BeginsAt-same h i q.0 p.0 q.1 p.1) q.2 p.2)
 IsAfter-same W h i Other Other p q = refl
 
 -- at known sides the assertion is its entry in the table
-pub HoldsAtSides-is : (l : Look) (W : ℕ → Bool) (h : List ℕ) (i : ℕ) (a b : Side) → IsBefore W h i a → IsAfter W h i b → HoldsAtSides l W h i → holds_at_sides l a b ≡ true
+pub HoldsAtSides-is : (l : Look) (W : ℕ → Bool) (h : List ℕ) (i : ℕ) (a b : Side) → IsBefore W h i a → IsAfter W h i b → HoldsAtSides l W h i
+    → holds_at_sides l a b ≡ true
 HoldsAtSides-is l W h i a b p q s =
     let e : a ≡ s.before = IsBefore-same W h i a s.before p s.is_before in
     let f : b ≡ s.after = IsAfter-same W h i b s.after q s.is_after in
     rw (e, f) s.holds
 
-pub HoldsAtSides-from : (l : Look) (W : ℕ → Bool) (h : List ℕ) (i : ℕ) (a b : Side) → IsBefore W h i a → IsAfter W h i b → holds_at_sides l a b ≡ true → HoldsAtSides l W h i
+pub HoldsAtSides-from : (l : Look) (W : ℕ → Bool) (h : List ℕ) (i : ℕ) (a b : Side) → IsBefore W h i a → IsAfter W h i b → holds_at_sides l a b ≡ true
+    → HoldsAtSides l W h i
 HoldsAtSides-from l W h i a b p q s = record { before = a; after = b; is_before = p; is_after = q; holds = s }
 
 -- `Holds` by the kind of the assertion
 pub Holds-bytes : (l : Look) (t : ℕ) (W : ℕ → Bool) (h : List ℕ) (i : ℕ) → is_unicode l ≡ false
-    → Holds l t W h i ↔ IsTrue (Rattle.rsc_look.specs.Holds.holds_at_bytes l t (Rattle.rsc_look.specs.Holds.byte_before h i) (Rattle.rsc_look.specs.Holds.byte_after h i))
+    → Holds l t W h i ↔ IsTrue
+    (Rattle.rsc_look.specs.Holds.holds_at_bytes l t (Rattle.rsc_look.specs.Holds.byte_before h i) (Rattle.rsc_look.specs.Holds.byte_after h i))
 Holds-bytes l t W h i e = rw e ((λ x. x), (λ x. x))
 
 pub Holds-sides : (l : Look) (t : ℕ) (W : ℕ → Bool) (h : List ℕ) (i : ℕ) → is_unicode l ≡ true → Holds l t W h i ↔ HoldsAtSides l W h i
@@ -89,7 +92,8 @@ pub AgreePastAscii-from : (h k : List ℕ) → length h ≡ length k → DifferI
 AgreePastAscii-from h k e d = record { same_length = e; each = λ i l. ⊎_elim (λ s. inl s) (λ n. inr (d i l n)) (cases_eq (get_or h i 0) (get_or k i 0)) }
 
 pub AgreePastAscii-sym : (h k : List ℕ) → AgreePastAscii h k → AgreePastAscii k h
-AgreePastAscii-sym h k s = let e = s.same_length in record { same_length = sym s.same_length; each = λ i l. ⊎_elim (λ q. inl (sym q)) (λ q. inr (q.1, q.0)) (s.each i (omega arith)) }
+AgreePastAscii-sym h k s = let e = s.same_length in
+    record { same_length = sym s.same_length; each = λ i l. ⊎_elim (λ q. inl (sym q)) (λ q. inr (q.1, q.0)) (s.each i (omega arith)) }
 
 -- what two haystacks have in common for the six assertions
 pub record Interchange (W : ℕ → Bool) (h k : List ℕ) : Type 0 where
@@ -98,7 +102,8 @@ pub record Interchange (W : ℕ → Bool) (h k : List ℕ) : Type 0 where
   pub words : (i : ℕ) → i < length h → is_word_byte (get_or h i 0) ≡ is_word_byte (get_or k i 0)
 
 pub Interchange-sym : (W : ℕ → Bool) (h k : List ℕ) → Interchange W h k → Interchange W k h
-Interchange-sym W h k s = let e = s.agree.same_length in record { agree = AgreePastAscii-sym h k s.agree; ascii = s.ascii; words = λ i l. sym (s.words i (omega arith)) }
+Interchange-sym W h k s = let e = s.agree.same_length in
+    record { agree = AgreePastAscii-sym h k s.agree; ascii = s.ascii; words = λ i l. sym (s.words i (omega arith)) }
 
 encoded_moves : (W : ℕ → Bool) (h k : List ℕ) (i j c : ℕ) → Interchange W h k → EncodedFrom h i j c → (d : ℕ) × EncodedFrom k i j d × (W d ≡ W c)
 encoded_moves W h k i j c s e =
@@ -118,42 +123,58 @@ begins_moves W h k i c s e = let m = encoded_moves W h k i e.0 c s e.1 in (m.0, 
 
 pub IsBefore-moves : (W : ℕ → Bool) (h k : List ℕ) (i : ℕ) (a : Side) → Interchange W h k → IsBefore W h i a → IsBefore W k i a
 IsBefore-moves W h k i Absent s p = p
-IsBefore-moves W h k i Bad s p = (p.0, λ c e. let m = ends_moves W k h i c (Interchange-sym W h k s) e in p.1 m.0 m.1)
+IsBefore-moves W h k i Invalid s p = (p.0, λ c e. let m = ends_moves W k h i c (Interchange-sym W h k s) e in p.1 m.0 m.1)
 IsBefore-moves W h k i Word s p = let m = ends_moves W h k i p.0 s p.1 in (m.0, m.1, m.2 ∙ p.2)
 IsBefore-moves W h k i Other s p = let m = ends_moves W h k i p.0 s p.1 in (m.0, m.1, m.2 ∙ p.2)
 
 pub IsAfter-moves : (W : ℕ → Bool) (h k : List ℕ) (i : ℕ) (a : Side) → Interchange W h k → IsAfter W h i a → IsAfter W k i a
 IsAfter-moves W h k i Absent s p = p ∙ s.agree.same_length
-IsAfter-moves W h k i Bad s p = let e = s.agree.same_length in (omega arith, λ c e. let m = begins_moves W k h i c (Interchange-sym W h k s) e in p.1 m.0 m.1)
+IsAfter-moves W h k i Invalid s p = let e = s.agree.same_length in
+    (omega arith, λ c e. let m = begins_moves W k h i c (Interchange-sym W h k s) e in p.1 m.0 m.1)
 IsAfter-moves W h k i Word s p = let m = begins_moves W h k i p.0 s p.1 in (m.0, m.1, m.2 ∙ p.2)
 IsAfter-moves W h k i Other s p = let m = begins_moves W h k i p.0 s p.1 in (m.0, m.1, m.2 ∙ p.2)
 
 pub HoldsAtSides-moves : (l : Look) (W : ℕ → Bool) (h k : List ℕ) (i : ℕ) → Interchange W h k → HoldsAtSides l W h i → HoldsAtSides l W k i
 HoldsAtSides-moves l W h k i s p =
-    record { before = p.before; after = p.after; is_before = IsBefore-moves W h k i p.before s p.is_before; is_after = IsAfter-moves W h k i p.after s p.is_after; holds = p.holds }
+    record {
+      before = p.before;
+      after = p.after;
+      is_before = IsBefore-moves W h k i p.before s p.is_before;
+      is_after =
+          IsAfter-moves W h k i p.after s p.is_after;
+      holds = p.holds;
+    }
 
-pub Interchange-from : (p : ℕ → Bool) (W : ℕ → Bool) (h k : List ℕ) → AgreesWithAscii W → HasMarks p is_word_mark → AreInterchanged p h k → DifferInAscii h k → Interchange W h k
+pub Interchange-from : (p : ℕ → Bool) (W : ℕ → Bool) (h k : List ℕ) → AgreesWithAscii W → HasMarks p is_word_mark → AreInterchanged p h k
+    → DifferInAscii h k → Interchange W h k
 Interchange-from p W h k a m s d =
-    record { agree = AgreePastAscii-from h k s.same_length d; ascii = a; words = λ i l. Together-is_word_byte p (get_or h i 0) (get_or k i 0) m (s.together i l) }
+    record {
+      agree = AgreePastAscii-from h k s.same_length d;
+      ascii = a;
+      words =
+          λ i l. Together-is_word_byte p (get_or h i 0) (get_or k i 0) m (s.together i l);
+    }
 
 -- ---- for the readers of the two sides: a part of a haystack has the places of the whole
 
 pub IsBefore-from_char : (W : ℕ → Bool) (h : List ℕ) (i c : ℕ) (a : Side) → EndsAt h i c → IsSideOf W c a → IsBefore W h i a
 IsBefore-from_char W h i c Absent e s = absurd s
-IsBefore-from_char W h i c Bad e s = absurd s
+IsBefore-from_char W h i c Invalid e s = absurd s
 IsBefore-from_char W h i c Word e s = (c, e, s)
 IsBefore-from_char W h i c Other e s = (c, e, s)
 
 pub IsAfter-from_char : (W : ℕ → Bool) (h : List ℕ) (i c : ℕ) (a : Side) → BeginsAt h i c → IsSideOf W c a → IsAfter W h i a
 IsAfter-from_char W h i c Absent e s = absurd s
-IsAfter-from_char W h i c Bad e s = absurd s
+IsAfter-from_char W h i c Invalid e s = absurd s
 IsAfter-from_char W h i c Word e s = (c, e, s)
 IsAfter-from_char W h i c Other e s = (c, e, s)
 
-pub sides_decide : (l : Look) (W : ℕ → Bool) (h : List ℕ) (i : ℕ) (a b : Side) (r : Bool) → IsBefore W h i a → IsAfter W h i b → r ≡ holds_at_sides l a b → IsTrue r ↔ HoldsAtSides l W h i
+pub sides_decide : (l : Look) (W : ℕ → Bool) (h : List ℕ) (i : ℕ) (a b : Side) (r : Bool) → IsBefore W h i a → IsAfter W h i b → r ≡ holds_at_sides l a b
+    → IsTrue r ↔ HoldsAtSides l W h i
 sides_decide l W h i a b r p q e = ((λ t. HoldsAtSides-from l W h i a b p q (sym e ∙ t)), (λ s. e ∙ HoldsAtSides-is l W h i a b p q s))
 
-pub Holds-decided : (l : Look) (t : ℕ) (W : ℕ → Bool) (h : List ℕ) (i : ℕ) (a b : Side) (r : Bool) → is_unicode l ≡ true → IsBefore W h i a → IsAfter W h i b → r ≡ holds_at_sides l a b → IsTrue r ↔ Holds l t W h i
+pub Holds-decided : (l : Look) (t : ℕ) (W : ℕ → Bool) (h : List ℕ) (i : ℕ) (a b : Side) (r : Bool) → is_unicode l ≡ true → IsBefore W h i a
+    → IsAfter W h i b → r ≡ holds_at_sides l a b → IsTrue r ↔ Holds l t W h i
 Holds-decided l t W h i a b r u p q e = let s = sides_decide l W h i a b r p q e in let k = Holds-sides l t W h i u in ((λ x. k.1 (s.0 x)), (λ x. s.1 (k.0 x)))
 
 -- ---- each place has a side before it and one after it
@@ -161,29 +182,36 @@ Holds-decided l t W h i a b r u p q e = let s = sides_decide l W h i a b r p q e
 pub has_before : (W : ℕ → Bool) (h : List ℕ) (i : ℕ) → (a : Side) × IsBefore W h i a
 has_before W h i =
     ⊎_elim (λ e. (Absent, e))
-    (λ ne. ⊎_elim (λ p. ⊎_elim (λ w. (Word, (p.0, p.1, w))) (λ w. (Other, (p.0, p.1, w))) (cases_Bool (W p.0))) (λ n. (Bad, (omega (arith, ne), n))) (EndsAt-decided h i))
+    (λ ne. ⊎_elim (λ p. ⊎_elim (λ w. (Word, (p.0, p.1, w))) (λ w. (Other, (p.0, p.1, w))) (cases_Bool (W p.0))) (λ n. (Invalid, (omega (arith, ne), n)))
+    (EndsAt-decided h i))
     (cases_eq i 0)
 
 pub has_after : (W : ℕ → Bool) (h : List ℕ) (i : ℕ) → i ≤ length h → (a : Side) × IsAfter W h i a
 has_after W h i o =
     ⊎_elim (λ e. (Absent, e))
-    (λ ne. ⊎_elim (λ p. ⊎_elim (λ w. (Word, (p.0, p.1, w))) (λ w. (Other, (p.0, p.1, w))) (cases_Bool (W p.0))) (λ n. (Bad, (omega (arith, ne), n))) (BeginsAt-decided h i))
+    (λ ne. ⊎_elim (λ p. ⊎_elim (λ w. (Word, (p.0, p.1, w))) (λ w. (Other, (p.0, p.1, w))) (cases_Bool (W p.0))) (λ n. (Invalid, (omega (arith, ne), n)))
+    (BeginsAt-decided h i))
     (cases_eq i (length h))
 
-pub half_before : (t : ℕ) (W : ℕ → Bool) (h : List ℕ) (i : ℕ) (a : Side) (r : Bool) → i ≤ length h → IsBefore W h i a → r ≡ is_absent_or_other a → IsTrue r ↔ Holds WordStartHalfUnicode t W h i
+pub half_before : (t : ℕ) (W : ℕ → Bool) (h : List ℕ) (i : ℕ) (a : Side) (r : Bool) → i ≤ length h → IsBefore W h i a → r ≡ is_edge_or_non_word a → IsTrue r
+    ↔ Holds WordStartHalfUnicode t W h i
 half_before t W h i a r o p e = let q = has_after W h i o in sides_decide WordStartHalfUnicode W h i a q.0 r p q.1 e
 
-pub half_after : (t : ℕ) (W : ℕ → Bool) (h : List ℕ) (i : ℕ) (b : Side) (r : Bool) → IsAfter W h i b → r ≡ is_absent_or_other b → IsTrue r ↔ Holds WordEndHalfUnicode t W h i
+pub half_after : (t : ℕ) (W : ℕ → Bool) (h : List ℕ) (i : ℕ) (b : Side) (r : Bool) → IsAfter W h i b → r ≡ is_edge_or_non_word b → IsTrue r
+    ↔ Holds WordEndHalfUnicode t W h i
 half_after t W h i b r p e = let q = has_before W h i in sides_decide WordEndHalfUnicode W h i q.0 b r q.1 p e
 
 -- what a call may answer when it has looked at the side before alone
-Holds-before : (l : Look) (t : ℕ) (W : ℕ → Bool) (h : List ℕ) (i : ℕ) (a : Side) (r : Bool) → i ≤ length h → is_unicode l ≡ true → IsBefore W h i a → ((b : Side) → r ≡ holds_at_sides l a b) → IsTrue r ↔ Holds l t W h i
+Holds-before : (l : Look) (t : ℕ) (W : ℕ → Bool) (h : List ℕ) (i : ℕ) (a : Side) (r : Bool) → i ≤ length h → is_unicode l ≡ true → IsBefore W h i a
+    → ((b : Side) → r ≡ holds_at_sides l a b) → IsTrue r ↔ Holds l t W h i
 Holds-before l t W h i a r o u p e = let q = has_after W h i o in Holds-decided l t W h i a q.0 r u p q.1 (e q.0)
 
-pub starts : (t : ℕ) (W : ℕ → Bool) (h : List ℕ) (i : ℕ) (a b : Side) (x y : Bool) → IsBefore W h i a → IsAfter W h i b → x ≡ is_word_side a → y ≡ is_word_side b → IsTrue (y && not x) ↔ Holds WordStartUnicode t W h i
+pub starts : (t : ℕ) (W : ℕ → Bool) (h : List ℕ) (i : ℕ) (a b : Side) (x y : Bool) → IsBefore W h i a → IsAfter W h i b → x ≡ is_word_side a
+    → y ≡ is_word_side b → IsTrue (y && not x) ↔ Holds WordStartUnicode t W h i
 starts t W h i a b x y p q e f = Holds-decided WordStartUnicode t W h i a b (y && not x) refl p q (rw (e, f) refl)
 
-pub ends : (t : ℕ) (W : ℕ → Bool) (h : List ℕ) (i : ℕ) (a b : Side) (x y : Bool) → IsBefore W h i a → IsAfter W h i b → x ≡ is_word_side a → y ≡ is_word_side b → IsTrue (x && not y) ↔ Holds WordEndUnicode t W h i
+pub ends : (t : ℕ) (W : ℕ → Bool) (h : List ℕ) (i : ℕ) (a b : Side) (x y : Bool) → IsBefore W h i a → IsAfter W h i b → x ≡ is_word_side a
+    → y ≡ is_word_side b → IsTrue (x && not y) ↔ Holds WordEndUnicode t W h i
 ends t W h i a b x y p q e f = Holds-decided WordEndUnicode t W h i a b (x && not y) refl p q (rw (e, f) refl)
 
 -- `==` of the program on two tests, as `exactly_one`
@@ -197,14 +225,18 @@ exactly_one-ne true false = refl
 exactly_one-ne false true = refl
 exactly_one-ne false false = refl
 
-pub differs : (t : ℕ) (W : ℕ → Bool) (h : List ℕ) (i : ℕ) (a b : Side) (x y : Bool) → IsBefore W h i a → IsAfter W h i b → x ≡ is_word_side a → y ≡ is_word_side b → IsTrue (not (beq x y)) ↔ Holds WordUnicode t W h i
+pub differs : (t : ℕ) (W : ℕ → Bool) (h : List ℕ) (i : ℕ) (a b : Side) (x y : Bool) → IsBefore W h i a → IsAfter W h i b → x ≡ is_word_side a
+    → y ≡ is_word_side b → IsTrue (not (beq x y)) ↔ Holds WordUnicode t W h i
 differs t W h i a b x y p q e f = Holds-decided WordUnicode t W h i a b (not (beq x y)) refl p q (exactly_one-ne x y ∙ ap₂ exactly_one e f)
 
-pub bad_is_none : (t : ℕ) (W : ℕ → Bool) (h : List ℕ) (i : ℕ) (a : Side) (w : Bool) → i ≤ length h → IsBefore W h i a → w ≡ is_bad a → w ≡ true → IsTrue false ↔ Holds WordUnicodeNegate t W h i
-bad_is_none t W h i a w o p e f = Holds-before WordUnicodeNegate t W h i a false o refl p (λ b. let z : is_bad a ≡ true = sym e ∙ f in rw z)
+pub bad_is_none : (t : ℕ) (W : ℕ → Bool) (h : List ℕ) (i : ℕ) (a : Side) (w : Bool) → i ≤ length h → IsBefore W h i a → w ≡ is_invalid a → w ≡ true
+    → IsTrue false ↔ Holds WordUnicodeNegate t W h i
+bad_is_none t W h i a w o p e f = Holds-before WordUnicodeNegate t W h i a false o refl p (λ b. let z : is_invalid a ≡ true = sym e ∙ f in rw z)
 
-pub agrees : (t : ℕ) (W : ℕ → Bool) (h : List ℕ) (i : ℕ) (a b : Side) (w v x y : Bool) → IsBefore W h i a → IsAfter W h i b → w ≡ is_bad a → w ≡ false → v ≡ is_bad b → x ≡ is_word_side a → y ≡ is_word_side b
+pub agrees : (t : ℕ) (W : ℕ → Bool) (h : List ℕ) (i : ℕ) (a b : Side) (w v x y : Bool) → IsBefore W h i a → IsAfter W h i b → w ≡ is_invalid a → w ≡ false
+    → v ≡ is_invalid b → x ≡ is_word_side a → y ≡ is_word_side b
     → IsTrue (not v && beq x y) ↔ Holds WordUnicodeNegate t W h i
 agrees t W h i a b w v x y p q e f g k m =
-    let z : is_bad a ≡ false = sym e ∙ f in
-    Holds-decided WordUnicodeNegate t W h i a b (not v && beq x y) refl p q (rw (z, g, k, m) (ap (λ n. not (is_bad b) && n) (not_exactly_one (is_word_side a) (is_word_side b))))
+    let z : is_invalid a ≡ false = sym e ∙ f in
+    Holds-decided WordUnicodeNegate t W h i a b (not v && beq x y) refl p q
+    (rw (z, g, k, m) (ap (λ n. not (is_invalid b) && n) (not_exactly_one (is_word_side a) (is_word_side b))))

@@ -30,7 +30,9 @@ joiners_stepped = of_ranges ((0x200C, 0x200D) ∷ []) refl
 
 is_join_control-joiners : (c : ℕ) → is_join_control c ≡ joiners c
 unfolding tables is_join_control_stepped joiners_stepped
-is_join_control-joiners c = same_from_beq _ _ (Stepped-everywhere (λ x. beq (is_join_control x) (joiners x)) (zip_stepped beq is_join_control joiners is_join_control_stepped joiners_stepped) refl c)
+is_join_control-joiners c =
+    same_from_beq _ _ (Stepped-everywhere (λ x. beq (is_join_control x) (joiners x))
+    (zip_stepped beq is_join_control joiners is_join_control_stepped joiners_stepped) refl c)
 
 one_range : (c : ℕ) → ((nat_le 0x200C c && nat_le c 0x200D) || false) ≡ (nat_eq c 0x200C || nat_eq c 0x200D)
 one_range c = grind (arith, nat_tests)

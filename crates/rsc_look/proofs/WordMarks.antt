@@ -1,6 +1,5 @@
 -- The boundaries of the word bytes are where two neighbouring bytes differ: computed for all 255 of them.
-use Rattle.std.proofs.Common.{◌≡◌, ◌<◌, ℕ, ◌+◌, Bool, true, false, not, ◌&&◌, ◌||◌, ltb, nat_lt, nat_le, ◌≤◌, refl, sym, ap, ◌∙◌, arith}
-use Rattle.std.specs.Int.{is_in_range}
+use Rattle.std.proofs.Common.{◌≡◌, ℕ, ◌+◌, Bool, true, false, not, ◌&&◌, ◌||◌, ltb, refl, sym, ap, ◌∙◌, arith}
 use Rattle.std.proofs.lemmas.Bool.Decides.{nat_tests}
 use Rattle.std.proofs.lemmas.Bool.{agree_below_at}
 use Rattle.rsc_primitives.specs.Utf8.{is_word_byte}
@@ -39,13 +38,10 @@ changes_at-is words same b = rw (same b, same (b + 1)) (ap (λ x. ltb b 255 && x
     by_cases _ _ = refl
 
 -- what `add_set` of the word bytes leaves of a set of boundaries
-pub word_boundaries-added : (old new words : Numbers) → ((b : ℕ) → sets.contains words b ≡ is_word_byte b) → ((b : ℕ) → sets.contains new b ≡ (sets.contains old b || changes_at words b)) → new ≡ sets.union old word_boundaries
+pub word_boundaries-added : (old new words : Numbers) → ((b : ℕ) → sets.contains words b ≡ is_word_byte b)
+    → ((b : ℕ) → sets.contains new b ≡ (sets.contains old b || changes_at words b)) → new ≡ sets.union old word_boundaries
 word_boundaries-added old new words same added = same_set nat_cmp_total nat_cmp-IsAntisymmetric new (sets.union old word_boundaries) (λ b.
     added b ∙ ap (λ x. sets.contains old b || x) (changes_at-is words same b ∙ changes-is_word_mark b ∙ sym (contains-word_boundaries b))
     ∙ sym (contains-joined old word_boundaries b))
 
 -- ---- a run of bytes, one after the other
-
--- the numbers from the first of a run up to the one past its last
-pub run_is_done : (start end next b : ℕ) → end < next → next ≤ end + 1 → (nat_le start b && nat_lt b next) ≡ is_in_range start end b
-run_is_done start end next b past one = grind (arith, nat_tests)

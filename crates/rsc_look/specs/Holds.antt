@@ -4,7 +4,7 @@ use Rattle.rsc_primitives.specs.Utf8.{is_word_byte, BeginsAt, EndsAt}
 use Rattle.rsc_look.specs.declared.assertion.Look.{Look}
 use Rattle.rsc_look.specs.declared.assertion.Look.TheVariants.{Start, End, StartLF, EndLF, StartCRLF, EndCRLF, WordAscii, WordAsciiNegate, WordUnicode, WordUnicodeNegate, WordStartAscii, WordEndAscii, WordStartUnicode, WordEndUnicode, WordStartHalfAscii, WordEndHalfAscii, WordStartHalfUnicode, WordEndHalfUnicode}
 use Rattle.rsc_look.specs.declared.side.Side.{Side}
-use Rattle.rsc_look.specs.declared.side.Side.TheVariants.{Absent, Bad, Word, Other}
+use Rattle.rsc_look.specs.declared.side.Side.TheVariants.{Absent, Invalid, Word, Other}
 use Rattle.rsc_look.specs.Looks.{is_unicode, line_feed, carriage_return}
 
 -- the byte before a position of a haystack, and the byte after it
@@ -20,9 +20,9 @@ abbrev pub is_byte : ℕ → Option ℕ → Bool
 is_byte b None = false
 is_byte b (Some x) = x == b
 
-abbrev pub is_word_at : Option ℕ → Bool
-is_word_at None = false
-is_word_at (Some x) = is_word_byte x
+abbrev pub is_word_neighbor : Option ℕ → Bool
+is_word_neighbor None = false
+is_word_neighbor (Some x) = is_word_byte x
 
 -- one of two tests passes, and the other doesn't
 abbrev pub exactly_one : Bool → Bool → Bool
@@ -37,49 +37,49 @@ holds_at_bytes StartLF t p n = is_none p || is_byte t p
 holds_at_bytes EndLF t p n = is_none n || is_byte t n
 holds_at_bytes StartCRLF t p n = is_none p || is_byte line_feed p || (is_byte carriage_return p && not (is_byte line_feed n))
 holds_at_bytes EndCRLF t p n = is_none n || is_byte carriage_return n || (is_byte line_feed n && not (is_byte carriage_return p))
-holds_at_bytes WordAscii t p n = exactly_one (is_word_at p) (is_word_at n)
-holds_at_bytes WordAsciiNegate t p n = not (exactly_one (is_word_at p) (is_word_at n))
-holds_at_bytes WordStartAscii t p n = is_word_at n && not (is_word_at p)
-holds_at_bytes WordEndAscii t p n = is_word_at p && not (is_word_at n)
-holds_at_bytes WordStartHalfAscii t p n = not (is_word_at p)
-holds_at_bytes WordEndHalfAscii t p n = not (is_word_at n)
+holds_at_bytes WordAscii t p n = exactly_one (is_word_neighbor p) (is_word_neighbor n)
+holds_at_bytes WordAsciiNegate t p n = not (exactly_one (is_word_neighbor p) (is_word_neighbor n))
+holds_at_bytes WordStartAscii t p n = is_word_neighbor n && not (is_word_neighbor p)
+holds_at_bytes WordEndAscii t p n = is_word_neighbor p && not (is_word_neighbor n)
+holds_at_bytes WordStartHalfAscii t p n = not (is_word_neighbor p)
+holds_at_bytes WordEndHalfAscii t p n = not (is_word_neighbor n)
 holds_at_bytes _ t p n = false
 
 -- the side before a position, for the word characters W: no byte; bytes that no character ends; a character that W accepts, or rejects
 abbrev pub IsBefore : (ℕ → Bool) → List ℕ → ℕ → Side → Type 0
 IsBefore W h i Absent = i ≡ 0
-IsBefore W h i Bad = (0 < i) × ((c : ℕ) → ¬ (EndsAt h i c))
+IsBefore W h i Invalid = (0 < i) × ((c : ℕ) → ¬ (EndsAt h i c))
 IsBefore W h i Word = (c : ℕ) × EndsAt h i c × (W c ≡ true)
 IsBefore W h i Other = (c : ℕ) × EndsAt h i c × (W c ≡ false)
 
 -- and the side after it
 abbrev pub IsAfter : (ℕ → Bool) → List ℕ → ℕ → Side → Type 0
 IsAfter W h i Absent = i ≡ length h
-IsAfter W h i Bad = (i < length h) × ((c : ℕ) → ¬ (BeginsAt h i c))
+IsAfter W h i Invalid = (i < length h) × ((c : ℕ) → ¬ (BeginsAt h i c))
 IsAfter W h i Word = (c : ℕ) × BeginsAt h i c × (W c ≡ true)
 IsAfter W h i Other = (c : ℕ) × BeginsAt h i c × (W c ≡ false)
 
-abbrev pub is_bad : Side → Bool
-is_bad Bad = true
-is_bad _ = false
+abbrev pub is_invalid : Side → Bool
+is_invalid Invalid = true
+is_invalid _ = false
 
 abbrev pub is_word_side : Side → Bool
 is_word_side Word = true
 is_word_side _ = false
 
-abbrev pub is_absent_or_other : Side → Bool
-is_absent_or_other Absent = true
-is_absent_or_other Other = true
-is_absent_or_other _ = false
+abbrev pub is_edge_or_non_word : Side → Bool
+is_edge_or_non_word Absent = true
+is_edge_or_non_word Other = true
+is_edge_or_non_word _ = false
 
 -- the table of the six: a is the side before and b the side after
 abbrev pub holds_at_sides : Look → Side → Side → Bool
 holds_at_sides WordUnicode a b = exactly_one (is_word_side a) (is_word_side b)
-holds_at_sides WordUnicodeNegate a b = not (is_bad a) && not (is_bad b) && not (exactly_one (is_word_side a) (is_word_side b))
+holds_at_sides WordUnicodeNegate a b = not (is_invalid a) && not (is_invalid b) && not (exactly_one (is_word_side a) (is_word_side b))
 holds_at_sides WordStartUnicode a b = is_word_side b && not (is_word_side a)
 holds_at_sides WordEndUnicode a b = is_word_side a && not (is_word_side b)
-holds_at_sides WordStartHalfUnicode a b = is_absent_or_other a
-holds_at_sides WordEndHalfUnicode a b = is_absent_or_other b
+holds_at_sides WordStartHalfUnicode a b = is_edge_or_non_word a
+holds_at_sides WordEndHalfUnicode a b = is_edge_or_non_word b
 holds_at_sides _ a b = false
 
 -- the sides of a position are such that the assertion holds there

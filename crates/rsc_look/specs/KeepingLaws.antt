@@ -1,10 +1,9 @@
 -- Partitions and haystacks of one byte, lists of one assertion, and the two choices of word characters.
-use Rattle.std.proofs.Common.{◌≡◌, ◌↔◌, ℕ, zero, suc, ◌+◌, ◌<◌, Bool, true, false, List, [], ◌∷◌, refl, sym, ap, ◌∙◌, arith, ◌⊎◌, ⊎_elim, true≢false, ltb}
+use Rattle.std.proofs.Common.{[], ◌≡◌, ◌↔◌, ℕ, zero, suc, ◌+◌, ◌<◌, Bool, true, false, ◌∷◌, refl, sym, ap, ◌∙◌, arith, ◌⊎◌, ⊎_elim, true≢false, ltb}
 use Rattle.std.specs.Prelude.{slice_index}
 use Rattle.std.specs.List.{Contains}
 use Rattle.std.proofs.lemmas.List.Elements.{All-cons, All-nil}
 use Rattle.std.proofs.lemmas.Bool.Decides.{nat_tests}
-use Rattle.rsc_primitives.specs.Utf8.{is_word_byte}
 use Rattle.rsc_alphabet.specs.Partitions.{Together}
 use Rattle.rsc_look.specs.declared.assertion.Look.{Look}
 use Rattle.rsc_look.specs.Words.{is_unicode_word}
@@ -48,6 +47,3 @@ below c l = grind (arith, nat_tests)
 -- both choices of word characters agree with the word bytes below 128
 pub is_unicode_word-AgreesWithAscii : AgreesWithAscii is_unicode_word
 is_unicode_word-AgreesWithAscii c l = let e = below c l in rw e
-
-pub is_word_byte-AgreesWithAscii : AgreesWithAscii (λ c. is_word_byte c)
-is_word_byte-AgreesWithAscii c l = refl

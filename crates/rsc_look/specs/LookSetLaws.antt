@@ -106,7 +106,8 @@ sum_to p (suc k) l =
     ∙ ap (λ n. n + sum_by repr_of (filter p (look_at k ∷ []))) (sum_to p k (omega arith)) ∙ here
   where
     one : (v : Bool) (rest : ℕ) → rest + sum_by repr_of (cond v (look_at k ∷ []) []) ≡ cond v 1 0 * 2 ^ k + rest
-    one true rest = let e : sum_by repr_of (look_at k ∷ []) ≡ repr_of (look_at k) + 0 = sum_by-cons repr_of (look_at k) [] in omega (arith, e, repr_of-look_at k (omega arith))
+    one true rest = let e : sum_by repr_of (look_at k ∷ []) ≡ repr_of (look_at k) + 0 = sum_by-cons repr_of (look_at k) [] in
+        omega (arith, e, repr_of-look_at k (omega arith))
     one false rest = omega arith
 
 bits_of-is : (s : Looks) → bits_of s ≡ mask_of (λ j. sets.contains s (look_at j)) 18

@@ -6,7 +6,7 @@ ghost use Rattle.std.specs.Prelude.{◌≡◌, ◌≤◌, ◌||◌, true, ℕ};
 ghost use Rattle.std.specs.FinSet as sets;
 ghost use Rattle.std.specs.Int.{is_in_range};
 ghost use Rattle.rsc_primitives.specs.Utf8.{is_word_byte};
-ghost use Rattle.rsc_alphabet.specs.Partitions.{class_map};
+ghost use Rattle.rsc_alphabet.specs.Partitions.{ClassesRise, class_map};
 ghost use Rattle.rsc_look.specs.Looks.{is_unicode};
 ghost use Rattle.rsc_look.specs.Boundaries.{word_boundaries, boundaries_of, boundaries_of_each};
 ghost use Rattle.rsc_look.specs.Keeping.{AgreesWithAscii, AgreesWhereAsked, IsCoarsestMap, IsExactFor};
@@ -19,7 +19,7 @@ impl<W: WordClass> LookMatcher<W> {
     /// Adds to a set the boundaries between bytes that an assertion can tell apart, and no others.
     ///
     /// A partition with these boundaries keeps the assertion: to replace bytes by bytes of their interval changes it at no
-    /// position of any haystack. Of a Unicode assertion this is said of replacements within ASCII, and where the matcher's
+    /// position of any haystack. Of a Unicode assertion this holds for replacements within ASCII, and where the matcher's
     /// word characters below 128 are the word bytes.
     ///
     /// # Examples
@@ -44,7 +44,7 @@ impl<W: WordClass> LookMatcher<W> {
     /// into intervals that keeps them all. Takes no memory.
     ///
     /// Two bytes of one class may replace each other anywhere in any haystack, and no assertion of the list changes at any
-    /// position. Of a Unicode assertion this is said of replacements within ASCII, and where the matcher's word characters
+    /// position. Of a Unicode assertion this holds for replacements within ASCII, and where the matcher's word characters
     /// below 128 are the word bytes; without that the classes are still those of the list's boundaries.
     ///
     /// # Examples
@@ -58,6 +58,7 @@ impl<W: WordClass> LookMatcher<W> {
         ensures classes { result ≡ class_map (sets.contains (boundaries_of_each looks.now self.now.0)) }
         ensures coarsest { AgreesWhereAsked (W.word_chars self.now.1) looks.now →
             IsCoarsestMap result looks.now self.now.0 (W.word_chars self.now.1) }
+        ensures rise { ClassesRise result }
     {
         let mut set = ByteClassSet::empty();
         for look in looks {

@@ -1,4 +1,4 @@
-//! Laws of assertions that a caller may cite: functions that do nothing, and whose contracts are the laws.
+//! Laws of assertions that a caller can cite: functions that do nothing, and whose contracts are the laws.
 ghost use Rattle.std.specs.Prelude.{true, false, ◌≡◌, ◌↔◌, ◌⊎◌, ◌+◌, ◌<◌, ◌≤◌, ◌++◌, [], ◌∷◌, ℕ, Bool, List, length, slice_index, IsTrue};
 ghost use Rattle.std.specs.List.{Contains};
 ghost use Rattle.std.specs.FinSet as sets;

@@ -152,7 +152,8 @@ impl LookSet {
     /// How many members there are.
     #[inline]
     pub fn len(self) -> usize
-        ensures { result ≡ length (members self) }
+        ensures value { result ≡ length (members self) }
+        ensures most { result ≤ 18 }
     {
         self.bits.count_ones() as usize
     }

@@ -1,6 +1,6 @@
 //! The sides of a position: the neighbouring bytes, and what is there as a character.
 ghost use Rattle.std.specs.Prelude.{◌≡◌, ◌≤◌, length};
-ghost use Rattle.rsc_look.specs.Holds.{byte_before, byte_after, is_byte, is_word_at};
+ghost use Rattle.rsc_look.specs.Holds.{byte_before, byte_after, is_byte, is_word_neighbor};
 
 use rsc_primitives::utf8;
 
@@ -10,7 +10,7 @@ pub(crate) enum Side {
     /// No byte.
     Absent,
     /// Bytes, but no encoded character ends or begins here.
-    Bad,
+    Invalid,
     /// A word character.
     Word,
     /// Another character.
@@ -18,7 +18,7 @@ pub(crate) enum Side {
 }
 
 impl Side {
-    ghost use Rattle.rsc_look.specs.Holds.{is_bad, is_word_side, is_absent_or_other};
+    ghost use Rattle.rsc_look.specs.Holds.{is_invalid, is_word_side, is_edge_or_non_word};
 
     #[inline(always)]
     pub(crate) fn is_word(self) -> bool
@@ -28,15 +28,15 @@ impl Side {
     }
 
     #[inline(always)]
-    pub(crate) fn is_bad(self) -> bool
-        ensures { result ≡ is_bad self }
+    pub(crate) fn is_invalid(self) -> bool
+        ensures { result ≡ is_invalid self }
     {
-        matches!(self, Side::Bad)
+        matches!(self, Side::Invalid)
     }
 
     #[inline(always)]
-    pub(crate) fn is_absent_or_other(self) -> bool
-        ensures { result ≡ is_absent_or_other self }
+    pub(crate) fn is_edge_or_non_word(self) -> bool
+        ensures { result ≡ is_edge_or_non_word self }
     {
         matches!(self, Side::Absent | Side::Other)
     }
@@ -76,8 +76,8 @@ pub(crate) fn is_byte(byte: u8, neighbor: Option<u8>) -> bool
 
 /// Whether a neighbour is there, and is a word byte.
 #[inline(always)]
-pub(crate) fn is_word_at(neighbor: Option<u8>) -> bool
-    ensures { result ≡ is_word_at neighbor }
+pub(crate) fn is_word_neighbor(neighbor: Option<u8>) -> bool
+    ensures { result ≡ is_word_neighbor neighbor }
 {
     match neighbor {
         Some(b) => utf8::is_word_byte(b),

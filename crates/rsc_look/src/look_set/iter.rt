@@ -4,7 +4,7 @@ ghost use Rattle.std.specs.Iterator.{YieldsFirst, item_count};
 use crate::{Look, LookSet};
 use std::marker::Model;
 
-/// The iterator over a set's members, made by [`LookSet::iter`]. A contract sees it as the list of those that are left.
+/// The iterator over a set's members, made by [`LookSet::iter`]. A contract sees it as the list of what is left.
 ///
 /// # Examples
 ///

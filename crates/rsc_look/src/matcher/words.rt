@@ -7,7 +7,7 @@ ghost use Rattle.rsc_look.specs.declared.assertion.Look.{Look};
 ghost use Rattle.rsc_look.specs.Holds.{HoldsFor, IsBefore, IsAfter};
 ghost use Rattle.rsc_look.specs.SideLayout.{IsSideOf};
 
-use crate::side::{Side, byte_after, byte_before, is_word_at};
+use crate::side::{Side, byte_after, byte_before, is_word_neighbor};
 use crate::{LookMatcher, UnicodeWordBoundaryError, WordClass};
 use rsc_primitives::utf8;
 
@@ -21,7 +21,7 @@ impl<W: WordClass> LookMatcher<W> {
         match utf8::decode_last(&haystack[..at]) {
             None => Side::Absent,
             Some(Ok(c)) => self.side_of(c),
-            Some(Err(_)) => Side::Bad,
+            Some(Err(_)) => Side::Invalid,
         }
     }
 
@@ -34,7 +34,7 @@ impl<W: WordClass> LookMatcher<W> {
         match utf8::decode(&haystack[at..]) {
             None => Side::Absent,
             Some(Ok(c)) => self.side_of(c),
-            Some(Err(_)) => Side::Bad,
+            Some(Err(_)) => Side::Invalid,
         }
     }
 
@@ -56,7 +56,7 @@ impl<W: WordClass> LookMatcher<W> {
         requires { at ≤ length haystack.now }
         ensures { IsTrue result ↔ HoldsFor W.word_chars Look.WordAscii self.now haystack.now at }
     {
-        is_word_at(byte_before(haystack, at)) != is_word_at(byte_after(haystack, at))
+        is_word_neighbor(byte_before(haystack, at)) != is_word_neighbor(byte_after(haystack, at))
     }
 
     /// Whether both neighbours are word bytes, or neither is.
@@ -65,7 +65,7 @@ impl<W: WordClass> LookMatcher<W> {
         requires { at ≤ length haystack.now }
         ensures { IsTrue result ↔ HoldsFor W.word_chars Look.WordAsciiNegate self.now haystack.now at }
     {
-        is_word_at(byte_before(haystack, at)) == is_word_at(byte_after(haystack, at))
+        is_word_neighbor(byte_before(haystack, at)) == is_word_neighbor(byte_after(haystack, at))
     }
 
     /// Whether a word character is on exactly one side.
@@ -118,11 +118,11 @@ impl<W: WordClass> LookMatcher<W> {
     {
         let before = self.side_before(haystack, at);
         // A side whose bytes are no character is reason enough not to read the other one.
-        if before.is_bad() {
+        if before.is_invalid() {
             return Ok(false);
         }
         let after = self.side_after(haystack, at);
-        Ok(!after.is_bad() & (before.is_word() == after.is_word()))
+        Ok(!after.is_invalid() & (before.is_word() == after.is_word()))
     }
 
     /// Whether the byte after the position is a word byte, and none is before it.
@@ -131,7 +131,7 @@ impl<W: WordClass> LookMatcher<W> {
         requires { at ≤ length haystack.now }
         ensures { IsTrue result ↔ HoldsFor W.word_chars Look.WordStartAscii self.now haystack.now at }
     {
-        is_word_at(byte_after(haystack, at)) & !is_word_at(byte_before(haystack, at))
+        is_word_neighbor(byte_after(haystack, at)) & !is_word_neighbor(byte_before(haystack, at))
     }
 
     /// Whether the byte before the position is a word byte, and none is after it.
@@ -140,7 +140,7 @@ impl<W: WordClass> LookMatcher<W> {
         requires { at ≤ length haystack.now }
         ensures { IsTrue result ↔ HoldsFor W.word_chars Look.WordEndAscii self.now haystack.now at }
     {
-        is_word_at(byte_before(haystack, at)) & !is_word_at(byte_after(haystack, at))
+        is_word_neighbor(byte_before(haystack, at)) & !is_word_neighbor(byte_after(haystack, at))
     }
 
     /// Whether a word character is after the position, and none before it.
@@ -158,7 +158,7 @@ impl<W: WordClass> LookMatcher<W> {
         ensures { IsOkAnd result (λ r. IsTrue r ↔ HoldsFor W.word_chars Look.WordStartUnicode self.now haystack.now at) }
     {
         let before = self.side_before(haystack, at);
-        // Both sides are looked at: whether one alone decides is foretold wrongly too often.
+        // Both sides are read: a branch on the first side alone is mispredicted too often.
         let after = self.side_after(haystack, at);
         Ok(after.is_word() & !before.is_word())
     }
@@ -188,7 +188,7 @@ impl<W: WordClass> LookMatcher<W> {
         requires { at ≤ length haystack.now }
         ensures { IsTrue result ↔ HoldsFor W.word_chars Look.WordStartHalfAscii self.now haystack.now at }
     {
-        !is_word_at(byte_before(haystack, at))
+        !is_word_neighbor(byte_before(haystack, at))
     }
 
     /// Whether no word byte is after the position.
@@ -197,7 +197,7 @@ impl<W: WordClass> LookMatcher<W> {
         requires { at ≤ length haystack.now }
         ensures { IsTrue result ↔ HoldsFor W.word_chars Look.WordEndHalfAscii self.now haystack.now at }
     {
-        !is_word_at(byte_after(haystack, at))
+        !is_word_neighbor(byte_after(haystack, at))
     }
 
     /// Whether the haystack begins at the position, or a character that is no word character ends there.
@@ -214,7 +214,7 @@ impl<W: WordClass> LookMatcher<W> {
         requires { at ≤ length haystack.now }
         ensures { IsOkAnd result (λ r. IsTrue r ↔ HoldsFor W.word_chars Look.WordStartHalfUnicode self.now haystack.now at) }
     {
-        Ok(self.side_before(haystack, at).is_absent_or_other())
+        Ok(self.side_before(haystack, at).is_edge_or_non_word())
     }
 
     /// Whether the haystack ends at the position, or a character that is no word character begins there.
@@ -231,6 +231,6 @@ impl<W: WordClass> LookMatcher<W> {
         requires { at ≤ length haystack.now }
         ensures { IsOkAnd result (λ r. IsTrue r ↔ HoldsFor W.word_chars Look.WordEndHalfUnicode self.now haystack.now at) }
     {
-        Ok(self.side_after(haystack, at).is_absent_or_other())
+        Ok(self.side_after(haystack, at).is_edge_or_non_word())
     }
 }
