@@ -1,15 +1,15 @@
--- The bits of a word: its lowest and its highest set bit, the word without its lowest, and the word moved up.
-use Rattle.std.proofs.Common.{◌≡◌, ◌≢◌, ℕ, zero, suc, ◌+◌, ◌-◌, ◌*◌, ◌/◌, ◌%◌, ◌^◌, ◌<◌, ◌≤◌, min, Bool, true, false, not, ◌&&◌, ◌||◌, refl, ap, sym, ◌∙◌, arith, w64, bit_and, add-one, eqb, ltb}
-use Rattle.std.specs.Int.{bit_at, trailing_zeros}
-use Rattle.std.specs.Int.Count.{trailing_of_zero}
+-- The bits of a word: its lowest and its highest set bit, and the word without either.
+use Rattle.std.proofs.Common.{◌≡◌, ◌≢◌, ℕ, zero, suc, ◌+◌, ◌-◌, ◌*◌, ◌/◌, ◌%◌, ◌^◌, ◌<◌, ◌≤◌, ◌⊎◌, inl, inr, min, true, false, not, ◌&&◌, ◌||◌, refl, ap, sym, ◌∙◌, arith, w64, bit_and, eqb}
+use Rattle.std.specs.Int.{bit_at, leading_zeros, trailing_zeros}
+use Rattle.std.specs.Int.Bits.{bit_xor, xor_add_and}
+use Rattle.std.specs.Int.Count.{leading_of_zero, trailing_of_zero}
 use Rattle.std.specs.Int.RustNames.{bit_or}
-use Rattle.std.proofs.lemmas.Grind.{common_steps}
-use Rattle.std.proofs.lemmas.Nat.Bits.{bit_at_above, bit_at_cat_low, bit_at_cat_high, bit_at_lowest, bit_at-suc, bit_at-zero, bit_at_and, bit_at-trailing_zeros, bit_at_set_same, bit_at_set_other, bit_at-lt, same_from_bits_below}
-use Rattle.std.proofs.lemmas.Nat.{leading_length, pow_pos, or_lt}
-use mathlib.Core.Bool.{true≢false}
-use native.Mathlib.Numerals.{unary_clauses}
-use Rattle.std.proofs.Math.Nat.{div-lt_iff_lt-mul}
-use Rattle.rsc_search.specs.WordLayout.{has_bit, bit_length}
+use Rattle.std.proofs.Math.Bool.{and-false}
+use Rattle.std.proofs.Math.Nat.{pow-suc}
+use Rattle.std.proofs.lemmas.Bool.{true≢false, cases_Bool, cases_eq, cases_lt, cases_order, eq-eqb, eqb-true, eqb-false, ne_eqb}
+use Rattle.std.proofs.lemmas.Nat.Bits.{bit_at_above, bit_at_lowest, bit_at-suc, bit_at-zero, bit_at_and, bit_at_xor, bit_at-pow_same, bit_at-pow_other, bit_at-trailing_zeros, bit_at_set_same, bit_at_set_other, bit_at-lt, same_from_bits_below}
+use Rattle.std.proofs.lemmas.Nat.{and_mask, div_below, le-div, leading_length, leading_top, one_shl, pow_pos, or_lt}
+use Rattle.rsc_search.specs.WordLayout.{has_bit, bit_length, highest_place, IsWithout}
 
 -- one less has no bit at the lowest set one, and the same above it
 pred_lowest : (j n : ℕ) → 0 < n → bit_at n j ≡ 1 → ((i : ℕ) → i < j → bit_at n i ≡ 0) → bit_at (n - 1) j ≡ 0
@@ -32,161 +32,75 @@ pred_above : (i j n : ℕ) → i < j → bit_at n i ≡ 1 → bit_at (n - 1) j �
 pred_above i zero n lt one = absurd (omega arith)
 pred_above zero (suc j) n lt one = pred_odd j n (sym (bit_at_lowest n) ∙ one)
 pred_above (suc i) (suc j) n lt one =
-    elim (eqb (n % 2) 0) as (λ b. eqb (n % 2) 0 ≡ b → bit_at (n - 1) (suc j) ≡ bit_at n (suc j)) [
-      | true ↦ λ e.
-          let even : n % 2 ≡ 0 = grind (arith, common_steps) in
+    elim (cases_lt (n % 2) 1) [
+      | inl even ↦
           let half : (n - 1) / 2 ≡ n / 2 - 1 = omega (arith, even) in
           bit_at-suc (n - 1) j ∙ rw half (pred_above i j (n / 2) (omega arith) (sym (bit_at-suc n i) ∙ one)) ∙ sym (bit_at-suc n j)
-      | false ↦ λ e.
-          let some : n % 2 ≢ 0 = grind (arith, common_steps) in
-          let odd : n % 2 ≡ 1 = omega (arith, some) in
-          pred_odd j n odd
-    ] refl
-
-and_false : (b : Bool) → (b && false) ≡ false
-and_false true = refl
-and_false false = refl
-
-pub differ : (a b : ℕ) → a ≢ b → eqb a b ≡ false
-differ a b ne = grind (arith, common_steps)
-
-pub same : (a b : ℕ) → a ≡ b → eqb a b ≡ true
-same a b e = grind (arith, common_steps)
-
--- a number below, at or above another
-pub by_order : {P : Type 0} (j r : ℕ) → (j < r → P) → (j ≡ r → P) → (r < j → P) → P
-by_order {P} j r below here above =
-    elim (ltb j r) as (λ b. ltb j r ≡ b → P) [
-      | true ↦ λ e. below (grind (arith, common_steps))
-      | false ↦ λ e.
-          let le : r ≤ j = grind (arith, common_steps) in
-          elim (ltb r j) as (λ b. ltb r j ≡ b → P) [
-            | true ↦ λ f. above (grind (arith, common_steps))
-            | false ↦ λ f. let ge : j ≤ r = grind (arith, common_steps) in here (omega arith)
-          ] refl
-    ] refl
+      | inr odd ↦ pred_odd j n (omega (arith, odd))
+    ]
 
 -- `n & (n - 1)` has the bits of n but the lowest
-pub bit_taken : (n : ℕ) → 0 < n → n < 2 ^ 64 → (j : ℕ) → has_bit (bit_and n (n - 1)) j ≡ (not (eqb j (trailing_zeros w64 n)) && has_bit n j)
-bit_taken n some fits j =
-    let found = bit_at-trailing_zeros w64 n some fits in
-    let both : bit_at (bit_and n (n - 1)) j ≡ min (bit_at n j) (bit_at (n - 1) j) = bit_at_and n (n - 1) j in
-    by_order j (trailing_zeros w64 n)
-    (λ below. let none : min 0 (bit_at (n - 1) j) ≡ 0 = omega arith in rw (both, found.2 j below, none) (sym (and_false (not (eqb j (trailing_zeros w64 n))))))
-    (λ here.
-    let gone : bit_at (n - 1) j ≡ 0 = rw here (pred_lowest (trailing_zeros w64 n) n some found.1 found.2) in
-    let none : min (bit_at n j) 0 ≡ 0 = omega arith in
-    rw (both, gone, none, same j (trailing_zeros w64 n) here) refl)
-    (λ above.
-    let kept : bit_at (n - 1) j ≡ bit_at n j = pred_above (trailing_zeros w64 n) j n above found.1 in
-    let one : min (bit_at n j) (bit_at n j) ≡ bit_at n j = omega arith in
-    rw (both, kept, one, differ j (trailing_zeros w64 n) (omega arith)) refl)
+pub lowest_taken : (n : ℕ) → 0 < n → n < 2 ^ 64 → IsWithout n (trailing_zeros w64 n) (bit_and n (n - 1))
+lowest_taken n some fits = record {
+  bits_are = λ j. rw (bit_at_and n (n - 1) j)
+      (go j (bit_at-trailing_zeros w64 n some fits) (cases_order j (trailing_zeros w64 n)));
+}
+  where
+    go : (j : ℕ) → (trailing_zeros w64 n < 64) × (bit_at n (trailing_zeros w64 n) ≡ 1) × ((i : ℕ) → i < trailing_zeros w64 n → bit_at n i ≡ 0)
+        → (j ≡ trailing_zeros w64 n) ⊎ ((j < trailing_zeros w64 n) ⊎ (trailing_zeros w64 n < j))
+        → eqb (min (bit_at n j) (bit_at (n - 1) j)) 1 ≡ (not (eqb j (trailing_zeros w64 n)) && has_bit n j)
+    go j found (inl here) =
+        let gone : bit_at (n - 1) j ≡ 0 = rw here (pred_lowest (trailing_zeros w64 n) n some found.1 found.2) in
+        let none : min (bit_at n j) 0 ≡ 0 = omega arith in
+        rw (gone, none, eq-eqb j (trailing_zeros w64 n) here) refl
+    go j found (inr (inl below)) =
+        let none : min 0 (bit_at (n - 1) j) ≡ 0 = omega arith in
+        rw (found.2 j below, none) (sym (and-false (not (eqb j (trailing_zeros w64 n)))))
+    go j found (inr (inr above)) =
+        let one : min (bit_at n j) (bit_at n j) ≡ bit_at n j = omega arith in
+        rw (pred_above (trailing_zeros w64 n) j n above found.1, one, ne_eqb j (trailing_zeros w64 n) (λ e. omega (arith, e, above))) refl
+
+-- `n ^ (1 << k)` has the bits of n but k, which n has
+pub bit_taken : (n k : ℕ) → k < 64 → has_bit n k ≡ true → IsWithout n k (bit_xor n (1 * 2 ^ k % 2 ^ 64))
+bit_taken n k within is = rw (one_shl k 64 within) (record { bits_are = λ j. rw (bit_at_xor n (2 ^ k) j) (go j (cases_eq j k)) })
+  where
+    go : (j : ℕ) → (j ≡ k) ⊎ (j ≡ k → ⊥) → eqb ((bit_at n j + bit_at (2 ^ k) j) % 2) 1 ≡ (not (eqb j k) && has_bit n j)
+    go j (inl here) = rw (here, eqb-true (bit_at n k) 1 is, bit_at-pow_same k, eq-eqb k k refl) refl
+    go j (inr other) =
+        let bit : (bit_at n j + 0) % 2 ≡ bit_at n j = omega (arith, bit_at-lt n j) in
+        rw (bit_at-pow_other k j other, bit, ne_eqb j k other) refl
 
 -- `n | 1 << k`
 pub bit_set : (n k : ℕ) → k < 64 → (j : ℕ) → has_bit (bit_or n (1 * 2 ^ k % 2 ^ 64)) j ≡ (eqb j k || has_bit n j)
-bit_set n k within j =
-    elim (eqb j k) as (λ b. eqb j k ≡ b → has_bit (bit_or n (1 * 2 ^ k % 2 ^ 64)) j ≡ (b || has_bit n j)) [
-      | true ↦ λ e. let eq : j ≡ k = grind (arith, common_steps) in rw (eq, bit_at_set_same w64 n k within) refl
-      | false ↦ λ e. let ne : j ≢ k = grind (arith, common_steps) in rw (bit_at_set_other w64 n k within j ne) refl
-    ] refl
+bit_set n k within j = elim (cases_eq j k) [
+  | inl here ↦ rw (here, bit_at_set_same w64 n k within, eq-eqb k k refl) refl
+  | inr other ↦ rw (bit_at_set_other w64 n k within j other, ne_eqb j k other) refl
+]
 
--- two bits are the same if they are both set or both clear
-pub one_bit : (a b : ℕ) → a < 2 → b < 2 → eqb a 1 ≡ eqb b 1 → a ≡ b
-one_bit a b a_lt b_lt e =
-    elim (eqb b 1) as (λ d. eqb b 1 ≡ d → a ≡ b) [
-      | true ↦ λ f. let one : b ≡ 1 = grind (arith, common_steps) in let other : eqb a 1 ≡ true = e ∙ f in let first : a ≡ 1 = grind (arith, common_steps) in omega arith
-      | false ↦ λ f. let none : b ≢ 1 = grind (arith, common_steps) in let other : eqb a 1 ≡ false = e ∙ f in let first : a ≢ 1 = grind (arith, common_steps) in omega (arith, none, first)
-    ] refl
+-- numbers of 64 bits are the same if the same bits are set
+pub same_from_set : (m n : ℕ) → m < 2 ^ 64 → n < 2 ^ 64 → ((i : ℕ) → i < 64 → has_bit m i ≡ has_bit n i) → m ≡ n
+same_from_set m n m_fits n_fits alike =
+    same_from_bits_below 64 m n m_fits n_fits (λ i below. one_bit (bit_at m i) (bit_at n i) (bit_at-lt m i) (bit_at-lt n i) (alike i below)
+    (cases_Bool (has_bit n i)))
+  where
+    one_bit : (a b : ℕ) → a < 2 → b < 2 → eqb a 1 ≡ eqb b 1 → (eqb b 1 ≡ true) ⊎ (eqb b 1 ≡ false) → a ≡ b
+    one_bit a b a_lt b_lt e (inl is) = eqb-true a 1 (e ∙ is) ∙ sym (eqb-true b 1 is)
+    one_bit a b a_lt b_lt e (inr off) =
+        let a_no : a ≢ 1 = eqb-false a 1 (e ∙ off) in
+        let b_no : b ≢ 1 = eqb-false b 1 off in
+        omega (arith, a_no, b_no)
 
 -- a word with one more bit is the same word exactly if it had the bit
 pub bit_stays : (n k : ℕ) → n < 2 ^ 64 → k < 64 → has_bit n k ≡ true → bit_or n (1 * 2 ^ k % 2 ^ 64) ≡ n
 bit_stays n k fits within one =
-    same_from_bits_below 64 (bit_or n (1 * 2 ^ k % 2 ^ 64)) n (or_lt 64 n (1 * 2 ^ k % 2 ^ 64) fits (omega arith)) fits
-    (λ j below. one_bit (bit_at (bit_or n (1 * 2 ^ k % 2 ^ 64)) j) (bit_at n j) (bit_at-lt (bit_or n (1 * 2 ^ k % 2 ^ 64)) j) (bit_at-lt n j) (bit_set n k within j ∙ had j))
+    same_from_set (bit_or n (1 * 2 ^ k % 2 ^ 64)) n (or_lt 64 n (1 * 2 ^ k % 2 ^ 64) fits (omega arith)) fits
+    (λ j below. bit_set n k within j ∙ had j (cases_eq j k))
   where
-    had : (j : ℕ) → (eqb j k || has_bit n j) ≡ has_bit n j
-    had j =
-        elim (eqb j k) as (λ b. eqb j k ≡ b → (b || has_bit n j) ≡ has_bit n j) [
-          | true ↦ λ e. let eq : j ≡ k = grind (arith, common_steps) in sym (ap (has_bit n) eq ∙ one)
-          | false ↦ λ e. refl
-        ] refl
+    had : (j : ℕ) → (j ≡ k) ⊎ (j ≡ k → ⊥) → (eqb j k || has_bit n j) ≡ has_bit n j
+    had j (inl here) = rw (here, eq-eqb k k refl) (sym one)
+    had j (inr other) = rw (ne_eqb j k other) refl
 
-pub set_if_same : (more word i : ℕ) → ((j : ℕ) → has_bit more j ≡ (eqb j i || has_bit word j)) → more ≡ word → has_bit word i ≡ true
-set_if_same more word i bits eq = ap (λ n. has_bit n i) (sym eq) ∙ bits i ∙ rw (same i i refl) refl
-
-pub clear_if_other : (more word i : ℕ) → (has_bit word i ≡ true → more ≡ word) → more ≢ word → has_bit word i ≡ false
-clear_if_other more word i stays ne =
-    elim (has_bit word i) as (λ b. has_bit word i ≡ b → has_bit word i ≡ false) [
-      | true ↦ λ e. absurd (ne (stays e))
-      | false ↦ λ e. e
-    ] refl
-
--- a number's low 64 bits
-kept_by_word : (m j : ℕ) → j < 64 → bit_at (m % 2 ^ 64) j ≡ bit_at m j
-kept_by_word m j within =
-    let parts : (m / 2 ^ 64) * 2 ^ 64 + m % 2 ^ 64 ≡ m = omega arith in
-    sym (bit_at_cat_low (m / 2 ^ 64) 64 (m % 2 ^ 64) j within) ∙ ap (λ x. bit_at x j) parts
-
--- ---- the highest set bit
-length_of : (n : ℕ) → n < 2 ^ 64 → (n < 2 ^ bit_length n) × (2 ^ bit_length n ≤ 2 * n + 1)
-length_of n fits =
-    let found = leading_length 64 n fits in
-    let is : bit_length n ≡ found.0 = omega (arith, found.1) in
-    rw is (found.2, found.3)
-
--- no bit is set from the length on
-pub none_above : (n i : ℕ) → n < 2 ^ 64 → bit_length n ≤ i → has_bit n i ≡ false
-none_above n i fits le = rw (bit_at_above n (bit_length n) i (length_of n fits).0 le) refl
-
-pub length_some : (n : ℕ) → 0 < n → n < 2 ^ 64 → 0 < bit_length n
-length_some n some fits = by_order (bit_length n) 1 (λ none.
-    let is : bit_length n ≡ 0 = omega (arith, none) in
-    let short : n < 2 ^ 0 = rw is at (length_of n fits).0 in
-    absurd (omega (arith, short))) (λ one. omega (arith, one)) (λ more. omega (arith, more))
-
-at_least_one : (n m : ℕ) → 0 < m → m ≤ n → 0 < n / m
-at_least_one n m some le = by_order (n / m) 1 (λ none.
-    let short : n < 1 * m = (div-lt_iff_lt-mul some).0 none in
-    absurd (omega (arith, short))) (λ one. omega (arith, one)) (λ more. omega (arith, more))
-
--- the last bit of the length is set
-pub highest_set : (n : ℕ) → n < 2 ^ 64 → 0 < bit_length n → has_bit n (bit_length n - 1) ≡ true
-highest_set n fits some = top (bit_length n - 1) (omega (arith, some)) (length_of n fits).0 (length_of n fits).1
-  where
-    top : (k : ℕ) → bit_length n ≡ k + 1 → n < 2 ^ bit_length n → 2 ^ bit_length n ≤ 2 * n + 1 → has_bit n k ≡ true
-    top k is below above =
-        let double : 2 ^ (k + 1) ≡ 2 * 2 ^ k = rw add-one (simp unary_clauses (omega arith)) in
-        let high : n < 2 ^ (k + 1) = rw is at below in
-        let low : 2 ^ (k + 1) ≤ 2 * n + 1 = rw is at above in
-        let within : 2 ^ k ≤ n = omega (arith, double, low) in
-        let under : n / 2 ^ k < 2 = (div-lt_iff_lt-mul (pow_pos k)).1 (omega (arith, double, high)) in
-        let over : 0 < n / 2 ^ k = at_least_one n (2 ^ k) (pow_pos k) within in
-        let one : n / 2 ^ k ≡ 1 = omega (arith, under, over) in
-        rw one refl
-
--- `n << k` has the bits of n, each k places higher
-pub bit_moved_in : (n k j : ℕ) → j < k → j < 64 → has_bit (n * 2 ^ k % 2 ^ 64) j ≡ false
-bit_moved_in n k j below within =
-    let none : n * 2 ^ k ≡ n * 2 ^ k + 0 = omega arith in
-    let bit : bit_at (n * 2 ^ k % 2 ^ 64) j ≡ 0 = kept_by_word (n * 2 ^ k) j within ∙ ap (λ m. bit_at m j) none ∙ bit_at_cat_low n k 0 j below ∙ bit_at-zero j in
-    rw bit refl
-
-pub bit_moved : (n k j : ℕ) → k ≤ j → j < 64 → has_bit (n * 2 ^ k % 2 ^ 64) j ≡ has_bit n (j - k)
-bit_moved n k j above within =
-    let none : n * 2 ^ k ≡ n * 2 ^ k + 0 = omega arith in
-    let bit : bit_at (n * 2 ^ k % 2 ^ 64) j ≡ bit_at n (j - k) = kept_by_word (n * 2 ^ k) j within ∙ ap (λ m. bit_at m j) none ∙ bit_at_cat_high n k 0 j (pow_pos k) above in
-    rw bit refl
-
-pub bit_moved_one : (n j : ℕ) → j < 63 → has_bit (n * 2 % 2 ^ 64) (j + 1) ≡ has_bit n j
-bit_moved_one n j below =
-    let place : j + 1 - 1 ≡ j = omega arith in
-    bit_moved n 1 (j + 1) (omega arith) (omega (arith, below)) ∙ ap (has_bit n) place
-
--- a number with a set bit isn't zero
-pub some_bit : (n i : ℕ) → has_bit n i ≡ true → 0 < n
-some_bit zero i is = absurd (true≢false (sym is ∙ rw (bit_at-zero i) refl))
-some_bit (suc n) i is = omega arith
-
+-- ---- the lowest set bit, and the highest
 -- no bit is set below the lowest set one, and none of zero
 pub none_under : (n i : ℕ) → n < 2 ^ 64 → i < trailing_zeros w64 n → has_bit n i ≡ false
 none_under zero i fits lt = rw (bit_at-zero i) refl
@@ -196,3 +110,65 @@ none_under (suc n) i fits lt = rw ((bit_at-trailing_zeros w64 (suc n) (omega ari
 pub lowest_set : (n : ℕ) → n < 2 ^ 64 → trailing_zeros w64 n < 64 → has_bit n (trailing_zeros w64 n) ≡ true
 lowest_set zero fits lt = let all : trailing_zeros w64 0 ≡ 64 = trailing_of_zero 64 in absurd (omega (arith, all, lt))
 lowest_set (suc n) fits lt = rw (bit_at-trailing_zeros w64 (suc n) (omega arith) fits).1 refl
+
+-- no bit is set from the length on
+pub none_above : (n i : ℕ) → n < 2 ^ 64 → bit_length n ≤ i → has_bit n i ≡ false
+none_above n i fits le =
+    let found = leading_length 64 n fits in
+    rw (bit_at_above n found.0 i found.2 (omega (arith, found.1, le))) refl
+
+-- the length of a word that isn't zero ends at its highest set bit
+pub length_some : (n : ℕ) → 0 < n → n < 2 ^ 64 → bit_length n ≡ highest_place n + 1
+length_some n some fits = let found = leading_top 64 n some fits in omega (arith, found.1)
+
+pub highest_set : (n : ℕ) → n < 2 ^ 64 → 0 < bit_length n → has_bit n (highest_place n) ≡ true
+highest_set zero fits some = let none : leading_zeros w64 0 ≡ 64 = leading_of_zero 64 in absurd (omega (arith, none, some))
+highest_set (suc n) fits some =
+    let found = leading_top 64 (suc n) (omega arith) fits in
+    let place : highest_place (suc n) ≡ found.0 = omega (arith, found.1) in
+    let double : 2 ^ suc found.0 ≡ 2 ^ found.0 * 2 = pow-suc 2 found.0 in
+    let below : suc n / 2 ^ found.0 < 2 = div_below (suc n) (2 ^ found.0) 2 (pow_pos found.0) (omega (arith, found.3, double)) in
+    let above : 1 ≤ suc n / 2 ^ found.0 = le-div 1 (suc n) (2 ^ found.0) (pow_pos found.0) (omega (arith, found.2)) in
+    let one : suc n / 2 ^ found.0 ≡ 1 = omega (arith, below, above) in
+    rw (place, one) refl
+
+-- the place of the highest set bit, as `^` computes it
+pub place_by_xor : (zeros : ℕ) → zeros < 64 → bit_xor zeros 63 ≡ 63 - zeros
+place_by_xor zeros within =
+    let sum : bit_xor zeros 63 + bit_and zeros 63 * 2 ≡ zeros + 63 = xor_add_and zeros 63 in
+    let low : bit_and zeros 63 ≡ zeros % 64 = and_mask zeros 6 in
+    omega (arith, sum, low, within)
+
+-- ---- a word and the rest of it, which isn't set at one place
+module _ {word place rest : ℕ} (without : IsWithout word place rest) where
+  pub kept : (i : ℕ) → (i ≡ place → ⊥) → has_bit rest i ≡ has_bit word i
+  kept i other = without.bits_are i ∙ rw (ne_eqb i place other) refl
+
+  pub gone : has_bit rest place ≡ false
+  gone = without.bits_are place ∙ rw (eq-eqb place place refl) refl
+
+  -- a bit of the rest is one of the word, at another place
+  pub of_rest : (i : ℕ) → has_bit rest i ≡ true → (has_bit word i ≡ true) × (i ≡ place → ⊥)
+  of_rest i is =
+      let other : i ≡ place → ⊥ = λ here. true≢false (sym is ∙ ap (has_bit rest) here ∙ gone) in
+      (sym (kept i other) ∙ is, other)
+
+-- without its lowest set bit a word begins later, and without its highest it ends earlier
+pub begins_later : {word rest : ℕ} → word < 2 ^ 64 → rest < 2 ^ 64 → trailing_zeros w64 word < 64 → IsWithout word (trailing_zeros w64 word) rest
+    → trailing_zeros w64 word < trailing_zeros w64 rest
+begins_later {word} {rest} fits rest_fits some without = elim (cases_lt (trailing_zeros w64 word) (trailing_zeros w64 rest)) [
+  | inl later ↦ later
+  | inr early ↦
+      let set = of_rest without (trailing_zeros w64 rest) (lowest_set rest rest_fits (omega (arith, early, some))) in
+      let before : trailing_zeros w64 rest ≢ trailing_zeros w64 word = set.1 in
+      absurd (true≢false (sym set.0 ∙ none_under word (trailing_zeros w64 rest) fits (omega (arith, early, before))))
+]
+
+pub ends_earlier : {word rest : ℕ} → word < 2 ^ 64 → rest < 2 ^ 64 → 0 < word → IsWithout word (highest_place word) rest → bit_length rest ≤ highest_place word
+ends_earlier {word} {rest} fits rest_fits some without = elim (cases_lt (highest_place word) (bit_length rest)) [
+  | inl late ↦
+      let set = of_rest without (highest_place rest) (highest_set rest rest_fits (omega (arith, late))) in
+      let other : highest_place rest ≢ highest_place word = set.1 in
+      absurd (true≢false (sym set.0 ∙ none_above word (highest_place rest) fits (omega (arith, late, other, length_some word some fits))))
+  | inr early ↦ early
+]

@@ -1,4 +1,4 @@
-pub mod BitsLemmas  -- the bits of a word: its lowest and its highest set bit, the word without its lowest, and the word moved up
+pub mod BitsLemmas  -- the bits of a word: its lowest and its highest set bit, and the word without either
 pub mod IteratorLemmas  -- what the iterator over a set has left, and its steps from either end
 pub mod NumbersLemmas  -- the numbers of a range that pass a test
 pub mod PartsLent  -- a part of a slice that is lent on. Assumes `Logic`

@@ -1,51 +1,39 @@
 -- The members of a set, by its words.
-use Rattle.std.proofs.Common.{◌≡◌, ◌≢◌, ℕ, zero, suc, replicate, ◌+◌, ◌/◌, ◌%◌, ◌<◌, ◌≤◌, ◌↔◌, Bool, true, false, ◌||◌, ◌&&◌, List, [], ◌++◌, length, take, drop, set, refl, sym, ap, ◌∙◌, arith, eqb, ltb, get_or-set_other, get_or-set_same}
+use Rattle.std.proofs.Common.{◌≡◌, ◌≢◌, ℕ, zero, suc, replicate, ◌+◌, ◌/◌, ◌%◌, inl, inr, cond, get_or, ◌<◌, ◌≤◌, ◌↔◌, Bool, true, false, ◌||◌, List, [], ◌++◌, length, take, drop, set, refl, sym, ap, ◌∙◌, arith, eqb, ltb, get_or-set_other, get_or-set_same}
 use Rattle.std.proofs.Math.Seq.{take-append_seam}
-use Rattle.std.proofs.lemmas.List.{length-replicate}
+use Rattle.std.proofs.lemmas.List.{get_or_default, length-replicate, length-set}
+use Rattle.std.proofs.lemmas.List.Elements.{All-filter}
+use Rattle.std.proofs.lemmas.List.FromFn.{length-range_with_len, get_or-range_with_len}
+use Rattle.std.proofs.lemmas.List.Kept.{IsStrictlyIncreasing-filter}
+use Rattle.std.specs.Prelude.{All}
+use Rattle.std.specs.List.{range_with_len}
+use Rattle.std.specs.List.Sorted.{IsStrictlyIncreasing}
 use Rattle.std.proofs.lemmas.Grind.{common_steps}
-use Rattle.std.proofs.lemmas.Bool.{and_parts}
+use Rattle.std.proofs.lemmas.Bool.{and_parts, cases_Bool, cases_eq, eq-eqb, ne_eqb}
 use Rattle.std.proofs.lemmas.Nat.Bits.{bit_at-zero}
 use Rattle.std.proofs.lemmas.Slice.Eq.{bytes_eq-Decides}
 use Rattle.std.specs.Cmp.{both_ways}
-use Rattle.std.specs.Int.{div_ceil}
 use Rattle.std.specs.Str.{bytes_eq}
 use mathlib.Core.Bool.{true≢false}
 use Rattle.rsc_search.specs.PatternSetsLaws.{same_patterns_equiv}
-use Rattle.rsc_search.specs.PatternSets.{Patterns, has_member, numbers_below, with_member, same_patterns}
-use Rattle.rsc_search.specs.PatternSetLayout.{patterns_of}
+use Rattle.rsc_search.specs.PatternSets.{Patterns, IsSet, has_member, numbers_below, with_member, same_patterns}
+use Rattle.rsc_search.specs.PatternSetLayout.{patterns_of, IsPacked}
 use Rattle.rsc_search.specs.WordLayout.{has_bit, word_of, is_set, SameBits}
-use Rattle.rsc_search.proofs.BitsLemmas.{differ, same}
-use Rattle.rsc_search.proofs.NumbersLemmas.{member_in, member_above, filter_none, filter_alike, length_one_more, length_filter_le}
+use Rattle.rsc_search.proofs.NumbersLemmas.{member_in, member_out, filter_none, filter_alike, length_one_more, length_filter_le}
 
--- two numbers are the same exactly if their words and their bits are
-by_parts : (q p : ℕ) → eqb q p ≡ (eqb (q / 64) (p / 64) && eqb (q % 64) (p % 64))
-by_parts q p =
-    elim (eqb (q / 64) (p / 64)) as (λ b. eqb (q / 64) (p / 64) ≡ b → eqb q p ≡ (b && eqb (q % 64) (p % 64))) [
-      | true ↦ λ e.
-          let words : q / 64 ≡ p / 64 = grind (arith, common_steps) in
-          elim (eqb (q % 64) (p % 64)) as (λ b. eqb (q % 64) (p % 64) ≡ b → eqb q p ≡ b) [
-            | true ↦ λ f. let bits : q % 64 ≡ p % 64 = grind (arith, common_steps) in same q p (omega (arith, words, bits))
-            | false ↦ λ f. let bits : q % 64 ≢ p % 64 = grind (arith, common_steps) in differ q p (λ eq. bits (ap (λ n. n % 64) eq))
-          ] refl
-      | false ↦ λ e. let words : q / 64 ≢ p / 64 = grind (arith, common_steps) in differ q p (λ eq. words (ap (λ n. n / 64) eq))
-    ] refl
-
--- a word of the list replaced by the same with one more bit
-pub one_more_set : (words : List ℕ) (p word : ℕ) → p / 64 < length words → ((j : ℕ) → has_bit word j ≡ (eqb j (p % 64) || has_bit (word_of words (p / 64)) j))
-    → (q : ℕ) → is_set (set words (p / 64) word) q ≡ (eqb q p || is_set words q)
-one_more_set words p word lt is q =
-    elim (eqb (q / 64) (p / 64)) as (λ b. eqb (q / 64) (p / 64) ≡ b → is_set (set words (p / 64) word) q ≡ (eqb q p || is_set words q)) [
-      | true ↦ λ e.
-          let eq : q / 64 ≡ p / 64 = grind (arith, common_steps) in
-          rw (by_parts q p, e, eq, get_or-set_same {A = ℕ}) (is (q % 64))
-      | false ↦ λ e.
-          let ne : q / 64 ≢ p / 64 = grind (arith, common_steps) in
-          rw (by_parts q p, e, get_or-set_other {A = ℕ}) refl
-    ] refl
-
--- there is a word for each number below the capacity
-pub has_word : (capacity p n : ℕ) → n ≡ div_ceil capacity 64 → p < capacity → p / 64 < n
-has_word capacity p n is lt = omega (arith, is, lt)
+-- a word of the list replaced by the same with another bit at one place
+pub changed_bit : (words : List ℕ) (p word : ℕ) (b : Bool) → p / 64 < length words
+    → ((j : ℕ) → has_bit word j ≡ cond (eqb j (p % 64)) b (has_bit (word_of words (p / 64)) j))
+    → (q : ℕ) → is_set (set words (p / 64) word) q ≡ cond (eqb q p) b (is_set words q)
+changed_bit words p word b lt bits q = elim (cases_eq (q / 64) (p / 64)) [
+  | inl here ↦
+      let whole : eqb (q % 64) (p % 64) ≡ eqb q p = elim (cases_eq q p) [
+        | inl eq ↦ rw (eq, eq-eqb p p refl, eq-eqb (p % 64) (p % 64) refl) refl
+        | inr ne ↦ rw (ne_eqb q p ne, ne_eqb (q % 64) (p % 64) (λ e. ne (omega (arith, here, e)))) refl
+      ] in
+      rw (here, get_or-set_same {A = ℕ}) (bits (q % 64) ∙ rw whole refl)
+  | inr there ↦ rw (ne_eqb q p (λ e. there (ap (λ n. n / 64) e)), get_or-set_other {A = ℕ}) refl
+]
 
 -- no bit of zeros is set
 pub none_of_zeros : (n p : ℕ) → is_set (replicate n 0) p ≡ false
@@ -62,7 +50,8 @@ pub no_members : (capacity n : ℕ) → numbers_below capacity (is_set (replicat
 no_members capacity n = filter_none (is_set (replicate n 0)) 0 capacity (λ q from below. none_of_zeros n q)
 
 -- words that were lent and came back as zeros
-pub all_zeros : (words lent : List ℕ) (n : ℕ) → n ≡ length words → lent ≡ replicate (length words) 0 → take n (lent ++ drop (length lent) words) ≡ replicate (length words) 0
+pub all_zeros : (words lent : List ℕ) (n : ℕ) → n ≡ length words → lent ≡ replicate (length words) 0
+    → take n (lent ++ drop (length lent) words) ≡ replicate (length words) 0
 all_zeros words lent n n_is zeros =
     let whole : n ≡ length lent = n_is ∙ sym (ap length zeros ∙ length-replicate (length words) 0) in
     rw whole (take-append_seam lent (drop (length lent) words)) ∙ zeros
@@ -76,7 +65,8 @@ module _ (capacity : ℕ) (words : List ℕ) (spare_clear : (p : ℕ) → capaci
   has_member-set p =
       elim (ltb p capacity) as (λ b. ltb p capacity ≡ b → has_member (patterns_of capacity words).members p ≡ is_set words p) [
         | true ↦ λ e. let lt : p < capacity = grind (arith, common_steps) in member_in (is_set words) 0 capacity p (omega arith) (omega arith)
-        | false ↦ λ e. let le : capacity ≤ p = grind (arith, common_steps) in member_above (is_set words) 0 capacity p (omega arith) ∙ sym (spare_clear p le)
+        | false ↦ λ e. let le : capacity ≤ p = grind (arith, common_steps) in
+            member_out (is_set words) 0 capacity p (λ from below. omega (arith, below, le)) ∙ sym (spare_clear p le)
       ] refl
 
   -- a number whose bit is set is below the capacity
@@ -87,46 +77,114 @@ module _ (capacity : ℕ) (words : List ℕ) (spare_clear : (p : ℕ) → capaci
         | false ↦ λ e. let le : capacity ≤ p = grind (arith, common_steps) in absurd (true≢false (sym is ∙ spare_clear p le))
       ] refl
 
-  -- words with the bits of one more number, or with the same bits where it is a member, are the set with it as a member
-  pub with_one_more : (others : List ℕ) (p : ℕ) → ((q : ℕ) → is_set others q ≡ (eqb q p || is_set words q)) → patterns_of capacity others ≡ with_member (patterns_of capacity words) p
-  with_one_more others p at =
-      let members : numbers_below capacity (is_set others) ≡ numbers_below capacity (λ q. eqb q p || has_member (patterns_of capacity words).members q) =
-      filter_alike (is_set others) (λ q. eqb q p || has_member (patterns_of capacity words).members q) 0 capacity (λ q from below. at q ∙ ap (λ b. eqb q p || b) (sym (has_member-set q))) in
-      ap (λ (ms : List ℕ). let s : Patterns = record { capacity = capacity; members = ms } in s) members
+  -- words with the bits of one more number are the set with it as a member
+  module _ (others : List ℕ) (p : ℕ) (at : (q : ℕ) → is_set others q ≡ cond (eqb q p) true (is_set words q)) where
+    pub with_one_more : patterns_of capacity others ≡ with_member (patterns_of capacity words) p
+    with_one_more =
+        let members : numbers_below capacity (is_set others) ≡ numbers_below capacity (λ q. eqb q p || has_member (patterns_of capacity words).members q) =
+        filter_alike (is_set others) (λ q. eqb q p || has_member (patterns_of capacity words).members q) 0 capacity
+        (λ q from below. at q ∙ rw (has_member-set q) (as_or (eqb q p) (is_set words q))) in
+        ap (λ (ms : List ℕ). let s : Patterns = record { capacity = capacity; members = ms } in s) members
+      where
+        as_or : (a b : Bool) → cond a true b ≡ (a || b)
+        as_or true b = refl
+        as_or false b = refl
 
-  pub member_stays : (p : ℕ) → is_set words p ≡ true → patterns_of capacity words ≡ with_member (patterns_of capacity words) p
-  member_stays p is = with_one_more words p (λ q. elim (eqb q p) as (λ b. eqb q p ≡ b → is_set words q ≡ (b || is_set words q)) [ true ↦ λ e. let eq : q ≡ p = grind (arith, common_steps) in ap (is_set words) eq ∙ is | false ↦ λ e. refl ] refl)
+    -- the bits at and above the capacity stay clear
+    pub spare_stays : p < capacity → (q : ℕ) → capacity ≤ q → is_set others q ≡ false
+    spare_stays lt q le = at q ∙ rw (ne_eqb q p (λ e. omega (arith, e, lt, le)), spare_clear q le) refl
 
-  -- the bits at and above the capacity stay clear
-  pub spare_stays : (others : List ℕ) (p : ℕ) → p < capacity → ((q : ℕ) → is_set others q ≡ (eqb q p || is_set words q)) → (q : ℕ) → capacity ≤ q → is_set others q ≡ false
-  spare_stays others p lt at q le = at q ∙ rw (differ q p (omega arith), spare_clear q le) refl
-
-  -- the count after a new member
-  pub one_more_member : (others : List ℕ) (p : ℕ) → p < capacity → is_set words p ≡ false → ((q : ℕ) → is_set others q ≡ (eqb q p || is_set words q))
-      → length (numbers_below capacity (is_set others)) ≡ length (numbers_below capacity (is_set words)) + 1
-  one_more_member others p lt out at =
-      let is_in : is_set others p ≡ true = at p ∙ rw (same p p refl) refl in
-      length_one_more (is_set words) (is_set others) 0 capacity p (omega arith) (omega arith) out is_in (λ q ne. sym (at q ∙ rw (differ q p ne) refl))
+    -- the count after a new member
+    pub one_more_member : p < capacity → is_set words p ≡ false
+        → length (numbers_below capacity (is_set others)) ≡ length (numbers_below capacity (is_set words)) + 1
+    one_more_member lt out =
+        length_one_more (is_set words) (is_set others) 0 capacity p (omega arith) (omega (arith, lt)) out (at p ∙ rw (eq-eqb p p refl) refl)
+        (λ q ne. sym (at q ∙ rw (ne_eqb q p ne) refl))
 
 -- a number below the capacity is a member after an insertion exactly if it was one or is the new one
 pub has_member-with_member : (s : Patterns) (p q : ℕ) → q < s.capacity → has_member (with_member s p).members q ≡ (eqb q p || has_member s.members q)
 has_member-with_member s p q lt = member_in (λ r. eqb r p || has_member s.members r) 0 s.capacity q (omega arith) (omega arith)
 
 -- sets of the same capacity are equal exactly if the same bits are set
-module _ (capacity : ℕ) (xs ys : List ℕ) (lengths : length xs ≡ length ys) (xs_spare : (p : ℕ) → capacity ≤ p → is_set xs p ≡ false) (ys_spare : (p : ℕ) → capacity ≤ p → is_set ys p ≡ false) where
+module _ (capacity : ℕ) (xs ys : List ℕ) (lengths : length xs ≡ length ys) (xs_spare : (p : ℕ) → capacity ≤ p → is_set xs p ≡ false)
+    (ys_spare : (p : ℕ) → capacity ≤ p → is_set ys p ≡ false) where
   same_if_bits : SameBits xs ys → same_patterns (patterns_of capacity xs) (patterns_of capacity ys) ≡ true
   same_if_bits same_bits =
-      let members : (patterns_of capacity xs).members ≡ (patterns_of capacity ys).members = filter_alike (is_set xs) (is_set ys) 0 capacity (λ q from below. same_bits.bits_are q) in
+      let members : (patterns_of capacity xs).members ≡ (patterns_of capacity ys).members =
+      filter_alike (is_set xs) (is_set ys) 0 capacity (λ q from below. same_bits.bits_are q) in
       rw members (same_patterns_equiv.refl (patterns_of capacity ys))
 
   bits_if_same : same_patterns (patterns_of capacity xs) (patterns_of capacity ys) ≡ true → SameBits xs ys
   bits_if_same e =
       let parts = and_parts (eqb capacity capacity) (bytes_eq (patterns_of capacity xs).members (patterns_of capacity ys).members) e in
-      let members : (patterns_of capacity xs).members ≡ (patterns_of capacity ys).members = (bytes_eq-Decides (patterns_of capacity xs).members (patterns_of capacity ys).members).0 parts.1 in
+      let members : (patterns_of capacity xs).members ≡ (patterns_of capacity ys).members =
+      (bytes_eq-Decides (patterns_of capacity xs).members (patterns_of capacity ys).members).0 parts.1 in
       record {
         as_many = lengths;
         bits_are = λ p. sym (has_member-set capacity xs xs_spare p) ∙ ap (λ ms. has_member ms p) members ∙ has_member-set capacity ys ys_spare p;
       }
 
   pub same_by_bits : (b : Bool) → (b ≡ true) ↔ SameBits xs ys → b ≡ same_patterns (patterns_of capacity xs) (patterns_of capacity ys)
-  same_by_bits b decides = both_ways b (same_patterns (patterns_of capacity xs) (patterns_of capacity ys)) (λ e. same_if_bits (decides.0 e)) (λ e. decides.1 (bits_if_same e))
+  same_by_bits b decides = both_ways b (same_patterns (patterns_of capacity xs) (patterns_of capacity ys)) (λ e. same_if_bits (decides.0 e))
+      (λ e. decides.1 (bits_if_same e))
+
+-- ---- what holds for each set
+members_ascend : (t : ℕ → Bool) (n : ℕ) → IsStrictlyIncreasing (numbers_below n t)
+members_ascend t n = IsStrictlyIncreasing-filter t (range_with_len 0 n) rises
+  where
+    rises : IsStrictlyIncreasing (range_with_len 0 n)
+    rises k within =
+        let count : length (range_with_len 0 n) ≡ n = length-range_with_len 0 n in
+        let here : get_or (range_with_len 0 n) k 0 ≡ 0 + k = get_or-range_with_len 0 n k 0 (omega arith) in
+        let next : get_or (range_with_len 0 n) (k + 1) 0 ≡ 0 + (k + 1) = get_or-range_with_len 0 n (k + 1) 0 (omega arith) in
+        omega arith
+
+members_below : (t : ℕ → Bool) (n : ℕ) → All (λ p. p < n) (numbers_below n t)
+members_below t n = All-filter t (λ p. p < n) (range_with_len 0 n) (λ k d within.
+    let count : length (range_with_len 0 n) ≡ n = length-range_with_len 0 n in
+    let here : get_or (range_with_len 0 n) k d ≡ 0 + k = get_or-range_with_len 0 n k d (omega arith) in
+    omega arith)
+
+pub is_set_below : (capacity : ℕ) (words : List ℕ) → IsSet (patterns_of capacity words)
+is_set_below capacity words = record {
+  ascending = members_ascend (is_set words) capacity;
+  below = members_below (is_set words) capacity;
+  most = members_within capacity words;
+}
+
+-- ---- an insertion: the word of a number, and the same with its bit set
+module _ {capacity count : ℕ} {words : List ℕ} (packed : IsPacked capacity words count) {p n word : ℕ} (more d : ℕ) (below : p < capacity) (n_is : n ≡ p)
+    (word_is : word ≡ get_or words (n / 64) d) (bits : (j : ℕ) → has_bit more j ≡ (eqb j (n % 64) || has_bit word j)) where
+  has_word : p / 64 < length words
+  has_word = omega (arith, packed.length_is, below)
+
+  is_word : word ≡ word_of words (p / 64)
+  is_word = rw n_is at word_is ∙ get_or_default words (p / 64) d 0 has_word
+
+  pub member_before : more ≡ word → is_set words p ≡ true
+  member_before stays = ap (λ w. has_bit w (p % 64)) (sym (stays ∙ is_word)) ∙ rw n_is at (bits (p % 64)) ∙ rw (eq-eqb (p % 64) (p % 64) refl) refl
+
+  pub same_at : is_set words p ≡ true → (q : ℕ) → is_set words q ≡ cond (eqb q p) true (is_set words q)
+  same_at is q = elim (cases_eq q p) [ inl eq ↦ rw (eq, eq-eqb p p refl) is | inr ne ↦ rw (ne_eqb q p ne) refl ]
+
+  pub new_member : (has_bit word (n % 64) ≡ true → more ≡ word) → more ≢ word → is_set words p ≡ false
+  new_member stays other = elim (cases_Bool (is_set words p)) [
+    | inl is ↦ absurd (other (stays (rw (n_is, is_word) is)))
+    | inr out ↦ out
+  ]
+
+  pub more_at : (q : ℕ) → is_set (set words (n / 64) more) q ≡ cond (eqb q p) true (is_set words q)
+  more_at = rw n_is (changed_bit words p more true has_word (λ j. rw (n_is, is_word) at (bits j)
+      ∙ as_cond (eqb j (p % 64)) (has_bit (word_of words (p / 64)) j)))
+    where
+      as_cond : (a b : Bool) → (a || b) ≡ cond a true b
+      as_cond true b = refl
+      as_cond false b = refl
+
+  pub more_packed : is_set words p ≡ false → IsPacked capacity (set words (n / 64) more) (count + 1)
+  more_packed out = record {
+    fits = packed.fits;
+    length_is = length-set words (n / 64) more ∙ packed.length_is;
+    spare_clear = spare_stays capacity words packed.spare_clear (set words (n / 64) more) p more_at below;
+    count_is = omega (arith, packed.count_is, one_more_member capacity words packed.spare_clear (set words (n / 64) more) p more_at below out);
+  }

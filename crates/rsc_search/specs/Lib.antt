@@ -8,4 +8,4 @@ pub mod PatternSetsLaws  -- equality of pattern sets is an equivalence
 pub mod Spans  -- spans, and what they cut out of a haystack
 pub mod SpansLaws  -- equality of spans is an equivalence
 pub mod Texts  -- the texts of the errors
-pub mod WordLayout  -- words of 64 bits, and lists of them
+pub mod WordLayout  -- `u64` as lists of bits, and lists of them

@@ -1,11 +1,18 @@
 -- Sets of patterns: a capacity, and the members below it in ascending order.
-use Rattle.std.specs.Prelude.{ℕ, ◌==◌, ◌||◌, ◌&&◌, Bool, List, [], filter}
+use Rattle.std.specs.Prelude.{ℕ, ◌<◌, ◌≤◌, ◌==◌, ◌||◌, ◌&&◌, All, Bool, List, [], filter, length}
 use Rattle.std.specs.List.{list_any, range_with_len}
+use Rattle.std.specs.List.Sorted.{IsStrictlyIncreasing}
 use Rattle.std.specs.Str.{bytes_eq}
 
 pub record Patterns : Type 0 where
   pub capacity : ℕ
   pub members : List ℕ
+
+-- what holds for each set: its members ascend, each is below the capacity, and so they are at most as many
+pub record IsSet (s : Patterns) : Type 0 where
+  pub ascending : IsStrictlyIncreasing s.members
+  pub below : All (λ p. p < s.capacity) s.members
+  pub most : length s.members ≤ s.capacity
 
 -- the number is among the members
 abbrev pub has_member : List ℕ → ℕ → Bool

@@ -1,5 +1,5 @@
--- Words of 64 bits, and lists of them.
-use Rattle.std.specs.Prelude.{◌≡◌, ◌<◌, ◌≤◌, ◌==◌, ◌+◌, ◌-◌, ◌*◌, ◌/◌, ◌%◌, ◌^◌, ℕ, Bool, false, List, length, filter, slice_index_or}
+-- `u64` as lists of bits, and lists of them.
+use Rattle.std.specs.Prelude.{◌≡◌, ◌<◌, ◌≤◌, ◌==◌, ◌&&◌, not, ◌+◌, ◌-◌, ◌*◌, ◌/◌, ◌%◌, ◌^◌, ℕ, Bool, false, List, length, filter, slice_index_or}
 use Rattle.std.specs.Int.{bit_at, leading_zeros, trailing_zeros, w64}
 use Rattle.std.specs.List.{range_with_len}
 
@@ -28,27 +28,31 @@ pub record SameBits (words others : List ℕ) : Type 0 where
 abbrev pub rest_start : ℕ → ℕ → ℕ
 rest_start index rest = 64 * index + trailing_zeros w64 rest
 
+-- the place of the highest set bit of a word that isn't zero
+abbrev pub highest_place : ℕ → ℕ
+highest_place word = 63 - leading_zeros w64 word
+
 -- how many bits a word has up to its highest set one
 abbrev pub bit_length : ℕ → ℕ
 bit_length word = 64 - leading_zeros w64 word
+
+-- where the rest of a word ends: after its highest set bit, or with the word before
+abbrev pub rest_end : ℕ → ℕ → ℕ
+rest_end index rest = 64 * index + bit_length rest
+
+-- the rest has the bits of the word but one
+pub record IsWithout (word place rest : ℕ) : Type 0 where
+  pub bits_are : (i : ℕ) → has_bit rest i ≡ (not (i == place) && has_bit word i)
 
 -- from its lowest set bit on the rest is the word of that number
 pub record IsRestFrom (words : List ℕ) (index rest : ℕ) : Type 0 where
   pub bits_are : (i : ℕ) → trailing_zeros w64 rest ≤ i → i < 64 → has_bit rest i ≡ has_bit (word_of words index) i
 
--- the rest is what the word of that number has below an end, moved up until the bit before the end is the top one
-pub record IsRestTo (words : List ℕ) (index end rest : ℕ) : Type 0 where
-  pub in_list : index ≤ length words
-  pub from_word : 64 * index ≤ end
-  pub to_word : end ≤ 64 * index + 64
-  pub bits_are : (q : ℕ) → 64 * index ≤ q → q < end → has_bit rest (q + 64 - end) ≡ is_set words q
-  pub low_clear : (i : ℕ) → i + end < 64 * index + 64 → has_bit rest i ≡ false
+-- up to its highest set bit the rest is the word of that number
+pub record IsRestTo (words : List ℕ) (index rest : ℕ) : Type 0 where
+  pub bits_are : (i : ℕ) → i < bit_length rest → has_bit rest i ≡ has_bit (word_of words index) i
 
--- a number below the end has its bit set
-abbrev pub HasBitBelow : List ℕ → ℕ → Type 0
-HasBitBelow words end = ¬ ((q : ℕ) → q < end → is_set words q ≡ false)
-
--- the first rest that isn't zero, after a rest
+-- the first rest that isn't zero, from a rest on; where each is zero, so is it
 pub record IsWordFrom (words : List ℕ) (index rest found word : ℕ) : Type 0 where
   pub fits : word < 2 ^ 64
   pub is_rest : IsRestFrom words found word
@@ -56,10 +60,10 @@ pub record IsWordFrom (words : List ℕ) (index rest found word : ℕ) : Type 0 
   pub clear : (q : ℕ) → rest_start index rest ≤ q → q < rest_start found word → is_set words q ≡ false
   pub none : word ≡ 0 → (q : ℕ) → rest_start index rest ≤ q → is_set words q ≡ false
 
--- the last rest that isn't zero, before an end
-pub record IsWordTo (words : List ℕ) (end found last word : ℕ) : Type 0 where
+-- the last rest that isn't zero, up to a rest; where each is zero, so is it
+pub record IsWordTo (words : List ℕ) (index rest found word : ℕ) : Type 0 where
   pub fits : word < 2 ^ 64
-  pub some : 0 < word
-  pub is_rest : IsRestTo words found last word
-  pub order : last ≤ end
-  pub clear : (q : ℕ) → last ≤ q → q < end → is_set words q ≡ false
+  pub is_rest : IsRestTo words found word
+  pub order : rest_end found word ≤ rest_end index rest
+  pub clear : (q : ℕ) → rest_end found word ≤ q → q < rest_end index rest → is_set words q ≡ false
+  pub none : word ≡ 0 → (q : ℕ) → q < rest_end index rest → is_set words q ≡ false

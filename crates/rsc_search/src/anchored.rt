@@ -58,7 +58,7 @@ impl Anchored {
 /// ```
 #[derive(Clone, Copy, Debug, PartialEq, Eq)]
 pub enum MatchKind {
-    /// All matches, also those that a preferred one would hide.
+    /// All matches, also the ones that a preferred match would hide.
     All,
     /// The leftmost match, and of those that begin there the one that the pattern prefers.
     LeftmostFirst,

@@ -189,7 +189,9 @@ impl<'h> Input<'h> {
     /// The haystack. It is lent for as long as it lives, and so beyond this input.
     #[inline]
     pub fn haystack(&self) -> &'h [u8]
-        ensures { result.now ≡ self.now.haystack }
+        ensures bytes { result.now ≡ self.now.haystack }
+        ensures within { self.now.span.end ≤ length self.now.haystack }
+        ensures order { self.now.span.start ≤ self.now.span.end + 1 }
     {
         self.haystack
     }
@@ -199,6 +201,8 @@ impl<'h> Input<'h> {
     pub fn start(&self) -> usize
         ensures start { result ≡ self.now.span.start }
         ensures order { result ≤ self.now.span.end + 1 }
+        ensures within { self.now.span.end ≤ length self.now.haystack }
+        ensures small { self.now.span.end + 1 < 2 ^ 64 }
     {
         self.span.start
     }
@@ -266,7 +270,9 @@ impl<'h> Input<'h> {
     /// match may still be found.
     #[inline]
     pub fn is_done(&self) -> bool
-        ensures { IsTrue result ↔ (self.now.span.end < self.now.span.start) }
+        ensures done { IsTrue result ↔ (self.now.span.end < self.now.span.start) }
+        ensures within { self.now.span.end ≤ length self.now.haystack }
+        ensures order { self.now.span.start ≤ self.now.span.end + 1 }
     {
         self.span.start > self.span.end
     }

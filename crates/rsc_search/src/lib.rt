@@ -1,10 +1,23 @@
 //! What a search is given and what it answers: inputs, spans, matches, errors, and sets of patterns.
+//!
+//! An [`Input`] is a haystack with the [`Span`] of it to search. It is not a part of the haystack: assertions at the ends of the span look at the
+//! bytes around it. A span may be one past its end, which an iteration over matches reaches after an empty match at the end.
+//!
+//! A [`Match`] has a pattern and a span, a [`HalfMatch`] one end of it, for engines that find no start.
+//!
+//! A [`PatternSet`] collects the patterns that match. It has a capacity, the number of patterns, so that it takes memory once and an insertion never
+//! does: an engine makes it before the search, and clears it between searches.
+//!
+//! ```
+//! let input = Input::new(b"abc").span(1..3);
+//! assert!(input.get_span() == Span { start: 1, end: 3 });
+//! ```
 #![tactic(auto)]
 
 mod anchored;
 mod error;
 mod input;
-/// Laws that a caller may cite.
+/// Laws that a caller can cite.
 pub mod laws;
 mod matches;
 mod pattern_set;

@@ -2,9 +2,9 @@
 //!
 //! A set is held as one bit for each number below its capacity. The Rust has a list of `bool`s: a word answers for 64 of them at
 //! once, where a set is cleared, compared, or gone through.
-ghost use Rattle.std.specs.Prelude.{◌≡◌, ℕ, ◌-◌, ◌<◌, ◌≤◌, ◌↔◌, true, false, not, All, length, IsTrue, IsOk, IfOk, IfErr, IfSome, OnOk, OnErr, Some};
+ghost use Rattle.std.specs.Prelude.{◌≡◌, ℕ, ◌-◌, ◌<◌, ◌≤◌, ◌↔◌, ◌+◌, if◌then◌else◌, true, false, not, All, length, IsTrue, IsOk, IfOk, IfErr, IfSome, OnOk, OnErr, Some};
 ghost use Rattle.std.specs.List.Sorted.{IsStrictlyIncreasing};
-ghost use Rattle.rsc_search.specs.PatternSets.{Patterns, no_patterns, has_member, with_member};
+ghost use Rattle.rsc_search.specs.PatternSets.{Patterns, IsSet, no_patterns, has_member, with_member};
 
 mod error;
 mod iter;
@@ -78,6 +78,7 @@ impl<A: Allocator> PatternSet<A> {
     pub fn contains(&self, pid: PatternID) -> bool
         ensures value { result ≡ has_member self.now.members pid }
         ensures below { IsTrue result → pid < self.now.capacity }
+        ensures set { IsSet self.now }
     {
         let p = pid.as_usize();
         has_bit(word_at(self.words.as_slice(), p / BITS), p % BITS)
@@ -89,6 +90,8 @@ impl<A: Allocator> PatternSet<A> {
         requires { pid < self.old.capacity }
         ensures set { self.new ≡ with_member self.old pid }
         ensures new { result ≡ not (has_member self.old.members pid) }
+        ensures len { length self.new.members ≡ (if result then length self.old.members + 1 else length self.old.members) }
+        ensures most { length self.new.members ≤ self.new.capacity }
     {
         let p = pid.as_usize();
         let word = self.words[p / BITS];
@@ -111,6 +114,8 @@ impl<A: Allocator> PatternSet<A> {
         ensures accepted { IsOk result ↔ (pid < self.old.capacity) }
         ensures set { OnOk result (self.new ≡ with_member self.old pid) }
         ensures new { IfOk result (λ new. new ≡ not (has_member self.old.members pid)) }
+        ensures len { IfOk result (λ new. length self.new.members ≡ (if new then length self.old.members + 1 else length self.old.members)) }
+        ensures most { length self.new.members ≤ self.new.capacity }
         ensures unchanged { OnErr result (self.new ≡ self.old) }
         ensures error { IfErr result (λ e. e ≡ record { attempted = pid; capacity = self.old.capacity }) }
     {
@@ -128,7 +133,8 @@ impl<A: Allocator> PatternSet<A> {
     /// Whether there is no member.
     #[inline]
     pub fn is_empty(&self) -> bool
-        ensures { IsTrue result ↔ (length self.now.members ≡ 0) }
+        ensures empty { IsTrue result ↔ (length self.now.members ≡ 0) }
+        ensures set { IsSet self.now }
     {
         self.count == 0
     }
@@ -136,7 +142,8 @@ impl<A: Allocator> PatternSet<A> {
     /// Whether each pattern below the capacity is a member: there are as many members as the capacity says.
     #[inline]
     pub fn is_full(&self) -> bool
-        ensures { IsTrue result ↔ (length self.now.members ≡ self.now.capacity) }
+        ensures full { IsTrue result ↔ (length self.now.members ≡ self.now.capacity) }
+        ensures set { IsSet self.now }
     {
         self.count == self.capacity
     }
@@ -146,6 +153,7 @@ impl<A: Allocator> PatternSet<A> {
     pub fn len(&self) -> usize
         ensures value { result ≡ length self.now.members }
         ensures within { result ≤ self.now.capacity }
+        ensures set { IsSet self.now }
     {
         self.count
     }
@@ -155,6 +163,7 @@ impl<A: Allocator> PatternSet<A> {
     pub fn capacity(&self) -> usize
         ensures capacity { result ≡ self.now.capacity }
         ensures bound { result ≤ PatternID.LIMIT }
+        ensures set { IsSet self.now }
     {
         self.capacity
     }
@@ -166,15 +175,16 @@ impl<A: Allocator> PatternSet<A> {
         ensures ascending { IsStrictlyIncreasing result }
         ensures below { All (λ p. p < self.now.capacity) result }
         ensures contained { All (λ p. has_member self.now.members p ≡ true) result }
+        ensures set { IsSet self.now }
     {
         let words = self.words.as_slice();
+        let last = words.len().saturating_sub(1);
         PatternSetIter {
             words,
             front_index: 0,
             front: word_at(words, 0),
-            back_index: words.len(),
-            back_end: BITS * words.len(),
-            back: 0,
+            back_index: last,
+            back: word_at(words, last),
             left: self.count,
         }
     }

@@ -82,7 +82,7 @@ impl Span {
         !self.is_empty() && self.start <= offset && offset <= self.end
     }
 
-    /// The span moved up by so many bytes. Both its ends have to fit a `usize` then.
+    /// The span with both ends greater by a number of bytes. Both have to fit a `usize`.
     #[inline]
     pub fn offset(&self, offset: usize) -> Span
         requires start { self.now.start + offset < 2 ^ 64 }

@@ -1,7 +1,7 @@
-//! Words of 64 bits, and lists of them: bit `i` of word `w` is that of the number `64 * w + i`.
+//! Lists of `u64`s: bit `i` of word `w` is that of the number `64 * w + i`.
 ghost use Rattle.std.specs.Prelude.{◌≡◌, ℕ, ◌+◌, ◌<◌, ◌≤◌, ◌==◌, ◌||◌, ◌&&◌, ◌↔◌, not, true, false, IsTrue, length, replicate};
 ghost use Rattle.std.specs.Int.{trailing_zeros, w64};
-ghost use Rattle.rsc_search.specs.WordLayout.{word_of, has_bit, SameBits, HasBitBelow, IsRestFrom, IsRestTo, IsWordFrom, IsWordTo};
+ghost use Rattle.rsc_search.specs.WordLayout.{word_of, has_bit, highest_place, SameBits, IsWithout, IsRestFrom, IsRestTo, IsWordFrom, IsWordTo};
 
 /// How many bits a word has.
 pub(crate) const BITS: usize = 64;
@@ -29,9 +29,27 @@ pub(crate) fn with_bit(word: u64, i: usize) -> u64
 #[inline(always)]
 pub(crate) fn without_lowest(word: u64) -> u64
     requires { 0 < word }
-    ensures { (j : ℕ) → has_bit result j ≡ (not (j == trailing_zeros w64 word) && has_bit word j) }
+    ensures { IsWithout word (trailing_zeros w64 word) result }
 {
     word & (word - 1)
+}
+
+/// The place of the highest set bit. `63 ^` compiles to the processor's instruction alone, which `63 -` doesn't.
+#[inline(always)]
+pub(crate) fn highest(word: u64) -> usize
+    requires { 0 < word }
+    ensures { result ≡ highest_place word }
+{
+    word.leading_zeros() as usize ^ (BITS - 1)
+}
+
+/// The word without its highest set bit.
+#[inline(always)]
+pub(crate) fn without_highest(word: u64) -> u64
+    requires { 0 < word }
+    ensures { IsWithout word (highest_place word) result }
+{
+    word ^ (1 << highest(word))
 }
 
 /// A word of the list, or zero past its end.
@@ -96,48 +114,20 @@ pub(crate) fn first_from(words: &[u64], index: usize, rest: u64) -> (usize, u64)
     (found, word)
 }
 
-/// The last set bit below an end: the number of its word, the end just past it, and what that word has below this end, moved up until
-/// the bit is the top one. `rest` is the same of the word of that number and of `end`, whose top bit is the last before `end`, set or not.
-///
-/// The top bit is tested first: where most bits are set, the next one is found without waiting for a search for the highest.
+/// The last word that isn't zero, down from the one of that number, of which only `rest` is left: its number, and what is
+/// left of it. Where each is zero, so is the answer.
 #[inline(always)]
-pub(crate) fn last_to(words: &[u64], index: usize, end: usize, rest: u64) -> (usize, usize, u64)
-    requires rest { IsRestTo words.now index end rest }
-    requires some { HasBitBelow words.now end }
-    ensures word { IsWordTo words.now end result.0 result.1 result.2 }
-    ensures top { has_bit result.2 63 ≡ true }
-{
-    if has_bit(rest, BITS - 1) {
-        return (index, end, rest);
-    }
-    let (found, last, word) = word_to(words, index, end, rest);
-    let zeros = word.leading_zeros() as usize;
-    (found, last - zeros, word << zeros)
-}
-
-// The last rest that isn't zero, with the number of its word and its end.
-#[inline(always)]
-fn word_to(words: &[u64], index: usize, end: usize, rest: u64) -> (usize, usize, u64)
-    requires rest { IsRestTo words.now index end rest }
-    requires some { HasBitBelow words.now end }
-    ensures { IsWordTo words.now end result.0 result.1 result.2 }
+pub(crate) fn last_to(words: &[u64], index: usize, rest: u64) -> (usize, u64)
+    requires { IsRestTo words.now index rest }
+    ensures { IsWordTo words.now index rest result.0 result.1 }
 {
     if rest != 0 {
-        return (index, end, rest);
+        return (index, rest);
     }
     let (mut found, mut word) = (index, rest);
     while word == 0 && 0 < found {
         found -= 1;
-        word = words[found];
+        word = word_at(words, found);
     }
-    (found, BITS * found + BITS, word)
-}
-
-/// What a word has below its top bit, moved up by one.
-#[inline(always)]
-pub(crate) fn below_top(word: u64) -> u64
-    ensures bits { (j : ℕ) → j < 63 → has_bit result (j + 1) ≡ has_bit word j }
-    ensures lowest { has_bit result 0 ≡ false }
-{
-    word << 1
+    (found, word)
 }

@@ -5,10 +5,7 @@ mod shown;
 ghost use Rattle.std.specs.Prelude.{◌≡◌};
 
 use rsc_primitives::PatternID;
-use rsc_search::laws::clones::{clone_input, clone_iterator, clone_match_error};
-use rsc_search::laws::equality::{
-    are_equal_match_errors, are_equal_pattern_sets, default_match_kind,
-};
+use rsc_search::laws::are_equal_pattern_sets;
 use rsc_search::{
     Anchored, HalfMatch, Input, Match, MatchError, MatchErrorKind, MatchKind, PatternSet, Span,
 };
@@ -108,7 +105,7 @@ fn inputs_by_builders(rt: HostRuntime) -> Result<(), Fail> {
         .earliest(true);
     assert!(rt; input.get_span() == span(0, 2));
     assert!(rt; input.get_anchored() == Anchored::Yes && input.get_earliest());
-    let mut again = clone_input(&input)?.span(span(1, 1));
+    let mut again = input.clone()?.span(span(1, 1));
     again.set_anchored(Anchored::No);
     again.set_earliest(false);
     assert!(rt; again.haystack() == abc && !again.is_done() && !again.get_earliest());
@@ -159,7 +156,7 @@ fn modes(rt: HostRuntime) {
         assert!(rt; mode.pattern() == pattern);
     }
     assert!(rt; MatchKind::All.continue_past_first_match());
-    assert!(rt; !default_match_kind().continue_past_first_match());
+    assert!(rt; !MatchKind::default().continue_past_first_match());
 }
 
 #[test]
@@ -172,7 +169,7 @@ fn errors(rt: HostRuntime) -> Result<(), Fail> {
                 offset: 3
             }
     );
-    assert!(rt; are_equal_match_errors(&clone_match_error(&quit)?, &quit));
+    assert!(rt; quit.clone()? == quit);
     for (error, want) in [
         (quit, "quit search after observing byte \\xFF at offset 3"),
         (
@@ -211,7 +208,7 @@ fn iterates_from_both_ends(rt: HostRuntime) -> Result<(), Fail> {
     let mut members = set.iter();
     assert!(rt; members.size_hint() == (2, Some(2)) && members.len() == 2);
     assert!(rt; members.next_back() == Some(two));
-    let mut rest = clone_iterator(&members)?;
+    let mut rest = members.clone()?;
     assert!(rt; members.next() == Some(zero));
     assert!(rt; members.next() == None && members.next_back() == None);
     assert!(rt; rest.next_back() == Some(zero) && rest.len() == 0);

@@ -3,11 +3,11 @@ ghost use Rattle.std.specs.Prelude.{◌≡◌, length, IfSome, Some};
 ghost use Rattle.std.specs.Iterator.{YieldsFirst, YieldsLast, item_count, UpTo, at_most};
 ghost use Rattle.std.specs.Iterator.SizeHint.{IsWithinCount};
 
-use crate::words::{BITS, below_top, first_from, last_to, without_lowest};
+use crate::words::{BITS, first_from, highest, last_to, without_highest, without_lowest};
 use rsc_primitives::PatternID;
 use std::marker::Model;
 
-/// The iterator over a set's members, made by [`crate::PatternSet::iter`]. A contract sees it as the list of those that are left:
+/// The iterator over a set's members, made by [`crate::PatternSet::iter`]. A contract sees it as the list of what is left:
 /// `next` takes the first and `next_back` the last, so each comes once however they are mixed.
 ///
 /// # Examples
@@ -24,13 +24,11 @@ use std::marker::Model;
 #[derive(Clone, Debug, Drop)]
 pub struct PatternSetIter<'a> {
     pub(super) words: &'a [u64],
-    // Of the two words that were read last from either end what that end hasn't given yet. At the back that is what the word has
-    // below `back_end`, moved up until the bit before this end is the top one. Where both are one word, what the other end has
-    // given is in them still: the count of those that are left says when to stop.
+    // Each end has the number of its word, and the bits of it that this end hasn't given yet. Where both have one word, what the
+    // other end has given is still in them: the count of the members that are left says when to stop.
     pub(super) front_index: usize,
     pub(super) front: u64,
     pub(super) back_index: usize,
-    pub(super) back_end: usize,
     pub(super) back: u64,
     pub(super) left: usize,
 }
@@ -41,9 +39,9 @@ impl<'a> Model for PatternSetIter<'a> {
 
     ghost Value = { List ℕ };
 
-    ghost view = { λ it. left_between it.words.now it.front_index it.front it.back_end };
+    ghost view = { λ it. left_between it.words.now it.front_index it.front it.back_index it.back };
 
-    ghost invariant = { λ it. IsBetween it.words.now it.front_index it.front it.back_index it.back_end it.back it.left };
+    ghost invariant = { λ it. IsBetween it.words.now it.front_index it.front it.back_index it.back it.left };
 }
 
 impl<'a> PatternSetIter<'a> {
@@ -95,11 +93,10 @@ impl<'a> DoubleEndedIterator for PatternSetIter<'a> {
         if self.left == 0 {
             return None;
         }
-        let (index, end, word) = last_to(self.words, self.back_index, self.back_end, self.back);
-        let p = end - 1;
+        let (index, word) = last_to(self.words, self.back_index, self.back);
+        let p = BITS * index + highest(word);
         self.back_index = index;
-        self.back_end = p;
-        self.back = below_top(word);
+        self.back = without_highest(word);
         self.left -= 1;
         Some(PatternID::must(p))
     }

@@ -9,6 +9,6 @@ loop-word-preserved c =
     record {
       fits = fits;
       is_rest = whole_from c.args.words.now (c.loop-word.found + 1) _ refl;
-      order = order_from c.args.words.now c.args.index c.args.rest c.loop-word.found _ (rw c.loop-word-test.true at c.loop-word.invariant.order);
+      order = order_from c.args.words.now c.args.index c.args.rest c.loop-word.found _ fits (rw c.loop-word-test.true at c.loop-word.invariant.order);
       clear = clear_from c.args.words.now c.args.index c.args.rest c.loop-word.found _ fits refl (rw c.loop-word-test.true at c.loop-word.invariant.clear);
     }

@@ -1,12 +1,13 @@
-use Rattle.std.proofs.Common.{arith, refl}
-use Rattle.rsc_search.proofs.WordsLemmas.{shift_in_word, moved_word, moved_top}
+use Rattle.std.proofs.Common.{◌-◌}
+use Rattle.rsc_search.proofs.WordsLemmas.{whole_to, order_to, clear_to}
 use Rattle.rsc_search.proofs.words.last_to.Goals as goal
 
-pub overflow_sub-result : goal.overflow_sub-result
-overflow_sub-result c = omega (arith, shift_in_word c.args.words.now c.args.end c.word_to-found.result.0 c.word_to-found.result.1 c.word_to-found.result.2 c.word_to-found.ensures)
-
-pub returns-clause-word : goal.returns-clause-word
-returns-clause-word c = moved_word c.args.words.now c.args.end c.word_to-found.result.0 c.word_to-found.result.1 c.word_to-found.result.2 c.word_to-found.ensures _ refl
-
-pub returns-clause-top : goal.returns-clause-top
-returns-clause-top c = moved_top c.args.words.now c.args.end c.word_to-found.result.0 c.word_to-found.result.1 c.word_to-found.result.2 c.word_to-found.ensures _ refl
+pub loop-word-preserved : goal.loop-word-preserved
+loop-word-preserved c = record {
+  fits = c.word_at-word.type_inv;
+  is_rest = whole_to c.args.words.now (c.loop-word.found - 1) c.word_at-word.result c.word_at-word.ensures;
+  order = order_to c.args.words.now c.args.index c.args.rest c.loop-word.found c.word_at-word.result c.word_at-word.type_inv c.if-found-gt0.true
+      (rw c.loop-word-test.true at c.loop-word.invariant.order);
+  clear = clear_to c.args.words.now c.args.index c.args.rest c.loop-word.found c.word_at-word.result c.word_at-word.type_inv c.if-found-gt0.true
+      c.word_at-word.ensures (rw c.loop-word-test.true at c.loop-word.invariant.clear);
+}

@@ -5,7 +5,8 @@ use Rattle.rsc_search.proofs.pattern_set.PatternSet.clear.Goals as goal
 
 pub invariant_of-self : goal.invariant_of-self
 invariant_of-self g c =
-    let zeros : c.clear_all.new.words ≡ replicate (length c.self.inside.words.items) 0 = c.clear_all.ensures ∙ ap (λ ws. replicate (length ws) 0) c.as_mut_slice.ensures.value in
+    let zeros : c.clear_all.new.words ≡ replicate (length c.self.inside.words.items) 0 = c.clear_all.ensures
+    ∙ ap (λ ws. replicate (length ws) 0) c.as_mut_slice.ensures.value in
     rw (all_zeros c.self.inside.words.items c.clear_all.new.words c.self.inside.words.len c.self.inside.words.ok.0 zeros) (record {
       fits = c.self.invariant.fits;
       length_is = length-replicate (length c.self.inside.words.items) 0 ∙ c.self.invariant.length_is;
@@ -15,5 +16,11 @@ invariant_of-self g c =
 
 pub returns : goal.returns
 returns g c =
-    let zeros : c.clear_all.new.words ≡ replicate (length c.self.inside.words.items) 0 = c.clear_all.ensures ∙ ap (λ ws. replicate (length ws) 0) c.as_mut_slice.ensures.value in
-    rw (all_zeros c.self.inside.words.items c.clear_all.new.words c.self.inside.words.len c.self.inside.words.ok.0 zeros, no_members c.self.inside.capacity (length c.self.inside.words.items), ← c.self.view_is) refl
+    let zeros : c.clear_all.new.words ≡ replicate (length c.self.inside.words.items) 0 = c.clear_all.ensures
+    ∙ ap (λ ws. replicate (length ws) 0) c.as_mut_slice.ensures.value in
+    rw (
+      all_zeros c.self.inside.words.items c.clear_all.new.words c.self.inside.words.len c.self.inside.words.ok.0 zeros,
+      no_members c.self.inside.capacity
+          (length c.self.inside.words.items),
+      ← c.self.view_is,
+    ) refl

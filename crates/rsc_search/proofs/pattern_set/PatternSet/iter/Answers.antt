@@ -1,17 +1,25 @@
-use Rattle.rsc_search.proofs.IteratorLemmas.{begins_between, left_members, left_ascend, left_below, left_contained}
+use Rattle.std.proofs.Common.{refl}
+use Rattle.rsc_search.specs.PatternSets.{IsSet}
+use Rattle.rsc_search.specs.PatternSetLayout.{patterns_of}
+use Rattle.rsc_search.proofs.IteratorLemmas.{begins_between, left_members}
+use Rattle.rsc_search.proofs.MembersLemmas.{all_members}
+use Rattle.rsc_search.proofs.PatternSetsLemmas.{is_set_below}
 use Rattle.rsc_search.proofs.pattern_set.PatternSet.iter.Goals as goal
 
 pub invariant_of-result : goal.invariant_of-result
-invariant_of-result g c = begins_between c.self.inside.capacity c.self.inside.count c.self.inside.words.items c.self.invariant c.as_slice-words.result.now c.as_slice-words.ensures.value c.word_at.result c.word_at.type_inv c.word_at.ensures
+invariant_of-result g c =
+    begins_between c.self.invariant c.as_slice-words.ensures.value c.saturating_sub-last.ensures c.word_at.type_inv c.word_at.ensures c.word_at-2.type_inv
+    c.word_at-2.ensures
 
-pub returns-clause-members : goal.returns-clause-members
-returns-clause-members g c = rw (← c.self.view_is) (left_members c.self.inside.capacity c.self.inside.count c.self.inside.words.items c.self.invariant c.as_slice-words.result.now c.as_slice-words.ensures.value c.word_at.result c.word_at.type_inv c.word_at.ensures)
-
-pub returns-clause-ascending : goal.returns-clause-ascending
-returns-clause-ascending g c = left_ascend c.self.inside.capacity c.self.inside.count c.self.inside.words.items c.self.invariant c.as_slice-words.result.now c.as_slice-words.ensures.value c.word_at.result c.word_at.type_inv c.word_at.ensures
-
-pub returns-clause-below : goal.returns-clause-below
-returns-clause-below g c = rw (← c.self.view_is) (left_below c.self.inside.capacity c.self.inside.count c.self.inside.words.items c.self.invariant c.as_slice-words.result.now c.as_slice-words.ensures.value c.word_at.result c.word_at.type_inv c.word_at.ensures)
-
-pub returns-clause-contained : goal.returns-clause-contained
-returns-clause-contained g c = rw (← c.self.view_is) (left_contained c.self.inside.capacity c.self.inside.count c.self.inside.words.items c.self.invariant c.as_slice-words.result.now c.as_slice-words.ensures.value c.word_at.result c.word_at.type_inv c.word_at.ensures)
+pub returns : goal.returns
+returns g c =
+    let members = left_members c.self.invariant c.as_slice-words.ensures.value c.saturating_sub-last.ensures c.word_at.type_inv c.word_at.ensures
+    c.word_at-2.type_inv c.word_at-2.ensures in
+    let of_set : IsSet (patterns_of c.self.inside.capacity c.self.inside.words.items) = is_set_below c.self.inside.capacity c.self.inside.words.items in
+    rw (← c.self.view_is, members) (record {
+      members = refl;
+      ascending = of_set.ascending;
+      below = of_set.below;
+      contained = all_members (patterns_of c.self.inside.capacity c.self.inside.words.items).members;
+      set = of_set;
+    })

@@ -1,6 +1,9 @@
 use Rattle.std.proofs.Common.{arith}
-use Rattle.rsc_search.proofs.PatternSetsLemmas.{members_within}
+use Rattle.rsc_search.proofs.PatternSetsLemmas.{is_set_below, members_within}
 use Rattle.rsc_search.proofs.pattern_set.PatternSet.len.Goals as goal
 
 pub returns-clause-within : goal.returns-clause-within
 returns-clause-within g c = rw (← c.self.view_is) (omega (arith, c.self.invariant.count_is, members_within c.self.inside.capacity c.self.inside.words.items))
+
+pub returns-clause-set : goal.returns-clause-set
+returns-clause-set g c = rw (← c.self.view_is) (is_set_below c.self.inside.capacity c.self.inside.words.items)

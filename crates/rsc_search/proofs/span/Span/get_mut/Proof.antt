@@ -111,7 +111,8 @@ module _ {M : Type 1} {𝓤 : Ura M} (𝓛 : Logic 𝓤) (at_mem : Memory → SP
         nothing ! $ nothing ! $ fjoin ! $ nothing ! $ fjoin ! $ join ! $ move ! (1 ∷ 2 ∷ []) $ join ! $ join ! $ frame ! $ says ! (sym nothing_cut) $ done !
 
     walk : Room u8 (length xs)
-        → ent 𝓤 (on_entry 𝓛 f.signature (κ, (κ', tt)) (q, (q', tt)) (self, (hay, tt)) words) (WpFn 𝓤 H C Λ code.function (shr_vals self ++ (slice_val (b, o) (length xs) ∷ [])) Post)
+        → ent 𝓤 (on_entry 𝓛 f.signature (κ, (κ', tt)) (q, (q', tt)) (self, (hay, tt)) words)
+        (WpFn 𝓤 H C Λ code.function (shr_vals self ++ (slice_val (b, o) (length xs) ∷ [])) Post)
     unfolding follows_by
     walk room =
         let i : ℕ = d.start in
@@ -165,16 +166,20 @@ module _ {M : Type 1} {𝓤 : Ura M} (𝓛 : Logic 𝓤) (at_mem : Memory → SP
         sets ! (bin ! (get ! refl) (get ! refl) order) refl (tt, record { fits = fr }) $
         sets ! (addr ! (through ! refl (stop !))) refl (tt, tt) $
         sets ! (agg ! (and_then ! (get ! refl) (and_then ! (get ! refl) (no_more !)))) refl (tt, (tt, (record { fits = fr }, tt))) $
-        sets ! (agg ! (and_then ! (lit ! tt) (and_then ! (get ! refl) (no_more !)))) refl (tt, (record { fits = lit< tt }, ((tt, (record { fits = fr }, tt)), tt))) $
+        sets ! (agg ! (and_then ! (lit ! tt) (and_then ! (get ! refl) (no_more !)))) refl
+        (tt, (record { fits = lit< tt }, ((tt, (record { fits = fr }, tt)), tt))) $
         move ! (3 ∷ []) $ fsplit ! $ move ! (4 ∷ []) $ split ! $ move ! (2 ∷ 0 ∷ []) $
         -- [the slice; its token; nothing; nothing; the token of the `&`; ..]
         use2 𝓛 (later (some (part_lent 𝓛 (named 1) κ' q' b o γ u8 xs front mid back whole_is (i + o) on)))
         (lends_part 𝓛 (named 1) κ' q' b o γ u8 xs front mid back whole_is (i + o) on mid_room (mut_slice_vals hay)) $ await ! tt $ pick ! (λ δ.
         returns ! (look_at ! 0 refl) $ free_all ! refl $ keep ! (0 ∷ 1 ∷ 3 ∷ []) $ split3 ! $
         rewrite ! 0 (λ (k : ℕ). ‵ (Lent.own_val (record part { ghost_name = δ }) (slice_val (b, i + o) k ∷ []))) lm refl $
-        use1 𝓛 (‵ ((option.the_row Lent).own_val (Some (record part { ghost_name = δ })) (live 1 (of_list (v ∷ [])) ∷ []))) (Some-of 𝓛 Lent (record part { ghost_name = δ }) v) $
-        suffices ! _ (ends_at 𝓛 f.ended stayed clauses bound (live 1 (of_list (v ∷ []))) (Some (record part { ghost_name = δ })) (tt, (tt, tt)) (tt, (tt, tt))) $
-        nothing ! $ nothing ! $ fjoin ! $ nothing ! $ fjoin ! $ join ! $ move ! (1 ∷ 3 ∷ []) $ join ! $ move ! (3 ∷ 0 ∷ []) $ join ! $ join ! $ frame ! $ says ! (sym (cut_within xs d order within)) $ done !))))))
+        use1 𝓛 (‵ ((option.the_row Lent).own_val (Some (record part { ghost_name = δ })) (live 1 (of_list (v ∷ [])) ∷ [])))
+        (Some-of 𝓛 Lent (record part { ghost_name = δ }) v) $
+        suffices ! _ (ends_at 𝓛 f.ended stayed clauses bound (live 1 (of_list (v ∷ []))) (Some (record part { ghost_name = δ })) (tt, (tt, tt))
+        (tt, (tt, tt))) $
+        nothing ! $ nothing ! $ fjoin ! $ nothing ! $ fjoin ! $ join ! $ move ! (1 ∷ 3 ∷ []) $ join ! $ move !
+        (3 ∷ 0 ∷ []) $ join ! $ join ! $ frame ! $ says ! (sym (cut_within xs d order within)) $ done !))))))
 
   meets : (𝓣 : Tables 𝓤 H) → Meets 𝓛 f.signature (WpFn 𝓤 H 𝓣.C 𝓣.Λ code.function) (f.spec 𝓛 at_mem run)
   meets 𝓣 =
