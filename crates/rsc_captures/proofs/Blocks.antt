@@ -19,18 +19,24 @@ use Rattle.rsc_captures.proofs.Indexed.{get_or_past}
 module _ {block : Groups} (order : List ℕ) (is_order : IsOrder order block) where
   -- a name that a binary search doesn't find is that of no group
   pub absent : (name : List ℕ) (i : ℕ)
-      → (IsNonDecreasingBy (λ g. ordering_index (name_cmp (name_at block g) (Some name))) order → IsPartitionPoint (λ g. name_cmp (name_at block g) (Some name) ≡ Less) (λ g. name_cmp (name_at block g) (Some name) ≡ Greater) order i)
+      → (IsNonDecreasingBy (λ g. ordering_index (name_cmp (name_at block g) (Some name))) order
+      → IsPartitionPoint (λ g. name_cmp (name_at block g) (Some name) ≡ Less) (λ g. name_cmp (name_at block g) (Some name) ≡ Greater) order i)
       → (g : ℕ) → g < length block → name_at block g ≡ Some name → ⊥
   absent name i splits g lt named =
-      none_at_split block order name i g (splits (searchable_from_sorted name_total (name_at block) order (Some name) (names_sorted block order is_order.sorted))) (is_order.complete g lt) named
+      none_at_split block order name i g
+      (splits (searchable_from_sorted name_total (name_at block) order (Some name) (names_sorted block order is_order.sorted)))
+      (is_order.complete g lt) named
 
 -- one more group whose name none before it in the block has
-pub apart_more : (groups : Groups) (block n : ℕ) → AreApart groups block n → ((g : ℕ) (name : List ℕ) → g < block → g < n → name_at groups g ≡ Some name → name_at groups n ≡ Some name → ⊥) → AreApart groups block (n + 1)
+pub apart_more : (groups : Groups) (block n : ℕ) → AreApart groups block n
+    → ((g : ℕ) (name : List ℕ) → g < block → g < n → name_at groups g ≡ Some name → name_at groups n ≡ Some name → ⊥) → AreApart groups block (n + 1)
 apart_more groups block n apart last g h name lt before below one other =
-    ⊎_elim (λ (e : h ≡ n). last g name lt (rw e at before) one (rw e at other)) (λ (ne : h ≢ n). apart g h name lt before (omega arith) one other) (cases_eq h n)
+    ⊎_elim (λ (e : h ≡ n). last g name lt (rw e at before) one (rw e at other)) (λ (ne : h ≢ n). apart g h name lt before (omega arith) one other)
+    (cases_eq h n)
 
 -- the group after a lesser one with its name
-pub repeat_of_pair : (groups : Groups) (g h : ℕ) (name : List ℕ) → g < h → h < length groups → name_at groups g ≡ Some name → name_at groups h ≡ Some name → is_repeat groups h ≡ true
+pub repeat_of_pair : (groups : Groups) (g h : ℕ) (name : List ℕ) → g < h → h < length groups → name_at groups g ≡ Some name → name_at groups h ≡ Some name
+    → is_repeat groups h ≡ true
 repeat_of_pair groups g h name lt in_groups one other =
     let in_take : g < length (take h groups) = let le : length (take h groups) ≡ h = length-take-le h groups (omega arith) in omega arith in
     let at_g : get_or (take h groups) g None ≡ Some name = get_or-take h groups g None lt ∙ one in
@@ -49,7 +55,8 @@ module _ (groups : Groups) (n : ℕ) (within : n ≤ length groups) where
 
   pub apart_from_distinct : (end : ℕ) → end ≤ n → AreDistinctBelow (take n groups) end → AreApart groups n end
   apart_from_distinct end le distinct g h name lt before below one other =
-      let repeats : is_repeat (take n groups) h ≡ true = repeat_of_pair (take n groups) g h name before (omega (arith, count)) (in_block g lt ∙ one) (in_block h (omega arith) ∙ other) in
+      let repeats : is_repeat (take n groups) h ≡ true = repeat_of_pair (take n groups) g h name before (omega (arith, count)) (in_block g lt ∙ one)
+      (in_block h (omega arith) ∙ other) in
       true≢false (sym repeats ∙ distinct h below)
 
   pub repeat_in_block : (h : ℕ) → IsFirstRepeat (take n groups) h → IsRepeatOf groups n h
@@ -68,7 +75,8 @@ module _ (groups : Groups) (n : ℕ) (within : n ≤ length groups) where
       }
 
   -- a group after the block whose name a search finds there
-  pub repeat_found : (h g : ℕ) (name : List ℕ) → n ≤ h → h < length groups → name_cmp (name_at (take n groups) g) (Some name) ≡ Equal → name_at groups h ≡ Some name → AreApart groups n h → IsRepeatOf groups n h
+  pub repeat_found : (h g : ℕ) (name : List ℕ) → n ≤ h → h < length groups → name_cmp (name_at (take n groups) g) (Some name) ≡ Equal
+      → name_at groups h ≡ Some name → AreApart groups n h → IsRepeatOf groups n h
   repeat_found h g name after lt equal named apart =
       let at_g : name_at (take n groups) g ≡ Some name = name_exact _ _ equal in
       let first : g < n = let past = get_or_past (take n groups) g name at_g in omega (arith, past, count) in
@@ -106,14 +114,16 @@ module _ (groups : Groups) (from end : ℕ) where
   apart_blocks block to s within le earlier here g h name lt before below one other =
       ⊎_elim
       (λ (early : g < from). earlier g h name early before (omega arith) one other)
-      (λ (late : from ≤ g). here (g - from) (h - from) name (omega arith) (omega arith) (omega arith) (name_in_rest g late (omega arith) ∙ one) (name_in_rest h (omega arith) (omega arith) ∙ other))
+      (λ (late : from ≤ g). here (g - from) (h - from) name (omega arith) (omega arith) (omega arith) (name_in_rest g late (omega arith) ∙ one)
+      (name_in_rest h (omega arith) (omega arith) ∙ other))
       (cases_lt g from)
 
   -- the first that a block gives
   pub repeat_of_rest : (block h : ℕ) → end ≤ length groups → from + h < end → IsRepeatOf rest block h → is_repeat groups (from + h) ≡ true
   repeat_of_rest block h within lt found =
       let before : found.g < h = found.lesser in
-      repeat_of_pair groups (from + found.g) (from + h) found.name (omega arith) (omega arith) (name_of_rest found.g (omega arith) ∙ found.one) (name_of_rest h (omega arith) ∙ found.other)
+      repeat_of_pair groups (from + found.g) (from + h) found.name (omega arith) (omega arith) (name_of_rest found.g (omega arith) ∙ found.one)
+      (name_of_rest h (omega arith) ∙ found.other)
 
 -- the groups of the block and after it, as they are handed in
 pub rest_in : (groups : Handed) (from end : ℕ) → groups_in (take (end - from) (drop from groups)) ≡ rest (groups_in groups) from end

@@ -75,7 +75,8 @@ module _ (F : Field) where
     Result = option.the_row (Tuple parts)
 
     pub Result-lawful : Laws F.row → {M : Type 1} {𝓤 : Ura M} (𝓛 : Logic 𝓤) → Lawful 𝓛 Result
-    Result-lawful L 𝓛 = loose_lawful (option.the_type (Tuple parts)) (the_loose (Tuple parts) (tuple_laws parts (L, (number_array_laws F.row L (param 0 (number n)) refl, tt)))) tt 𝓛
+    Result-lawful L 𝓛 = loose_lawful (option.the_type (Tuple parts))
+        (the_loose (Tuple parts) (tuple_laws parts (L, (number_array_laws F.row L (param 0 (number n)) refl, tt)))) tt 𝓛
 
 -- a haystack lives as long as its lifetime
 pub lives_so : (κ : List ℕ) → κ ⊑ (κ ++ [])

@@ -8,7 +8,7 @@ use Rattle.std.proofs.lemmas.Bool.{le-ltb, lt-ltb}
 use Rattle.rsc_captures.specs.declared.faults.Fault as declared
 use Rattle.rsc_captures.specs.Groups.{Groups, GroupLists, groups_of, group_count, name_of, explicit_groups, explicit_before}
 use Rattle.rsc_captures.specs.Faults.{Fault, TooManyGroups, Duplicate, ComesBefore, IsPlace, pattern_fault, name_fault, place_fault, slots_end, IsFirstFault, IsFaultless, FirstIsDuplicate, RefusesFor}
-use Rattle.rsc_captures.specs.FaultsLayout.{fault_found, HasNoOtherBefore, HasNoOtherFault, IsFirstOther}
+use Rattle.rsc_captures.specs.FaultsLayout.{fault_found, IsDuplicate, HasNoOtherBefore, HasNoOtherFault, IsFirstOther}
 use Rattle.rsc_captures.specs.RepeatsLayout.{is_repeat, AreDistinctBelow, IsFirstRepeat, HasNoRepeatBefore, IsFirstRepeatBefore}
 use Rattle.rsc_captures.proofs.Clear.{before_more, explicit_place, group_clear, name_fault_clear, name_fault_repeat, name_fault_none, no_repeat_at_zero}
 use Rattle.rsc_captures.proofs.Lists.{sum_rises}
@@ -16,7 +16,8 @@ use Rattle.rsc_captures.proofs.Owners.{pattern_in}
 use Rattle.rsc_captures.proofs.RepeatsFound.{repeat_name, repeat_of_pattern, none_more, none_at_first}
 
 -- a list without a fault repeats no name
-pub clear_distinct : {limit : ℕ} {lists : GroupLists} → IsFaultless limit lists → (p : ℕ) → p < length lists → AreDistinctBelow (groups_of lists p) (group_count lists p)
+pub clear_distinct : {limit : ℕ} {lists : GroupLists} → IsFaultless limit lists → (p : ℕ) → p < length lists
+    → AreDistinctBelow (groups_of lists p) (group_count lists p)
 clear_distinct {lists = lists} faultless p lt zero below = no_repeat_at_zero (groups_of lists p)
 clear_distinct {limit = limit} {lists = lists} faultless p lt (suc g) below =
     let clear = sym (explicit_place limit lists p (suc g) (omega arith)) ∙ faultless.clear p (suc g) (lt, omega (arith, below)) in
@@ -26,7 +27,8 @@ earlier_still : {r k q h p g : ℕ} → ComesBefore r k q h → ComesBefore q h 
 earlier_still {r = r} {k = k} {q = q} {h = h} {p = p} {g = g} one other =
     ⊎_elim
     (λ (lt : r < q). inl (⊎_elim (λ (l : q < p). omega arith) (λ (s : (q ≡ p) × (h < g)). omega (arith, s.0)) other))
-    (λ (same : (r ≡ q) × (k < h)). ⊎_elim (λ (l : q < p). inl (omega (arith, same.0))) (λ (s : (q ≡ p) × (h < g)). inr (same.0 ∙ s.0, omega (arith, same.1, s.1))) other)
+    (λ (same : (r ≡ q) × (k < h)). ⊎_elim (λ (l : q < p). inl (omega (arith, same.0)))
+    (λ (s : (q ≡ p) × (h < g)). inr (same.0 ∙ s.0, omega (arith, same.1, s.1))) other)
     one
 
 module _ {limit : ℕ} {lists : GroupLists} {p g : ℕ} (before : HasNoOtherBefore limit lists p g) where
@@ -42,12 +44,15 @@ module _ {limit : ℕ} {lists : GroupLists} {p g : ℕ} (before : HasNoOtherBefo
       omega (arith, before_more lists q (pattern_in lists q h group), rises, before.within, group))
       (λ (same : (q ≡ p) × (h < g)). rw same.0 (omega (arith, same.1, before.within)))
 
-  place_before : (q h : ℕ) → 0 < h → h < group_count lists q → ComesBefore q h p g → place_fault limit lists q h ≡ name_fault (groups_of lists q) q h (name_of lists q h)
+  place_before : (q h : ℕ) → 0 < h → h < group_count lists q → ComesBefore q h p g
+      → place_fault limit lists q h ≡ name_fault (groups_of lists q) q h (name_of lists q h)
   place_before q h some group earlier =
-      let no_limit : ltb limit (2 * (explicit_before lists q + h)) ≡ false = le-ltb limit (2 * (explicit_before lists q + h)) (limit_before q h group earlier) in
+      let no_limit : ltb limit (2 * (explicit_before lists q + h)) ≡ false =
+      le-ltb limit (2 * (explicit_before lists q + h)) (limit_before q h group earlier) in
       explicit_place limit lists q h some ∙ rw no_limit refl
 
-  clear_at : (q h : ℕ) → IsPlace lists q h → ComesBefore q h p g → (h < group_count lists q → is_repeat (groups_of lists q) h ≡ false) → place_fault limit lists q h ≡ None
+  clear_at : (q h : ℕ) → IsPlace lists q h → ComesBefore q h p g → (h < group_count lists q → is_repeat (groups_of lists q) h ≡ false)
+      → place_fault limit lists q h ≡ None
   clear_at q zero place earlier distinct = pattern_before q 0 earlier
   clear_at q (suc h) place earlier distinct =
       let group : suc h < group_count lists q = omega (arith, place.1) in
@@ -80,24 +85,38 @@ module _ {limit : ℕ} {lists : GroupLists} {p g : ℕ} (before : HasNoOtherBefo
   }))
 
 -- more groups than the limit has room for
-pub too_many : {limit : ℕ} {lists : GroupLists} (p room : ℕ) → HasNoOtherBefore limit lists p 0 → pattern_fault lists p ≡ None → p < length lists → room + 1 < group_count lists p
-    → 2 * (explicit_before lists p + room) ≤ limit → limit < 2 * (explicit_before lists p + (room + 1)) → IsFirstOther limit lists p (room + 1) (TooManyGroups p (room + 1))
+pub too_many : {limit : ℕ} {lists : GroupLists} (p room : ℕ) → HasNoOtherBefore limit lists p 0 → pattern_fault lists p ≡ None → p < length lists
+    → room + 1 < group_count lists p
+    → 2 * (explicit_before lists p + room) ≤ limit → limit < 2 * (explicit_before lists p + (room + 1))
+    → IsFirstOther limit lists p (room + 1) (TooManyGroups p (room + 1))
 too_many {limit = limit} {lists = lists} p room earlier clear pattern more within past =
     let limited : ltb limit (2 * (explicit_before lists p + (room + 1))) ≡ true = lt-ltb limit (2 * (explicit_before lists p + (room + 1))) past in
-    other_at (record { patterns = earlier.patterns; first = λ _. clear; within = omega (arith, within) }) (TooManyGroups p (room + 1)) (pattern, omega (arith, more))
+    other_at (record { patterns = earlier.patterns; first = λ _. clear; within = omega (arith, within) }) (TooManyGroups p (room + 1))
+    (pattern, omega (arith, more))
     (explicit_place limit lists p (room + 1) (omega arith) ∙ rw limited refl)
 
 -- the limit on the slots of all groups
-pub past_limit : {limit : ℕ} {lists : GroupLists} (n p : ℕ) → length lists ≡ n → HasNoOtherBefore limit lists n 0 → p < n → limit < slots_end lists p → ((q : ℕ) → q < p → slots_end lists q ≤ limit)
+pub past_limit : {limit : ℕ} {lists : GroupLists} (n p : ℕ) → length lists ≡ n → HasNoOtherBefore limit lists n 0 → p < n → limit < slots_end lists p
+    → ((q : ℕ) → q < p → slots_end lists q ≤ limit)
     → IsFirstOther limit lists n 0 (TooManyGroups p (group_count lists p))
 past_limit n p all before pattern past least = record {
   before = before;
-  first = λ none. inr (record { clear = λ q h place. clear_before before none q h place (inl (rw all at place.0)); p = p; pattern = rw all pattern; past = past; least = least; fault = refl });
+  first = λ none. inr (record {
+    clear = λ q h place. clear_before before none q h place (inl (rw all at place.0));
+    p = p;
+    pattern = rw all pattern;
+    past =
+        past;
+    least = least;
+    fault = refl;
+  });
 }
 
 -- the first of both
-pub first_fault : {limit : ℕ} {lists : GroupLists} {p g : ℕ} (other : declared.Fault) (o : Option declared.Fault) → IsFirstOther limit lists p g (fault_found other)
-    → MatchOption o (HasNoRepeatBefore lists p g) (λ f. IsFirstRepeatBefore lists p g (fault_found f)) → IsFirstFault limit lists (fault_found (unwrap_or o other))
+pub first_fault : {limit : ℕ} {lists : GroupLists} {p g : ℕ} (other : declared.Fault) (o : Option declared.Fault)
+    → IsFirstOther limit lists p g (fault_found other)
+    → MatchOption o (HasNoRepeatBefore lists p g) (λ f. IsFirstRepeatBefore lists p g (fault_found f))
+    → IsFirstFault limit lists (fault_found (unwrap_or o other))
 first_fault other None is none = is.first none
 first_fault other (Some f) is found = repeat_first is.before (fault_found f) found
 
@@ -124,22 +143,36 @@ module _ {limit : ℕ} {lists : GroupLists} (no_other : HasNoOtherFault limit li
   first_of (suc n) le =
       elim (first_of n (omega arith)) as (λ _. HasNoRepeatBefore lists (suc n) 0 ⊎ FirstIsDuplicate limit lists) [
         | inl none ↦
-            elim (first_repeat (groups_of lists n) (group_count lists n) (omega arith)) as (λ _. HasNoRepeatBefore lists (suc n) 0 ⊎ FirstIsDuplicate limit lists) [
+            elim (first_repeat (groups_of lists n) (group_count lists n) (omega arith)) as (λ _. HasNoRepeatBefore lists (suc n) 0
+            ⊎ FirstIsDuplicate limit lists) [
               | inl distinct ↦ let next : n + 1 ≡ suc n = omega arith in inl (rw next at (none_more lists n none distinct))
               | inr found ↦
                   let named = repeat_name (groups_of lists n) found.0 found.1.repeats in
-                  inr (n, named.0, repeat_first no_other.places (Duplicate n named.0) (repeat_of_pattern lists n found.0 (length lists) 0 named.0 none found.1 named.1 (inl (omega arith))))
+                  inr (
+                    n,
+                    named.0,
+                    repeat_first no_other.places (Duplicate n named.0)
+                        (repeat_of_pattern lists n found.0 (length lists) 0 named.0 none found.1 named.1 (inl (omega arith))),
+                  )
             ]
         | inr found ↦ inr found
       ]
 
   -- what `build` says of a refusal, as the list's
-  pub refuses_from : (n : ℕ) → length lists ≡ n → (refusal : Option Fault) → MatchOption refusal ⊤ (IsFirstRepeatBefore lists n 0) → RefusesFor limit lists refusal
+  pub refuses_from : (n : ℕ) → length lists ≡ n → (refusal : Option Fault) → MatchOption refusal ⊤ (IsFirstRepeatBefore lists n 0)
+      → RefusesFor limit lists refusal
   refuses_from n all None m =
-      elim (first_of (length lists) (omega arith)) as (λ _. IsFaultless limit lists ⊎ FirstIsDuplicate limit lists) [ inl none ↦ inl (faultless_from none) | inr found ↦ inr found ]
+      elim (first_of (length lists) (omega arith)) as (λ _. IsFaultless limit lists
+      ⊎ FirstIsDuplicate limit lists) [ inl none ↦ inl (faultless_from none) | inr found ↦ inr found ]
   refuses_from n all (Some f) m = repeat_first no_other.places f (rw all m)
 
 -- what holds of a fault, if there is one
 pub MatchOption-some_weaker : {X : Type 0} (o : Option X) (R : Type 0) (P Q : X → Type 0) → ((x : X) → P x → Q x) → MatchOption o R P → MatchOption o ⊤ Q
 MatchOption-some_weaker None R P Q weaker m = tt
 MatchOption-some_weaker (Some x) R P Q weaker m = weaker x m
+
+-- a refusal that shows the fault that was found, or none where that is a repeated name and memory is out
+pub refuses_found : {limit : ℕ} {lists : GroupLists} {f : Fault} → IsFirstFault limit lists f →
+    (refusal : Option Fault) → MatchOption refusal (IsDuplicate f) (λ shown. shown ≡ f) → RefusesFor limit lists refusal
+refuses_found found (Some shown) same = rw same found
+refuses_found found None duplicate = inr (duplicate.0, duplicate.1, rw duplicate.2 at found)

@@ -2,15 +2,16 @@
 use Rattle.std.proofs.Common.{◌≡◌, ℕ, zero, suc, ◌+◌, ◌<◌, ◌≤◌, List, [], ◌∷◌, ◌++◌, length, get_or, refl, ap, sym, ◌∙◌, arith, add-one}
 use Rattle.std.specs.Prelude.{sum_by}
 use borrow.Author.Count.{below_more}
-use Rattle.std.proofs.lemmas.List.{length_push, get_or_append_left, get_or_default}
+use Rattle.std.proofs.lemmas.List.{length_push, get_or_append_left}
 use Rattle.std.proofs.Math.Seq.{get_or-append_seam, take-length}
 use Rattle.std.proofs.lemmas.List.Sums.{sum_by_more}
 use Rattle.rsc_captures.specs.Groups.{GroupLists, group_count, explicit_before, all_groups}
 use Rattle.rsc_captures.specs.Faults.{LIMIT_OF_IDS, IsFaultless}
 use Rattle.rsc_captures.proofs.Clear.{some_group, before_more}
-use Rattle.rsc_captures.specs.Layout.{groups_before, AreFirsts, IsLaidOut}
+use Rattle.rsc_captures.specs.Layout.{groups_before, AreFirsts}
 
-pub firsts_push : (firsts : List ℕ) (lists : GroupLists) (n first : ℕ) → AreFirsts firsts lists n → first ≡ groups_before lists (n + 1) → AreFirsts (firsts ++ first ∷ []) lists (n + 1)
+pub firsts_push : (firsts : List ℕ) (lists : GroupLists) (n first : ℕ) → AreFirsts firsts lists n → first ≡ groups_before lists (n + 1)
+    → AreFirsts (firsts ++ first ∷ []) lists (n + 1)
 firsts_push firsts lists n first are is = record {
   count = length_push firsts first ∙ ap (λ k. k + 1) are.count;
   each = below_more (λ p. get_or (firsts ++ first ∷ []) p 0 ≡ groups_before lists p) (n + 1) earlier last;
@@ -27,7 +28,8 @@ pub groups_more : (lists : GroupLists) (p : ℕ) → p < length lists → groups
 groups_more lists p lt = sum_by_more length lists p [] lt
 
 -- each of the first n patterns has one group more than its explicit groups
-pub groups_so_far : (lists : GroupLists) (n : ℕ) → n ≤ length lists → ((p : ℕ) → p < length lists → 0 < group_count lists p) → groups_before lists n ≡ n + explicit_before lists n
+pub groups_so_far : (lists : GroupLists) (n : ℕ) → n ≤ length lists → ((p : ℕ) → p < length lists → 0 < group_count lists p)
+    → groups_before lists n ≡ n + explicit_before lists n
 groups_so_far lists zero le nonempty = refl
 groups_so_far lists (suc n) le nonempty =
     let lt : n < length lists = omega arith in
@@ -42,10 +44,5 @@ pub all_before : (lists : GroupLists) → groups_before lists (length lists) ≡
 all_before lists = ap (sum_by length) (take-length lists)
 
 pub all_groups_are : (lists : GroupLists) → IsFaultless LIMIT_OF_IDS lists → all_groups lists ≡ length lists + explicit_before lists (length lists)
-all_groups_are lists faultless = sym (all_before lists) ∙ groups_so_far lists (length lists) (omega arith) (λ p lt. some_group LIMIT_OF_IDS lists faultless p lt)
-
--- where the names of a pattern begin, and last how many there are, as it is looked up
-pub first_at : (firsts : List ℕ) (lists : GroupLists) (p first : ℕ) → IsLaidOut firsts lists → p ≤ length lists → first ≡ get_or firsts p first → first ≡ groups_before lists p
-first_at firsts lists p first laid_out le is =
-    let in_firsts : p < length firsts = omega (arith, laid_out.firsts_are.count) in
-    is ∙ get_or_default firsts p first 0 in_firsts ∙ laid_out.firsts_are.each p (omega arith)
+all_groups_are lists faultless = sym (all_before lists)
+    ∙ groups_so_far lists (length lists) (omega arith) (λ p lt. some_group LIMIT_OF_IDS lists faultless p lt)

@@ -19,8 +19,10 @@ module _ (text more : List ℕ) where
   boundary_stays : (i : ℕ) → IsUtf8 more → IsCharBoundary text i → IsCharBoundary (text ++ more) i
   boundary_stays i utf8 boundary =
       ⊎_elim
-      (λ (lt : i < length text). let same : get_or (text ++ more) i 0 ≡ get_or text i 0 = get_or_append_left text more 0 i lt in (rw length-append (omega (arith, lt)), λ _ high. rw same (boundary.1 lt (rw same at high))))
-      (λ (ge : length text ≤ i). let at_seam : i ≡ length text = omega (arith, ge, boundary.0) in rw at_seam (IsCharBoundary-at_seam (text ++ more) text more refl utf8))
+      (λ (lt : i < length text). let same : get_or (text ++ more) i 0 ≡ get_or text i 0 = get_or_append_left text more 0 i lt in
+      (rw length-append (omega (arith, lt)), λ _ high. rw same (boundary.1 lt (rw same at high))))
+      (λ (ge : length text ≤ i). let at_seam : i ≡ length text = omega (arith, ge, boundary.0) in
+      rw at_seam (IsCharBoundary-at_seam (text ++ more) text more refl utf8))
       (cases_lt i (length text))
 
   cut_stays : (p : Place) → IsUtf8 more → IsCut text p → IsCut (text ++ more) p
@@ -30,31 +32,36 @@ module _ (text more : List ℕ) where
   part_stays : (p : Place) → IsCut text p → slice_range (text ++ more) p.start (p.start + p.length) ≡ slice_range text p.start (p.start + p.length)
   part_stays p cut =
       let rest : (p.start + p.length) - p.start ≤ length (drop p.start text) = rw length-drop (omega (arith, cut.end.0)) in
-      ap (take ((p.start + p.length) - p.start)) (drop-append-le p.start text more cut.start.0) ∙ take-append-le ((p.start + p.length) - p.start) (drop p.start text) more rest
+      ap (take ((p.start + p.length) - p.start)) (drop-append-le p.start text more cut.start.0)
+      ∙ take-append-le ((p.start + p.length) - p.start) (drop p.start text) more rest
 
   name_stays : (p : Place) → (p.length ≢ NO_NAME → IsCut text p) → name_held (text ++ more) p ≡ name_held text p
   name_stays p cut =
-      elim (eqb p.length NO_NAME) as (λ b. eqb p.length NO_NAME ≡ b → cond b None (Some (slice_range (text ++ more) p.start (p.start + p.length))) ≡ cond b None (Some (slice_range text p.start (p.start + p.length)))) [
+      elim (eqb p.length NO_NAME) as (λ b. eqb p.length NO_NAME ≡ b
+      → cond b None (Some (slice_range (text ++ more) p.start (p.start + p.length))) ≡ cond b None (Some (slice_range text p.start (p.start + p.length)))) [
         | true ↦ λ none. refl
         | false ↦ λ some. ap Some (part_stays p (cut (eqb-false p.length NO_NAME some)))
       ] refl
 
   names_stay : (places : List Place) → AreCut text places → names_held (text ++ more) places ≡ names_held text places
   names_stay [] cuts = refl
-  names_stay (p ∷ places) cuts = ap₂ (λ name names. name ∷ names) (name_stays p (cuts 0 p (omega arith))) (names_stay places (All-tail (λ p. p.length ≢ NO_NAME → IsCut text p) p places cuts))
+  names_stay (p ∷ places) cuts = ap₂ (λ name names. name ∷ names) (name_stays p (cuts 0 p (omega arith)))
+      (names_stay places (All-tail (λ p. p.length ≢ NO_NAME → IsCut text p) p places cuts))
 
   cuts_stay : (places : List Place) → IsUtf8 more → AreCut text places → AreCut (text ++ more) places
   cuts_stay places utf8 cuts k d lt le = cut_stays (get_or places k d) utf8 (cuts k d lt le)
 
 -- the name that is added is at its place
-name_added : (text : List ℕ) (name : Option (List ℕ)) → length (unwrap_or name []) < NO_NAME → name_held (text ++ unwrap_or name []) (place_held text name) ≡ name
+name_added : (text : List ℕ) (name : Option (List ℕ)) → length (unwrap_or name []) < NO_NAME
+    → name_held (text ++ unwrap_or name []) (place_held text name) ≡ name
 name_added text None short = refl
 name_added text (Some bytes) short =
     let some : eqb (length bytes) NO_NAME ≡ false = grind (arith, common_steps) in
     let all : (length text + length bytes) - length text ≡ length bytes = omega arith in
     rw some (ap Some (ap (take ((length text + length bytes) - length text)) (drop-append_seam text bytes) ∙ ap (λ n. take n bytes) all ∙ take-length bytes))
 
-cut_added : (text : List ℕ) (name : Option (List ℕ)) → IsUtf8 (unwrap_or name []) → (place_held text name).length ≢ NO_NAME → IsCut (text ++ unwrap_or name []) (place_held text name)
+cut_added : (text : List ℕ) (name : Option (List ℕ)) → IsUtf8 (unwrap_or name []) → (place_held text name).length ≢ NO_NAME
+    → IsCut (text ++ unwrap_or name []) (place_held text name)
 cut_added text None utf8 some = absurd (some refl)
 cut_added text (Some bytes) utf8 some = record {
   start = IsCharBoundary-at_seam (text ++ bytes) text bytes refl utf8;
@@ -62,9 +69,12 @@ cut_added text (Some bytes) utf8 some = record {
 }
 
 -- one more group
-pub held_more : (text : List ℕ) (places : List Place) (groups : Groups) (name : Option (List ℕ)) → IsUtf8 (unwrap_or name []) → length (unwrap_or name []) < NO_NAME → AreHeld text places groups
+pub held_more : (text : List ℕ) (places : List Place) (groups : Groups) (name : Option (List ℕ)) → IsUtf8 (unwrap_or name [])
+    → length (unwrap_or name []) < NO_NAME → AreHeld text places groups
     → AreHeld (text ++ unwrap_or name []) (places ++ place_held text name ∷ []) (groups ++ name ∷ [])
 held_more text places groups name utf8 short held = record {
-  are = map-append (name_held (text ++ unwrap_or name [])) places (place_held text name ∷ []) ∙ ap₂ (λ names one. names ++ one ∷ []) (names_stay text (unwrap_or name []) places held.cuts ∙ held.are) (name_added text name short);
-  cuts = All-push (λ p. p.length ≢ NO_NAME → IsCut (text ++ unwrap_or name []) p) places (place_held text name) (cuts_stay text (unwrap_or name []) places utf8 held.cuts) (cut_added text name utf8);
+  are = map-append (name_held (text ++ unwrap_or name [])) places (place_held text name ∷ [])
+      ∙ ap₂ (λ names one. names ++ one ∷ []) (names_stay text (unwrap_or name []) places held.cuts ∙ held.are) (name_added text name short);
+  cuts = All-push (λ p. p.length ≢ NO_NAME → IsCut (text ++ unwrap_or name []) p) places (place_held text name)
+      (cuts_stay text (unwrap_or name []) places utf8 held.cuts) (cut_added text name utf8);
 }

@@ -7,7 +7,6 @@ pub mod RepeatsFound  -- a repeated name of a pattern's first groups, as they ar
 pub mod Held  -- names in one text, as one more is added
 pub mod Clear  -- what a place that isn't at fault says
 pub mod FirstFault  -- the first fault of a list, from the first other fault and the first repeated name before it
-pub mod FaultsLemmas  -- the first fault of a list: there is at most one, and a list without a fault has none
 pub mod Firsts  -- where the names of the patterns begin, as one more is pushed
 pub mod Owners  -- each slot is a slot of exactly one group
 pub mod SlotsWithin  -- the slots of a group are below the number of all slots
@@ -15,6 +14,6 @@ pub mod Parts  -- where the names and the order of each pattern's groups are in 
 pub mod Spans  -- the steps of the iterator over the groups of the pattern that matched
 pub mod Pieces  -- the pieces that the first groups cut, as a loop over the groups finds them
 pub mod Extracted  -- what `extract` and `extract_bytes` pass on for `H` and return, over the haystack's type as a field F, and that their result is lawful
-pub mod Alone  -- where there is one pattern, a group's slots are those of its place
+pub mod SpanAt  -- a span needs both slots
 pub mod NamesLeft  -- the steps of the iterator over all groups
 pub mod NamesCounted  -- how many groups an iterator over all of them gives

@@ -7,7 +7,8 @@ use Rattle.rsc_captures.specs.NameIterators.{groups_from, patterns_from, all_nam
 
 length-groups_from : (p g : ℕ) (groups : Groups) → length (groups_from p g groups) ≡ length groups
 length-groups_from p g [] = refl
-length-groups_from p g (name ∷ groups) = let rest : length (groups_from p (g + 1) groups) ≡ length groups = length-groups_from p (g + 1) groups in omega (arith, rest)
+length-groups_from p g (name ∷ groups) = let rest : length (groups_from p (g + 1) groups) ≡ length groups = length-groups_from p (g + 1) groups in
+    omega (arith, rest)
 
 length-patterns_from : (p : ℕ) (lists : GroupLists) → length (patterns_from p lists) ≡ all_groups lists
 length-patterns_from p [] = refl

@@ -19,7 +19,7 @@ module _ (lists : GroupLists) (p : ℕ) where
   left_next : (g : ℕ) → group_count lists p ≤ g → p + 1 < length lists → names_left lists p g ≡ names_left lists (p + 1) 0
   left_next g le lt = left_after g le ∙ ap (patterns_from (p + 1)) (drop_more lists (p + 1) [] lt)
 
--- group g of pattern p is the next of those that are left
+-- group g of pattern p is the next one that is left
 pub record IsNext (lists : GroupLists) (old_p old_g p g next end : ℕ) : Type 0 where
   pub at : IsAt lists p g next end
   pub group : g < group_count lists p
@@ -28,7 +28,8 @@ pub record IsNext (lists : GroupLists) (old_p old_g p g next end : ℕ) : Type 0
 pub next_stays : (lists : GroupLists) (p g next end : ℕ) → IsAt lists p g next end → (next ≡ end → ⊥) → IsNext lists p g p g next end
 next_stays lists p g next end at more = record { at = at; group = grind (arith, at.group, at.at, at.ends, more); left = refl }
 
-pub next_enters : (lists : GroupLists) (p g next end first : ℕ) → IsFaultless LIMIT_OF_IDS lists → IsAt lists p g next end → next ≡ end → p + 1 < length lists → first ≡ groups_before lists (p + 1 + 1)
+pub next_enters : (lists : GroupLists) (p g next end first : ℕ) → IsFaultless LIMIT_OF_IDS lists → IsAt lists p g next end → next ≡ end
+    → p + 1 < length lists → first ≡ groups_before lists (p + 1 + 1)
     → IsNext lists p g (p + 1) 0 next first
 next_enters lists p g next end first faultless at done lt is = record {
   at = record {

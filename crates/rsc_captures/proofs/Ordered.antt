@@ -51,10 +51,15 @@ copied_cmp (Some a) (Some b) = refl
 
 -- groups that are sorted by the names that are handed in
 pub sorted_in : (groups : Handed) (order : List ℕ)
-    → IsSortedByKey {K = Option (Bor (List ℕ)) × ℕ} (λ g. (get_or groups g None, g)) (λ x y. ordering_then (option_cmp (λ a b. slice_cmp nat_cmp a.now b.now) x.0 y.0) (nat_cmp x.1 y.1)) order
+    → IsSortedByKey {K = Option (Bor (List ℕ)) × ℕ} (λ g. (get_or groups g None, g))
+    (λ x y. ordering_then (option_cmp (λ a b. slice_cmp nat_cmp a.now b.now) x.0 y.0) (nat_cmp x.1 y.1)) order
     → IsSortedByName order (groups_in groups)
 sorted_in groups order sorted k d le lt =
-    rw (name_at_in groups (get_or order (k + 1) d), name_at_in groups (get_or order k d), copied_cmp (get_or groups (get_or order (k + 1) d) None) (get_or groups (get_or order k d) None)) (sorted k d le lt)
+    rw (
+      name_at_in groups (get_or order (k + 1) d),
+      name_at_in groups (get_or order k d),
+      copied_cmp (get_or groups (get_or order (k + 1) d) None) (get_or groups (get_or order k d) None),
+    ) (sorted k d le lt)
 
 -- what a sort of the elements that were added leaves
 module _ (old added sorted rest : List ℕ) (moved : IsPermutation (mid_of (length old) (length (old ++ added) - length old) (old ++ added)) sorted) where
@@ -67,9 +72,12 @@ module _ (old added sorted rest : List ℕ) (moved : IsPermutation (mid_of (leng
   put_sorted : put_mid (length old) (length (old ++ added) - length old) (old ++ added) sorted ≡ old ++ sorted
   put_sorted = rw (added_len, take-append_seam old added, drop-append_seam old added, drop_all (length added) added (omega arith), append-nil) refl
 
-  pub tail_sorted : (n : ℕ) → n ≡ length (old ++ added) → take n (put_mid (length old) (length (old ++ added) - length old) (old ++ added) sorted ++ drop (length (put_mid (length old) (length (old ++ added) - length old) (old ++ added) sorted)) rest) ≡ old ++ sorted
+  pub tail_sorted : (n : ℕ) → n ≡ length (old ++ added)
+      → take n (put_mid (length old) (length (old ++ added) - length old) (old ++ added) sorted
+      ++ drop (length (put_mid (length old) (length (old ++ added) - length old) (old ++ added) sorted)) rest) ≡ old ++ sorted
   tail_sorted n is =
-      let same : length (old ++ sorted) ≡ length (old ++ added) = length-append old sorted ∙ ap (λ k. length old + k) (length_permutation added sorted added_moved) ∙ sym (length-append old added) in
+      let same : length (old ++ sorted) ≡ length (old ++ added) = length-append old sorted
+      ∙ ap (λ k. length old + k) (length_permutation added sorted added_moved) ∙ sym (length-append old added) in
       rw (put_sorted, is, ← same, take-append_seam (old ++ sorted) (drop (length (old ++ sorted)) rest)) refl
 
 -- of two answers, one after the other, the first isn't less where both together aren't, and where it is equal the second isn't
@@ -116,7 +124,8 @@ repeat_pair groups h lt = by_name (name_at groups h) refl
           g = earlier.0;
           name = name;
           lesser = before;
-          one = sym (get_or-take h groups earlier.0 None before) ∙ get_or_default (take h groups) earlier.0 None earlier.1 earlier.2 ∙ earlier.3 ∙ has_name-is name earlier.1 earlier.4;
+          one = sym (get_or-take h groups earlier.0 None before) ∙ get_or_default (take h groups) earlier.0 None earlier.1 earlier.2 ∙ earlier.3
+              ∙ has_name-is name earlier.1 earlier.4;
           other = at_h;
         }
 
@@ -143,31 +152,41 @@ module _ (groups : Groups) where
 
   module _ (order : List ℕ) (sorted : IsSortedByName order groups) where
     -- what is later isn't less
-    not_before : (i j : ℕ) → i ≤ j → j < length order → is_lt (named_cmp (named_group groups (get_or order j 0)) (named_group groups (get_or order i 0))) ≡ false
+    not_before : (i j : ℕ) → i ≤ j → j < length order
+        → is_lt (named_cmp (named_group groups (get_or order j 0)) (named_group groups (get_or order i 0))) ≡ false
     not_before i j le lt = sorted_far _ (ranks_by named_total (named_group groups)) order sorted i j 0 le lt
 
     -- of two places with groups of one name, the lesser group is first
-    groups_rise : (i j : ℕ) → i ≤ j → j < length order → name_at groups (get_or order j 0) ≡ name_at groups (get_or order i 0) → get_or order i 0 ≤ get_or order j 0
+    groups_rise : (i j : ℕ) → i ≤ j → j < length order → name_at groups (get_or order j 0) ≡ name_at groups (get_or order i 0)
+        → get_or order i 0 ≤ get_or order j 0
     groups_rise i j le lt same =
-        let tied : name_cmp (name_at groups (get_or order j 0)) (name_at groups (get_or order i 0)) ≡ Equal = rw same (tied_itself name_total (name_at groups (get_or order i 0))) in
+        let tied : name_cmp (name_at groups (get_or order j 0)) (name_at groups (get_or order i 0)) ≡ Equal =
+        rw same (tied_itself name_total (name_at groups (get_or order i 0))) in
         ge_from_not_lt (get_or order j 0) (get_or order i 0) (not_less_then _ _ (not_before i j le lt) tied)
 
     -- between two places with one name all have it
-    name_between : (i k j : ℕ) → i ≤ k → k ≤ j → j < length order → name_at groups (get_or order i 0) ≡ name_at groups (get_or order j 0) → name_at groups (get_or order k 0) ≡ name_at groups (get_or order j 0)
+    name_between : (i k j : ℕ) → i ≤ k → k ≤ j → j < length order → name_at groups (get_or order i 0) ≡ name_at groups (get_or order j 0)
+        → name_at groups (get_or order k 0) ≡ name_at groups (get_or order j 0)
     name_between i k j from to lt same =
-        let up : is_lt (name_cmp (name_at groups (get_or order k 0)) (name_at groups (get_or order i 0))) ≡ false = not_less _ _ (not_before i k from (omega (arith, to, lt))) in
+        let up : is_lt (name_cmp (name_at groups (get_or order k 0)) (name_at groups (get_or order i 0))) ≡ false =
+        not_less _ _ (not_before i k from (omega (arith, to, lt))) in
         same_from_both (name_at groups (get_or order k 0)) (name_at groups (get_or order j 0)) (rw same at up) (not_less _ _ (not_before k j to lt))
 
     -- a group whose name a lesser one has has a neighbour with that name
-    neighbour : (i j : ℕ) (name : List ℕ) → i < j → j < length order → name_at groups (get_or order i 0) ≡ Some name → name_at groups (get_or order j 0) ≡ Some name → get_or order i 0 < get_or order j 0
-        → (k : ℕ) × (k + 1 < length order) × (get_or order (k + 1) 0 ≡ get_or order j 0) × (has_name_of groups (get_or order k 0) (get_or order (k + 1) 0) ≡ true)
+    neighbour : (i j : ℕ) (name : List ℕ) → i < j → j < length order → name_at groups (get_or order i 0) ≡ Some name
+        → name_at groups (get_or order j 0) ≡ Some name → get_or order i 0 < get_or order j 0
+        → (k : ℕ) × (k + 1 < length order) × (get_or order (k + 1) 0 ≡ get_or order j 0)
+        × (has_name_of groups (get_or order k 0) (get_or order (k + 1) 0) ≡ true)
     neighbour i zero name before lt at_i at_j less = absurd (omega arith)
     neighbour i (suc k) name before lt at_i at_j less =
         ⊎_elim
-        (λ (rises : get_or order k 0 < get_or order (suc k) 0). (k, omega arith, on, rw on (repeats_from (get_or order k 0) (get_or order (suc k) 0) name rises at_k at_j)))
+        (λ (rises : get_or order k 0 < get_or order (suc k) 0).
+        (k, omega arith, on, rw on (repeats_from (get_or order k 0) (get_or order (suc k) 0) name rises at_k at_j)))
         (λ (stays : get_or order (suc k) 0 ≤ get_or order k 0).
         let same : get_or order k 0 ≡ get_or order (suc k) 0 = omega (arith, stays, groups_rise k (suc k) (omega arith) lt (at_j ∙ sym at_k)) in
-        let rest = neighbour i k name (⊎_elim (λ (e : i ≡ k). absurd (let at_i : get_or order i 0 ≡ get_or order k 0 = ap (λ n. get_or order n 0) e in omega (arith, at_i, same, less))) (λ (ne : i ≢ k). omega (arith, ne, before)) (cases_eq i k)) (omega arith) at_i at_k (rw same less) in
+        let rest = neighbour i k name
+        (⊎_elim (λ (e : i ≡ k). absurd (let at_i : get_or order i 0 ≡ get_or order k 0 = ap (λ n. get_or order n 0) e in
+        omega (arith, at_i, same, less))) (λ (ne : i ≢ k). omega (arith, ne, before)) (cases_eq i k)) (omega arith) at_i at_k (rw same less) in
         (rest.0, rest.1, rest.2 ∙ same, rest.3))
         (cases_lt (get_or order k 0) (get_or order (suc k) 0))
       where
@@ -189,32 +208,39 @@ module _ (groups : Groups) where
         let named_i : name_at groups (get_or order i.0 0) ≡ Some pair.name = rw is_h pair.one in
         let named_j : name_at groups (get_or order j.0 0) ≡ Some pair.name = rw is_g pair.other in
         let less : get_or order i.0 0 < get_or order j.0 0 = omega (arith, is_h, is_g, pair.lesser) in
-        let first : i.0 < j.0 = ⊎_elim (λ (lt : i.0 < j.0). lt) (λ (ge : j.0 ≤ i.0). absurd (let back : get_or order j.0 0 ≤ get_or order i.0 0 = groups_rise j.0 i.0 ge i.1 (named_i ∙ sym named_j) in omega (arith, back, less))) (cases_lt i.0 j.0) in
+        let first : i.0 < j.0 = ⊎_elim (λ (lt : i.0 < j.0). lt)
+        (λ (ge : j.0 ≤ i.0). absurd (let back : get_or order j.0 0 ≤ get_or order i.0 0 = groups_rise j.0 i.0 ge i.1 (named_i ∙ sym named_j) in
+        omega (arith, back, less))) (cases_lt i.0 j.0) in
         let place = neighbour i.0 j.0 pair.name first j.1 named_i named_j less in
         (place.0, place.1, place.2 ∙ is_g, place.3)
 
     -- one more neighbour
-    pub above_more : (i least less : ℕ) → 0 < i → ((k : ℕ) → k + 1 < i → has_name_of groups (get_or order k 0) (get_or order (k + 1) 0) ≡ true → least ≤ get_or order (k + 1) 0) → less ≤ least
+    pub above_more : (i least less : ℕ) → 0 < i
+        → ((k : ℕ) → k + 1 < i → has_name_of groups (get_or order k 0) (get_or order (k + 1) 0) ≡ true → least ≤ get_or order (k + 1) 0) → less ≤ least
         → (has_name_of groups (get_or order (i - 1) 0) (get_or order i 0) ≡ true → less ≤ get_or order i 0)
         → (k : ℕ) → k + 1 < i + 1 → has_name_of groups (get_or order k 0) (get_or order (k + 1) 0) ≡ true → less ≤ get_or order (k + 1) 0
     above_more i least less some above le last k lt found =
         ⊎_elim
         (λ (before : k + 1 < i). let at_least : least ≤ get_or order (k + 1) 0 = above k before found in omega (arith, le, at_least))
-        (λ (here : i ≤ k + 1). let next : k + 1 ≡ i = omega (arith, lt, here) in let this : k ≡ i - 1 = omega (arith, next) in rw next (last (rw (next, this) at found)))
+        (λ (here : i ≤ k + 1). let next : k + 1 ≡ i = omega (arith, lt, here) in let this : k ≡ i - 1 = omega (arith, next) in
+        rw next (last (rw (next, this) at found)))
         (cases_lt (k + 1) i)
 
     -- where no group below a bound comes right after one with its name, none repeats a name
     pub distinct_from_order : HasGroups order (length groups) → (n : ℕ) → n ≤ length groups
-        → ((k : ℕ) → k + 1 < length order → has_name_of groups (get_or order k 0) (get_or order (k + 1) 0) ≡ true → n ≤ get_or order (k + 1) 0) → AreDistinctBelow groups n
+        → ((k : ℕ) → k + 1 < length order → has_name_of groups (get_or order k 0) (get_or order (k + 1) 0) ≡ true → n ≤ get_or order (k + 1) 0)
+        → AreDistinctBelow groups n
     distinct_from_order complete n le above g lt = false_from_ne_true (is_repeat groups g) (λ repeats.
         let place = repeat_place complete g (omega arith) repeats in
         let at_least : n ≤ get_or order (place.0 + 1) 0 = above place.0 place.1 place.3 in omega (arith, at_least, place.2, lt))
 
   -- where the groups of an order are split into those whose names are less and those whose names are greater, none has the name
-  pub none_at_split : (order : List ℕ) (name : List ℕ) (k g : ℕ) → IsPartitionPoint (λ h. name_cmp (name_at groups h) (Some name) ≡ Less) (λ h. name_cmp (name_at groups h) (Some name) ≡ Greater) order k
+  pub none_at_split : (order : List ℕ) (name : List ℕ) (k g : ℕ)
+      → IsPartitionPoint (λ h. name_cmp (name_at groups h) (Some name) ≡ Less) (λ h. name_cmp (name_at groups h) (Some name) ≡ Greater) order k
       → Contains order g → name_at groups g ≡ Some name → ⊥
   none_at_split order name k g parts place named =
-      let equal : name_cmp (name_at groups (get_or order place.0 0)) (Some name) ≡ Equal = rw (get_or_default order place.0 0 g place.1, place.2, named) (tied_itself name_total (Some name)) in
+      let equal : name_cmp (name_at groups (get_or order place.0 0)) (Some name) ≡ Equal =
+      rw (get_or_default order place.0 0 g place.1, place.2, named) (tied_itself name_total (Some name)) in
       ⊎_elim
       (λ (lt : place.0 < k). let less : name_cmp (name_at groups (get_or order place.0 0)) (Some name) ≡ Less = parts.0 place.0 0 (omega arith) lt in cc)
       (λ (ge : k ≤ place.0). let greater : name_cmp (name_at groups (get_or order place.0 0)) (Some name) ≡ Greater = parts.1 place.0 0 ge place.1 in cc)
@@ -243,7 +269,8 @@ module _ (groups : Groups) where
 pub counted_more : (n : ℕ) → range_with_len 0 n ++ n ∷ [] ≡ range_with_len 0 (n + 1)
 counted_more n =
     let from_zero : 0 + n ≡ n = omega arith in
-    sym (sym (map-id (range_with_len 0 (n + 1))) ∙ map-range_with_len_more (λ k. k) 0 n n from_zero ∙ ap (λ (l : List ℕ). l ++ n ∷ []) (map-id (range_with_len 0 n)))
+    sym (sym (map-id (range_with_len 0 (n + 1))) ∙ map-range_with_len_more (λ k. k) 0 n n from_zero
+    ∙ ap (λ (l : List ℕ). l ++ n ∷ []) (map-id (range_with_len 0 n)))
 
 -- the numbers from 0 on have each group
 pub has_counted : (n : ℕ) → HasGroups (range_with_len 0 n) n

@@ -22,7 +22,8 @@ slot_of-group lists p g h = rw (lt-ltb g (group_count lists p) h) refl
 -- what the slot of a group says
 pub slot_facts : (lists : GroupLists) (p g slot : ℕ) → slot_of lists p g ≡ Some slot → (g < group_count lists p) × (slot ≡ slot_number lists p g)
 slot_facts lists p g slot is =
-    elim (nat_lt g (group_count lists p)) as (λ b. nat_lt g (group_count lists p) ≡ b → cond b (Some (slot_number lists p g)) None ≡ Some slot → (g < group_count lists p) × (slot ≡ slot_number lists p g)) [
+    elim (nat_lt g (group_count lists p)) as (λ b. nat_lt g (group_count lists p) ≡ b → cond b (Some (slot_number lists p g)) None ≡ Some slot
+    → (g < group_count lists p) × (slot ≡ slot_number lists p g)) [
       | true ↦ λ lt same. (ltb-true g (group_count lists p) lt, cc)
       | false ↦ λ lt same. cc
     ] refl is
@@ -31,7 +32,8 @@ slot_facts lists p g slot is =
 pub pattern_in : (lists : GroupLists) (p g : ℕ) → g < group_count lists p → p < length lists
 pattern_in lists p g h =
     ⊎_elim (λ (lt : p < length lists). lt)
-    (λ (le : length lists ≤ p). absurd (let none : groups_of lists p ≡ [] = get_or_past lists p [] le in let zero_groups : group_count lists p ≡ 0 = ap length none in omega arith))
+    (λ (le : length lists ≤ p). absurd (let none : groups_of lists p ≡ [] = get_or_past lists p [] le in let zero_groups : group_count lists p ≡ 0 =
+    ap length none in omega arith))
     (cases_lt p (length lists))
 
 -- the pattern among whose explicit groups the r-th of all is
@@ -51,7 +53,8 @@ find_explicit lists (suc n) r le lt =
     (cases_lt r (explicit_before lists n))
 
 module _ (lists : GroupLists) (checked : IsFaultless LIMIT_OF_IDS lists) where
-  owned_half : (h : ℕ) → h < length lists + explicit_before lists (length lists) → (p : ℕ) × (g : ℕ) × ((g < group_count lists p) × (slot_number lists p g ≡ 2 * h))
+  owned_half : (h : ℕ) → h < length lists + explicit_before lists (length lists) → (p : ℕ) × (g : ℕ)
+      × ((g < group_count lists p) × (slot_number lists p g ≡ 2 * h))
   owned_half h lt =
       ⊎_elim
       (λ (first : h < length lists). (h, 0, (some_group LIMIT_OF_IDS lists checked h first, refl)))
@@ -80,7 +83,8 @@ module _ (lists : GroupLists) (checked : IsFaultless LIMIT_OF_IDS lists) where
           (cases_lt (s % 2) 1)
 
 -- half of a slot's number names the group
-same_explicit : (lists : GroupLists) (p g q h : ℕ) → suc g < group_count lists p → suc h < group_count lists q → explicit_before lists p + g ≡ explicit_before lists q + h → p < q → ⊥
+same_explicit : (lists : GroupLists) (p g q h : ℕ) → suc g < group_count lists p → suc h < group_count lists q
+    → explicit_before lists p + g ≡ explicit_before lists q + h → p < q → ⊥
 same_explicit lists p g q h a b same lt =
     let in_p : p < length lists = pattern_in lists p (suc g) a in
     let in_q : q < length lists = pattern_in lists q (suc h) b in
@@ -88,7 +92,8 @@ same_explicit lists p g q h a b same lt =
     let more : explicit_before lists (p + 1) ≡ explicit_before lists p + (group_count lists p - 1) = before_more lists p in_p in
     omega arith
 
-same_slot : (lists : GroupLists) (p g q h : ℕ) → g < group_count lists p → h < group_count lists q → slot_number lists p g ≡ slot_number lists q h → (p ≡ q) × (g ≡ h)
+same_slot : (lists : GroupLists) (p g q h : ℕ) → g < group_count lists p → h < group_count lists q → slot_number lists p g ≡ slot_number lists q h
+    → (p ≡ q) × (g ≡ h)
 same_slot lists p zero q zero a b same = (omega arith, refl)
 same_slot lists p zero q (suc h) a b same = absurd (let lt : p < length lists = pattern_in lists p 0 a in omega (arith, slot_explicit lists q h))
 same_slot lists p (suc g) q zero a b same = absurd (let lt : q < length lists = pattern_in lists q 0 b in omega (arith, slot_explicit lists p g))

@@ -27,7 +27,8 @@ groups_within lists p n lt le =
     let rises : groups_before lists (p + 1) ≤ groups_before lists n = sum_rises length lists (p + 1) n (omega arith) in
     omega (arith, rises, groups_more lists p (omega (arith, lt, le)))
 
-names_of-is : (firsts : List ℕ) (lists : GroupLists) → AreFirsts firsts lists (length lists) → (names : Groups) (p : ℕ) → p < length lists → names_of firsts names p ≡ take (group_count lists p) (drop (groups_before lists p) names)
+names_of-is : (firsts : List ℕ) (lists : GroupLists) → AreFirsts firsts lists (length lists) → (names : Groups) (p : ℕ) → p < length lists
+    → names_of firsts names p ≡ take (group_count lists p) (drop (groups_before lists p) names)
 names_of-is firsts lists firsts_are names p lt =
     let here : get_or firsts p 0 ≡ groups_before lists p = firsts_are.each p (omega arith) in
     let next : get_or firsts (p + 1) 0 ≡ groups_before lists (p + 1) = firsts_are.each (p + 1) (omega arith) in
@@ -61,33 +62,40 @@ module _ (firsts : List ℕ) (names : Groups) (lists : GroupLists) (are : lists_
   -- the names of a pattern's groups
   pub part_is : (p : ℕ) → p < length lists → groups_of lists p ≡ take (group_count lists p) (drop (groups_before lists p) names)
   part_is p lt =
-      ap (λ (lists : GroupLists). get_or lists p []) (sym are) ∙ get_or-map-range_with_len (names_of firsts names) 0 (length firsts - 1) p p [] (omega (arith, lt, laid_out.firsts_are.count)) (omega arith)
+      ap (λ (lists : GroupLists). get_or lists p []) (sym are)
+      ∙ get_or-map-range_with_len (names_of firsts names) 0 (length firsts - 1) p p [] (omega (arith, lt, laid_out.firsts_are.count)) (omega arith)
       ∙ names_of-is firsts lists laid_out.firsts_are names p lt
 
   pub name_in : (p g : ℕ) → g < group_count lists p → get_or names (groups_before lists p + g) None ≡ name_of lists p g
   name_in p g lt =
-      sym (ap (λ (groups : Groups). get_or groups g None) (part_is p (pattern_in lists p g lt)) ∙ get_or-take (group_count lists p) (drop (groups_before lists p) names) g None lt ∙ get_or-drop (groups_before lists p) names g None)
+      sym (ap (λ (groups : Groups). get_or groups g None) (part_is p (pattern_in lists p g lt))
+      ∙ get_or-take (group_count lists p) (drop (groups_before lists p) names) g None lt ∙ get_or-drop (groups_before lists p) names g None)
 
-  pub named_at : (p g first : ℕ) (held : Option (List ℕ)) → first ≡ groups_before lists p → g < group_count lists p → held ≡ get_or names (first + g) None → held ≡ name_of lists p g
+  pub named_at : (p g first : ℕ) (held : Option (List ℕ)) → first ≡ groups_before lists p → g < group_count lists p → held ≡ get_or names (first + g) None
+      → held ≡ name_of lists p g
   named_at p g first held is_first lt is = is ∙ ap (λ n. get_or names (n + g) None) is_first ∙ name_in p g lt
 
   -- each group has a place in the list of all names
   pub within_names : (p g first : ℕ) → first ≡ groups_before lists p → g < group_count lists p → first + g < length names
   within_names p g first is_first lt =
-      let count : group_count lists p ≡ length (take (group_count lists p) (drop (groups_before lists p) names)) = ap length (part_is p (pattern_in lists p g lt)) in
+      let count : group_count lists p ≡ length (take (group_count lists p) (drop (groups_before lists p) names)) =
+      ap length (part_is p (pattern_in lists p g lt)) in
       let cut : group_count lists p ≡ min (group_count lists p) (length names - groups_before lists p) = rw (length-take, length-drop) at count in
       omega (arith, cut, is_first, lt)
 
   -- the names of a pattern, up to those of the next
-  pub range_is : (p first end : ℕ) → p < length lists → first ≡ groups_before lists p → end ≡ groups_before lists (p + 1) → (end ≤ length names) × (slice_range names first end ≡ groups_of lists p)
+  pub range_is : (p first end : ℕ) → p < length lists → first ≡ groups_before lists p → end ≡ groups_before lists (p + 1) → (end ≤ length names)
+      × (slice_range names first end ≡ groups_of lists p)
   range_is p first end lt is_first is_end =
       let count : end - first ≡ group_count lists p = omega (arith, is_first, is_end, groups_more lists p lt) in
       let some : 0 < group_count lists p = some_group LIMIT_OF_IDS lists laid_out.faultless p lt in
-      let last : (groups_before lists p) + (group_count lists p - 1) < length names = within_names p (group_count lists p - 1) (groups_before lists p) refl (omega arith) in
+      let last : (groups_before lists p) + (group_count lists p - 1) < length names =
+      within_names p (group_count lists p - 1) (groups_before lists p) refl (omega arith) in
       (omega (arith, last, some, is_end, groups_more lists p lt), ap₂ (λ k from. take k (drop from names)) count is_first ∙ sym (part_is p lt))
 
 -- the part of a pattern's groups, as it is cut
-pub part_ordered : (order lent : List ℕ) (lists : GroupLists) (p first len : ℕ) → AreOrdered order lists (length lists) → p < length lists → lent ≡ order → first ≡ groups_before lists p → len ≡ group_count lists p
+pub part_ordered : (order lent : List ℕ) (lists : GroupLists) (p first len : ℕ) → AreOrdered order lists (length lists) → p < length lists → lent ≡ order
+    → first ≡ groups_before lists p → len ≡ group_count lists p
     → ((first + len) ≤ length lent) × IsOrder (take ((first + len) - first) (drop first lent)) (groups_of lists p)
 part_ordered order lent lists p first len ordered lt is_order is_first is_len =
     let count : (first + len) - first ≡ group_count lists p = omega (arith, is_len) in
@@ -101,17 +109,20 @@ part_stays xs a k n le =
     (rw e at (ap (take k) (drop-take a (n - a) xs))) ∙ take-take k (n - a) (drop a xs) (omega arith)
 
 -- the order of one more pattern
-pub ordered_more : (order more : List ℕ) (lists : GroupLists) (p : ℕ) → p < length lists → AreOrdered order lists p → take (length order) more ≡ order → length more ≡ length order + group_count lists p
+pub ordered_more : (order more : List ℕ) (lists : GroupLists) (p : ℕ) → p < length lists → AreOrdered order lists p → take (length order) more ≡ order
+    → length more ≡ length order + group_count lists p
     → IsOrder (drop (length order) more) (groups_of lists p) → AreOrdered more lists (p + 1)
 ordered_more order more lists p lt ordered kept count indexed = record {
   count = count ∙ (omega (arith, ordered.count, groups_more lists p lt));
-  each = λ q below. ⊎_elim (λ (before : q < p). earlier q before) (λ (here : p ≤ q). let same : p ≡ q = omega (arith, below, here) in rw same at last) (cases_lt q p);
+  each = λ q below. ⊎_elim (λ (before : q < p). earlier q before) (λ (here : p ≤ q). let same : p ≡ q = omega (arith, below, here) in rw same at last)
+      (cases_lt q p);
 }
   where
     earlier : (q : ℕ) → q < p → IsOrder (take (group_count lists q) (drop (groups_before lists q) more)) (groups_of lists q)
     earlier q before =
         let stays : take (group_count lists q) (drop (groups_before lists q) order) ≡ take (group_count lists q) (drop (groups_before lists q) more) =
-        rw kept at (part_stays more (groups_before lists q) (group_count lists q) (length order) (omega (arith, ordered.count, groups_within lists q p before (omega arith)))) in
+        rw kept at (part_stays more (groups_before lists q) (group_count lists q) (length order)
+        (omega (arith, ordered.count, groups_within lists q p before (omega arith)))) in
         rw stays at (ordered.each q before)
 
     last : IsOrder (take (group_count lists p) (drop (groups_before lists p) more)) (groups_of lists p)
@@ -120,7 +131,8 @@ ordered_more order more lists p lt ordered kept count indexed = record {
         rw (← ordered.count, take_all (group_count lists p) (drop (length order) more) left) indexed
 
 -- what the three lists of a group info, as they are built, hold
-module _ (firsts order : List ℕ) (names : Groups) (lists : GroupLists) (n : ℕ) (all_patterns : length lists ≡ n) (firsts_are : AreFirsts firsts lists n) (are : names ≡ all lists) where
+module _ (firsts order : List ℕ) (names : Groups) (lists : GroupLists) (n : ℕ) (all_patterns : length lists ≡ n) (firsts_are : AreFirsts firsts lists n)
+    (are : names ≡ all lists) where
   pub held_are : lists_held firsts names ≡ lists
   held_are = rw are (lists_are firsts lists (rw all_patterns firsts_are))
 

@@ -11,7 +11,8 @@ use Rattle.rsc_captures.proofs.Clear.{some_group, before_more}
 use Rattle.rsc_captures.proofs.Lists.{sum_rises}
 use Rattle.rsc_captures.proofs.Firsts.{groups_so_far, all_groups_are}
 
-pub number_within : (lists : GroupLists) → IsFaultless LIMIT_OF_IDS lists → (p g : ℕ) → g < group_count lists p → slot_number lists p g + 1 < 2 * all_groups lists
+pub number_within : (lists : GroupLists) → IsFaultless LIMIT_OF_IDS lists → (p g : ℕ) → g < group_count lists p
+    → slot_number lists p g + 1 < 2 * all_groups lists
 number_within lists checked p zero lt = let pattern : p < length lists = pattern_in lists p 0 lt in omega (arith, all_groups_are lists checked)
 number_within lists checked p (suc g) lt =
     let pattern : p < length lists = pattern_in lists p (suc g) lt in
@@ -44,7 +45,8 @@ slot_of-within lists faultless p g =
 -- the slot of an explicit group: each pattern before has a first group, whose slots are counted apart
 pub explicit_slot : (lists : GroupLists) (p g first : ℕ) → IsFaultless LIMIT_OF_IDS lists → g < group_count lists p → 0 < g → first ≡ groups_before lists p
     → (Some (2 * ((((length lists - p) + first) + g) - 1)) ≡ slot_of lists p g) × (2 * ((((length lists - p) + first) + g) - 1) < 2147483646)
-explicit_slot lists p g first faultless group explicit is = (slot, omega (arith, slot_within lists faultless p g (2 * ((((length lists - p) + first) + g) - 1)) (sym slot), slots_within_limit lists faultless))
+explicit_slot lists p g first faultless group explicit is =
+    (slot, omega (arith, slot_within lists faultless p g (2 * ((((length lists - p) + first) + g) - 1)) (sym slot), slots_within_limit lists faultless))
   where
     number : 2 * ((((length lists - p) + first) + g) - 1) ≡ 2 * length lists + 2 * explicit_before lists p + 2 * (g - 1)
     number =

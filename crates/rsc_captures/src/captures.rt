@@ -218,7 +218,7 @@ impl<A: Allocator + Clone + Drop> Captures<A> {
     }
 
     // `get_group`, with the one exact clause.
-    #[tactic(auto, using(crate::proofs::Alone::none_past))]
+    #[tactic(auto, using(crate::proofs::SpanAt::none_past))]
     #[inline]
     fn group_span(&self, index: usize) -> Option<Span>
         ensures span { result ≡ group_span self.now index }

@@ -25,7 +25,7 @@ use std::marker::Model;
 pub enum GroupInfoErrorKind<A: Allocator = Global> {
     /// There are more patterns than a [`PatternID`] can number.
     TooManyPatterns {
-        /// The refusal of the first number that is none of a pattern's.
+        /// The refusal of the first number that no pattern can have.
         err: PatternIDError,
     },
     /// There are more groups than slots can be numbered for.
@@ -109,6 +109,58 @@ impl<A: Allocator> GroupInfoError<A> {
         ensures { fault_of result.now ≡ self.now }
     {
         &self.kind
+    }
+}
+
+impl<A: Allocator + Clone + Drop> GroupInfoErrorKind<A> {
+    ghost use Rattle.std.specs.Prelude.{◌≡◌, IfOk};
+    ghost use Rattle.rsc_captures.specs.Kinds.{fault_of};
+
+    /// A clone, with a copy of a repeated name. No other kind takes memory.
+    ///
+    /// # Errors
+    ///
+    /// Where memory is refused; the source stays as it is.
+    pub fn clone(&self) -> Result<GroupInfoErrorKind<A>, AllocError>
+        ensures { IfOk result (λ copy. fault_of copy ≡ fault_of self.now) }
+    {
+        Ok(match self {
+            GroupInfoErrorKind::TooManyPatterns { err } => GroupInfoErrorKind::TooManyPatterns {
+                err: err.clone()?,
+            },
+            GroupInfoErrorKind::TooManyGroups { pattern, minimum } => {
+                GroupInfoErrorKind::TooManyGroups {
+                    pattern: *pattern,
+                    minimum: *minimum,
+                }
+            }
+            GroupInfoErrorKind::MissingGroups { pattern } => {
+                GroupInfoErrorKind::MissingGroups { pattern: *pattern }
+            }
+            GroupInfoErrorKind::FirstMustBeUnnamed { pattern } => {
+                GroupInfoErrorKind::FirstMustBeUnnamed { pattern: *pattern }
+            }
+            GroupInfoErrorKind::Duplicate { pattern, name } => GroupInfoErrorKind::Duplicate {
+                pattern: *pattern,
+                name: name.clone()?,
+            },
+            GroupInfoErrorKind::OutOfMemory => GroupInfoErrorKind::OutOfMemory,
+        })
+    }
+}
+
+impl<A: Allocator + Clone + Drop> GroupInfoError<A> {
+    ghost use Rattle.std.specs.Prelude.{◌≡◌, IfOk};
+
+    /// A clone, with a copy of a repeated name. No other error takes memory.
+    ///
+    /// # Errors
+    ///
+    /// Where memory is refused; the source stays as it is.
+    pub fn clone(&self) -> Result<GroupInfoError<A>, AllocError>
+        ensures { IfOk result (λ copy. copy ≡ self.now) }
+    {
+        Ok(GroupInfoError::new(self.kind.clone()?))
     }
 }
 

@@ -69,8 +69,7 @@ impl<A: Allocator + Clone + Drop> GroupInfo<A> {
     /// # Cost
     ///
     /// Names are sorted, pattern by pattern, and a repeated name is read off their order. The names of a list with any other fault are
-    /// sorted in blocks of 4,096, in a table of 16 KiB on the stack, and those after a block are looked up there: n names of one pattern
-    /// make at most n²/8192 look-ups of at most 13 comparisons, whatever names they are.
+    /// sorted in blocks, in a table on the stack, and the names after a block are looked up there by binary search.
     pub fn new(alloc: A, lists: &[&[Option<&str>]]) -> Result<GroupInfo<A>, GroupInfoError<A>>
         ensures groups { IfOk result (λ info. info ≡ lists_in lists.now) }
         ensures faultless { OnOk result (IsFaultless LIMIT_OF_IDS (lists_in lists.now)) }
@@ -191,7 +190,7 @@ impl<A: Allocator + Clone + Drop> GroupInfo<A> {
         self.lists().name(pid.as_usize(), group_index)
     }
 
-    /// The group of a pattern that has the name, or `None` where there is none. Names are local to each pattern.
+    /// The group of a pattern that has the name, or `None` where no group has it. Names are local to each pattern.
     #[inline]
     pub fn to_index(&self, pid: PatternID, name: &str) -> Option<usize>
         ensures index { result ≡ index_of (groups_of self.now pid) name.now }

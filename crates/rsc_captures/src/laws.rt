@@ -1,4 +1,4 @@
-//! Laws of faults, slots and spans that a caller may cite: functions whose contracts are the laws. Those of this module do
+//! Laws of faults, slots and spans that a caller can cite: functions whose contracts are the laws. Those of this module do
 //! nothing; those of `clones` clone a value.
 ghost use Rattle.std.specs.Prelude.{◌≡◌, ℕ, ◌+◌, ◌<◌, length, slice_index_or, Some, None};
 ghost use Rattle.rsc_captures.specs.Groups.{GroupLists, slot_of, all_groups};

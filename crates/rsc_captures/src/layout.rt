@@ -197,7 +197,7 @@ impl<A: Allocator + Clone + Drop> SharedLists<A> {
     }
 }
 
-/// A table in which most names find their group: its length is a power of two, 0 is no hint. There is none where all
+/// A table in which most names find their group: its length is a power of two, 0 is no hint. It is empty where all
 /// patterns have few groups.
 pub(crate) fn hints_of<A: Allocator>(
     alloc: A,

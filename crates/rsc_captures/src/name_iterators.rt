@@ -13,7 +13,7 @@ use std::alloc::{Allocator, Global};
 use std::marker::Model;
 
 /// The iterator over the names of a pattern's groups, made by [`GroupInfo::pattern_names`](crate::GroupInfo::pattern_names).
-/// A contract sees it as the list of those that are left.
+/// A contract sees it as the list of what is left.
 #[derive(Drop)]
 #[derive_where(Clone, Debug)]
 pub struct GroupInfoPatternNames<'a, A: Allocator = Global> {
@@ -89,7 +89,7 @@ impl<'a, A: Allocator + Clone + Drop> Iterator for GroupInfoPatternNames<'a, A> 
 }
 
 /// The iterator over all groups of all patterns, made by
-/// [`GroupInfo::all_names`](crate::GroupInfo::all_names). A contract sees it as the list of those that are left.
+/// [`GroupInfo::all_names`](crate::GroupInfo::all_names). A contract sees it as the list of what is left.
 #[derive(Drop)]
 #[derive_where(Debug)]
 pub struct GroupInfoAllNames<'a, A: Allocator = Global> {

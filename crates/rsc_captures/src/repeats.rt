@@ -1,8 +1,7 @@
 //! Repeated names: the first group of a pattern whose name a lesser group has.
 //!
 //! Names are sorted in blocks, in a table on the stack that holds the groups of one block in the order of their names: there a
-//! repeated name has neighbours. Each name after the block is looked up in it by binary search. So n names of one pattern are sorted
-//! in blocks of 4,096, and make at most n²/8192 look-ups of at most 13 comparisons, whatever names they are.
+//! repeated name has neighbours. Each name after the block is looked up in it by binary search.
 ghost use Rattle.std.specs.Prelude.{◌≡◌, ℕ, List, ◌+◌, ◌<◌, ◌≤◌, length, take, true, slice_index_or, Some, None, MatchOption};
 ghost use Rattle.std.specs.List.Sorted.{IsBinarySearchResult, IsSearchInRange};
 ghost use Rattle.rsc_captures.specs.Groups.{groups_in, lists_in, groups_of, name_of};
@@ -17,7 +16,7 @@ use crate::order::{name_at, put_in_order};
 use rsc_primitives::PatternID;
 use std::cmp::Ordering;
 
-// How many groups the table has room for: 16 KiB.
+// How many groups the table has room for.
 const TABLE: usize = 4096;
 
 /// The first repeated name before a place, which is a pattern and one of its groups. Takes no memory.
@@ -101,7 +100,8 @@ fn first_repeat(groups: &[Option<&str>], table: &mut [u32]) -> Option<usize>
 fn repeat_of_block(groups: &[Option<&str>], order: &[u32]) -> Option<usize>
     requires within { length order.now ≤ length groups.now }
     requires order { IsOrder order.now (groups_in (take (length order.now) groups.now)) }
-    ensures { MatchOption result (AreApart (groups_in groups.now) (length order.now) (length groups.now)) (IsRepeatOf (groups_in groups.now) (length order.now)) }
+    ensures { MatchOption result (AreApart (groups_in groups.now) (length order.now) (length groups.now))
+        (IsRepeatOf (groups_in groups.now) (length order.now)) }
 {
     let block = &groups[..order.len()];
     if let Some(g) = repeat_in_order(block, order) {

@@ -121,24 +121,13 @@ fn captures_without_slots_know_the_pattern(rt: HostRuntime) -> Result<(), Fail> 
 }
 
 #[test]
-fn names_and_shown_texts(rt: HostRuntime) -> Result<(), Fail> {
-    let mut captures = filled(
-        rt.alloc(),
-        &[&[None, Some("x")]],
-        0,
-        &[Some(0), Some(3), None, None],
-    )?;
+fn a_clone_keeps_what_its_source_loses(rt: HostRuntime) -> Result<(), Fail> {
+    let groups: [&[Option<&str>]; 1] = [&[None, Some("x")]];
+    let mut captures = filled(rt.alloc(), &groups, 0, &[Some(0), Some(3), None, None])?;
     assert!(rt; captures.get_group_by_name("x") == None);
-    let text = format!(in rt.alloc(); "{captures:?}")?;
-    assert_eq!(rt;
-        text.as_str(),
-        "Captures { pid: Some(PatternID(0)), spans: {0: 0..3, 1/\"x\": None} }"
-    );
     let copy = captures.clone()?;
     captures.clear();
     assert!(rt; !captures.is_match() && captures.slots().len() == 4);
-    let text = format!(in rt.alloc(); "{captures:?}")?;
-    assert_eq!(rt; text.as_str(), "Captures { pid: None }");
     assert!(rt; copy.get_group(0) == span(0, 3));
     Ok(())
 }

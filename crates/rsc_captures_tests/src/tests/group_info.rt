@@ -1,7 +1,7 @@
 //! What no contract says: worked values from outside, and shown texts.
 ghost use Rattle.std.specs.Prelude.{◌≤◌};
 
-use rsc_captures::{GroupInfo, GroupInfoErrorKind, laws};
+use rsc_captures::{GroupInfo, laws};
 use rsc_primitives::PatternID;
 use std::alloc::Global;
 use std::test::Fail;
@@ -217,32 +217,6 @@ fn keeps_to_the_limit_of_the_caller(rt: HostRuntime) -> Result<(), Fail> {
         "no capturing groups found for pattern 2 (either all patterns have zero groups or all patterns have at least one group)";
     let lacking: [&[Option<&str>]; 3] = [&[None, None], &[None], &[]];
     assert_eq!(rt; limited(alloc, 4, &lacking)?.as_str(), missing);
-    Ok(())
-}
-
-#[test]
-fn shows_faults_that_no_list_here_has(rt: HostRuntime) -> Result<(), Fail> {
-    let pattern = pattern(3);
-    let many_groups: GroupInfoErrorKind = GroupInfoErrorKind::TooManyGroups {
-        pattern,
-        minimum: 1073741824,
-    };
-    let text = format!(in rt.alloc(); "{many_groups}")?;
-    assert_eq!(rt;
-        text.as_str(),
-        "too many capture groups (at least 1073741824) were found for pattern 3"
-    );
-    if let Err(err) = PatternID::new(2147483647) {
-        let many_patterns: GroupInfoErrorKind = GroupInfoErrorKind::TooManyPatterns { err };
-        let text = format!(in rt.alloc(); "{many_patterns}")?;
-        assert_eq!(rt;
-            text.as_str(),
-            "too many patterns to build capture info: failed to create PatternID from 2147483647, which exceeds PatternID(2147483646)"
-        );
-    }
-    let out_of_memory: GroupInfoErrorKind = GroupInfoErrorKind::OutOfMemory;
-    let text = format!(in rt.alloc(); "{out_of_memory}")?;
-    assert_eq!(rt; text.as_str(), "out of memory while building capture info");
     Ok(())
 }
 

@@ -10,7 +10,7 @@ use std::test::Fail;
 enum Outcome {
     /// The call was not reached.
     NotReached,
-    /// Want of memory, and all else as before.
+    /// Out of memory, and all else as before.
     Refused,
     /// The full answer.
     Answered,
@@ -18,7 +18,19 @@ enum Outcome {
     Wrong,
 }
 
-// The outcome of an answer that is or isn't what it has to be.
+/// The calls that take memory.
+#[derive(Clone, Copy, PartialEq, Eq, Debug)]
+enum Call {
+    New,
+    NewLimited,
+    NewOfRepeatedName,
+    Empty,
+    All,
+    Matches,
+    Clone,
+}
+
+// The outcome of an answer, and of a refusal, that is or isn't what it has to be.
 fn answered(as_wanted: bool) -> Outcome {
     if as_wanted {
         Outcome::Answered
@@ -43,6 +55,19 @@ fn grown(so_far: Outcome, next: Outcome) -> Outcome {
         (Outcome::Refused, Outcome::Answered) => Outcome::Answered,
         (Outcome::Answered, Outcome::Answered) => Outcome::Answered,
         (_, _) => Outcome::Wrong,
+    }
+}
+
+// What a call gives over a heap.
+fn outcome_of(call: Call, heap: &LocalHeap) -> Outcome {
+    match call {
+        Call::New => group_info_within(heap, false),
+        Call::NewLimited => group_info_within(heap, true),
+        Call::NewOfRepeatedName => repeated_name_within(heap),
+        Call::Empty => empty_within(heap),
+        Call::All => captures_within(heap, true),
+        Call::Matches => captures_within(heap, false),
+        Call::Clone => clone_within(heap),
     }
 }
 
@@ -73,22 +98,6 @@ fn group_info_within(heap: &LocalHeap, with_limit: bool) -> Outcome {
     }
 }
 
-#[test]
-fn a_group_info_is_refused_until_there_is_enough(rt: HostRuntime) -> Result<(), Fail> {
-    for with_limit in [false, true] {
-        let mut so_far = Outcome::NotReached;
-        for size in 0..512usize {
-            let heap = LocalHeap::new(rt.alloc(), 8 * size)?;
-            let outcome = group_info_within(&heap, with_limit);
-            assert!(rt; size > 0 || outcome == Outcome::Refused);
-            so_far = grown(so_far, outcome);
-            assert!(rt; heap.used() == 0);
-        }
-        assert!(rt; so_far == Outcome::Answered);
-    }
-    Ok(())
-}
-
 // The group info of no patterns.
 fn empty_within(heap: &LocalHeap) -> Outcome {
     match GroupInfo::empty(heap) {
@@ -97,27 +106,14 @@ fn empty_within(heap: &LocalHeap) -> Outcome {
     }
 }
 
-#[test]
-fn an_empty_group_info_is_refused_until_there_is_enough(rt: HostRuntime) -> Result<(), Fail> {
-    let mut so_far = Outcome::NotReached;
-    for size in 0..64usize {
-        let heap = LocalHeap::new(rt.alloc(), 8 * size)?;
-        let outcome = empty_within(&heap);
-        assert!(rt; size > 0 || outcome == Outcome::Refused);
-        so_far = grown(so_far, outcome);
-        assert!(rt; heap.used() == 0);
-    }
-    assert!(rt; so_far == Outcome::Answered);
-    Ok(())
-}
-
-// Whether a name that is used twice is found (`Answered`), or memory is refused.
-fn duplicate_within(heap: &LocalHeap) -> Outcome {
-    match GroupInfo::new(heap, &[&[None, Some("x"), Some("x")]]) {
+// Whether a repeated name of 70 bytes is found, and given whole, or memory is refused.
+fn repeated_name_within(heap: &LocalHeap) -> Outcome {
+    let long = "a name of seventy bytes, so that a limit on how long names are would show";
+    match GroupInfo::new(heap, &[&[None, Some(long), Some(long)]]) {
         Ok(_) => Outcome::Wrong,
         Err(error) => match error.kind() {
             GroupInfoErrorKind::Duplicate { pattern, name } => {
-                answered(*pattern == PatternID::ZERO && name.as_str() == "x")
+                answered(*pattern == PatternID::ZERO && name.as_str() == long)
             }
             GroupInfoErrorKind::OutOfMemory => Outcome::Refused,
             _ => Outcome::Wrong,
@@ -125,17 +121,76 @@ fn duplicate_within(heap: &LocalHeap) -> Outcome {
     }
 }
 
-#[test]
-fn a_name_used_twice_is_found_once_there_is_enough(rt: HostRuntime) -> Result<(), Fail> {
-    let mut so_far = Outcome::NotReached;
-    for size in 0..256usize {
-        let heap = LocalHeap::new(rt.alloc(), 8 * size)?;
-        let outcome = duplicate_within(&heap);
-        assert!(rt; size > 0 || outcome == Outcome::Refused);
-        so_far = grown(so_far, outcome);
-        assert!(rt; heap.used() == 0);
+// Captures with all slots, or with those of the first groups. Where they are refused, the clone that was kept still answers,
+// and the heap is as full as before.
+fn captures_within(heap: &LocalHeap, with_all: bool) -> Outcome {
+    let Ok(info) = GroupInfo::new(heap, &[&[None, Some("x")], &[None]]) else {
+        return Outcome::NotReached;
+    };
+    let Ok(kept) = info.clone() else {
+        return Outcome::Wrong;
+    };
+    let used = heap.used();
+    let made = if with_all {
+        Captures::all(heap, info)
+    } else {
+        Captures::matches(heap, info)
+    };
+    let still_answers = kept.slot_len() == 6 && kept.to_index(PatternID::ZERO, "x") == Some(1);
+    let slot_len: usize = if with_all { 6 } else { 4 };
+    match made {
+        Ok(captures) => answered(still_answers && captures.slots().len() == slot_len),
+        Err(_) => refused(still_answers && heap.used() == used),
     }
-    assert!(rt; so_far == Outcome::Answered);
+}
+
+// A clone of captures. Whether it is refused or not, its source answers as before.
+fn clone_within(heap: &LocalHeap) -> Outcome {
+    let Ok(info) = GroupInfo::new(heap, &[&[None, Some("x")], &[None]]) else {
+        return Outcome::NotReached;
+    };
+    let Ok(mut captures) = Captures::all(heap, info) else {
+        return Outcome::NotReached;
+    };
+    captures.set_pattern(Some(PatternID::ZERO));
+    let slots = captures.slots_mut();
+    if slots.len() == 6 {
+        slots[0] = NonMaxUsize::new(0);
+        slots[1] = NonMaxUsize::new(3);
+    }
+    let used = heap.used();
+    let group = captures.get_group(0);
+    let cloned = captures.clone();
+    let as_before = group.is_some() && captures.get_group(0) == group && captures.group_len() == 2;
+    match cloned {
+        Ok(copy) => answered(as_before && copy.get_group(0) == group),
+        Err(_) => refused(as_before && heap.used() == used),
+    }
+}
+
+#[test]
+fn each_call_is_refused_until_there_is_enough(rt: HostRuntime) -> Result<(), Fail> {
+    for call in [
+        Call::New,
+        Call::NewLimited,
+        Call::NewOfRepeatedName,
+        Call::Empty,
+        Call::All,
+        Call::Matches,
+        Call::Clone,
+    ] {
+        let mut so_far = Outcome::NotReached;
+        let mut was_refused = false;
+        for size in 0..512usize {
+            let heap = LocalHeap::new(rt.alloc(), 8 * size)?;
+            let next = outcome_of(call, &heap);
+            was_refused = was_refused || next == Outcome::Refused;
+            so_far = grown(so_far, next);
+            // What was made is dropped, and what a refused call was handed, too.
+            assert!(rt; heap.used() == 0, "{call:?} over {size}");
+        }
+        assert!(rt; was_refused && so_far == Outcome::Answered, "{call:?}");
+    }
     Ok(())
 }
 
@@ -166,144 +221,5 @@ fn faults_come_before_any_request(rt: HostRuntime) -> Result<(), Fail> {
     assert!(rt; missing == (Some(1), None));
     let missing = fault_without_memory(alloc, &[&[], &[None, Some("x"), Some("x")]])?;
     assert!(rt; missing == (Some(0), None));
-    Ok(())
-}
-
-// Captures with all slots, or with those of the first groups. Where they are refused, the clone that was kept still answers,
-// and the heap is as full as before.
-fn captures_within(heap: &LocalHeap, with_all: bool) -> Outcome {
-    let Ok(info) = GroupInfo::new(heap, &[&[None, Some("x")], &[None]]) else {
-        return Outcome::NotReached;
-    };
-    let Ok(kept) = info.clone() else {
-        return Outcome::Wrong;
-    };
-    let used = heap.used();
-    let made = if with_all {
-        Captures::all(heap, info)
-    } else {
-        Captures::matches(heap, info)
-    };
-    let still_answers = kept.slot_len() == 6 && kept.to_index(PatternID::ZERO, "x") == Some(1);
-    let slot_len: usize = if with_all { 6 } else { 4 };
-    match made {
-        Ok(captures) => answered(still_answers && captures.slots().len() == slot_len),
-        Err(_) => refused(still_answers && heap.used() == used),
-    }
-}
-
-#[test]
-fn captures_are_refused_until_there_is_enough(rt: HostRuntime) -> Result<(), Fail> {
-    for with_all in [false, true] {
-        let mut so_far = Outcome::NotReached;
-        let mut was_refused = false;
-        for size in 0..256usize {
-            let heap = LocalHeap::new(rt.alloc(), 8 * size)?;
-            let outcome = captures_within(&heap, with_all);
-            was_refused = was_refused || outcome == Outcome::Refused;
-            so_far = grown(so_far, outcome);
-            // The group info that was handed in is dropped, too: its clone was the last.
-            assert!(rt; heap.used() == 0);
-        }
-        assert!(rt; was_refused && so_far == Outcome::Answered);
-    }
-    Ok(())
-}
-
-// A clone of captures. Whether it is refused or not, its source answers as before.
-fn clone_within(heap: &LocalHeap) -> Outcome {
-    let Ok(info) = GroupInfo::new(heap, &[&[None, Some("x")], &[None]]) else {
-        return Outcome::NotReached;
-    };
-    let Ok(mut captures) = Captures::all(heap, info) else {
-        return Outcome::NotReached;
-    };
-    captures.set_pattern(Some(PatternID::ZERO));
-    let slots = captures.slots_mut();
-    if slots.len() == 6 {
-        slots[0] = NonMaxUsize::new(0);
-        slots[1] = NonMaxUsize::new(3);
-    }
-    let used = heap.used();
-    let group = captures.get_group(0);
-    let cloned = captures.clone();
-    let as_before = group.is_some() && captures.get_group(0) == group && captures.group_len() == 2;
-    match cloned {
-        Ok(copy) => answered(as_before && copy.get_group(0) == group),
-        Err(_) => refused(as_before && heap.used() == used),
-    }
-}
-
-#[test]
-fn a_clone_is_refused_until_there_is_enough(rt: HostRuntime) -> Result<(), Fail> {
-    let mut so_far = Outcome::NotReached;
-    let mut was_refused = false;
-    for size in 0..256usize {
-        let heap = LocalHeap::new(rt.alloc(), 8 * size)?;
-        let outcome = clone_within(&heap);
-        was_refused = was_refused || outcome == Outcome::Refused;
-        so_far = grown(so_far, outcome);
-        assert!(rt; heap.used() == 0);
-    }
-    assert!(rt; was_refused && so_far == Outcome::Answered);
-    Ok(())
-}
-
-// Whether there is an answer for so many groups in one pattern, and for so many patterns of one group, with their captures.
-fn is_answered(alloc: Global, count: usize) -> bool {
-    let groups: [Option<&str>; 300] = [None; 300];
-    let patterns: [&[Option<&str>]; 300] = [&groups[..1]; 300];
-    if count > 300 {
-        return false;
-    }
-    let Ok(info) = GroupInfo::new(alloc, &patterns[..count]) else {
-        return false;
-    };
-    if Captures::matches(alloc, info).is_err() {
-        return false;
-    }
-    let Ok(info) = GroupInfo::new(alloc, &[&groups[..count]]) else {
-        return false;
-    };
-    match Captures::all(alloc, info) {
-        Ok(captures) => captures.clone().is_ok() && captures.slots().len() / 2 == count,
-        Err(_) => false,
-    }
-}
-
-#[test]
-fn ample_memory_suffices(rt: HostRuntime) -> Result<(), Fail> {
-    let none = GroupInfo::empty(rt.alloc())?;
-    assert!(rt; Captures::all(rt.alloc(), none).is_ok_and(|captures| captures.slots().is_empty()));
-    for count in 1..=300usize {
-        assert!(rt; is_answered(rt.alloc(), count));
-    }
-    Ok(())
-}
-
-// How many bytes the group info of so many patterns takes, each with a group that has a name of four bytes; none where it isn't answered.
-fn bytes_of(heap: &LocalHeap, count: usize) -> usize {
-    let groups: [Option<&str>; 2] = [None, Some("name")];
-    let patterns: [&[Option<&str>]; 300] = [&groups; 300];
-    if count > 300 {
-        return 0;
-    }
-    match GroupInfo::new(heap, &patterns[..count]) {
-        Ok(_info) => heap.used(),
-        Err(_) => 0,
-    }
-}
-
-#[test]
-fn no_pattern_takes_a_request_of_its_own(rt: HostRuntime) -> Result<(), Fail> {
-    // A pattern takes 8 bytes, a group 20, and a name its own. A request takes 16 or more, so one for each pattern would show.
-    for count in [1usize, 30, 300] {
-        let heap = LocalHeap::new(rt.alloc(), 64 * 1024)?;
-        let bytes = bytes_of(&heap, count);
-        assert!(rt;
-            52 * count <= bytes && bytes <= 52 * count + 256,
-            "{count} patterns take {bytes} bytes"
-        );
-    }
     Ok(())
 }

@@ -1,10 +1,10 @@
-//! Names that are used twice in long lists, which are looked at block by block.
+//! Repeated names in long lists, which are read block by block.
 
 use rsc_captures::GroupInfo;
 use std::alloc::{AllocError, Global};
 use std::test::Fail;
 
-// So many names, each another.
+// That many different names.
 fn names(alloc: Global, count: usize) -> Result<Vec<String>, AllocError> {
     let mut names = Vec::new(alloc);
     for i in 0..count {
@@ -13,7 +13,7 @@ fn names(alloc: Global, count: usize) -> Result<Vec<String>, AllocError> {
     Ok(names)
 }
 
-// So many groups: the first has no name, and each other the name with its number.
+// That many groups: the first has no name, and each other the name with its number.
 fn groups<'a>(
     alloc: Global,
     names: &'a [String],
@@ -41,7 +41,7 @@ fn answer(alloc: Global, groups: &[Option<&str>], with_fault: bool) -> Result<St
     }
 }
 
-// What it has to say where the first name that is used twice is this one, if there is one.
+// What it has to say if this is the first repeated name.
 fn wanted(alloc: Global, repeat: Option<&str>, with_fault: bool) -> Result<String, AllocError> {
     match repeat {
         Some(name) => {
@@ -55,7 +55,7 @@ fn wanted(alloc: Global, repeat: Option<&str>, with_fault: bool) -> Result<Strin
     }
 }
 
-// Whether a list of so many groups is refused for the name of the last pair alone, where each pair's later group has the name of
+// Whether a list of that many groups is refused for the name of the last pair alone, where each pair's later group has the name of
 // its earlier one.
 fn is_refused(
     alloc: Global,
@@ -78,7 +78,7 @@ fn is_refused(
 }
 
 #[test]
-fn finds_a_name_that_is_used_twice_in_a_short_list(rt: HostRuntime) -> Result<(), Fail> {
+fn finds_a_repeated_name_in_a_short_list(rt: HostRuntime) -> Result<(), Fail> {
     let alloc = rt.alloc();
     let names = names(alloc, 17)?;
     for count in 1..=17usize {
@@ -100,8 +100,9 @@ fn finds_a_name_that_is_used_twice_in_a_short_list(rt: HostRuntime) -> Result<()
     Ok(())
 }
 
+// The table of rsc_captures has room for 4,096 groups.
 #[test]
-fn finds_a_name_that_is_used_twice_at_each_edge_of_a_block(rt: HostRuntime) -> Result<(), Fail> {
+fn finds_a_repeated_name_at_each_edge_of_a_block(rt: HostRuntime) -> Result<(), Fail> {
     let alloc = rt.alloc();
     let names = names(alloc, 8194)?;
     for (count, earlier, later) in [
@@ -145,8 +146,8 @@ fn is_among(groups: &[Option<&str>], count: usize, name: &str) -> bool {
     false
 }
 
-// The first name that is used twice, found by the plainest means.
-fn first_used_twice<'a>(groups: &[Option<&'a str>]) -> Option<&'a str> {
+// The first repeated name, found by the plainest means.
+fn first_repeated<'a>(groups: &[Option<&'a str>]) -> Option<&'a str> {
     for (g, group) in groups.iter().enumerate() {
         let group = *group;
         if let Some(name) = group {
@@ -175,7 +176,7 @@ fn agrees_with_plain_comparisons(rt: HostRuntime) -> Result<(), Fail> {
                 None => list.push(None)?,
             }
         }
-        let repeat = first_used_twice(&list);
+        let repeat = first_repeated(&list);
         for with_fault in [false, true] {
             assert!(rt;
                 answer(alloc, &list, with_fault)? == wanted(alloc, repeat, with_fault)?,

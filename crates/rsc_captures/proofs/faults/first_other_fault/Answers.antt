@@ -14,7 +14,8 @@ returns-then-explicit-room c =
     let lt : c.loop-p.p < length c.args.lists.now = omega arith in
     let so_far = c.loop-p.invariant in
     rw c.in-Ok.ensures.ok.0 (too_many c.loop-p.p (c.args.limit / 2 - c.loop-p.before) so_far.places c.in-Ok.ensures.ok.1 (rw length-lists_in lt)
-    (omega (arith, c.if-explicit-room.true, group_count_in c.args.lists.now c.loop-p.p none lt)) (omega (arith, so_far.before, so_far.places.within)) (omega (arith, so_far.before)))
+    (omega (arith, c.if-explicit-room.true, group_count_in c.args.lists.now c.loop-p.p none lt)) (omega (arith, so_far.before, so_far.places.within))
+    (omega (arith, so_far.before)))
 
 pub returns : goal.returns
 returns c =
@@ -22,4 +23,5 @@ returns c =
     let at_end : c.loop-p.p ≡ length c.args.lists.now = omega arith in
     let lt : c.loop-p.within < length c.args.lists.now = omega (arith, so_far.count, c.if-within-lists.false) in
     rw (c.must.ensures, ← group_count_in c.args.lists.now c.loop-p.within none lt)
-    (past_limit (length c.args.lists.now) c.loop-p.within (length-lists_in c.args.lists.now) (rw at_end at so_far.places) lt (so_far.past (omega (arith, lt))) so_far.least)
+    (past_limit (length c.args.lists.now) c.loop-p.within (length-lists_in c.args.lists.now) (rw at_end at so_far.places) lt
+    (so_far.past (omega (arith, lt))) so_far.least)

@@ -21,14 +21,17 @@ add_order-requires g c =
     omega (arith, within, before_more (lists_in c.args.lists.now) c.loop-p.p in_lists, group_count_in c.args.lists.now c.loop-p.p none lt, in_lists)
 
 pub repeated-requires-clause-number : goal.repeated-requires-clause-number
-repeated-requires-clause-number g c = (pattern_clear (lists_in c.args.lists.now) c.loop-p.p (c.requires.places.patterns c.loop-p.p (rw length-lists_in (omega arith)))).0
+repeated-requires-clause-number g c =
+    (pattern_clear (lists_in c.args.lists.now) c.loop-p.p (c.requires.places.patterns c.loop-p.p (rw length-lists_in (omega arith)))).0
 
 pub returns-in-Some-clause-err : goal.returns-in-Some-clause-err
 returns-in-Some-clause-err g c =
     let lt : c.loop-p.p < length c.args.lists.now = omega arith in
     let first = rw (← groups_of_in c.args.lists.now c.loop-p.p none lt) at c.in-Some.ensures in
-    let found = repeat_of_pattern (lists_in c.args.lists.now) c.loop-p.p c.in-Some.g (length c.args.lists.now) 0 c.repeated.ensures.0 c.loop-p.invariant.none first c.repeated.ensures.1 (inl lt) in
-    MatchOption-some_weaker c.refusal.result _ _ (IsFirstRepeatBefore (lists_in c.args.lists.now) (length c.args.lists.now) 0) (λ (f : Fault) (same : f ≡ fault_found c.repeated.result). rw (same, c.repeated.ensures.2) found) c.refusal.ensures
+    let found = repeat_of_pattern (lists_in c.args.lists.now) c.loop-p.p c.in-Some.g
+    (length c.args.lists.now) 0 c.repeated.ensures.0 c.loop-p.invariant.none first c.repeated.ensures.1 (inl lt) in
+    MatchOption-some_weaker c.refusal.result _ _ (IsFirstRepeatBefore (lists_in c.args.lists.now) (length c.args.lists.now) 0)
+    (λ (f : Fault) (same : f ≡ fault_found c.repeated.result). rw (same, c.repeated.ensures.2) found) c.refusal.ensures
 
 pub loop-p-preserved : goal.loop-p-preserved
 loop-p-preserved g c =
@@ -36,7 +39,8 @@ loop-p-preserved g c =
     let of = groups_of_in c.args.lists.now c.loop-p.p none lt in
     let count = group_count_in c.args.lists.now c.loop-p.p none lt in
     record {
-      ordered = ordered_more c.loop-p.order.items c.add_order.new.order.items (lists_in c.args.lists.now) c.loop-p.p (rw length-lists_in lt) c.loop-p.invariant.ordered c.in_ok-add_order.ensures.kept
+      ordered = ordered_more c.loop-p.order.items c.add_order.new.order.items (lists_in c.args.lists.now) c.loop-p.p
+          (rw length-lists_in lt) c.loop-p.invariant.ordered c.in_ok-add_order.ensures.kept
           (rw count c.in_ok-add_order.ensures.len) (rw of c.in_ok-add_order.ensures.order);
       none = none_more (lists_in c.args.lists.now) c.loop-p.p c.loop-p.invariant.none (rw (count, of) c.in_default.ensures);
     }

@@ -21,5 +21,6 @@ loop-groups-preserved g c =
     omega (arith, c.loop-groups.invariant.first, groups_more (lists_in c.args.lists.now) c.loop-groups.groups-index lt, group_count_in c.args.lists.now c.loop-groups.groups-index (record { ref_ptr = (0, 0); now = [] }) (omega arith)) in
     record {
       first = first;
-      firsts = rw c.in_ok-push-2.ensures.items (firsts_push c.loop-groups.firsts.items (lists_in c.args.lists.now) c.loop-groups.groups-index _ c.loop-groups.invariant.firsts first);
+      firsts = rw c.in_ok-push-2.ensures.items
+          (firsts_push c.loop-groups.firsts.items (lists_in c.args.lists.now) c.loop-groups.groups-index _ c.loop-groups.invariant.firsts first);
     }

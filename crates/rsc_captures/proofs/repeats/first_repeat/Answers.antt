@@ -21,18 +21,22 @@ loop-from-preserved c =
           let lt : c.loop-from.from + w.in-Some.g < c.loop-from.end = let group = found.group in omega (arith, group, length_rest (groups_in c.args.groups.now) c.loop-from.from c.loop-from.end all) in
           record {
             within = omega (arith, w.end-is, lt, c.loop-from.invariant.within);
-            apart = rw w.end-is (apart_blocks (groups_in c.args.groups.now) c.loop-from.from c.loop-from.end c.min-len.result (c.loop-from.from + c.min-len.result) w.in-Some.g (omega arith) (omega arith) c.loop-from.invariant.apart found.apart);
+            apart = rw w.end-is (apart_blocks (groups_in c.args.groups.now) c.loop-from.from c.loop-from.end c.min-len.result
+                (c.loop-from.from + c.min-len.result) w.in-Some.g (omega arith) (omega arith) c.loop-from.invariant.apart found.apart);
             table = kept ∙ c.loop-from.invariant.table;
-            repeats = λ _. rw w.end-is (repeat_of_rest (groups_in c.args.groups.now) c.loop-from.from c.loop-from.end c.min-len.result w.in-Some.g all lt found);
+            repeats = λ _. rw w.end-is
+                (repeat_of_rest (groups_in c.args.groups.now) c.loop-from.from c.loop-from.end c.min-len.result w.in-Some.g all lt found);
           }
       | in_default w ↦
-          let count : length (take (c.loop-from.end - c.loop-from.from) (drop c.loop-from.from c.args.groups.now)) ≡ c.loop-from.end - c.loop-from.from = length_rest c.args.groups.now c.loop-from.from c.loop-from.end c.loop-from.invariant.within in
+          let count : length (take (c.loop-from.end - c.loop-from.from) (drop c.loop-from.from c.args.groups.now)) ≡ c.loop-from.end - c.loop-from.from =
+          length_rest c.args.groups.now c.loop-from.from c.loop-from.end c.loop-from.invariant.within in
           let here : AreApart (rest (groups_in c.args.groups.now) c.loop-from.from c.loop-from.end) c.min-len.result (c.loop-from.end - c.loop-from.from) =
           rw (rest_in c.args.groups.now c.loop-from.from c.loop-from.end) at (rw (count, block) at w.in_default.ensures) in
           let same : c.loop-from.from + (c.loop-from.end - c.loop-from.from) ≡ c.loop-from.end = omega arith in
           record {
             within = rw w.end-is c.loop-from.invariant.within;
-            apart = rw w.end-is (rw same at (apart_blocks (groups_in c.args.groups.now) c.loop-from.from c.loop-from.end c.min-len.result (c.loop-from.from + c.min-len.result) (c.loop-from.end - c.loop-from.from) (omega arith) (omega arith) c.loop-from.invariant.apart here));
+            apart = rw w.end-is (rw same at (apart_blocks (groups_in c.args.groups.now) c.loop-from.from c.loop-from.end c.min-len.result
+                (c.loop-from.from + c.min-len.result) (c.loop-from.end - c.loop-from.from) (omega arith) (omega arith) c.loop-from.invariant.apart here));
             table = kept ∙ c.loop-from.invariant.table;
             repeats = rw w.end-is c.loop-from.invariant.repeats;
           }
@@ -42,10 +46,12 @@ pub returns-then-end-groups-clause-repeat : goal.returns-then-end-groups-clause-
 returns-then-end-groups-clause-repeat c = record {
   group = rw length-map c.if-end-groups.true;
   repeats = c.loop-from.invariant.repeats c.if-end-groups.true;
-  distinct = distinct_from_apart (groups_in c.args.groups.now) c.loop-from.from c.loop-from.end (omega arith) (rw length-map (omega arith)) c.loop-from.invariant.apart;
+  distinct = distinct_from_apart (groups_in c.args.groups.now) c.loop-from.from c.loop-from.end (omega arith)
+      (rw length-map (omega arith)) c.loop-from.invariant.apart;
 }
 
 pub returns-else-end-groups-clause-repeat : goal.returns-else-end-groups-clause-repeat
 returns-else-end-groups-clause-repeat c =
     let all : c.loop-from.end ≡ length c.args.groups.now = omega arith in
-    rw all at (distinct_from_apart (groups_in c.args.groups.now) c.loop-from.from c.loop-from.end (omega arith) (rw length-map (omega arith)) c.loop-from.invariant.apart)
+    rw all at (distinct_from_apart (groups_in c.args.groups.now) c.loop-from.from c.loop-from.end (omega arith)
+    (rw length-map (omega arith)) c.loop-from.invariant.apart)

@@ -15,13 +15,16 @@ loop-i-preserved c =
           let is : c.if-group-least.least ≡ get_or c.args.order.now c.loop-i.i 0 = w.least-is in
           record {
             some = omega arith;
-            above = above_more (groups_in c.args.groups.now) c.args.order.now c.requires.sorted c.loop-i.i c.loop-i.least c.if-group-least.least c.loop-i.invariant.some c.loop-i.invariant.above (omega (arith, is, w.if-group-least.true)) (λ _. omega (arith, is));
-            repeat = λ _. rw is (is_repeat-from (groups_in c.args.groups.now) (get_or c.args.order.now (c.loop-i.i - 1) 0) (get_or c.args.order.now c.loop-i.i 0) (sym w.if-has_name_of.ensures));
+            above = above_more (groups_in c.args.groups.now) c.args.order.now c.requires.sorted c.loop-i.i c.loop-i.least c.if-group-least.least
+                c.loop-i.invariant.some c.loop-i.invariant.above (omega (arith, is, w.if-group-least.true)) (λ _. omega (arith, is));
+            repeat = λ _. rw is (is_repeat-from (groups_in c.args.groups.now) (get_or c.args.order.now (c.loop-i.i - 1) 0)
+                (get_or c.args.order.now c.loop-i.i 0) (sym w.if-has_name_of.ensures));
             within = omega (arith, is, w.if-group-least.true, c.loop-i.invariant.within);
           }
       | else-group-least w ↦ rw w.least-is (record {
         some = omega arith;
-        above = above_more (groups_in c.args.groups.now) c.args.order.now c.requires.sorted c.loop-i.i c.loop-i.least c.loop-i.least c.loop-i.invariant.some c.loop-i.invariant.above (omega arith)
+        above = above_more (groups_in c.args.groups.now) c.args.order.now c.requires.sorted c.loop-i.i c.loop-i.least c.loop-i.least
+            c.loop-i.invariant.some c.loop-i.invariant.above (omega arith)
             (λ found. elim w.else-group-least.branch [
               | else-group-least-via-then-group-least+else-has_name_of v ↦ absurd (true≢false (sym found ∙ sym v.if-has_name_of.ensures))
               | else-group-least-via-else-group-least v ↦ omega (arith, v.if-group-least.false)
@@ -33,4 +36,5 @@ loop-i-preserved c =
 
 pub returns-clause-distinct : goal.returns-clause-distinct
 returns-clause-distinct c =
-    distinct_from_order (groups_in c.args.groups.now) c.args.order.now c.requires.sorted c.requires.complete c.loop-i.least (rw (length-map c.args.groups.now option_copied) c.loop-i.invariant.within) (λ k lt found. c.loop-i.invariant.above k (omega arith) found)
+    distinct_from_order (groups_in c.args.groups.now) c.args.order.now c.requires.sorted c.requires.complete c.loop-i.least
+    (rw (length-map c.args.groups.now option_copied) c.loop-i.invariant.within) (λ k lt found. c.loop-i.invariant.above k (omega arith) found)

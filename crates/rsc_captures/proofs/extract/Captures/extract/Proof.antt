@@ -57,13 +57,15 @@ extract_spec 𝓤 𝓛 𝓜 𝓡 wired n fits =
     let G = triple_of 𝓛 T.signature (g.spec H N haystack.ghosts haystack.dict clone.ghosts clone.dict 𝓛 𝓜.mem 𝓡.returns) in
     let d = g.clauses H N haystack.ghosts haystack.dict clone.ghosts clone.dict 𝓛 𝓜.mem 𝓡.returns κs a in
     let meets = met 𝓤 𝓛 𝓜 𝓡 (code.calls-rsc_captures::extract::Captures::extract_parts 𝓡.env wired) H n
-    (arg_laws fat_pointer no F.row L refl) fits (arg_copy fat_pointer no F.row (str_copy (second κs)) refl) haystack.ghosts haystack.dict clone.ghosts clone.dict
+    (arg_laws fat_pointer no F.row L refl) fits (arg_copy fat_pointer no F.row (str_copy (second κs)) refl) haystack.ghosts haystack.dict
+    clone.ghosts clone.dict
     (record { cut = (haystack_met.bound 𝓡.env (code.calls-rsc_captures::extract::RefStrHaystack::cut 𝓡.env wired) κs.1.0 _ 𝓤 𝓛 𝓜 𝓡).cut })
     (record { clone = (clone_met.bound 𝓡.env (code.calls-core::clone::RefStrClone::clone 𝓡.env wired) κs.1.0 _ 𝓤 𝓛 𝓜 𝓡).clone }) in
     let z : G.Ghost = ((κs, qs, bounds, a, (shr_vals a.0, (shr_slice_vals a.1.0, tt))), tt) in
     let pre = (c κs a).requires tt in
     qed 𝓛 (raw (on_entry 𝓛 (f.signature N) κs qs a z.0.4) ∷ raw pre ∷ []) ∵
-    move ! (1 ∷ []) $ use1 𝓛 (raw (d.requires tt)) (beside 𝓤 (κs.1.0 ⊑ H.lives) pre (lives_so κs.1.0)) $ move ! (1 ∷ 0 ∷ []) $ use2 𝓛 (raw (G.pre z)) (id⊢ 𝓤 _) $
+    move ! (1 ∷ []) $ use1 𝓛 (raw (d.requires tt)) (beside 𝓤 (κs.1.0 ⊑ H.lives) pre (lives_so κs.1.0)) $ move ! (1 ∷ 0 ∷ []) $ use2 𝓛
+    (raw (G.pre z)) (id⊢ 𝓤 _) $
     enter ! _ _ _ _ _ $ alloc_all ! (λ l. pass_all ! refl ((tt, tt), ((((str-laws (second κs)).lawful 𝓛).typed a.1.0 _ are.1.0).0, tt)) $
     calls_at ! (framed 𝓤 𝓛.H 𝓜 (tables 𝓤 𝓛.H 𝓜 𝓡 𝓡.env)) G meets z (and_then ! (get ! refl) (and_then ! (get ! refl) (no_more !))) (λ v.
     use1 𝓛 (later (some (λ (r : R.Denot). (raw (alive 𝓛 (f.signature N) κs qs) ⊛ ‵ (R.own_val r (v ∷ []))) ⊛

@@ -2,8 +2,7 @@ use Rattle.std.proofs.Common.{length}
 use Rattle.std.proofs.lemmas.Result.{IfErr-weaker}
 use Rattle.rsc_captures.specs.Groups.{lists_in}
 use Rattle.rsc_captures.proofs.Clear.{pattern_clear}
-use Rattle.rsc_captures.proofs.FaultsLemmas.{refuses_found}
-use Rattle.rsc_captures.proofs.FirstFault.{pattern_before, first_fault, refuses_from}
+use Rattle.rsc_captures.proofs.FirstFault.{pattern_before, first_fault, refuses_from, refuses_found}
 use Rattle.rsc_captures.proofs.Places.{length-lists_in}
 use Rattle.rsc_captures.proofs.group_info.GroupInfo.new_limited.Goals as goal
 
@@ -17,5 +16,5 @@ first_repeat_before-requires g c = λ p before. (pattern_clear (lists_in c.args.
 
 pub returns-clause-refused : goal.returns-clause-refused
 returns-clause-refused g c =
-    refuses_found c.args.limit (lists_in c.args.lists.now) _
+    refuses_found
     (rw c.unwrap_or-first.ensures (first_fault c.in-Some.other c.first_repeat_before.result c.in-Some.ensures c.first_repeat_before.ensures)) c.refusal.result c.refusal.ensures

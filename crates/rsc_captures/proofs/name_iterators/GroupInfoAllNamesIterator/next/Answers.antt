@@ -8,11 +8,15 @@ use Rattle.rsc_captures.proofs.name_iterators.GroupInfoAllNamesIterator.next.Goa
 
 -- where the iterator is, once it has gone on to the next pattern
 next_is : (g : _) (c : goal.After-lists g)
-    → IsNext c.self.inside.lists.now c.self.inside.pattern c.self.inside.group c.if-self.self-inside.pattern c.if-self.self-inside.group c.if-self.self-inside.next c.if-self.self-inside.end
+    → IsNext c.self.inside.lists.now c.self.inside.pattern c.self.inside.group c.if-self.self-inside.pattern c.if-self.self-inside.group
+    c.if-self.self-inside.next c.if-self.self-inside.end
 next_is g c =
     elim c.if-self.branch [
-      | then-self+else-self-count w ↦ rw w.self-inside-is (next_enters c.self.inside.lists.now c.self.inside.pattern c.self.inside.group c.self.inside.next c.self.inside.end w.first-self-inside.result c.len-count.ensures.faultless c.self.invariant (omega arith) (omega arith) w.first-self-inside.ensures.value)
-      | else-self w ↦ rw w.self-inside-is (next_stays c.self.inside.lists.now c.self.inside.pattern c.self.inside.group c.self.inside.next c.self.inside.end c.self.invariant w.if-self.false)
+      | then-self+else-self-count w ↦
+          rw w.self-inside-is (next_enters c.self.inside.lists.now c.self.inside.pattern c.self.inside.group c.self.inside.next c.self.inside.end
+          w.first-self-inside.result c.len-count.ensures.faultless c.self.invariant (omega arith) (omega arith) w.first-self-inside.ensures.value)
+      | else-self w ↦ rw w.self-inside-is
+          (next_stays c.self.inside.lists.now c.self.inside.pattern c.self.inside.group c.self.inside.next c.self.inside.end c.self.invariant w.if-self.false)
     ]
 
 same_lists : (g : _) (c : goal.After-lists g) → c.if-self.self-inside.lists.now ≡ c.self.inside.lists.now
@@ -21,20 +25,25 @@ same_lists g c = elim c.if-self.branch [ then-self+else-self-count w ↦ rw w.se
 pub get-name-requires : goal.get-name-requires
 get-name-requires g c =
     let is = next_is g c in
-    let within = within_names c.lists.inside.firsts.items c.lists.inside.names c.self.inside.lists.now c.lists.view_is (rw c.lists.view_is at c.lists.invariant.laid_out) c.if-self.self-inside.pattern c.if-self.self-inside.group _ refl is.group in
+    let within = within_names c.lists.inside.firsts.items c.lists.inside.names c.self.inside.lists.now c.lists.view_is
+    (rw c.lists.view_is at c.lists.invariant.laid_out) c.if-self.self-inside.pattern c.if-self.self-inside.group _ refl is.group in
     omega (arith, within, is.at.at)
 
 pub invariant_of-self : goal.invariant_of-self
 invariant_of-self g c =
     let is = next_is g c.before.before.before.before in
-    rw (same_lists g c.before.before.before.before) (record { pattern = is.at.pattern; group = omega (arith, is.group); at = omega (arith, is.at.at); ends = is.at.ends })
+    rw (same_lists g c.before.before.before.before)
+    (record { pattern = is.at.pattern; group = omega (arith, is.group); at = omega (arith, is.at.at); ends = is.at.ends })
 
 pub returns-clause-steps : goal.returns-clause-steps
 returns-clause-steps g c =
     let is = next_is g c.before.before.before.before in
     let name : option_copied c.get-name.result ≡ name_of c.self.inside.lists.now c.if-self.self-inside.pattern c.if-self.self-inside.group =
-    named_at c.lists.inside.firsts.items c.lists.inside.names c.self.inside.lists.now c.lists.view_is (rw c.lists.view_is at c.lists.invariant.laid_out) c.if-self.self-inside.pattern c.if-self.self-inside.group _ (option_copied c.get-name.result) refl is.group (rw is.at.at at c.get-name.ensures) in
-    rw (same_lists g c.before.before.before.before, c.must.ensures, name) (sym c.self.view_is ∙ is.left ∙ left_more c.self.inside.lists.now c.if-self.self-inside.pattern c.if-self.self-inside.group is.group)
+    named_at c.lists.inside.firsts.items c.lists.inside.names c.self.inside.lists.now c.lists.view_is
+    (rw c.lists.view_is at c.lists.invariant.laid_out) c.if-self.self-inside.pattern c.if-self.self-inside.group _
+    (option_copied c.get-name.result) refl is.group (rw is.at.at at c.get-name.ensures) in
+    rw (same_lists g c.before.before.before.before, c.must.ensures, name) (sym c.self.view_is ∙ is.left
+    ∙ left_more c.self.inside.lists.now c.if-self.self-inside.pattern c.if-self.self-inside.group is.group)
 
 pub returns-clause-goes : goal.returns-clause-goes
 returns-clause-goes g c =

@@ -1,0 +1,138 @@
+//! Shown texts, and the traits of each type.
+use rsc_captures::{
+    Captures, CapturesPatternIter, GroupInfo, GroupInfoAllNames, GroupInfoError,
+    GroupInfoErrorKind, GroupInfoPatternNames,
+};
+use rsc_primitives::{NonMaxUsize, PatternID, PatternIDError};
+use std::alloc::Global;
+use std::error::Error;
+use std::fmt;
+use std::fmt::Write;
+use std::test::Fail;
+
+// Counts the bytes that are written.
+#[derive(Drop)]
+struct Counter {
+    count: u64,
+}
+
+impl fmt::Write for Counter {
+    fn write_str(&mut self, text: &str) -> fmt::Result {
+        self.count = self.count.saturating_add(text.len() as u64);
+        Ok(())
+    }
+}
+
+#[test]
+fn captures_are_shown(rt: HostRuntime) -> Result<(), Fail> {
+    let alloc = rt.alloc();
+    let info = GroupInfo::new(alloc, &[&[None], &[None, Some("a\"\n\u{e9}"), None]])?;
+    let mut captures = Captures::all(alloc, info)?;
+    assert_eq!(rt;
+        format!(in alloc; "{captures:?}")?.as_str(),
+        "Captures { pid: None }"
+    );
+    captures.set_pattern(Some(PatternID::must(1)));
+    for (slot, offset) in [(2, 3), (3, 123456), (4, 0), (5, 7), (6, 9)] {
+        if slot < captures.slots().len() {
+            captures.slots_mut()[slot] = NonMaxUsize::new(offset);
+        }
+    }
+    assert_eq!(rt;
+        format!(in alloc; "{captures:?}")?.as_str(),
+        "Captures { pid: Some(PatternID(1)), spans: {0: 3..123456, 1/\"a\\\"\\né\": 0..7, 2: None} }"
+    );
+    Ok(())
+}
+
+// The kinds at their least and greatest numbers.
+fn kinds(alloc: Global, err: PatternIDError) -> Result<[GroupInfoErrorKind; 7], Fail> {
+    Ok([
+        GroupInfoErrorKind::TooManyPatterns { err },
+        GroupInfoErrorKind::TooManyGroups {
+            pattern: PatternID::ZERO,
+            minimum: 0,
+        },
+        GroupInfoErrorKind::TooManyGroups {
+            pattern: PatternID::MAX,
+            minimum: usize::MAX,
+        },
+        GroupInfoErrorKind::MissingGroups {
+            pattern: PatternID::MAX,
+        },
+        GroupInfoErrorKind::FirstMustBeUnnamed {
+            pattern: PatternID::MAX,
+        },
+        GroupInfoErrorKind::Duplicate {
+            pattern: PatternID::MAX,
+            name: String::from_str(alloc, "größe")?,
+        },
+        GroupInfoErrorKind::OutOfMemory,
+    ])
+}
+
+#[test]
+fn each_kind_is_displayed(rt: HostRuntime) -> Result<(), Fail> {
+    let alloc = rt.alloc();
+    let wanted = [
+        "too many patterns to build capture info: failed to create PatternID from 18446744073709551615, which exceeds PatternID(2147483646)",
+        "too many capture groups (at least 0) were found for pattern 0",
+        "too many capture groups (at least 18446744073709551615) were found for pattern 2147483646",
+        "no capturing groups found for pattern 2147483646 (either all patterns have zero groups or all patterns have at least one group)",
+        "first capture group (at index 0) for pattern 2147483646 has a name (it must be unnamed)",
+        "duplicate capture group name 'größe' found for pattern 2147483646",
+        "out of memory while building capture info",
+    ];
+    let Err(err) = PatternID::new(usize::MAX) else {
+        assert!(rt; false);
+        return Ok(());
+    };
+    let kinds = kinds(alloc, err)?;
+    for (kind, want) in kinds.iter().zip(wanted.iter()) {
+        let mut counter = Counter { count: 0 };
+        assert!(rt; write!(counter, "{kind}").is_ok() && counter.count == want.len() as u64);
+        assert_eq!(rt; format!(in alloc; "{kind}")?.as_str(), *want);
+        assert_eq!(rt; format!(in alloc; "{kind:#}")?.as_str(), *want);
+        assert_eq!(rt; format!(in alloc; "{kind:>8}")?.as_str(), *want);
+    }
+    Ok(())
+}
+
+fn is_debug<T: fmt::Debug>() {}
+
+fn is_displayed<T: fmt::Display + fmt::Debug>() {}
+
+fn is_error<T: Error + fmt::Display + fmt::Debug>() {}
+
+fn is_walked<T: Clone + fmt::Debug + Iterator>() {}
+
+#[test]
+fn traits_of_each_type(_rt: HostRuntime) {
+    is_debug::<GroupInfo>();
+    is_debug::<Captures>();
+    is_debug::<GroupInfoAllNames<'_>>();
+    is_walked::<GroupInfoPatternNames<'_>>();
+    is_walked::<CapturesPatternIter<'_>>();
+    is_displayed::<GroupInfoErrorKind>();
+    is_error::<GroupInfoError>();
+}
+
+#[test]
+fn a_clone_of_an_error_is_displayed_as_its_source(rt: HostRuntime) -> Result<(), Fail> {
+    let alloc = rt.alloc();
+    let lists: [&[&[Option<&str>]]; 3] = [
+        &[&[]],
+        &[&[Some("x")]],
+        &[&[None, Some("y"), Some("y")]],
+    ];
+    for list in lists {
+        let Err(error) = GroupInfo::new(alloc, list) else {
+            assert!(rt; false);
+            return Ok(());
+        };
+        let copy = error.clone()?;
+        let text = format!(in alloc; "{error}")?;
+        assert_eq!(rt; format!(in alloc; "{copy}")?.as_str(), text.as_str());
+    }
+    Ok(())
+}

@@ -1,0 +1,186 @@
+//! Calls over ample memory at sizes on both sides of any limit, and calls that take no memory.
+use linked_list_allocator::LocalHeap;
+use rsc_captures::{Captures, GroupInfo, GroupInfoError, GroupInfoErrorKind};
+use rsc_primitives::{NonMaxUsize, PatternID};
+use std::alloc::Global;
+use std::test::Fail;
+
+const SIZES: [usize; 10] = [0, 1, 2, 31, 63, 64, 65, 1_000, 2_000, 100_000];
+
+// That many groups without names.
+fn unnamed<'a>(alloc: Global, count: usize) -> Result<Vec<Option<&'a str>>, Fail> {
+    Ok(vec![in alloc; None; count]?)
+}
+
+// Whether captures and their clones are answered, with that many slots.
+fn are_answered(alloc: Global, info: GroupInfo, all: usize, matches: usize) -> Result<bool, Fail> {
+    let first = Captures::all(alloc, info.clone()?)?;
+    let second = Captures::matches(alloc, info)?;
+    let copies = (first.clone()?, second.clone()?);
+    Ok(copies.0.slots().len() == all && copies.1.slots().len() == matches)
+}
+
+#[test]
+fn so_many_patterns_are_answered(rt: HostRuntime) -> Result<(), Fail> {
+    let alloc = rt.alloc();
+    let groups: [Option<&str>; 2] = [None, Some("name")];
+    for count in SIZES {
+        let mut lists: Vec<&[Option<&str>]> = Vec::new(alloc);
+        for _ in 0..count {
+            lists.push(&groups)?;
+        }
+        let info = GroupInfo::new(alloc, &lists)?;
+        assert!(rt; info.pattern_len() == count && info.all_group_len() / 2 == count);
+        assert!(rt; are_answered(alloc, info, 4 * count, 2 * count)?, "{count}");
+    }
+    Ok(())
+}
+
+#[test]
+fn so_many_groups_are_answered(rt: HostRuntime) -> Result<(), Fail> {
+    let alloc = rt.alloc();
+    for count in SIZES {
+        if count > 0 {
+            let groups = unnamed(alloc, count)?;
+            let info = GroupInfo::new(alloc, &[&groups])?;
+            assert!(rt; are_answered(alloc, info, 2 * count, 2)?, "{count}");
+        }
+    }
+    Ok(())
+}
+
+// Whether the error is that this name is repeated.
+fn repeats(error: &GroupInfoError, name: &str) -> bool {
+    match error.kind() {
+        GroupInfoErrorKind::Duplicate { name: given, .. } => given.as_str() == name,
+        _ => false,
+    }
+}
+
+#[test]
+fn names_of_any_length_are_answered(rt: HostRuntime) -> Result<(), Fail> {
+    let alloc = rt.alloc();
+    for length in SIZES {
+        let mut name = String::new(alloc);
+        for _ in 0..length {
+            name.push('n')?;
+        }
+        let info = GroupInfo::new(alloc, &[&[None, Some(name.as_str())]])?;
+        assert_eq!(rt; info.to_index(PatternID::ZERO, &name), Some(1), "{length}");
+        match GroupInfo::new(alloc, &[&[None, Some(name.as_str()), Some(name.as_str())]]) {
+            Ok(_) => assert!(rt; false),
+            Err(error) => assert!(rt; repeats(&error, &name), "{length}"),
+        }
+    }
+    Ok(())
+}
+
+// Whether each call on captures that takes no memory answers as it should and leaves what is used of the heap as it was.
+fn take_none(heap: &LocalHeap, captures: &mut Captures<&LocalHeap>) -> bool {
+    let used = heap.used();
+    captures.set_pattern(Some(PatternID::ZERO));
+    let slots = captures.slots_mut();
+    if slots.len() == 6 {
+        slots[4] = NonMaxUsize::new(1);
+        slots[5] = NonMaxUsize::new(2);
+    }
+    let is_set = captures.is_match() && captures.pattern() == Some(PatternID::ZERO);
+    let by_name = captures.get_group_by_name("x");
+    let is_found = by_name.is_some() && captures.get_group(1) == by_name;
+    let is_walked = captures.iter().next() == Some(None)
+        && captures.group_info().all_names().next() == Some((PatternID::ZERO, 0, None));
+    captures.clear();
+    is_set && is_found && is_walked && !captures.is_match() && heap.used() == used
+}
+
+// Whether captures are made over a heap of that size; then the calls on them take none of it.
+fn is_made(alloc: Global, size: usize) -> Result<(bool, bool), Fail> {
+    let heap = LocalHeap::new(alloc, size)?;
+    let Ok(info) = GroupInfo::new(&heap, &[&[None, Some("x")], &[None]]) else {
+        return Ok((false, true));
+    };
+    match Captures::all(&heap, info) {
+        Ok(mut captures) => Ok((true, take_none(&heap, &mut captures))),
+        Err(_) => Ok((false, true)),
+    }
+}
+
+// The least heap that has room for the captures has room for nothing else.
+#[test]
+fn calls_on_captures_take_no_memory(rt: HostRuntime) -> Result<(), Fail> {
+    let mut was_made = false;
+    for size in 0..512usize {
+        let (is_made, takes_none) = is_made(rt.alloc(), 8 * size)?;
+        assert!(rt; takes_none, "over {size}");
+        was_made = was_made || is_made;
+    }
+    assert!(rt; was_made);
+    Ok(())
+}
+
+#[test]
+fn captures_without_slots_take_no_memory(rt: HostRuntime) -> Result<(), Fail> {
+    let (of_info, none) = (
+        LocalHeap::new(rt.alloc(), 4096)?,
+        LocalHeap::new(rt.alloc(), 0)?,
+    );
+    let info = GroupInfo::new(&of_info, &[&[None, Some("x")]])?;
+    let used = of_info.used();
+    let captures = Captures::empty(&none, info)?;
+    assert!(rt; captures.slots().is_empty() && of_info.used() == used && none.used() == 0);
+    Ok(())
+}
+
+// Slots are in the memory that the call is handed, not in that of the group info.
+#[test]
+fn slots_are_in_the_memory_that_is_handed_in(rt: HostRuntime) -> Result<(), Fail> {
+    for with_all in [false, true] {
+        for size in [0usize, 4096] {
+            let (of_info, of_slots) = (
+                LocalHeap::new(rt.alloc(), 4096)?,
+                LocalHeap::new(rt.alloc(), size)?,
+            );
+            let info = GroupInfo::new(&of_info, &[&[None, Some("x")]])?;
+            let used = of_info.used();
+            let made = if with_all {
+                Captures::all(&of_slots, info)
+            } else {
+                Captures::matches(&of_slots, info)
+            };
+            match made {
+                Ok(_captures) => {
+                    assert!(rt; size > 0 && of_info.used() == used && of_slots.used() > 0);
+                }
+                Err(_) => assert!(rt; size == 0 && of_info.used() == 0),
+            }
+        }
+    }
+    Ok(())
+}
+
+// The bytes that the group info of that many patterns takes, each with a group that has a name of four bytes; `None` where it isn't answered.
+fn bytes_of(heap: &LocalHeap, count: usize) -> usize {
+    let groups: [Option<&str>; 2] = [None, Some("name")];
+    let patterns: [&[Option<&str>]; 300] = [&groups; 300];
+    if count > 300 {
+        return 0;
+    }
+    match GroupInfo::new(heap, &patterns[..count]) {
+        Ok(_info) => heap.used(),
+        Err(_) => 0,
+    }
+}
+
+#[test]
+fn no_pattern_takes_a_request_of_its_own(rt: HostRuntime) -> Result<(), Fail> {
+    // A pattern takes 8 bytes, a group 20, and a name its own. A request takes 16 or more, so one for each pattern would show.
+    for count in [1usize, 30, 300] {
+        let heap = LocalHeap::new(rt.alloc(), 64 * 1024)?;
+        let bytes = bytes_of(&heap, count);
+        assert!(rt;
+            52 * count <= bytes && bytes <= 52 * count + 256,
+            "{count} patterns take {bytes} bytes"
+        );
+    }
+    Ok(())
+}
