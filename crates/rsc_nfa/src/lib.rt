@@ -1,8 +1,20 @@
 //! Small automata over bytes: their states, their runs, and the classes of bytes that no run tells apart.
+//!
+//! An [`Nfa`] is a checked list of [`State`]s with a group info and a matcher: each state that a state names is there, and so is each slot and pattern.
+//! An engine that is given an `&Nfa` need not test them again.
+//!
+//! Nothing is searched. A run is a list of states and positions, and [`Nfa::check_run`] answers whether each step is one of the automaton's on an
+//! input. [`Nfa::classes`] answers the classes for the columns of a table: replacing bytes within their classes changes no run, and each boundary
+//! between two classes is needed for some step.
+//!
+//! ```
+//! let nfa = Nfa::new(alloc, info, LookMatcher::new(AsciiWord), &states)?;
+//! assert!(nfa.check_run(&Input::new(b"\na"), &[]));
+//! ```
 #![tactic(auto)]
 
 mod error;
-/// Laws that a caller may cite.
+/// Laws that a caller can cite.
 pub mod laws;
 mod nfa;
 mod state;

@@ -1,5 +1,5 @@
 //! Automata over bytes.
-ghost use Rattle.std.specs.Prelude.{◌≡◌, ◌≤◌, ◌<◌, ◌⊎◌, ◌↔◌, ℕ, true, false, IsTrue, length, IfOk, IfErr, OnOk};
+ghost use Rattle.std.specs.Prelude.{◌≡◌, ◌≤◌, ◌<◌, ◌⊎◌, ◌↔◌, ℕ, true, false, IsTrue, length, slice_index, IfOk, IfErr, OnOk};
 ghost use Rattle.std.specs.FinSet as sets;
 ghost use Rattle.rsc_alphabet.specs.Partitions.{class_map};
 ghost use Rattle.rsc_look.specs.Keeping.{AgreesWithAscii};
@@ -167,7 +167,8 @@ impl<W: WordClass, A: Allocator + Clone + Drop> Nfa<W, A> {
     /// The states, each numbered by its place.
     #[inline]
     pub fn states(&self) -> &[State]
-        ensures { result.now ≡ self.now.states }
+        ensures states { result.now ≡ self.now.states }
+        ensures faultless { IsFaultless self.now.groups self.now.states }
     {
         &self.states
     }
@@ -175,7 +176,8 @@ impl<W: WordClass, A: Allocator + Clone + Drop> Nfa<W, A> {
     /// The groups that the slots and the patterns of the states are of.
     #[inline]
     pub fn group_info(&self) -> &GroupInfo<A>
-        ensures { result.now ≡ self.now.groups }
+        ensures groups { result.now ≡ self.now.groups }
+        ensures faultless { IsFaultless self.now.groups self.now.states }
     {
         &self.group_info
     }
@@ -192,11 +194,13 @@ impl<W: WordClass, A: Allocator + Clone + Drop> Nfa<W, A> {
     /// states. Takes no memory.
     ///
     /// To replace bytes by bytes of their classes makes no run of what was none, and the other way round; where a state asks a
-    /// Unicode assertion this is said of replacements within ASCII, and where the matcher's word characters below 128 are the
+    /// Unicode assertion this holds for replacements within ASCII, and where the matcher's word characters below 128 are the
     /// word bytes. Each boundary between two classes is needed: from some state a step exists on exactly one of the haystacks
     /// of one byte on both sides of it.
     pub fn classes(&self) -> ByteClasses
         ensures classes { result ≡ class_map (sets.contains (boundaries_of_states self.now.states self.now.matcher.0)) }
+        ensures rises { (b : ℕ) → b < 256 → slice_index result b ≤ slice_index result 255 }
+        ensures faultless { IsFaultless self.now.groups self.now.states }
         ensures kept { (has_unicode self.now.states ≡ true → AgreesWithAscii (W.word_chars self.now.matcher.1)) →
             KeepsRuns result self.now.states self.now.matcher.0 (W.word_chars self.now.matcher.1) }
         ensures needed { (has_unicode self.now.states ≡ true → AgreesWithAscii (W.word_chars self.now.matcher.1)) →
@@ -205,6 +209,7 @@ impl<W: WordClass, A: Allocator + Clone + Drop> Nfa<W, A> {
             IsCoarsestForRuns result self.now.states self.now.matcher.0 (W.word_chars self.now.matcher.1) }
     {
         rsc_alphabet::laws::one_class_is_together();
+        rsc_alphabet::laws::each_class_comes_once();
         rsc_alphabet::laws::edges_part_a_range();
         rsc_look::laws::boundaries_are_exact();
         let mut set = ByteClassSet::empty();
