@@ -1,35 +1,58 @@
-//! Classes, an assertion and captures in one small program.
+//! An example, not part of the search core: a small regex engine over the contracts of the libraries, and a program that runs it.
 #![tactic(auto)]
 
-use rsc_captures::{Captures, GroupInfo};
-use rsc_look::{Look, LookMatcher, UnicodeWord};
-use rsc_primitives::{NonMaxUsize, PatternID};
+pub mod backtrack;
+pub mod builder;
+pub mod dfa;
+pub mod error;
+pub mod iterate;
+mod patterns;
+pub mod program;
+mod texts;
+
+pub use builder::{Builder, Part};
+pub use dfa::Dfa;
+pub use error::Error;
+pub use iterate::Matches;
+pub use program::Program;
+use rsc_captures::Captures;
+use rsc_look::UnicodeWord;
+use rsc_search::Input;
 use std::process::ExitCode;
 
 fn main(rt: HostRuntime) -> ExitCode {
-    // Which bytes do `\b` and `(?m)^` tell apart, and where does a word begin?
-    let matcher = LookMatcher::new(UnicodeWord);
-    let classes = matcher.classes_of(&[Look::WordUnicode, Look::StartLF]);
-    let text = "größe=3";
-    let _ = rt.println(classes.alphabet_len());
-    let _ = rt.println(classes.get(b'a') == classes.get(b'_'));
-    let _ = rt.println(matcher.matches(Look::WordStartUnicode, text.as_bytes(), 8));
+    if let Err(error) = pairs(&rt, "größe=3, λόγος=слово; 漢字=字") {
+        let _ = rt.println(error);
+        return ExitCode::FAILURE;
+    }
+    match texts::show_all(&rt) {
+        Ok(()) => ExitCode::SUCCESS,
+        Err(_) => ExitCode::FAILURE,
+    }
+}
 
-    // A match of `(\w+)=(?P<value>\w+)`: its offsets are written into slots and read back by name.
-    let Ok(info) = GroupInfo::new(rt.alloc(), &[&[None, None, Some("value")]]) else {
-        return ExitCode::FAILURE;
-    };
-    let Ok(mut captures) = Captures::all(rt.alloc(), info) else {
-        return ExitCode::FAILURE;
-    };
-    captures.set_pattern(Some(PatternID::ZERO));
-    for (slot, offset) in [0, 9, 0, 7, 8, 9].iter().enumerate() {
-        if slot < captures.slots().len() {
-            captures.slots_mut()[slot] = NonMaxUsize::new(*offset);
+// Prints the values of all matches of `(\w+)=(?P<value>\w+)`, where each byte of a character above ASCII counts as a word byte.
+fn pairs(rt: &HostRuntime, text: &str) -> Result<(), Error> {
+    let mut builder = Builder::new(rt.alloc())?;
+    let word = builder.class(&patterns::WORD)?;
+    let word = builder.plus(word)?;
+    let key = builder.group(None, word)?;
+    let equals = builder.literal("=")?;
+    let word = builder.class(&patterns::WORD)?;
+    let word = builder.plus(word)?;
+    let value = builder.group(Some("value"), word)?;
+    let whole = builder.concat(&[key, equals, value])?;
+    let program = builder.build(rt.alloc(), UnicodeWord, whole)?;
+
+    let mut captures = Captures::all(rt.alloc(), program.nfa().group_info().clone()?)?;
+    let mut matches = Matches::new(Dfa::new(rt.alloc(), program)?, Input::new(text.as_bytes()));
+    for _ in 0..=text.len() {
+        if matches.next(rt.alloc(), &mut captures)?.is_none() {
+            break;
+        }
+        if let Some(value) = captures.get_group_by_name("value") {
+            let _ = rt.println(value.get_str(text).unwrap_or("?"));
         }
     }
-    if let Some(span) = captures.get_group_by_name("value") {
-        let _ = rt.println(span.get_str(text).unwrap_or("no value"));
-    }
-    ExitCode::SUCCESS
+    Ok(())
 }
