@@ -9,7 +9,7 @@ use Rattle.rsc_alphabet.specs.Symbols.{Symbol, byte, number_of}
 use Rattle.rsc_uses.specs.Leads.{lead_of}
 use Rattle.rsc_alphabet.specs.Iterators.{class_at, end_of, symbols}
 
--- each unit is still to come, or its cell has its value
+-- each unit is still to come, or its entry has its value
 pub record Awaits (place value : Symbol → ℕ) (row : List ℕ) (left all : List Symbol) : Type 0 where
   pub among : (u : Symbol) → Contains left u → Contains all u
   pub filled : (u : Symbol) → Contains all u → Contains left u ⊎ (slice_index row (place u) ≡ value u)
@@ -21,10 +21,11 @@ cases : (x : Symbol) (xs : List Symbol) (q : Symbol) → Contains (x ∷ xs) q �
 cases x xs q (zero, l, e) = inl e
 cases x xs q (suc k, l, e) = inr (k, omega (arith, l), e)
 
-pub next_is_among : (place value : Symbol → ℕ) (row : List ℕ) (left rest all : List Symbol) (u : Symbol) → left ≡ u ∷ rest → Awaits place value row left all → Contains all u
+pub next_is_among : (place value : Symbol → ℕ) (row : List ℕ) (left rest all : List Symbol) (u : Symbol) → left ≡ u ∷ rest
+    → Awaits place value row left all → Contains all u
 next_is_among place value row left rest all u e a = a.among u (subst (λ xs. Contains xs u) (sym e) (0, omega arith, refl))
 
--- units with one place have one value, so a cell that is filled stays right
+-- units with one place have one value, so an entry that is filled stays right
 pub one_filled : (place value : Symbol → ℕ) (row : List ℕ) (left rest all : List Symbol) (u : Symbol) (at n : ℕ) → left ≡ u ∷ rest → at ≡ place u → n ≡ value u
     → at < length row → ((v w : Symbol) → Contains all v → Contains all w → place v ≡ place w → value v ≡ value w)
     → Awaits place value row left all → Awaits place value (slice_set row at n) rest all
@@ -54,13 +55,17 @@ pub unit_of_number : (classes : List ℕ) (k : ℕ) → ((c : ℕ) → c ≤ sli
 unit_of_number classes k places last small =
     ⊎_elim
     (λ (low : k < slice_index classes 255 + 1). (byte k, (Contains-from_get (symbols classes) k (byte k) (places k (omega (arith, low))), refl)))
-    (λ (high : slice_index classes 255 + 1 ≤ k). (end_of classes, (Contains-from_get (symbols classes) (slice_index classes 255 + 1) (end_of classes) last, omega (arith, small, high))))
+    (λ (high : slice_index classes 255 + 1 ≤ k). (
+      end_of classes,
+      (Contains-from_get (symbols classes) (slice_index classes 255 + 1) (end_of classes) last, omega (arith, small, high)),
+    ))
     (cases_lt k (slice_index classes 255 + 1))
 
 pub all_filled : (place value : Symbol → ℕ) (row : List ℕ) (left all : List Symbol) → left ≡ [] → Awaits place value row left all
     → (u : Symbol) → Contains all u → slice_index row (place u) ≡ value u
 all_filled place value row left all e a u c =
-    ⊎_elim (λ (coming : Contains left u). absurd (let none = subst (λ xs. Contains xs u) e coming in omega (arith, none.1))) (λ (held : slice_index row (place u) ≡ value u). held) (a.filled u c)
+    ⊎_elim (λ (coming : Contains left u). absurd (let none = subst (λ xs. Contains xs u) e coming in omega (arith, none.1)))
+    (λ (held : slice_index row (place u) ≡ value u). held) (a.filled u c)
 
 -- where a unit leads depends on its class alone
 pub one_way : (classes leads : List ℕ) (end : ℕ) (all : List Symbol)
@@ -84,7 +89,7 @@ one_way classes leads end all only rises alike v w in_v in_w same =
     apart : (b : ℕ) → b < 256 → slice_index classes b ≡ slice_index classes 255 + 1 → ⊥
     apart b l e = let most = rises b l in omega (arith, most, e)
 
--- a unit's class has a cell in a row of as many cells as there are units
+-- a unit's class has an entry in a row of as many entries as there are units
 pub class_within : (classes : List ℕ) (u : Symbol) → ((b : ℕ) × ((b < 256) × (u ≡ byte b))) ⊎ (u ≡ end_of classes)
     → ((b : ℕ) → b < 256 → slice_index classes b ≤ slice_index classes 255) → class_at classes u < slice_index classes 255 + 2
 class_within classes u is rises =

@@ -9,7 +9,7 @@ ghost use Rattle.rsc_uses.specs.Leads.{lead_of};
 use rsc_alphabet::{ByteClassSet, ByteClasses, ByteSet, Unit, classes_of_ranges, laws};
 use std::ops::Bound;
 
-/// Where the cell of a row and a byte is, in a table whose rows are `1 << stride2` cells long.
+/// Where the entry of a row and a byte is, in a table whose rows have `1 << stride2` entries.
 pub fn cell_of(map: &ByteClasses, row: usize, byte: u8) -> usize
     requires rows { row < 2147483647 }
     requires rises { (b : ℕ) → b < 256 → slice_index map.now b ≤ slice_index map.now 255 }
@@ -18,7 +18,7 @@ pub fn cell_of(map: &ByteClasses, row: usize, byte: u8) -> usize
     (row << map.stride2()) | usize::from(map.get(byte))
 }
 
-/// A table's cell of a row and a byte.
+/// A table's entry of a row and a byte.
 pub fn transition(map: &ByteClasses, table: &[u32], row: usize, byte: u8) -> u32
     requires rows { row < 2147483647 }
     requires table { (row + 1) * 2 ^ stride2_of map.now ≤ length table.now }
@@ -28,7 +28,7 @@ pub fn transition(map: &ByteClasses, table: &[u32], row: usize, byte: u8) -> u32
     table[(row << map.stride2()) + usize::from(map.get(byte))]
 }
 
-/// A table's cell of a row and the end of the input, whose class is the one after all bytes'.
+/// A table's entry of a row and the end of the input, whose class is the one after all bytes'.
 pub fn transition_at_end(map: &ByteClasses, table: &[u32], row: usize) -> u32
     requires rows { row < 2147483647 }
     requires table { (row + 1) * 2 ^ stride2_of map.now ≤ length table.now }
@@ -37,7 +37,7 @@ pub fn transition_at_end(map: &ByteClasses, table: &[u32], row: usize) -> u32
     table[(row << map.stride2()) + map.get_by_unit(map.eoi())]
 }
 
-/// A cell of a table over the classes of a partition: `None` where the table has no such row, and never out of bounds, since the
+/// An entry of a table over the classes of a partition: `None` where the table has no such row, and never out of bounds, since the
 /// classes of a partition rise.
 pub fn transition_of_partition(
     partition: &ByteClassSet,
@@ -46,11 +46,10 @@ pub fn transition_of_partition(
     byte: u8,
 ) -> Option<u32>
     requires { length table.now < 2147483647 }
-    ensures cell { IfSome result (λ cell. cell ≡ slice_index table.now
+    ensures entry { IfSome result (λ entry. entry ≡ slice_index table.now
         (row * 2 ^ stride2_of (class_map (sets.contains partition.now)) + slice_index (class_map (sets.contains partition.now)) byte)) }
     ensures none { IsTrue (is_none result) ↔ (length table.now < (row + 1) * 2 ^ stride2_of (class_map (sets.contains partition.now))) }
 {
-    laws::each_class_comes_once();
     let map = partition.byte_classes();
     if row < table.len() >> map.stride2() {
         Some(transition(&map, table, row, byte))
@@ -72,12 +71,11 @@ pub fn share_a_column(partition: &ByteClassSet, b: u8, c: u8) -> bool
 pub fn end_is_apart(partition: &ByteClassSet, byte: u8) -> bool
     ensures { IsTrue result }
 {
-    laws::each_class_comes_once();
     let map = partition.byte_classes();
     map.get_by_unit(map.eoi()) != usize::from(map.get(byte))
 }
 
-/// Marks the cell of each class and of the end of the input, and no other.
+/// Marks the entry of each class and of the end of the input, and no other.
 pub fn fill_row(map: &ByteClasses, row: &mut [u32])
     requires { symbol_count map.now ≤ length row.old }
     ensures len { length row.new ≡ length row.old }
@@ -90,7 +88,7 @@ pub fn fill_row(map: &ByteClasses, row: &mut [u32])
     }
 }
 
-/// Where a unit leads from a state: a byte where its cell says, and an end of the input to `end`.
+/// Where a unit leads from a state: a byte where its entry says, and an end of the input to `end`.
 pub fn lead_of(leads: &[u32; 256], end: u32, unit: Unit) -> u32
     ensures { result ≡ lead_of leads.now end unit }
 {

@@ -144,7 +144,7 @@ pub fn index_within(info: &GroupInfo, pid: PatternID, name: &str) -> bool
     }
 }
 
-/// How many names the iterator over all patterns gives, with those that are none: one for each group.
+/// How many names the iterator over all patterns gives, `None` for a group without one: one for each group.
 pub fn count_names(info: &GroupInfo) -> usize
     ensures { result ≡ all_groups info.now }
 {

@@ -24,7 +24,6 @@ pub fn accepts_one_byte<W: WordClass>(
     requires last { slice_index input.now.haystack input.now.span.start ≤ range.1 }
     ensures { IsTrue result }
 {
-    let _end = input.end();
     let start = input.start();
     nfa.check_run(input, &[(from, start), (next, start + 1)])
 }

@@ -67,7 +67,7 @@ pub fn count_characters_from_back(bytes: &[u8]) -> usize
     count
 }
 
-/// The sum of a table's cells, each looked up by its pattern's number, modulo 2^64: no index is out of bounds.
+/// The sum of a table's entries, each looked up by its pattern's number, modulo 2^64: no index is out of bounds.
 pub fn sum_by_pattern(table: &[u64]) -> u64
     requires { length table.now ≤ 2147483647 }
     ensures { result ≡ sum table.now % 2 ^ 64 }
@@ -79,15 +79,15 @@ pub fn sum_by_pattern(table: &[u64]) -> u64
     sum
 }
 
-/// The pattern that a state stands for; `None` for a state that the table has no cell for.
+/// The pattern that a state stands for; `None` for a state that the table has no entry for.
 pub fn pattern_of_state(table: &[PatternID], state: StateID) -> Option<PatternID>
-    ensures cell { result ≡ slice_get table.now state }
+    ensures entry { result ≡ slice_get table.now state }
     ensures none { IsTrue (is_none result) ↔ (length table.now ≤ state) }
 {
     table.get(state.as_usize()).copied()
 }
 
-/// Where a state's row begins in a table of rows of `1 << stride2` cells.
+/// Where a state's row begins in a table of rows of `1 << stride2` entries.
 pub fn row_of(state: StateID, stride2: usize) -> usize
     requires { stride2 ≤ 9 }
     ensures { result ≡ state * 2 ^ stride2 }

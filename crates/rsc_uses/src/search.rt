@@ -5,6 +5,7 @@ ghost use Rattle.rsc_search.specs.Inputs.{whole};
 ghost use Rattle.rsc_search.specs.PatternSets.{has_member};
 ghost use Rattle.rsc_search.specs.Spans.{cut};
 
+use rsc_look::{Look, LookMatcher, UnicodeWord};
 use rsc_primitives::PatternID;
 use rsc_search::{Input, Match, PatternSet, Span, laws};
 use std::alloc::{AllocError, Global};
@@ -85,6 +86,42 @@ pub fn width(found: &Match) -> usize
     found.len()
 }
 
+/// The sum of the bytes that are searched, modulo 2^64, by a loop over the input's range.
+pub fn sum_of_bytes(input: &Input<'_>) -> u64 {
+    let haystack = input.haystack();
+    let mut sum = 0u64;
+    for at in input.get_range() {
+        sum = sum.wrapping_add(u64::from(haystack[at]));
+    }
+    sum
+}
+
+/// Whether a byte is at a position that is searched.
+pub fn has_byte(input: &Input<'_>, at: usize, byte: u8) -> bool
+    requires start { input.now.span.start ≤ at }
+    requires end { at < input.now.span.end }
+    ensures { IsTrue result ↔ (slice_index input.now.haystack at ≡ byte) }
+{
+    input.haystack()[at] == byte
+}
+
+/// Whether the search is done, or an assertion holds where it begins.
+pub fn is_done_or_holds(input: &Input<'_>, look: Look) -> bool {
+    input.is_done() || LookMatcher::new(UnicodeWord).matches(look, input.haystack(), input.start())
+}
+
+/// Follows `leads` from `first` on, to the first number that was met before or that leads nowhere, and gathers what it meets. The set
+/// is the measure of the loop: each turn adds a member.
+pub fn follow(met: &mut PatternSet, leads: &[PatternID], first: PatternID) -> usize
+    ensures { result ≡ length met.new.members }
+{
+    let mut at = first;
+    while at.as_usize() < leads.len() && at.as_usize() < met.capacity() && met.insert(at) {
+        at = leads[at.as_usize()];
+    }
+    met.len()
+}
+
 /// The set of a list's patterns.
 pub fn set_of(alloc: Global, capacity: usize, ids: &[PatternID]) -> Result<PatternSet, AllocError>
     requires most { capacity ≤ 2147483647 }
@@ -150,7 +187,7 @@ pub fn each_is_contained(set: &PatternSet) -> bool
     true
 }
 
-/// The sum of the members' cells, modulo 2^64, in a table of as many cells as the set has room for.
+/// The sum of the members' entries, modulo 2^64, in a table of as many entries as the set has room for.
 pub fn sum_of_members(set: &PatternSet, table: &[u64]) -> u64
     requires { set.now.capacity ≤ length table.now }
     ensures { result ≡ sum_by (slice_index table.now) set.now.members % 2 ^ 64 }

@@ -26,7 +26,7 @@ fn are_bytes(found: &[u8], want: &[u8]) -> bool {
     found == want
 }
 
-// A row of which each cell is the same state.
+// A row whose entries are all the same state.
 fn all_lead_to(state: u32) -> [u32; 256]
     ensures { (b : ℕ) → b < 256 → slice_index result b ≡ state }
 {

@@ -5,7 +5,7 @@ use Rattle.rsc_uses.specs.Leads.{lead_of}
 use Rattle.rsc_uses.proofs.Filling.{Awaits}
 use Rattle.rsc_uses.proofs.alphabet.fill_by_representatives.Given as goal
 
--- each representative is still to come, or the cell of its class has where it leads
+-- each representative is still to come, or the entry of its class has where it leads
 abbrev pub invariant-loop-unit : goal.invariant-loop-unit
 invariant-loop-unit l =
     (goal.iterator-loop-unit).can_next l.unit-iterator × (goal.iterator-loop-unit).is_finite l.unit-iterator

@@ -4,7 +4,7 @@ use Rattle.rsc_alphabet.specs.Iterators.{symbols}
 use Rattle.rsc_uses.proofs.Filling.{Awaits}
 use Rattle.rsc_uses.proofs.alphabet.fill_row.Given as goal
 
--- each unit is still to come, or its cell is marked; the cells after them are as they were
+-- each unit is still to come, or its entry is marked; the entries after them are as they were
 abbrev pub invariant-loop-unit : goal.invariant-loop-unit
 invariant-loop-unit l =
     (goal.iterator-loop-unit).can_next l.unit-iterator × (goal.iterator-loop-unit).is_finite l.unit-iterator

@@ -11,7 +11,8 @@ loop-at-preserved c = record {
   count = grind rules;
   chars = λ cs h.
       let left = c.loop-at.invariant.chars cs h in
-      let next = more c.encoding_is_that_of_std.ensures c.args.bytes.now c.loop-at.at c.first_width-at.result c.loop-at-test.true c.first_width-at.ensures.width left.0 left.1.0 in
+      let next = more c.encoding_is_that_of_std.ensures c.args.bytes.now c.loop-at.at c.first_width-at.result c.loop-at-test.true
+      c.first_width-at.ensures.width left.0 left.1.0 in
       (next.0, (next.1.0, omega (arith, left.1.1, next.1.1)));
 }
 

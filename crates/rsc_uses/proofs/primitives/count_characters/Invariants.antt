@@ -2,7 +2,7 @@ use Rattle.std.proofs.Common.{length, drop, ◌-◌, ◌≡◌, ◌+◌, ◌≤�
 use Rattle.rsc_primitives.specs.Utf8.{EncodesAll}
 use Rattle.rsc_uses.proofs.primitives.count_characters.Given as goal
 
--- the characters so far, and those that are left
+-- the characters so far, and what is left
 abbrev pub invariant-loop-at : goal.invariant-loop-at
 invariant-loop-at l = record {
   within : l.at ≤ length l.bytes;

@@ -12,7 +12,8 @@ loop-end-preserved c = record {
   count = grind rules;
   chars = λ cs h.
       let left = c.loop-end.invariant.chars cs h in
-      let next = more_before c.encoding_is_that_of_std.ensures c.args.bytes.now c.loop-end.end c.last_width-end.result c.loop-end-test.true c.loop-end.invariant.within c.last_width-end.ensures.width left.0 left.1.0 in
+      let next = more_before c.encoding_is_that_of_std.ensures c.args.bytes.now c.loop-end.end c.last_width-end.result c.loop-end-test.true
+      c.loop-end.invariant.within c.last_width-end.ensures.width left.0 left.1.0 in
       (next.0, (next.1.0, omega (arith, left.1.1, next.1.1)));
 }
 

@@ -1,7 +1,7 @@
 use Rattle.std.proofs.Common.{◌≡◌, ◌+◌, ◌%◌, ◌^◌, slice_index, sum, sum_by}
 use Rattle.rsc_uses.proofs.primitives.sum_by_pattern.Given as goal
 
--- the cells so far and those that are left are all cells
+-- the entries so far and what is left are all entries
 abbrev pub invariant-loop-pid : goal.invariant-loop-pid
 invariant-loop-pid l =
     (goal.iterator-loop-pid).can_next l.pid-iterator × (goal.iterator-loop-pid).is_finite l.pid-iterator

@@ -1,7 +1,7 @@
 use Rattle.std.proofs.Common.{◌≡◌, ◌+◌, ◌%◌, ◌^◌, slice_index, sum_by}
 use Rattle.rsc_uses.proofs.search.sum_of_members.Given as goal
 
--- the members' cells so far and those that are left are all members' cells
+-- the members' entries so far and what is left are all members' entries
 abbrev pub invariant-loop-pid : goal.invariant-loop-pid
 invariant-loop-pid l =
     (goal.iterator-loop-pid).can_next l.pid-iterator × (goal.iterator-loop-pid).is_finite l.pid-iterator
