@@ -19,10 +19,12 @@ no_less n (c ∷ cs) = let more = no_less (n * 10 + digit_value c) cs in omega (
 next : (ds : List ℕ) (i : ℕ) → i < length ds → drop i ds ≡ get_or ds i 0 ∷ drop (i + 1) ds
 next ds i l = let e : suc i ≡ i + 1 = omega arith in drop-cons ds i 0 l ∙ ap (λ k. get_or ds i 0 ∷ drop k ds) e
 
-value_of_rest : (ds : List ℕ) (i n : ℕ) → i < length ds → Reads ds i n → digits_value_after 10 (n * 10 + digit_value (get_or ds i 0)) (drop (i + 1) ds) ≡ digits_value 10 ds
+value_of_rest : (ds : List ℕ) (i n : ℕ) → i < length ds → Reads ds i n
+    → digits_value_after 10 (n * 10 + digit_value (get_or ds i 0)) (drop (i + 1) ds) ≡ digits_value 10 ds
 value_of_rest ds i n l r = ap (digits_value_after 10 n) (sym (next ds i l)) ∙ r.value
 
-pub Reads-one : (ds : List ℕ) (i n : ℕ) → i < length ds → Reads ds i n → digit_value (get_or ds i 0) < 10 → Reads ds (i + 1) (n * 10 + digit_value (get_or ds i 0))
+pub Reads-one : (ds : List ℕ) (i n : ℕ) → i < length ds → Reads ds i n → digit_value (get_or ds i 0) < 10
+    → Reads ds (i + 1) (n * 10 + digit_value (get_or ds i 0))
 Reads-one ds i n l r d = record {
   value = value_of_rest ds i n l r;
   digits = (

@@ -40,7 +40,7 @@ pub fn parse_range(text: &[u8]) -> Option<(u8, u8)>
     }
 }
 
-/// The bytes that pairs of hexadecimal digits write, or `None` where one of the pairs is none.
+/// The bytes that pairs of hexadecimal digits write, or `None` where one of the pairs is no such pair.
 ///
 /// # Errors
 ///

@@ -1,4 +1,6 @@
 //! Lists of patterns with the names of their groups.
+ghost use Rattle.std.specs.Prelude.{◌≡◌, map, IfOk};
+
 use rsc_primitives::utf8::is_word_byte;
 use std::alloc::{AllocError, Allocator};
 
@@ -10,7 +12,9 @@ use std::alloc::{AllocError, Allocator};
 pub fn slices_of<'a, 'b, A: Allocator + Copy + Drop>(
     alloc: A,
     patterns: &'a [Vec<Option<&'b str>, A>],
-) -> Result<Vec<&'a [Option<&'b str>], A>, AllocError> {
+) -> Result<Vec<&'a [Option<&'b str>], A>, AllocError>
+    ensures { IfOk result (λ slices. map (λ groups. groups.now) slices.items ≡ map (λ groups. groups.items) patterns.now) }
+{
     let mut slices = Vec::new(alloc);
     for groups in patterns {
         slices.push(groups.as_slice())?;

@@ -13,10 +13,12 @@ unfolding every_look
 behind_name Start rest = (refl, refl)
 behind_name _ rest = (refl, refl)
 
--- an assertion that is put behind those so far is the first of those that are left
+-- an assertion after those so far is the first of the rest
 pub listed_push : (looks : List Look) (l : Look) (a : List ℕ) (rest : List (List ℕ)) → a ≡ look_name l
     → (looks ++ l ∷ []) ++ listed false rest ≡ looks ++ listed false (a ∷ rest)
-listed_push looks l a rest e = append_assoc looks (l ∷ []) (listed false rest) ∙ ap (λ ls. looks ++ ls) (sym (ap (λ x. listed false (x ∷ rest)) e ∙ (behind_name l rest).0))
+listed_push looks l a rest e = append_assoc looks (l ∷ []) (listed false rest)
+    ∙ ap (λ ls. looks ++ ls) (sym (ap (λ x. listed false (x ∷ rest)) e ∙ (behind_name l rest).0))
 
-pub haystack_behind_name : (l : Look) (a : List ℕ) (rest : List (List ℕ)) → a ≡ look_name l → haystack_arguments false (a ∷ rest) ≡ haystack_arguments false rest
+pub haystack_behind_name : (l : Look) (a : List ℕ) (rest : List (List ℕ)) → a ≡ look_name l
+    → haystack_arguments false (a ∷ rest) ≡ haystack_arguments false rest
 haystack_behind_name l a rest e = ap (λ x. haystack_arguments false (x ∷ rest)) e ∙ (behind_name l rest).1

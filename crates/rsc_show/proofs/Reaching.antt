@@ -33,7 +33,7 @@ reaches_by_width law h s i c lt le b =
 pub not_without_character : (h : List ℕ) (s i : ℕ) → ((c : ℕ) → ¬ (BeginsAt h s c)) → ¬ (ReachesPast h s i)
 not_without_character h s i none r = none r.char (r.to, r.encoded)
 
--- if none of those that begin in the three bytes before does, no character has it inside
+-- if no character that begins in the three bytes before has it inside, none has
 pub not_inside : EncodesAsStd → (h : List ℕ) (i : ℕ) → ((s : ℕ) → i - 3 ≤ s → s < i → ¬ (ReachesPast h s i)) → ¬ (IsInside h i)
 not_inside law h i none e =
     let w = width law h e.from e.to e.char e.encoded in

@@ -13,7 +13,7 @@ use Rattle.rsc_notation.specs.LookNames.{look_name}
 abbrev pub takes_value : List ℕ → Bool
 takes_value a = bytes_eq a (codes "--terminator") || bytes_eq a (codes "--words") || bytes_eq a (codes "--range") || bytes_eq a (codes "--color")
 
--- it begins the haystack, and no option is behind it
+-- it begins the haystack, and no option follows
 abbrev pub begins_haystack : List ℕ → Bool
 begins_haystack a = bytes_eq a (codes "--hex") || bytes_eq a (codes "--") || bytes_eq a (codes "-")
 
@@ -27,7 +27,7 @@ listed v [] = []
 listed true (a ∷ rest) = listed false rest
 listed false (a ∷ rest) = if takes_value a then listed true rest else (if begins_haystack a then [] else named a ++ listed false rest)
 
--- the argument that begins the haystack, and what is behind it; nothing where none does
+-- the argument that begins the haystack, and what follows it; nothing where no argument does
 abbrev pub haystack_arguments : Bool → List (List ℕ) → List (List ℕ)
 haystack_arguments v [] = []
 haystack_arguments true (a ∷ rest) = haystack_arguments false rest

@@ -11,7 +11,8 @@ pub record IsSecond (groups : Groups) (name : List ℕ) (g : ℕ) : Type 0 where
   pub named : has_name name (slice_index_or groups g None) ≡ true
   pub no_other : (k : ℕ) → k < g → has_name name (slice_index_or groups k None) ≡ true → k ≡ earlier
 
--- the pattern and its group that are reached with one more byte: 59 is `;`, behind which the next pattern begins, and 44 is `,`, behind which its next group does
+-- the pattern and its group that are reached with one more byte: 59 is `;`, after which the next pattern begins, and 44 is `,`, after which its next
+-- group does
 abbrev pub behind : ℕ × ℕ → ℕ → ℕ × ℕ
 behind at b = if b == 59 then (at.0 + 1, 0) else (if b == 44 then (at.0, at.1 + 1) else at)
 

@@ -8,7 +8,7 @@ ghost use Rattle.rsc_show.specs.Listed.{haystack_arguments, IsHaystack, listed};
 ghost use Rattle.rsc_show.specs.ListedLayout.{left_of, SoFar};
 
 use crate::choices::{Color, Words, color_of, words_of};
-use crate::error::{ShowError, refused};
+use crate::error::{ShowError, refused, refused_value};
 use crate::text::Page;
 use rsc_look::{Look, LookMatcher};
 use rsc_notation::bytes::{parse_byte, parse_bytes, parse_range};
@@ -17,6 +17,8 @@ use std::alloc::{AllocError, Global};
 use strsim::levenshtein;
 
 const EXPECTED_BYTE: &str = "two hexadecimal digits";
+
+const EXPECTED_BYTES: &str = "pairs of hexadecimal digits";
 
 const EXPECTED_RANGE: &str = "a range of bytes as 61-7a, its first byte at most its last";
 
@@ -104,7 +106,7 @@ pub fn parse(alloc: Global, arguments: &[String]) -> Result<Request, ShowError>
         Next::Words => ("--words", EXPECTED_WORDS),
         Next::Range => ("--range", EXPECTED_RANGE),
         Next::Color => ("--color", EXPECTED_COLOR),
-        Next::Hex => ("--hex", EXPECTED_BYTE),
+        Next::Hex => ("--hex", EXPECTED_BYTES),
         Next::Text => ("--", "one text"),
     };
     Err(refused(alloc, option, expected))
@@ -122,22 +124,23 @@ fn take(alloc: Global, request: &mut Request, next: Next, argument: &str) -> Res
         Next::Plain => take_plain(alloc, request, argument),
         Next::Terminator => {
             let byte = parse_byte(argument.as_bytes());
-            request.terminator = expect(alloc, byte, argument, EXPECTED_BYTE)?;
+            request.terminator = expect(alloc, byte, "--terminator", argument, EXPECTED_BYTE)?;
             Ok(Next::Plain)
         }
         Next::Words => {
-            request.words = expect(alloc, words_of(argument), argument, EXPECTED_WORDS)?;
+            let words = words_of(argument);
+            request.words = expect(alloc, words, "--words", argument, EXPECTED_WORDS)?;
             Ok(Next::Plain)
         }
         Next::Range => {
             let range = parse_range(argument.as_bytes());
-            request
-                .ranges
-                .push(expect(alloc, range, argument, EXPECTED_RANGE)?)?;
+            let range = expect(alloc, range, "--range", argument, EXPECTED_RANGE)?;
+            request.ranges.push(range)?;
             Ok(Next::Plain)
         }
         Next::Color => {
-            request.color = expect(alloc, color_of(argument), argument, EXPECTED_COLOR)?;
+            let color = color_of(argument);
+            request.color = expect(alloc, color, "--color", argument, EXPECTED_COLOR)?;
             Ok(Next::Plain)
         }
         Next::Hex => {
@@ -152,10 +155,11 @@ fn take(alloc: Global, request: &mut Request, next: Next, argument: &str) -> Res
     }
 }
 
-// What was found, or the refusal of the argument where it says nothing.
+// What was found, or the refusal of an option's value.
 fn expect<T: Drop>(
     alloc: Global,
     found: Option<T>,
+    option: &str,
     argument: &str,
     expected: &str,
 ) -> Result<T, ShowError>
@@ -163,7 +167,7 @@ fn expect<T: Drop>(
 {
     match found {
         Some(value) => Ok(value),
-        None => Err(refused(alloc, argument, expected)),
+        None => Err(refused_value(alloc, option, argument, expected)),
     }
 }
 
@@ -218,21 +222,39 @@ fn bytes_of(alloc: Global, argument: &str) -> Result<Vec<u8>, ShowError>
     ensures { IfOk result (λ bytes. decode_of argument.now ≡ Ok bytes.items) }
 {
     let bytes = parse_bytes(alloc, argument.as_bytes())?;
-    expect(alloc, bytes, argument, "pairs of hexadecimal digits")
+    expect(alloc, bytes, "--hex", argument, EXPECTED_BYTES)
 }
 
-// What was expected in place of a name that no assertion has: the names that the fewest edits make of it.
+// What was expected instead of a name that no assertion has: the names that begin with it; else the names that the fewest
+// edits make of it, if these leave anything of it.
 fn nearest(alloc: Global, name: &str) -> Result<String, AllocError> {
     let least = least_distance(alloc, name)?;
+    let is_prefix = is_prefix(name);
     let mut page = Page::new(alloc);
     page.push_str("an assertion, as");
-    for look in every_look() {
-        if levenshtein(alloc, name_of(*look), name)? == least {
-            page.push(' ');
-            page.push_str(name_of(*look));
+    if !is_prefix && least >= name.len() {
+        page.push_str(" StartLF");
+    } else {
+        for look in every_look() {
+            let own = name_of(*look);
+            let distance = levenshtein(alloc, own, name)?;
+            if own.starts_with(name) || (!is_prefix && distance == least) {
+                page.push(' ');
+                page.push_str(own);
+            }
         }
     }
     page.finish()
+}
+
+// Whether a name that isn't empty begins the name of an assertion.
+fn is_prefix(name: &str) -> bool {
+    for look in every_look() {
+        if name_of(*look).starts_with(name) {
+            return !name.is_empty();
+        }
+    }
+    false
 }
 
 fn least_distance(alloc: Global, name: &str) -> Result<usize, AllocError> {

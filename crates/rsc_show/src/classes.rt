@@ -14,7 +14,7 @@ use std::alloc::Global;
 use std::fmt::Write;
 use std::ops::Bound;
 
-// How many representatives a line of at most 80 columns has behind their heading.
+// How many representatives a line of at most 80 columns has after their heading.
 const REPRESENTATIVES_A_LINE: usize = 21;
 
 const REPRESENTATIVES: &str = "representatives";

@@ -4,7 +4,7 @@ use crate::text::Page;
 use std::alloc::{AllocError, AllocFailed, Global};
 use std::fmt::Write;
 
-/// Why [`crate::run::run`] gave up. Nothing was written then, but by a failed write itself.
+/// What stops the program, or makes it end with a status of its own.
 #[derive(Drop)]
 pub enum ShowError {
     /// An argument is not what was expected; the text says which, and what was.
@@ -17,6 +17,8 @@ pub enum ShowError {
     Write,
     /// The reader of the output went away.
     Closed,
+    /// A list of groups is refused; the answer, which was written, says why.
+    ListRefused,
     /// A request for memory was refused.
     OutOfMemory,
 }
@@ -32,13 +34,15 @@ impl ShowError {
             ShowError::Read => "rsc_show: read failed",
             ShowError::Write => "rsc_show: write failed",
             ShowError::Closed => "rsc_show: output closed",
+            ShowError::ListRefused => "rsc_show: the list is refused",
             ShowError::OutOfMemory => "rsc_show: out of memory",
         }
     }
 
-    /// The status with which the program ends: 2 for arguments, and 1 for what failed.
+    /// The status with which the program ends: 3 for a refused list, 2 for arguments, and 1 for what failed.
     pub fn status(&self) -> u8 {
         match self {
+            ShowError::ListRefused => 3,
             ShowError::Usage(_) | ShowError::NotUtf8 => 2,
             ShowError::Read | ShowError::Write | ShowError::Closed | ShowError::OutOfMemory => 1,
         }
@@ -59,9 +63,18 @@ impl<T: Drop> From<AllocFailed<T>> for ShowError {
 
 /// The refusal of an argument: which, and what was expected.
 pub fn refused(alloc: Global, argument: &str, expected: &str) -> ShowError {
+    refused_value(alloc, "", argument, expected)
+}
+
+/// The refusal of an option's value: the option, the value, and what was expected.
+pub fn refused_value(alloc: Global, option: &str, value: &str, expected: &str) -> ShowError {
     let mut page = Page::new(alloc);
     page.push_str("rsc_show: `");
-    push_argument(&mut page, argument);
+    if !option.is_empty() {
+        page.push_str(option);
+        page.push(' ');
+    }
+    push_argument(&mut page, value);
     page.push_str("`: expected ");
     page.push_str(expected);
     match page.finish() {

@@ -17,8 +17,8 @@ const EXPECTED_LISTS: &str = "one list of groups, as -,x;-,-,x";
 
 const EXPECTED_GROUP: &str = "groups between `,` and `;`, each - or a name of word bytes";
 
-/// The answer to the arguments of `groups`.
-pub fn answer(alloc: Global, arguments: &[String]) -> Result<String, ShowError> {
+/// The answer to the arguments of `groups`, and whether it says that the list is refused.
+pub fn answer(alloc: Global, arguments: &[String]) -> Result<(String, bool), ShowError> {
     let [lists] = arguments else {
         return Err(refused(alloc, "groups", EXPECTED_LISTS));
     };
@@ -27,8 +27,11 @@ pub fn answer(alloc: Global, arguments: &[String]) -> Result<String, ShowError> 
     };
     let slices = slices_of(alloc, patterns.as_slice())?;
     match GroupInfo::new(alloc, slices.as_slice()) {
-        Ok(info) => table(alloc, &info),
-        Err(error) => refusal(alloc, lists.as_str(), slices.as_slice(), &error),
+        Ok(info) => Ok((table(alloc, &info)?, false)),
+        Err(error) => {
+            let text = refusal(alloc, lists.as_str(), slices.as_slice(), &error)?;
+            Ok((text, true))
+        }
     }
 }
 
@@ -63,7 +66,7 @@ fn push_group(
     page.push('\n');
 }
 
-// The lists, a pointer at the group at fault, and the displayed refusal; want of memory stops the program.
+// The lists, a pointer at the group at fault, and the displayed refusal; out of memory stops the program.
 fn refusal(
     alloc: Global,
     lists: &str,

@@ -15,7 +15,7 @@ use std::io::Read;
 // The width of the columns before and after: with all assertions a line has 74 columns.
 const SIDE_WIDTH: usize = 15;
 
-// An input that hasn't ended after so many reads counts as one that can't be read.
+// An input that hasn't ended after this many reads counts as one that can't be read.
 const MAX_READS: u32 = 1_048_576;
 
 const EXPECTED_HAYSTACK: &str = "a haystack, as -- TEXT, --hex BYTES or -";
@@ -135,7 +135,7 @@ fn meaning_of(look: Look) -> &'static str {
     }
 }
 
-// The byte on one side of a position, and what it is part of; or the name of the haystack's edge, where there is none.
+// The byte on one side of a position, and what it is part of; or the name of the haystack's edge, where no byte is.
 fn push_side(page: &mut Page, byte: Option<u8>, edge: &str, side: Side) {
     let mut cell = page.cell();
     match byte {

@@ -7,6 +7,8 @@ use std::io::{ErrorKind, Read, Write};
 
 const EXPECTED_COMMAND: &str = "looks, classes, groups or --help";
 
+const VERSION: &str = "rsc_show, over a port of regex-automata 0.4.18\n";
+
 // What `--help` answers, in lines of at most 80 columns.
 const HELP: &str = "rsc_show explains where assertions hold, which bytes share a class, and which
 slots groups have.
@@ -17,13 +19,14 @@ slots groups have.
   rsc_show classes [--terminator XX] [--words ascii|unicode] [--range XX-XX]..
                    [--color auto|always|never] [LOOK..]
   rsc_show groups LISTS
-  rsc_show --help
+  rsc_show --help, rsc_show --version
 
 XX is two hexadecimal digits; the terminator is 0a unless it is given. LOOK is
 the name of an assertion, as StartLF or WordUnicode; looks without one shows
 all. LISTS are patterns between `;`, each with its groups between `,`: `-` has
 no name. The picture of classes is in colour on a terminal, where NO_COLOR is
-not set.
+not set. The status is 0, 1 for a failure, 2 for wrong arguments, and 3 for a
+refused list of groups.
 
   rsc_show looks WordUnicode StartLF -- 'a b'
   rsc_show classes StartLF WordAscii
@@ -34,7 +37,7 @@ not set.
 ///
 /// # Errors
 ///
-/// [`ShowError`] says which; nothing was written then, but by a failed write itself.
+/// [`ShowError`] says which. Nothing was written then, except by a failed write itself, and for a refused list its answer.
 pub fn run<R: Read, W: Write>(
     alloc: Global,
     arguments: &[String],
@@ -42,9 +45,14 @@ pub fn run<R: Read, W: Write>(
     input: &mut R,
     output: &mut W,
 ) -> Result<(), ShowError> {
-    let text = answer(alloc, arguments, wants_color, input)?;
+    let (text, is_refused) = answer(alloc, arguments, wants_color, input)?;
     match output.write_all(text.as_bytes()) {
-        Ok(()) => Ok(()),
+        Ok(()) => {
+            if is_refused {
+                return Err(ShowError::ListRefused);
+            }
+            Ok(())
+        }
         Err(error) => match error.kind() {
             ErrorKind::BrokenPipe => Err(ShowError::Closed),
             _ => Err(ShowError::Write),
@@ -57,20 +65,37 @@ fn answer<R: Read>(
     arguments: &[String],
     wants_color: bool,
     input: &mut R,
-) -> Result<String, ShowError> {
+) -> Result<(String, bool), ShowError> {
+    if is_asked(arguments, "--help") || is_asked(arguments, "-h") {
+        return Ok((String::from_str(alloc, HELP)?, false));
+    }
+    if is_asked(arguments, "--version") {
+        return Ok((String::from_str(alloc, VERSION)?, false));
+    }
     let [command, rest @ ..] = arguments else {
         return Err(refused(alloc, "", EXPECTED_COMMAND));
     };
     let command = command.as_str();
     if command == "looks" {
-        looks::answer(alloc, rest, input)
+        Ok((looks::answer(alloc, rest, input)?, false))
     } else if command == "classes" {
-        classes::answer(alloc, rest, wants_color)
+        Ok((classes::answer(alloc, rest, wants_color)?, false))
     } else if command == "groups" {
         groups::answer(alloc, rest)
-    } else if command == "--help" {
-        Ok(String::from_str(alloc, HELP)?)
     } else {
         Err(refused(alloc, command, EXPECTED_COMMAND))
     }
+}
+
+// Whether an argument before the text after `--` is the one that is asked for.
+fn is_asked(arguments: &[String], wanted: &str) -> bool {
+    for argument in arguments {
+        if argument.as_str() == "--" {
+            return false;
+        }
+        if argument.as_str() == wanted {
+            return true;
+        }
+    }
+    false
 }

@@ -14,7 +14,7 @@ use unicode_width::UnicodeWidthStr;
 pub struct Page {
     alloc: Global,
     text: String,
-    // Whether the text lacks something for want of memory.
+    // Whether the text lacks something because memory was refused.
     is_refused: bool,
 }
 

@@ -31,7 +31,7 @@ pub fn witness(matcher: &LookMatcher<Words>, looks: &[Look], byte: u8) -> Option
     None
 }
 
-/// The [`witness`] of a byte, and the first range that begins after it or ends at it; each `None` where there is none.
+/// The [`witness`] of a byte, and the first range that begins after it or ends at it; each `None` where it does not exist.
 ///
 /// One of them is there at each boundary of the coarsest partition that keeps the assertions and parts the ranges.
 pub fn witnesses(
