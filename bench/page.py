@@ -1,83 +1,43 @@
 #!/usr/bin/env python3
-"""Puts measured times into docs/PERFORMANCE.md, and draws docs/performance.svg: each workload's ratio on a logarithmic scale, by crate.
+"""Puts measured times into docs/performance.tsv, the counts of each crate into docs/PERFORMANCE.md, and draws docs/performance.svg: each
+workload's ratio on a logarithmic scale, by crate.
 
-    bench/page.py [THEIRS OURS]     # two files of lines `name ns`, as bench.sh leaves them; without them the picture alone is drawn anew
+    bench/page.py [THEIRS OURS]     # two files of lines `name ns`, as bench.sh leaves them; without them only counts and picture are regenerated
 
-A workload that the page lacks comes beside the one that was measured before or after it, whose name is more like its own; one whose time is a
-difference that came out at less than a quarter of a cycle is left out. The text around the tables is written by hand. A line of the tables of times that is no such row is
-a mistake, and stops the script.
+A workload that was measured replaces its row; a new one gets the crate of the workload before it. A workload whose time is a difference of
+less than a quarter of a cycle is left out.
 """
 import math
-import os
 import pathlib
-import re
 import sys
 
 from table import least
 
 DOCS = pathlib.Path(__file__).resolve().parent.parent / "docs"
-ROW = re.compile(r"\| `(\w+)` \| ([\d.,]+) \| ([\d.,]+) \| ([\d.]+) \|$")
 LEFT, WIDTH, HEIGHT, LOW, HIGH = 330, 600, 11, -5, 3  # the ratios from 1/32 to 8
 
 
-def shown(number):
-    return f"{number:,.0f}" if number >= 1000 else f"{number:.1f}" if number >= 100 else f"{number:.2f}"
-
-
-def alike(one, other):
-    """Returns how many bytes both names begin with."""
-    return len(os.path.commonprefix([one, other]))
-
-
-def with_times(lines, theirs, ours):
-    """Returns the page's lines with the times of both sides in the rows of the workloads."""
-    at = {found[1]: number for number, line in enumerate(lines) if (found := ROW.match(line))}
-    rows, ahead, before, names = {}, {}, None, list(ours)
-    for place, name in enumerate(names):
-        ns, number = ours[name], at.get(name)
-        if min(ns, theirs[name]) < 0.1:
-            rows.update({number: []} if number else {})
+def with_times(rows, theirs, ours):
+    """Returns the rows of the table with the times of both sides. A row is a workload, its crate, two times and a ratio."""
+    made, crate = {it[0]: it for it in rows}, rows[0][1]
+    order = [it[0] for it in rows]
+    for before, name in zip([None, *ours], ours):
+        crate = made[name][1] if name in made else crate
+        if min(ours[name], theirs[name]) < 0.1:
+            made.pop(name, None)
             continue
-        row = f"| `{name}` | {shown(theirs[name])} | {shown(ns)} | {ns / theirs[name]:.2f} |"
-        after = next((it for it in names[place + 1 :] if it in at), None)
-        if number:
-            before = name
-            rows[number] = ahead.pop(name, []) + [row]
-        elif after and (not before or alike(name, after) > alike(name, before)):
-            ahead.setdefault(after, []).append(row)
-        else:
-            rows[at[before]].append(row)
-    return [it for number, line in enumerate(lines) for it in rows.get(number, [line])]
+        if name not in order:
+            order.insert(order.index(before) + 1 if before in order else len(order), name)
+        made[name] = [name, crate, f"{theirs[name]:.4g}", f"{ours[name]:.4g}", f"{ours[name] / theirs[name]:.2f}"]
+    return [made[it] for it in order if it in made]
 
 
-def with_growth(lines, theirs, ours):
-    """Returns the page's lines with how the time of each workload grows from one of its sizes to another."""
-    made = []
-    for line in lines:
-        row = re.match(r"\| `(\w+)` \| (\w+), (\w+) \|", line)
-        first, second = (f"{row[1]}_{it}" for it in row.groups()[1:]) if row else ("", "")
-        if second in ours:
-            grown = [f"{times[second] / times[first]:.1f}" for times in (theirs, ours)]
-            line = f"| `{row[1]}` | {row[2]}, {row[3]} | {grown[0]} | {grown[1]} |"
-        made.append(line)
-    return made
-
-
-def ratios(lines):
+def ratios(rows):
     """Returns the ratios of each crate's workloads."""
-    found, crate = {}, None
-    for line in lines:
-        if line.startswith("### "):
-            crate = line[4:]
-        row = ROW.match(line)
-        if row and crate:
-            found.setdefault(crate, []).append((row[1], float(row[4])))
+    found = {}
+    for name, crate, _, _, ratio in rows:
+        found.setdefault(crate, []).append((name, float(ratio)))
     return found
-
-
-def strays(lines):
-    """Returns the lines of the tables of times that hold no times."""
-    return [line for line in lines[lines.index("## The table"):] if line.startswith("| `") and not ROW.match(line)]
 
 
 def mean(values):
@@ -120,16 +80,15 @@ def picture(found):
 
 
 def main():
-    page = DOCS / "PERFORMANCE.md"
-    lines = page.read_text(encoding="utf-8").split("\n")
-    if strays(lines):
-        sys.exit("page.py: no row of times: " + "; ".join(strays(lines)))
+    page, table = DOCS / "PERFORMANCE.md", DOCS / "performance.tsv"
+    head, *rows = [it.split("\t") for it in table.read_text(encoding="utf-8").splitlines()]
     if len(sys.argv) == 3:
-        times = least(sys.argv[1]), least(sys.argv[2])
-        lines = with_growth(with_times(lines, *times), *times)
-        lines = with_summary(lines, ratios(lines))
-        page.write_text("\n".join(lines), encoding="utf-8")
-    (DOCS / "performance.svg").write_text(picture(ratios(lines)), encoding="utf-8")
+        rows = with_times(rows, least(sys.argv[1]), least(sys.argv[2]))
+        table.write_text("".join("\t".join(it) + "\n" for it in [head, *rows]), encoding="utf-8")
+    found = ratios(rows)
+    lines = page.read_text(encoding="utf-8").split("\n")
+    page.write_text("\n".join(with_summary(lines, found)), encoding="utf-8")
+    (DOCS / "performance.svg").write_text(picture(found), encoding="utf-8")
 
 
 if __name__ == "__main__":

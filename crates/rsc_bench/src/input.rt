@@ -4,7 +4,7 @@ use crate::error::BenchError;
 use std::alloc::Allocator;
 use std::io::Read;
 
-/// An input that hasn't ended after so many reads counts as one that can't be read.
+/// An input that hasn't ended after this many reads counts as one that can't be read.
 pub const MAX_READS: u32 = 1_048_576;
 
 /// All bytes of the input, up to its end.

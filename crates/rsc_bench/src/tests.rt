@@ -1,5 +1,6 @@
 //! The answers as texts.
 mod memory;
+mod sizes;
 mod streams;
 
 use crate::error::BenchError;
@@ -133,6 +134,8 @@ fn answers_groups(rt: HostRuntime) -> Result<(), Fail> {
         ),
         ("groups -,", "bad line\n"),
         ("groups -,a.b", "bad line\n"),
+        ("groups -,$", "bad line\n"),
+        ("groups -,a$", "bad line\n"),
         ("groups - -", "bad line\n"),
     ];
     for (input, want) in rows {

@@ -67,7 +67,7 @@ fn read_groups(alloc: Global, token: &[u8]) -> Result<Names, CommandError> {
     Ok(names)
 }
 
-// `_` for no name, or `=` with a name's bytes behind it.
+// `_` for no name, or `=` followed by a name's bytes.
 fn read_name(alloc: Global, token: &[u8]) -> Result<Option<String>, CommandError> {
     match token {
         b"_" => Ok(None),

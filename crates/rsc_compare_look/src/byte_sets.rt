@@ -18,7 +18,7 @@ pub fn set_of(alloc: Global, token: &[u8]) -> Result<ByteSet, CommandError> {
     Ok(set)
 }
 
-/// Operations on the empty set, and the answers of those that ask.
+/// Operations on the empty set, and the answers of the queries among them.
 pub fn script(alloc: Global, operations: &[&[u8]]) -> Result<String, CommandError> {
     let mut set = ByteSet::default();
     let mut parts = Parts::new(alloc, " ");

@@ -18,7 +18,7 @@ pub fn classes_text(alloc: Global, classes: &ByteClasses) -> Result<String, Comm
     shown(alloc, Bytes(all.as_slice()))
 }
 
-/// The classes of some bytes; `-` where there is none.
+/// The classes of some bytes; `-` for no bytes.
 pub fn classes_at(alloc: Global, classes: &ByteClasses, at: &[u8]) -> Result<String, CommandError> {
     let mut places = bytes(alloc, at)?;
     for byte in places.as_mut_slice() {

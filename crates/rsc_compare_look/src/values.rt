@@ -10,7 +10,7 @@ use std::alloc::Global;
 use std::fmt;
 use std::ops::Bound;
 
-/// `u`, or `i` (included) or `x` (excluded) with a byte behind it.
+/// `u`, or `i` (included) or `x` (excluded) followed by a byte.
 pub fn byte_bound(token: &[u8]) -> Result<Bound<u8>, CommandError> {
     match token {
         b"u" => Ok(Bound::Unbounded),
@@ -20,7 +20,7 @@ pub fn byte_bound(token: &[u8]) -> Result<Bound<u8>, CommandError> {
     }
 }
 
-/// `b` with a byte behind it, or `e`, the end of the input, with a number behind it that is at most 256.
+/// `b` followed by a byte, or `e`, the end of the input, followed by a number that is at most 256.
 pub fn unit(token: &[u8]) -> Result<Unit, CommandError> {
     match token {
         [b'b', rest @ ..] => Ok(Unit::u8(byte(rest)?)),

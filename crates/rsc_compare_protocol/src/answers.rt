@@ -50,7 +50,7 @@ impl Parts {
         }
     }
 
-    /// The parts as one text; `.` if there is none.
+    /// The parts as one text; `.` for no parts.
     pub fn finish(self) -> Result<String, CommandError> {
         let Parts {
             mut text,
@@ -217,7 +217,7 @@ pub fn order<T: Ord>(a: &T, b: &T) -> &'static str {
     }
 }
 
-/// The items of an iterator with a separator between, each as the expression shows it: those that `next` answers up to
+/// The items of an iterator with a separator between, each as the expression shows it: what `next` answers up to
 /// `None`, and, marked, whatever it answers in three more calls.
 #[macro_export]
 macro_rules! items {

@@ -94,7 +94,7 @@ fn answer_line<C: Answerer>(alloc: Global, answerer: &C, line: &[u8]) -> Result<
     finish_line(alloc, answer_body(alloc, answerer, body)).map_err(|_| RunError::OutOfMemory)
 }
 
-// The answer as a line. Only want of memory is no answer.
+// The answer as a line. Only out of memory is no answer.
 fn finish_line(alloc: Global, answer: Result<String, CommandError>) -> Result<String, AllocError> {
     let mut text = match answer {
         Ok(text) => text,

@@ -47,7 +47,7 @@ fn each_line_is_answered(rt: HostRuntime) -> Result<(), Fail> {
     Ok(())
 }
 
-// Gives so many bytes of `\n`, one a call, and then an error.
+// Gives that many bytes of `\n`, one a call, and then an error.
 #[derive(Drop)]
 struct FailingReader {
     left: u32,

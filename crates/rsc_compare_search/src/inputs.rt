@@ -169,7 +169,7 @@ fn range_within(
     Ok((start, end))
 }
 
-// `u`, or `i` (included) or `x` (excluded) with a number behind it.
+// `u`, or `i` (included) or `x` (excluded) followed by a number.
 fn number_bound(token: &[u8]) -> Result<Bound<usize>, CommandError> {
     match token {
         b"u" => Ok(Bound::Unbounded),

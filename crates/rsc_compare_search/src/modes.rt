@@ -6,7 +6,7 @@ use rsc_compare_protocol::error::CommandError::BadCommand;
 use rsc_compare_protocol::tokens::pattern;
 use rsc_search::Anchored;
 
-/// `no`, `yes`, or `p` with the number of a pattern behind it.
+/// `no`, `yes`, or `p` followed by the number of a pattern.
 pub fn mode(token: &[u8]) -> Result<Anchored, CommandError> {
     match token {
         b"no" => Ok(Anchored::No),

@@ -44,7 +44,7 @@ pub fn contains(alloc: Global, arguments: &[&[u8]]) -> Result<String, CommandErr
     truth_answer(alloc, span.contains(number(at)?))
 }
 
-/// The ends of a span that is moved up.
+/// The ends of a span after `offset`.
 pub fn offset(alloc: Global, arguments: &[&[u8]]) -> Result<String, CommandError> {
     let [start, end, by] = arguments else {
         return Err(BadCommand);

@@ -7,7 +7,7 @@ pub struct Request<'a> {
     pub kernel: u32,
     /// What is made once, before the repetitions, is made of this.
     pub data: &'a [u8],
-    /// A number, by which some kernels go.
+    /// A number that some kernels take.
     pub param: u64,
     /// How often the kernel is repeated.
     pub reps: u64,

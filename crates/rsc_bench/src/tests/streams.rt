@@ -8,7 +8,7 @@ const LINES: &[u8] = b"ranges\nranges 61-7a\n";
 
 const ANSWERS: &[u8] = b"alphabet 2: 00\nalphabet 4: 00 61 7b\n";
 
-// Gives the bytes that are left, one a call; after so many calls, if a number is set, it fails once.
+// Gives the bytes that are left, one a call; after that many calls, if a number is set, it fails once.
 #[derive(Drop)]
 struct ByteReader<'a> {
     left: &'a [u8],
