@@ -1,5 +1,5 @@
 -- What the iterators of a class map give stays within its alphabet; the length of a row.
-use Rattle.std.proofs.Common.{◌≡◌, ⊎_elim, ℕ, zero, suc, ◌+◌, ◌-◌, ◌<◌, ◌≤◌, ◌^◌, Bool, true, List, [], ◌∷◌, map, filter, get_or, sym, ap, ◌∙◌, arith, nat_eq, nat_lt, slice_index}
+use Rattle.std.proofs.Common.{◌≡◌, ⊎_elim, ℕ, zero, suc, ◌+◌, ◌-◌, ◌<◌, ◌≤◌, ◌^◌, Bool, true, List, [], ◌∷◌, map, filter, get_or, length, not, ◌||◌, sym, ap, ◌∙◌, arith, nat_eq, nat_lt, slice_index}
 use Rattle.std.specs.Prelude.{IsSome}
 use Rattle.std.specs.List.{All}
 use Rattle.std.specs.declared.ops.Bound.{Bound}
@@ -8,6 +8,8 @@ use Rattle.std.specs.Range.Bound.{start_index, end_index}
 use Rattle.std.proofs.Math.Pow.{pow_mono}
 use Rattle.std.proofs.lemmas.Bool.{cases_lt, eqb-true}
 use Rattle.std.proofs.lemmas.Bool.Decides.{nat_tests}
+use Rattle.std.proofs.lemmas.List.{length-map, length-append}
+use Rattle.std.proofs.lemmas.List.Sums.{length-filter, count_by-le-length}
 use Rattle.std.proofs.lemmas.List.Elements.{All-nil, All-cons, All-append, All-map, All-filter, All-weaker, All-from_get_or, filter_passes}
 use Rattle.rsc_alphabet.specs.Bytes.{from_to, bytes}
 use Rattle.rsc_alphabet.specs.BytesLaws.{length-from_to, get_or-from_to}
@@ -23,6 +25,37 @@ All-from_to low high =
     let small : i < high - low = rw (length-from_to low high) at l in
     let is : get_or (from_to low high) i 0 ≡ low + i = get_or-from_to low high i 0 small in
     omega (arith, is, small))
+
+-- how many bytes of a range pass a test
+pub length-filter_range : (p : ℕ → Bool) (low high : ℕ) → length (filter p (from_to low high)) ≤ high - low
+length-filter_range p low high =
+    let all = from_to low high in
+    omega (arith, length-filter p all, count_by-le-length p all, length-from_to low high)
+
+pub length-elements : (classes : List ℕ) (unit : Symbol) → length (elements_of classes unit) ≤ 256
+length-elements classes (byte c) =
+    let p : ℕ → Bool = λ b. nat_eq (slice_index classes b) c in
+    omega (arith, length-map (filter p bytes) (λ b. byte b), length-filter_range p 0 256)
+length-elements classes (end_of_input n) = omega arith
+
+pub length-representatives : (classes : List ℕ) (from to : Bound ℕ) → end_index to 256 ≤ 256 → length (representatives_of classes from to) ≤ 257
+length-representatives classes from to low =
+    let first = start_index from in
+    let end = end_index to 256 in
+    let chosen = representing classes first end in
+    omega (
+      arith,
+      low,
+      ends to,
+      length-map chosen (λ b. byte b),
+      length-append (map (λ b. byte b) chosen) (end_if_unbounded classes to),
+      length-filter_range (λ b. nat_eq b first || not (nat_eq (slice_index classes b) (slice_index classes (b - 1)))) first end,
+    )
+  where
+    ends : (bound : Bound ℕ) → length (end_if_unbounded classes bound) ≤ 1
+    ends (Included n) = omega arith
+    ends (Excluded n) = omega arith
+    ends Unbounded = omega arith
 
 pub symbols_within : (classes : List ℕ) → All (λ u. number_of u < slice_index classes 255 + 2) (symbols classes)
 symbols_within classes =

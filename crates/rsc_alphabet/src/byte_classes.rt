@@ -174,7 +174,10 @@ impl ByteClasses {
     pub fn iter(&self) -> ByteClassIter<'_>
         ensures list { result ≡ symbols self.now }
         ensures within { All (λ u. number_of u < symbol_count self.now) result }
+        ensures most { length result ≤ 257 }
     {
+        // For the prover: it bounds the class of the last byte.
+        let _ = self.alphabet_len();
         ByteClassIter {
             classes: self,
             next_class: 0,
@@ -197,6 +200,7 @@ impl ByteClasses {
     pub fn elements(&self, class: Unit) -> ByteClassElements<'_>
         ensures list { result ≡ elements_of self.now class }
         ensures class { IsSome (byte_of class) → All (λ u. class_at self.now u ≡ number_of class) result }
+        ensures most { length result ≤ 256 }
     {
         match class.as_u8() {
             Some(class) => ByteClassElements::new(&self.bytes_of(class), false),
@@ -223,6 +227,7 @@ impl ByteClasses {
         ensures list { result ≡ representatives_of self.now start end }
         ensures within { ((b : ℕ) → b < 256 → slice_index self.now b ≤ slice_index self.now 255) →
             All (λ u. class_at self.now u < symbol_count self.now) result }
+        ensures most { length result ≤ 257 }
     {
         self.representatives_between(start, end)
     }

@@ -1,5 +1,5 @@
 //! Sets of bytes, and the iterators over their members and their maximal runs.
-ghost use Rattle.std.specs.Prelude.{◌≡◌, ℕ, ◌+◌, ◌*◌, ◌%◌, ◌≤◌, ◌↔◌, ◌==◌, ◌&&◌, ◌||◌, not, nat_le, IsTrue, ◌<◌, true, false, All};
+ghost use Rattle.std.specs.Prelude.{◌≡◌, ℕ, ◌+◌, ◌*◌, ◌%◌, ◌≤◌, ◌↔◌, ◌==◌, ◌&&◌, ◌||◌, not, nat_le, IsTrue, ◌<◌, true, false, length, All};
 ghost use Rattle.std.specs.FinSet as sets;
 ghost use Rattle.std.specs.Iterator.{YieldsFirst, item_count};
 ghost use Rattle.rsc_alphabet.specs.ByteSets.{members, runs, begins_run, ends_run};
@@ -165,6 +165,7 @@ impl ByteSet {
     pub fn iter(&self) -> ByteSetIter<'_>
         ensures list { result ≡ members self.now }
         ensures contained { All (λ b. sets.contains self.now b ≡ true) result }
+        ensures most { length result ≤ 256 }
     {
         ByteSetIter {
             left: Ascending::new(*self),
