@@ -146,7 +146,7 @@ same_by_bits a b la lb = same_bools (nat_eq a b) (same_members (looks_of a) (loo
     (λ t. eq-eqb a b (sym (bits_of-looks_of a la) ∙ ap bits_of (same_from look_cmp_total look_cmp-IsAntisymmetric (looks_of a) (looks_of b) t)
     ∙ bits_of-looks_of b lb))
 
-eighteen : length every_look ≡ 18
+pub eighteen : length every_look ≡ 18
 unfolding every_look
 eighteen = refl
 

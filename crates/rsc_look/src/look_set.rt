@@ -179,6 +179,7 @@ impl LookSet {
     pub fn iter(self) -> LookSetIter
         ensures value { result ≡ members self }
         ensures contained { All (λ look. sets.contains self look ≡ true) result }
+        ensures most { length result ≤ 18 }
     {
         LookSetIter { set: self }
     }
