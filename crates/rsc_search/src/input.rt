@@ -192,6 +192,7 @@ impl<'h> Input<'h> {
         ensures bytes { result.now ≡ self.now.haystack }
         ensures within { self.now.span.end ≤ length self.now.haystack }
         ensures order { self.now.span.start ≤ self.now.span.end + 1 }
+        ensures small { self.now.span.end + 1 < 2 ^ 64 }
     {
         self.haystack
     }
@@ -223,6 +224,7 @@ impl<'h> Input<'h> {
     pub fn get_span(&self) -> Span
         ensures span { result ≡ self.now.span }
         ensures within { IsSpanWithin self.now.haystack result }
+        ensures small { result.end + 1 < 2 ^ 64 }
     {
         self.span
     }
@@ -234,6 +236,7 @@ impl<'h> Input<'h> {
         ensures end { result.end ≡ self.now.span.end }
         ensures within { result.end ≤ length self.now.haystack }
         ensures order { result.start ≤ result.end + 1 }
+        ensures small { result.end + 1 < 2 ^ 64 }
     {
         self.span.range()
     }
@@ -273,6 +276,7 @@ impl<'h> Input<'h> {
         ensures done { IsTrue result ↔ (self.now.span.end < self.now.span.start) }
         ensures within { self.now.span.end ≤ length self.now.haystack }
         ensures order { self.now.span.start ≤ self.now.span.end + 1 }
+        ensures small { self.now.span.end + 1 < 2 ^ 64 }
     {
         self.span.start > self.span.end
     }
