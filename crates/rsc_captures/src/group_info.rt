@@ -147,6 +147,7 @@ impl<A: Allocator + Clone + Drop> GroupInfo<A> {
     pub fn all_names(&self) -> GroupInfoAllNames<'_, A>
         ensures groups { result ≡ all_names_of self.now }
         ensures count { length result ≡ all_groups self.now }
+        ensures limit { 2 * length result ≤ LIMIT_OF_IDS }
     {
         GroupInfoAllNames::new(self.lists())
     }

@@ -3,6 +3,7 @@ ghost use Rattle.std.specs.Prelude.{◌≡◌, length, Some, IfSome};
 ghost use Rattle.std.specs.Option.{option_copied};
 ghost use Rattle.std.specs.Iterator.{YieldsFirstBy, UpTo, item_count};
 ghost use Rattle.std.specs.Iterator.SizeHint.{IsWithinCount};
+ghost use Rattle.rsc_captures.specs.Faults.{LIMIT_OF_IDS, IsFaultless};
 ghost use Rattle.rsc_captures.specs.Groups.{groups_of};
 ghost use Rattle.rsc_captures.specs.NameIterators.{named_group, all_names_of};
 
@@ -116,7 +117,8 @@ impl<'a, A: Allocator> Model for GroupInfoAllNames<'a, A> {
 impl<'a, A: Allocator + Clone + Drop> GroupInfoAllNames<'a, A> {
     #[inline]
     pub(crate) fn new(lists: &'a SharedLists<A>) -> GroupInfoAllNames<'a, A>
-        ensures { result ≡ all_names_of lists.now }
+        ensures groups { result ≡ all_names_of lists.now }
+        ensures faultless { IsFaultless LIMIT_OF_IDS lists.now }
     {
         GroupInfoAllNames {
             lists,
