@@ -2,7 +2,7 @@
 ghost use Rattle.std.specs.Prelude.{◌≡◌, ◌↔◌, ◌+◌, ◌*◌, ◌^◌, ◌<◌, ◌≤◌, ℕ, IsTrue, IfSome, is_none, length, slice_get, slice_index, true};
 ghost use Rattle.std.specs.FinSet as sets;
 ghost use Rattle.rsc_alphabet.specs.ByteSets.{members, runs};
-ghost use Rattle.rsc_alphabet.specs.Partitions.{Together, class_map, edges_of_each};
+ghost use Rattle.rsc_alphabet.specs.Partitions.{ClassesRise, Together, class_map, edges_of_each};
 ghost use Rattle.rsc_alphabet.specs.Iterators.{stride2_of, symbol_count};
 ghost use Rattle.rsc_uses.specs.Leads.{lead_of};
 
@@ -10,19 +10,19 @@ use rsc_alphabet::{ByteClassSet, ByteClasses, ByteSet, Unit, classes_of_ranges, 
 use std::ops::Bound;
 
 /// Where the entry of a row and a byte is, in a table whose rows have `1 << stride2` entries.
-pub fn cell_of(map: &ByteClasses, row: usize, byte: u8) -> usize
+pub fn entry_index(map: &ByteClasses, row: usize, byte: u8) -> usize
     requires rows { row < 2147483647 }
-    requires rises { (b : ℕ) → b < 256 → slice_index map.now b ≤ slice_index map.now 255 }
+    requires rise { ClassesRise map.now }
     ensures { result ≡ row * 2 ^ stride2_of map.now + slice_index map.now byte }
 {
-    (row << map.stride2()) | usize::from(map.get(byte))
+    (row << map.stride2()) + usize::from(map.get(byte))
 }
 
 /// A table's entry of a row and a byte.
 pub fn transition(map: &ByteClasses, table: &[u32], row: usize, byte: u8) -> u32
     requires rows { row < 2147483647 }
     requires table { (row + 1) * 2 ^ stride2_of map.now ≤ length table.now }
-    requires rises { (b : ℕ) → b < 256 → slice_index map.now b ≤ slice_index map.now 255 }
+    requires rise { ClassesRise map.now }
     ensures { result ≡ slice_index table.now (row * 2 ^ stride2_of map.now + slice_index map.now byte) }
 {
     table[(row << map.stride2()) + usize::from(map.get(byte))]
@@ -101,7 +101,7 @@ pub fn lead_of(leads: &[u32; 256], end: u32, unit: Unit) -> u32
 /// Fills a state's row by one byte of each class alone, given where each byte leads. Where bytes of one class lead to one state, the
 /// row then answers for every byte: each byte's column is its class's. And it answers for the end of the input.
 pub fn fill_by_representatives(map: &ByteClasses, leads: &[u32; 256], end: u32, row: &mut [u32])
-    requires rises { (b : ℕ) → b < 256 → slice_index map.now b ≤ slice_index map.now 255 }
+    requires rise { ClassesRise map.now }
     requires alike { (b c : ℕ) → b < 256 → c < 256 → slice_index map.now b ≡ slice_index map.now c →
         slice_index leads.now b ≡ slice_index leads.now c }
     requires room { symbol_count map.now ≤ length row.old }
@@ -155,6 +155,16 @@ pub fn each_is_member(set: &ByteSet) -> bool
         }
     }
     true
+}
+
+/// How many units the iterators of a map give: all symbols, the elements of one, and the representatives of all bytes. Their counts fit.
+pub fn counts(map: &ByteClasses, class: Unit) -> (usize, usize, usize) {
+    let representatives = map.representatives(Bound::Unbounded, Bound::Unbounded);
+    (
+        map.iter().count(),
+        map.elements(class).count(),
+        representatives.count(),
+    )
 }
 
 /// Whether each element of a byte's class has that class: each has.

@@ -148,7 +148,6 @@ pub fn index_within(info: &GroupInfo, pid: PatternID, name: &str) -> bool
 pub fn count_names(info: &GroupInfo) -> usize
     ensures { result ≡ all_groups info.now }
 {
-    let _all = info.all_group_len();
     info.all_names().count()
 }
 

@@ -6,6 +6,7 @@ ghost use Rattle.rsc_alphabet.specs.Partitions.{Together};
 ghost use Rattle.rsc_alphabet.specs.Ranges.{are_alike};
 ghost use Rattle.rsc_look.specs.declared.assertion.Look.{Look};
 ghost use Rattle.rsc_look.specs.Looks.{is_unicode};
+ghost use Rattle.rsc_look.specs.LookSets.{members};
 ghost use Rattle.rsc_look.specs.Holds.{Holds};
 ghost use Rattle.rsc_look.specs.Keeping.{IsCoarsestMap, Keeps, AgreesWhereAsked, AgreesWithAscii};
 ghost use Rattle.rsc_uses.specs.Listed.{IsListed};
@@ -82,6 +83,13 @@ pub fn each_is_member(set: LookSet) -> bool
         }
     }
     true
+}
+
+/// How many assertions the iterator gives: one for each member.
+pub fn count_members(set: LookSet) -> usize
+    ensures { result ≡ length (members set) }
+{
+    set.iter().count()
 }
 
 /// Whether an assertion that is taken out again is gone, and another one is not: so it is.

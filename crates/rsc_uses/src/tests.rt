@@ -2,7 +2,7 @@
 ghost use Rattle.std.specs.Prelude.{◌≡◌, ◌<◌, ℕ, slice_index};
 
 use crate::{alphabet, captures, look, nfa, primitives, search, threads};
-use rsc_alphabet::{ByteClassSet, ByteSet, laws};
+use rsc_alphabet::{ByteClassSet, ByteSet, Unit, laws};
 use rsc_captures::{Captures, GroupInfo};
 use rsc_look::{AsciiWord, Look, LookMatcher, LookSet, UnicodeWord};
 use rsc_nfa::{Nfa, State};
@@ -73,16 +73,20 @@ fn rows_of_classes(rt: HostRuntime) -> Result<(), Fail> {
     assert!(rt; alphabet::first_byte(&letters) == Some(b'a'));
     assert!(rt; alphabet::each_is_member(&letters));
     assert!(rt; alphabet::elements_have_the_class(&partition.byte_classes(), 1));
+    assert_eq!(rt;
+        alphabet::counts(&partition.byte_classes(), Unit::u8(1)),
+        (4, 26, 4)
+    );
     Ok(())
 }
 
 #[test]
-fn cells_of_rows(rt: HostRuntime) -> Result<(), Fail> {
+fn entries_of_rows(rt: HostRuntime) -> Result<(), Fail> {
     laws::each_class_comes_once();
     let mut partition = ByteClassSet::empty();
     partition.set_range(b'a', b'z');
     let map = partition.byte_classes();
-    assert_eq!(rt; alphabet::cell_of(&map, 1, b'q'), 5);
+    assert_eq!(rt; alphabet::entry_index(&map, 1, b'q'), 5);
     let table = [0, 1, 2, 3, 4, 5, 6, 7];
     if map.stride2() == 2 {
         assert_eq!(rt; alphabet::transition(&map, &table, 1, b'{'), 6);
@@ -114,6 +118,7 @@ fn words_and_lines(rt: HostRuntime) -> Result<(), Fail> {
     assert!(rt; are_positions(ends.as_slice(), &[2, 4]));
     assert!(rt; look::holds_as_a_set(&matcher, Look::End, b"ab", 2));
     assert!(rt; look::each_is_member(LookSet::full()));
+    assert_eq!(rt; look::count_members(LookSet::full()), 18);
     let own = LookMatcher::new(look::Letters);
     assert!(rt; look::is_whole_word(&own, b"I don't", Span { start: 2, end: 7 }));
     assert!(rt; look::is_whole_word(&own, b"a1", Span { start: 0, end: 1 }));

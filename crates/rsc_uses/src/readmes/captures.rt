@@ -4,7 +4,7 @@ use std::test::Fail;
 
 #[test]
 fn example(rt: HostRuntime) -> Result<(), Fail> {
-    // Two patterns, with one named group each. The slots of the first groups come before all others.
+    // Two patterns, with one named group each. The slots of both groups 0 come before all others.
     let info = GroupInfo::new(rt.alloc(), &[&[None, Some("x")], &[None, None, Some("x")]])?;
     assert!(rt; info.slot(PatternID::must(1), 2) == Some(8));
     assert!(rt; info.to_index(PatternID::must(1), "x") == Some(2));
@@ -17,7 +17,7 @@ fn example(rt: HostRuntime) -> Result<(), Fail> {
             captures.slots_mut()[slot] = NonMaxUsize::new(offset);
         }
     }
-    // The parts are the haystack's own, and live as long as it does.
+    // The parts borrow from the haystack.
     assert!(rt; captures.extract_from::<&str, 1>("abc") == Some(("abc", ["b"])));
     Ok(())
 }

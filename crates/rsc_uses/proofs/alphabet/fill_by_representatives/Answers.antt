@@ -19,8 +19,8 @@ loop-unit-preserved c =
       tt,
       length-set c.loop-unit.row c.get_by_unit.result c.lead_of.result ∙ c.loop-unit.invariant.2,
       one_filled (class_at map) (lead_of leads end) c.loop-unit.row c.loop-unit.unit-iterator c.next.new.self all c.in-Some.unit c.get_by_unit.result c.lead_of.result c.in-Some.ensures.steps c.get_by_unit.ensures c.lead_of.ensures
-          (omega (arith, c.get_by_unit.ensures, class_within map c.in-Some.unit (only c.in-Some.unit among) c.requires.rises, c.loop-unit.invariant.2, c.requires.room))
-          (one_way map leads end all only c.requires.rises c.requires.alike) c.loop-unit.invariant.3,
+          (omega (arith, c.get_by_unit.ensures, class_within map c.in-Some.unit (only c.in-Some.unit among) c.requires.rise.within, c.loop-unit.invariant.2, c.requires.room))
+          (one_way map leads end all only c.requires.rise.within c.requires.alike) c.loop-unit.invariant.3,
     )
 
 pub returns-clause-bytes : goal.returns-clause-bytes
