@@ -20,7 +20,10 @@ const EXPECTED_BYTE: &str = "two hexadecimal digits";
 
 const EXPECTED_BYTES: &str = "pairs of hexadecimal digits";
 
-const EXPECTED_RANGE: &str = "a range of bytes as 61-7a, its first byte at most its last";
+const EXPECTED_RANGE: &str = "a range of bytes, as 61-7a, whose start is at most its end";
+
+const EXPECTED_OPTION: &str =
+    "an assertion, or --terminator, --words, --range, --color, --hex or --";
 
 const EXPECTED_WORDS: &str = "ascii or unicode";
 
@@ -185,6 +188,9 @@ fn take_plain(alloc: Global, request: &mut Request, argument: &str) -> Result<Ne
     }
     if let Some(next) = after_option(argument) {
         return Ok(next);
+    }
+    if argument.starts_with("--") {
+        return Err(refused(alloc, argument, EXPECTED_OPTION));
     }
     let Some(look) = look_of(argument.as_bytes()) else {
         let expected = nearest(alloc, argument)?;

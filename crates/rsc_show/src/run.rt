@@ -73,7 +73,7 @@ fn answer<R: Read>(
         return Ok((String::from_str(alloc, VERSION)?, false));
     }
     let [command, rest @ ..] = arguments else {
-        return Err(refused(alloc, "", EXPECTED_COMMAND));
+        return Err(refused(alloc, "rsc_show", EXPECTED_COMMAND));
     };
     let command = command.as_str();
     if command == "looks" {
