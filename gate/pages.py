@@ -15,6 +15,7 @@ It compares the numbers that the code decides, and asks that docs/DEFINITIONS.md
 """
 import collections
 import pathlib
+import itertools
 import re
 import sys
 
@@ -95,12 +96,17 @@ def words(crate):
     believed, others = [], []
     for file in sorted((ROOT / "crates" / crate / "specs").glob("**/*.antt")):
         comment = ""
-        for line in file.read_text(encoding="utf-8").splitlines():
+        lines = file.read_text(encoding="utf-8").splitlines()
+        for k, line in enumerate(lines):
             name = re.match(r"(?:abbrev |unfoldable )*pub (?:record |data |class )?([^\s:]+)", line)
             if line.startswith("-- "):
                 comment = f"{comment} {line[3:]}".strip()
             elif name and not line.startswith("pub mod") and not line.startswith("  "):
                 rows = others if re.search(r"Laws|Layout|Same", file.stem) else believed
+                if " record " in line:
+                    fields = itertools.takewhile(lambda it: it.startswith("  "), lines[k + 1 :])
+                    names = [f"`{found[1]}`" for it in fields if (found := re.match(r"  pub (\S+) :", it))]
+                    comment = f"{comment} (a record: {', '.join(names)})".strip()
                 if comment or rows is believed:
                     rows.append(f"| `{file.stem}.{name[1]}` | {comment.replace('|', chr(92) + '|')} |")
                 comment = ""
@@ -133,15 +139,38 @@ def items(crate):
     return "\n".join(lines)
 
 
-def caller(path, name):
-    """Returns a function of rsc_uses with the comment above it."""
-    lines = (ROOT / "crates/rsc_uses/src" / path).read_text(encoding="utf-8").splitlines()
-    at = next(k for k, line in enumerate(lines) if re.match(rf"pub fn {name}\b", line))
+def caller(lines, at):
+    """Returns the item of rsc_uses that begins in a line, with the comment above it."""
     first = at
     while lines[first - 1].startswith(("///", "#[")):
         first -= 1
     last = next(k for k in range(at, len(lines)) if lines[k].startswith("}"))
     return "\n".join(lines[first : last + 1])
+
+
+def callers(path, names):
+    """Returns the section of some functions of rsc_uses, after what they name of the same file, and says which have a proof file."""
+    lines = (ROOT / "crates/rsc_uses/src" / path).read_text(encoding="utf-8").splitlines()
+    places = {found[2]: k for k, line in enumerate(lines) if (found := re.match(r"pub (fn|trait) (\w+)", line))}
+    shown = {}
+
+    def add(name):
+        text = caller(lines, places[name])
+        for other in places:
+            if other != name and other not in shown and re.search(rf"(?<![.\w]){other}\b", re.sub("^///.*$", "", text, flags=re.M)):
+                add(other)
+        shown.setdefault(name, text)
+
+    for name in names:
+        add(name)
+    quoted = "\n\n".join(shown.values())
+    folder = f"crates/rsc_uses/proofs/{path.removesuffix('.rt')}"
+    proved = [f"`{it}`" for it in shown if (ROOT / folder / it).exists()]
+    files = f"Their proof files are in `{folder}`: {', '.join(proved)}; the others need none." if proved else "None needs a proof file."
+    used = imports(path, quoted)
+    own = " To copy one, copy what it names of `Rattle.rsc_uses` too." if "Rattle.rsc_uses." in used else ""
+    head = f"From `crates/rsc_uses/src/{path}`, proved by the contracts below alone. {files}{own}"
+    return f"## Callers\n\n{head}\n\n```rust\n{used}\n\n{quoted}\n```\n"
 
 
 def imports(path, quoted):
@@ -168,14 +197,11 @@ def mentioned(name):
 
 def page(crate, text):
     mark = MARK.search(text)
-    quoted = "\n\n".join(caller(mark[1], it) for it in mark[2].split())
-    quoted = f"{imports(mark[1], quoted)}\n\n{quoted}"
     laws = (ROOT / "crates" / crate / "src/laws.rt").read_text(encoding="utf-8")
     law = re.search(r"pub fn (\w+)\(\)", laws)[1]
-    callers = f"## Callers\n\nFrom `crates/rsc_uses/src/{mark[1]}`, proved by the contracts below alone; the first lines bring in the words and names that they use.\n\n```rust\n{quoted}\n```\n"
     listed = words(crate)
     module, word = re.search(r"^\| `(\w+)\.([^`]+)` \|", listed, flags=re.M).groups()
-    return text[: mark.end()] + "\n" + "\n".join([items(crate), callers, LAWS.format(crate=crate, law=law, module=module, word=word), contracts(crate), listed])
+    return text[: mark.end()] + "\n" + "\n".join([items(crate), callers(mark[1], mark[2].split()), LAWS.format(crate=crate, law=law, module=module, word=word), contracts(crate), listed])
 
 
 def readme(shown, text):
