@@ -212,7 +212,7 @@ class Captures:
         return 2 * self.pattern if index == 0 else 2 * len(self.lists) + 2 * (before + index - 1)
 
     def spans(self):
-        """The spans of the groups of the pattern that take part."""
+        """The spans of the pattern's participating groups."""
         known = self.pattern is not None and self.pattern < len(self.lists)
         for index in range(len(self.lists[self.pattern])) if known else ():
             span = self.slots[self.first_slot(index):][:2]

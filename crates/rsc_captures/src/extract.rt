@@ -1,4 +1,4 @@
-//! What the groups that take part in a match cut out of the haystack, without copying.
+//! The parts of the haystack that the groups of a match span, without copying.
 ghost use Rattle.std.specs.Prelude.{◌≡◌, ℕ, List, Option, ◌+◌, ◌∷◌, [], map, MatchOption};
 ghost use Rattle.std.specs.Option.{option_map};
 ghost use Rattle.rsc_search.specs.Spans.{cut, cut_text};
@@ -44,7 +44,7 @@ impl Haystack for &[u8] {
 }
 
 impl<A: Allocator + Clone + Drop> Captures<A> {
-    // The first group from `from` on that takes part, and the place after it.
+    // The first group from `from` on that participates, and the place after it.
     #[inline(always)]
     fn next_participating(&self, from: usize, group_len: usize) -> Option<(Span, usize)>
         requires { group_len ≡ matched_groups self.now }
@@ -59,7 +59,7 @@ impl<A: Allocator + Clone + Drop> Captures<A> {
         None
     }
 
-    /// What the groups that take part in the match cut out of a text or of bytes: the first, which is the whole match, and
+    /// The parts of a text or of bytes that the participating groups span: the first, which is the whole match, and
     /// the next `N`. Any after them are not looked at. `None` exactly if there are fewer than `N + 1` of them, or one of
     /// those doesn't cut the haystack. The parts live as long as the haystack.
     ///
@@ -67,7 +67,7 @@ impl<A: Allocator + Clone + Drop> Captures<A> {
     ///
     /// ```
     /// assert!(rt; captures.extract_from::<&str, 1>("abc") == Some(("abc", ["b"])));
-    /// // Two groups take part, and three are asked for.
+    /// // Two groups participate, and three are asked for.
     /// assert!(rt; captures.extract_from::<&str, 2>("abc") == None);
     /// ```
     #[inline]
@@ -98,7 +98,7 @@ impl Captures {
         self.extract_from::<H, N>(haystack)
     }
 
-    /// What the groups that take part in the match cut out of a text: the first, which is the whole match, and the next
+    /// The parts of a text that the participating groups span: the first, which is the whole match, and the next
     /// `N`, as by [`Captures::extract_from`].
     #[inline]
     pub fn extract<'h, const N: usize>(&self, haystack: &'h str) -> Option<(&'h str, [&'h str; N])>
@@ -108,7 +108,7 @@ impl Captures {
         self.extract_parts::<&str, N>(haystack)
     }
 
-    /// What the groups that take part in the match cut out of bytes: the first, which is the whole match, and the next `N`,
+    /// The parts of bytes that the participating groups span: the first, which is the whole match, and the next `N`,
     /// as by [`Captures::extract_from`].
     #[inline]
     pub fn extract_bytes<'h, const N: usize>(

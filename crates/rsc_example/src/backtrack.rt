@@ -293,6 +293,7 @@ pub fn record<W: WordClass>(
     requires empty { AreEmpty slots.old }
     ensures { AreRecords (scene W.word_chars program.now input.now) run.now slots.new }
 {
+    // For the prover: positions up to the input's end, plus one, fit.
     let _end = input.end();
     let last = run.len() - 1;
     'places: for k in (0..last).rev() {

@@ -60,7 +60,7 @@ fn decoded(data: &[u8], sum: u64) -> u64 {
         let (number, size) = seen(found);
         sum = sum.wrapping_add(number);
         match rest.get(size..) {
-            Some(behind) => rest = behind,
+            Some(after) => rest = after,
             None => return sum,
         }
     }

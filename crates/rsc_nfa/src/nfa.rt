@@ -258,6 +258,7 @@ impl<W: WordClass, A: Allocator + Clone + Drop> Nfa<W, A> {
         ensures { IsTrue result ↔ IsRun self.now.states self.now.matcher.0 (W.word_chars self.now.matcher.1)
             input.now.haystack input.now.span.start input.now.span.end run.now }
     {
+        // For the prover: the input's span ends within its haystack.
         let _end = input.end();
         for (k, place) in run.iter().enumerate() {
             if !self.is_within(input, *place) {

@@ -3,7 +3,7 @@ use Rattle.std.proofs.Common.{◌≡◌, ℕ, ◌+◌, ◌-◌, ◌<◌, ◌≤�
 use Rattle.std.proofs.lemmas.List.{get_or_append_left}
 use Rattle.rsc_primitives.specs.Utf8.{IsTail, Encodes, EncodesAll, EncodedFrom, BeginsAt, IsBoundary}
 use Rattle.rsc_primitives.specs.Utf8Laws.{Placed-from, Encodes-rest}
-use Rattle.rsc_primitives.specs.TextsLaws.{ahead, behind}
+use Rattle.rsc_primitives.specs.TextsLaws.{with_suffix, with_prefix}
 
 abbrev pub BeginsOrEnds : List ℕ → ℕ → Type 0
 BeginsOrEnds h i = ((c : ℕ) × BeginsAt h i c) ⊎ (i ≡ length h)
@@ -22,9 +22,9 @@ IsBoundary-begins h i c b =
     let within = p.within in
     inr (omega arith, not_tail (get_or h i 0) p.head)
 
-pub BeginsAt-behind : (e t : List ℕ) (k : ℕ) → BeginsOrEnds t k → BeginsOrEnds (e ++ t) (length e + k)
-BeginsAt-behind e t k b =
-    ⊎_elim (λ p. inl (p.0, (length e + p.1.0, behind e t k p.1.0 p.0 p.1.1))) (λ q. inr (rw q (sym (length-append e t)))) b
+pub BeginsAt-with_prefix : (e t : List ℕ) (k : ℕ) → BeginsOrEnds t k → BeginsOrEnds (e ++ t) (length e + k)
+BeginsAt-with_prefix e t k b =
+    ⊎_elim (λ p. inl (p.0, (length e + p.1.0, with_prefix e t k p.1.0 p.0 p.1.1))) (λ q. inr (rw q (sym (length-append e t)))) b
 
 place : (n i : ℕ) → (i ≡ 0) ⊎ ((0 < i) × (i < n)) ⊎ (i ≡ n + (i - n))
 place n i = grind arith
@@ -37,10 +37,10 @@ boundary_behind e t k b =
 
 first_encoded : (e t : List ℕ) (c i : ℕ) → Encodes e c → ((k : ℕ) → IsBoundary t k → BeginsOrEnds t k) → IsBoundary (e ++ t) i → BeginsOrEnds (e ++ t) i
 first_encoded e t c i p later b =
-    ⊎_elim (λ (z : i ≡ 0). inl (c, (length e, subst (λ n. EncodedFrom (e ++ t) n (length e) c) (sym z) (ahead e t c p))))
+    ⊎_elim (λ (z : i ≡ 0). inl (c, (length e, subst (λ n. EncodedFrom (e ++ t) n (length e) c) (sym z) (with_suffix e t c p))))
     (⊎_elim (λ (q : (0 < i) × (i < length e)). absurd (inside q.0 q.1))
     (λ (q : i ≡ length e + (i - length e)).
-    subst (BeginsOrEnds (e ++ t)) (sym q) (BeginsAt-behind e t (i - length e)
+    subst (BeginsOrEnds (e ++ t)) (sym q) (BeginsAt-with_prefix e t (i - length e)
     (later (i - length e) (boundary_behind e t (i - length e) (subst (IsBoundary (e ++ t)) q b))))))
     (place (length e) i)
   where

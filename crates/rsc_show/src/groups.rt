@@ -2,7 +2,7 @@
 ghost use Rattle.std.specs.Prelude.{◌≡◌, ◌≢◌, ◌≤◌, ◌<◌, ◌+◌, ◌↔◌, ℕ, false, IsTrue, length, take, slice_index_or, IfSome, IsNone, None};
 ghost use Rattle.std.specs.Option.{option_copied};
 ghost use Rattle.rsc_captures.specs.Groups.{groups_in, has_name};
-ghost use Rattle.rsc_show.specs.Pointers.{behind, IsSecond, reached};
+ghost use Rattle.rsc_show.specs.Pointers.{place_after, IsSecond, reached};
 ghost use Rattle.rsc_show.specs.PointersLayout.{IsFirstNamed};
 
 use crate::error::{ShowError, refused};
@@ -147,7 +147,7 @@ pub fn place_of(lists: &[u8], pattern: usize, group: usize) -> usize
         if is_at(at, pattern, group) {
             return place;
         }
-        at = behind(at, lists[place]);
+        at = place_after(at, lists[place]);
     }
     lists.len()
 }
@@ -160,9 +160,9 @@ fn is_at(at: (usize, usize), pattern: usize, group: usize) -> bool
 }
 
 // What a text reaches with one more byte.
-fn behind(at: (usize, usize), byte: u8) -> (usize, usize)
+fn place_after(at: (usize, usize), byte: u8) -> (usize, usize)
     requires { at.0 + at.1 < usize.MAX }
-    ensures { result ≡ behind at byte }
+    ensures { result ≡ place_after at byte }
 {
     match byte {
         b';' => (at.0 + 1, 0),

@@ -59,7 +59,7 @@ fn captures(rt: HostRuntime) -> Result<(), Fail> {
 
     // `Captures::extract_from`
     assert!(rt; captures.extract_from::<&str, 1>("abc") == Some(("abc", ["b"])));
-    // Two groups take part, and three are asked for.
+    // Two groups participate, and three are asked for.
     assert!(rt; captures.extract_from::<&str, 2>("abc") == None);
     Ok(())
 }

@@ -3,7 +3,7 @@ use Rattle.std.specs.Fmt.{HasWritten}
 use Rattle.std.proofs.Output.{has_written_append}
 use Rattle.std.proofs.lemmas.List.{nil_from_length}
 use Rattle.rsc_primitives.specs.Escapes.{step_text, EncodesOnlyAscii}
-use Rattle.rsc_primitives.proofs.EscapesLemmas.{EncodesOnlyAscii-behind, piece_written, byte_put}
+use Rattle.rsc_primitives.proofs.EscapesLemmas.{EncodesOnlyAscii-rest, piece_written, byte_put}
 use Rattle.rsc_primitives.proofs.escape.write_steps.Goals.{then-len+in_ok-write_piece, else-len}
 use Rattle.rsc_primitives.proofs.escape.write_steps.Goals as goal
 
@@ -19,7 +19,7 @@ steps-preserved-in-None g c =
               now.0 ++ take c.steps.len c.steps.piece,
               rw w.f-is (has_written_append _ _ _ _ _ _ now.1 (search rules)),
               byte_put _ _ _ _ _ _ b c.put_byte-len.ensures.text is (piece_written now.0 _ c.steps.piece _ _ _ w.len-is now.2),
-              EncodesOnlyAscii-behind b c.in-Some.after.now (subst (λ (h : List ℕ). EncodesOnlyAscii h) is now.3),
+              EncodesOnlyAscii-rest b c.in-Some.after.now (subst (λ (h : List ℕ). EncodesOnlyAscii h) is now.3),
             ),
       )
       | else-len w ↦ (
@@ -31,7 +31,7 @@ steps-preserved-in-None g c =
               now.0,
               rw w.f-is now.1,
               byte_put _ _ _ _ _ _ b c.put_byte-len.ensures.text is (rw w.len-is now.2),
-              EncodesOnlyAscii-behind b c.in-Some.after.now (subst (λ (h : List ℕ). EncodesOnlyAscii h) is now.3),
+              EncodesOnlyAscii-rest b c.in-Some.after.now (subst (λ (h : List ℕ). EncodesOnlyAscii h) is now.3),
             ),
       )
     ]
