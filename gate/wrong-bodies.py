@@ -108,7 +108,17 @@ def refusals(crate, folder, said):
         if in_file and not re.search(r"has no field|is not in scope|has no `|was not admitted|no module", in_file[7]):
             by_hand = in_file[3] == "Proof" and f"by hand at {word_at(f'{folder}/{in_file[1]}', int(in_file[4]), int(in_file[5]))}"
             found[in_file[2].replace("/", "::")].add(by_hand or in_file[6])
+        # Where a proof file is refused too, the goals of the exits stand in notes of their own.
+        at_exit = re.match(r"note: (src/\S+?):(\d+):\d+: it is not proved that [^(]*\(`([^`]+)`\)", line)
+        if at_exit:
+            found[at_exit[1], function_at(f"{folder}/{at_exit[1]}", int(at_exit[2]))].add(at_exit[3])
     return found
+
+
+def function_at(path, line):
+    """Returns the name of the function that a line of a source file is in."""
+    with open(path, encoding="utf-8") as file:
+        return re.findall(r"^\s*(?:pub(?:\(crate\))? )?(?:const )?fn (\w+)", "".join(file.readlines()[:line]), flags=re.M)[-1]
 
 
 def rt(folder, *words):
@@ -127,12 +137,12 @@ def judge(crate, folder, batch, texts):
         with open(f"{folder}/{path}", "w", encoding="utf-8") as file:
             file.write(text)
     status, said = rt(folder, "check", *(word for it in batch for word in ("--only", it.function)))
+    found, results = refusals(crate, folder, said), []
     for path, text in kept.items():
         with open(f"{folder}/{path}", "w", encoding="utf-8") as file:
             file.write(text)
-    found, results = refusals(crate, folder, said), []
     for it in batch:
-        goals = sorted(found.get(it.function, ()))
+        goals = sorted({*found.get(it.function, ()), *found.get((it.file, it.function.rpartition("::")[2]), ())})
         if status == 1 and any(goal.startswith(it.goal) for goal in goals):
             results.append((True, f"{crate}/{it.name}: refused by {it.function}, {', '.join(goals)[:120]}"))
         elif not found:
