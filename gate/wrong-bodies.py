@@ -116,9 +116,10 @@ def refusals(crate, folder, said):
 
 
 def function_at(path, line):
-    """Returns the name of the function that a line of a source file is in."""
+    """Returns the name of the function that a line of a source file is in, if there is one."""
     with open(path, encoding="utf-8") as file:
-        return re.findall(r"^\s*(?:pub(?:\(crate\))? )?(?:const )?fn (\w+)", "".join(file.readlines()[:line]), flags=re.M)[-1]
+        names = re.findall(r"^\s*(?:pub(?:\(crate\))? )?(?:const )?fn (\w+)", "".join(file.readlines()[:line]), flags=re.M)
+    return names[-1] if names else ""
 
 
 def rt(folder, *words):
