@@ -263,7 +263,7 @@ pub fn move_of<W: WordClass>(
     }
 }
 
-/// The match of a run to one.
+/// The match that a run of the automaton makes: from the position of its first place to that of its last, where its pattern is accepted.
 pub fn match_of<W: WordClass>(
     program: &Program<W>,
     input: &Input<'_>,
