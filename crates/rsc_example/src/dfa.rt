@@ -1,7 +1,8 @@
 //! A DFA that is made as it is needed: a row for each set of states that a search comes to, with an entry for each class of bytes.
 ghost use Rattle.std.specs.Prelude.{◌≡◌, ◌+◌, ◌*◌, ◌^◌, ◌<◌, ◌≤◌, ℕ, All, IfOk, IfSome, length, slice_index};
 ghost use Rattle.rsc_alphabet.specs.Iterators.{stride2_of};
-ghost use Rattle.rsc_example.specs.Tables.{Determinized, IsTable, Rises, AreStates};
+ghost use Rattle.rsc_alphabet.specs.Partitions.{ClassesRise};
+ghost use Rattle.rsc_example.specs.Tables.{Determinized, IsTable, AreStates};
 
 use crate::{Error, Program};
 use rsc_alphabet::ByteClasses;
@@ -49,7 +50,7 @@ impl<W: WordClass> Model for Dfa<W> {
 fn place_of(classes: &ByteClasses, len: usize, row: usize, byte: u8) -> usize
     requires small { row < 1000000 }
     requires row { (row + 1) * 2 ^ stride2_of classes.now ≤ len }
-    requires rises { Rises classes.now }
+    requires rise { ClassesRise classes.now }
     ensures value { result ≡ row * 2 ^ stride2_of classes.now + slice_index classes.now byte }
     ensures within { result < len }
 {

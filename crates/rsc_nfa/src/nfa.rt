@@ -1,7 +1,7 @@
 //! Automata over bytes.
-ghost use Rattle.std.specs.Prelude.{◌≡◌, ◌≤◌, ◌<◌, ◌⊎◌, ◌↔◌, ℕ, true, false, IsTrue, length, slice_index, IfOk, IfErr, OnOk};
+ghost use Rattle.std.specs.Prelude.{◌≡◌, ◌≤◌, ◌<◌, ◌⊎◌, ◌↔◌, ℕ, true, false, IsTrue, length, IfOk, IfErr, OnOk};
 ghost use Rattle.std.specs.FinSet as sets;
-ghost use Rattle.rsc_alphabet.specs.Partitions.{class_map};
+ghost use Rattle.rsc_alphabet.specs.Partitions.{ClassesRise, class_map};
 ghost use Rattle.rsc_look.specs.Keeping.{AgreesWithAscii};
 ghost use Rattle.rsc_nfa.specs.Automata.{Automaton};
 ghost use Rattle.rsc_nfa.specs.Classes.{IsOrdered, boundaries_of_state, boundaries_of_states, has_unicode, KeepsRuns, IsEachNeeded, IsCoarsestForRuns};
@@ -199,7 +199,7 @@ impl<W: WordClass, A: Allocator + Clone + Drop> Nfa<W, A> {
     /// of one byte on both sides of it.
     pub fn classes(&self) -> ByteClasses
         ensures classes { result ≡ class_map (sets.contains (boundaries_of_states self.now.states self.now.matcher.0)) }
-        ensures rises { (b : ℕ) → b < 256 → slice_index result b ≤ slice_index result 255 }
+        ensures rise { ClassesRise result }
         ensures faultless { IsFaultless self.now.groups self.now.states }
         ensures kept { (has_unicode self.now.states ≡ true → AgreesWithAscii (W.word_chars self.now.matcher.1)) →
             KeepsRuns result self.now.states self.now.matcher.0 (W.word_chars self.now.matcher.1) }
