@@ -3,7 +3,7 @@
 #
 #   ./test.sh          proves every crate and its tests from nothing, runs all tests and programs, compares the documents with the sources
 #   ./test.sh all      tries the wrong bodies too; this is the gate
-#   ./test.sh quick    proves nothing: runs all tests and programs, in two minutes on four processors
+#   ./test.sh quick    proves nothing: runs all tests and programs, in three minutes on four processors
 set -eu
 cd "$(dirname "$0")"
 
