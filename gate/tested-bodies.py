@@ -4,12 +4,14 @@
     gate/tested-bodies.py [CRATE ..]      # the edits of crates/CRATE/tested-bodies.edits, of all crates without a name
 
 A contract says nothing of whether memory is there, of the texts that only tests show, and of what a program reads and writes.
-gate/edits.py explains the format of an edit; its fields are `file`, the source file that it changes, and `tests`, the crate whose tests must fail.
+gate/edits.py explains the format of an edit; its fields are `file`, the source file that it changes, `tests`, the crate whose tests must fail, and
+where it needs a private field of another file `also`, as `src/span.rt: start: usize ⇒ pub(crate) start: usize`.
 Each is compiled and run without a proof, in a copy of the repository. It passes if a test fails, or
 if the tests don't compile because a type lacks a trait.
 """
 import concurrent.futures
 import os
+import pathlib
 import queue
 import re
 import shutil
@@ -26,23 +28,26 @@ def edits():
     for crate in sorted(os.listdir(f"{ROOT}/crates")):
         path = f"{ROOT}/crates/{crate}/tested-bodies.edits"
         if os.path.exists(path) and (not sys.argv[1:] or crate in sys.argv[1:]):
-            found += [(crate, *it) for it in blocks(path, ("file", "tests"))]
+            found += [(crate, *it) for it in blocks(path, ("file", "tests", "also"))]
     return found
 
 
 def judge(copy, crate, name, fields, pairs):
     """Runs the tests over one edit in a copy, and returns whether a test fails, with a line that says which."""
-    path = f"{copy}/crates/{crate}/{fields['file']}"
-    with open(path, encoding="utf-8") as file:
-        kept = file.read()
-    text = replaced(kept, pairs)
-    if text is None:
-        return False, f"{crate}/{name}: BAD EDIT: an old text isn't once in {fields['file']}"
-    with open(path, "w", encoding="utf-8") as file:
-        file.write(text)
+    changes = [(fields["file"], pairs)]
+    if "also" in fields:
+        other, _, change = fields["also"].partition(": ")
+        changes.append((other, [tuple(change.split(" ⇒ "))]))
+    kept = {}
+    for source, its_pairs in changes:
+        kept[source] = pathlib.Path(copy, "crates", crate, source).read_text(encoding="utf-8")
+        if replaced(kept[source], its_pairs) is None:
+            return False, f"{crate}/{name}: BAD EDIT: an old text isn't once in {source}"
+    for source, its_pairs in changes:
+        pathlib.Path(copy, "crates", crate, source).write_text(replaced(kept[source], its_pairs), encoding="utf-8")
     ran = subprocess.run(["rt", "try", "--test"], cwd=f"{copy}/crates/{fields['tests']}", stdin=subprocess.DEVNULL, stdout=subprocess.PIPE, stderr=subprocess.STDOUT, errors="replace")
-    with open(path, "w", encoding="utf-8") as file:
-        file.write(kept)
+    for source, text in kept.items():
+        pathlib.Path(copy, "crates", crate, source).write_text(text, encoding="utf-8")
     failed = re.findall(r"^test (\S+) \.\.\. FAILED", ran.stdout, flags=re.M)
     if failed:
         return True, f"{crate}/{name}: fails {', '.join(failed)[:150]}"
