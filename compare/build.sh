@@ -31,7 +31,7 @@ source_of() {
   return 1
 }
 
-# The modules by their paths, and stand-ins for those that they name but never call here.
+# The modules by their paths, and stand-ins for modules that they name but never call here.
 list_modules() {
   local module path
   for module in alphabet captures escape int look primitives search utf8; do

@@ -44,7 +44,7 @@ is_refused() {
   done < <(sed -n 's/^\/\/ refused: //p' "$1")
 }
 
-# Whether each test of a snippet, of which there is one, is among those that passed.
+# Whether each test of a snippet, of which there is one, passed.
 is_passed() {
   local tests test
   tests=$(sed -n '/^#\[test\]$/{n;s/^fn \([a-z0-9_]*\)(.*/\1/p}' "$1")

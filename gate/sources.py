@@ -21,11 +21,13 @@ def faults(crate, text):
         for of, private in re.findall(r"use Rattle\.(rsc_\w+)\.(proofs|specs\.\w*Layout)\b", line):
             if of != crate:
                 yield number, f"{private} of {of} is private to that crate"
-        is_import = is_import or re.match(r"\s*(pub |ghost )*use ", line) is not None
+        begins_import = re.match(r"\s*(pub |ghost )*use ", line) is not None
+        is_import = is_import or begins_import
         is_literal = re.search(r'"[^"]{60,}|(\b\w+, ){12}', line)
         if len(line) > MOST_COLUMNS and not is_import and not is_literal:
             yield number, f"{len(line)} columns"
-        is_import = is_import and not line.rstrip().endswith(("}", "};", ";"))
+        # An import goes on in the next line only within its braces.
+        is_import = "{" in line and "}" not in line if begins_import else is_import and "}" not in line
 
 
 def main():

@@ -26,7 +26,7 @@ numbers_below n test = filter test (range_with_len 0 n)
 abbrev pub no_patterns : ℕ → Patterns
 no_patterns n = record { capacity = n; members = [] }
 
--- the set whose members are p and those that it had: the numbers below the capacity that are p or a member
+-- the set with p as a member besides its own: the numbers below the capacity that are p or a member
 abbrev pub with_member : Patterns → ℕ → Patterns
 with_member s p = record { capacity = s.capacity; members = numbers_below s.capacity (λ q. q == p || has_member s.members q) }
 

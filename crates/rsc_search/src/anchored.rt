@@ -60,7 +60,7 @@ impl Anchored {
 pub enum MatchKind {
     /// All matches, also the ones that a preferred match would hide.
     All,
-    /// The leftmost match, and of those that begin there the one that the pattern prefers.
+    /// The leftmost match, and of several that begin there the one that the pattern prefers.
     LeftmostFirst,
 }
 
