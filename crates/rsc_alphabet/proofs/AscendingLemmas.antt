@@ -34,26 +34,30 @@ whole_word s number word l same =
 -- its bits are those of bytes
 pub whole_word_fits : (number word : ℕ) → number < 4 → word < 2 ^ 64 → (i : ℕ) → bit_at word i ≡ 1 → 64 * number + i < 256
 whole_word_fits number word l fits i is =
-    ⊎_elim (λ (h : i < 64). omega arith) (λ (h : 64 ≤ i). let none : bit_at word i ≡ 0 = bit_at_above word 64 i fits h in absurd (omega (arith, none, is)))
+    ⊎_elim (λ (h : i < 64). omega arith) (λ (h : 64 ≤ i). let none : bit_at word i ≡ 0 = bit_at_above word 64 i fits h in absurd
+    (omega (arith, none, is)))
     (cases_lt i 64)
 
 -- a word with nothing left
 pub no_word : (s : Numbers) (number byte : ℕ) → members_left s number byte 0 ≡ members_from s (64 * number + 64)
 no_word s number byte =
-    ap (λ x. x ++ members_from s (64 * number + 64)) (filter_none (λ b. has_bit 0 (b - byte)) byte (byte + 64) (λ k low high. rw (bit_at-zero (k - byte)) refl))
+    ap (λ x. x ++ members_from s (64 * number + 64)) (filter_none (λ b. has_bit 0 (b - byte)) byte (byte + 64)
+    (λ k low high. rw (bit_at-zero (k - byte)) refl))
 
 pub none_left : (s : Numbers) (number byte : ℕ) → number ≡ 3 → members_left s number byte 0 ≡ []
 none_left s number byte is = no_word s number byte ∙ let e : 64 * number + 64 ≡ 256 = omega (arith, is) in rw (e, from_to_none 256 256 (omega arith)) refl
 
 -- from a word with nothing left to the next one
-pub next_word : (s : Numbers) (number byte word : ℕ) → number + 1 < 4 → ((i : ℕ) → i < 64 → has_bit word i ≡ sets.contains s (64 * (number + 1) + i))
+pub next_word : (s : Numbers) (number byte word : ℕ) → number + 1 < 4
+    → ((i : ℕ) → i < 64 → has_bit word i ≡ sets.contains s (64 * (number + 1) + i))
     → members_left s (number + 1) (64 * (number + 1)) word ≡ members_left s number byte 0
 next_word s number byte word l same =
     let e : 64 * (number + 1) ≡ 64 * number + 64 = omega arith in
     whole_word s (number + 1) word l same ∙ ap (members_from s) e ∙ sym (no_word s number byte)
 
 -- the bits above the lowest one that is 1, shifted right
-pub lowest_left : (s : Numbers) (number byte word rest k : ℕ) → word < 2 ^ 64 → k < 64 → bit_at word k ≡ 1 → ((i : ℕ) → i < k → bit_at word i ≡ 0)
+pub lowest_left : (s : Numbers) (number byte word rest k : ℕ) → word < 2 ^ 64 → k < 64 → bit_at word k ≡ 1
+    → ((i : ℕ) → i < k → bit_at word i ≡ 0)
     → ((i : ℕ) → bit_at rest i ≡ bit_at word (k + (1 + i))) →
     members_left s number byte word ≡ (byte + k) ∷ members_left s number (byte + k + 1) rest
 lowest_left s number byte word rest k fits l here below moved =
@@ -84,7 +88,8 @@ lowest_left s number byte word rest k fits l here below moved =
     past i p q = ap (λ x. nat_eq x 1) (moved (i - (byte + k + 1)) ∙ bit_at_above word 64 (k + (1 + (i - (byte + k + 1)))) fits (omega arith))
 
 -- the same where the lowest bit is 1
-pub first_left : (s : Numbers) (number byte word rest : ℕ) → word < 2 ^ 64 → bit_and word 1 ≡ 1 → ((i : ℕ) → bit_at rest i ≡ bit_at word (1 + i)) →
+pub first_left : (s : Numbers) (number byte word rest : ℕ) → word < 2 ^ 64 → bit_and word 1 ≡ 1
+    → ((i : ℕ) → bit_at rest i ≡ bit_at word (1 + i)) →
     members_left s number byte word ≡ byte ∷ members_left s number (byte + 1) rest
 first_left s number byte word rest fits here moved =
     let e : byte + 0 ≡ byte = omega arith in

@@ -60,7 +60,8 @@ one_here k l = let z : k - k ≡ 0 = omega arith in bit_at-shl 1 k 64 k (omega a
 
 pub none_beside : (k i : ℕ) → k < 64 → i < 64 → i ≢ k → bit_at (1 * 2 ^ k % 2 ^ 64) i ≡ 0
 none_beside k i l h ne =
-    ⊎_elim (λ (b : i < k). bit_at-shl_below 1 k 64 i b h) (λ (b : k ≤ i). bit_at-shl 1 k 64 i b h ∙ bit_at_above 1 1 (i - k) (omega arith) (omega arith))
+    ⊎_elim (λ (b : i < k). bit_at-shl_below 1 k 64 i b h)
+    (λ (b : k ≤ i). bit_at-shl 1 k 64 i b h ∙ bit_at_above 1 1 (i - k) (omega arith) (omega arith))
     (cases_lt i k)
 
 -- the bits of two numbers
@@ -82,7 +83,8 @@ min_none x = omega arith
 
 -- no bit of a run is left where all of them are taken out, and only there
 pub run_within : (run mask start end : ℕ) → mask < 2 ^ 128 → end < 128 →
-    ((i : ℕ) → start ≤ i → i ≤ end → bit_at run i ≡ 1) → ((i : ℕ) → i < start → bit_at run i ≡ 0) → ((i : ℕ) → end < i → bit_at run i ≡ 0) →
+    ((i : ℕ) → start ≤ i → i ≤ end → bit_at run i ≡ 1) → ((i : ℕ) → i < start → bit_at run i ≡ 0)
+    → ((i : ℕ) → end < i → bit_at run i ≡ 0) →
     (bit_and run (bit_not w128 mask) ≡ 0 → (i : ℕ) → start ≤ i → i ≤ end → bit_at mask i ≡ 1) ×
     (((i : ℕ) → start ≤ i → i ≤ end → bit_at mask i ≡ 1) → bit_and run (bit_not w128 mask) ≡ 0)
 run_within run mask start end fits l inside below above = (
@@ -105,7 +107,8 @@ run_within run mask start end fits l inside below above = (
     no_bit i none = bit_at_and run (bit_not w128 mask) i ∙ rw none (min_none (bit_at (bit_not w128 mask) i) ∙ sym (bit_at-zero i))
 
 -- a bit is kept if it is in the run
-pub run_kept : (mask run start end i : ℕ) → ((i : ℕ) → start ≤ i → i ≤ end → bit_at run i ≡ 1) → ((i : ℕ) → i < start → bit_at run i ≡ 0)
+pub run_kept : (mask run start end i : ℕ) → ((i : ℕ) → start ≤ i → i ≤ end → bit_at run i ≡ 1)
+    → ((i : ℕ) → i < start → bit_at run i ≡ 0)
     → ((i : ℕ) → end < i → bit_at run i ≡ 0) →
     has_bit (bit_and mask run) i ≡ (nat_le start i && nat_le i end && has_bit mask i)
 run_kept mask run start end i inside below above =

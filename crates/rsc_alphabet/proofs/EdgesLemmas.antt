@@ -79,7 +79,8 @@ skipped b k true false l at = let ne : k ≢ b = λ e. true≢false (at e) in gr
 skipped b k false true l at = let ne : k ≢ b = λ e. true≢false (sym (at e)) in grind (arith, nat_tests)
 skipped b k false false l at = grind (arith, nat_tests)
 
-stepped : (b e k : ℕ) (x y : Bool) → b ≤ e → e < 256 → (b ≤ k → k < e → x ≡ false) → (k ≡ e → e < 255 → x ≡ true) → (e < 255 → y ≡ false) →
+stepped : (b e k : ℕ) (x y : Bool) → b ≤ e → e < 256 → (b ≤ k → k < e → x ≡ false) → (k ≡ e → e < 255 → x ≡ true)
+    → (e < 255 → y ≡ false) →
     (((nat_lt 0 b && nat_eq (b - 1) k) || (nat_lt e 255 && nat_eq e k)) || (nat_lt k 255 && ((nat_le (e + 1) k && x) || (nat_eq (k + 1) (e + 1) && y)))) ≡
     (nat_lt k 255 && ((nat_le b k && x) || (nat_eq (k + 1) b && true)))
 stepped b e k true true from fits inner end next = let ne : 255 ≤ e =
@@ -97,7 +98,8 @@ is_edge k r = sets.contains (edges_of r) k
 -- member and so of the same runs, is true of the runs from each place on
 pub for_runs_from : (s : Numbers) (P : ℕ → List (ℕ × ℕ) → Type 0)
     → ((low : ℕ) → 256 ≤ low → P low [])
-    → ((low e : ℕ) → low < 256 → parts_no_run s low ≡ true → EndsAt s low e → P (e + 1) (runs_from s (e + 1)) → P low ((low, e) ∷ runs_from s (e + 1)))
+    → ((low e : ℕ) → low < 256 → parts_no_run s low ≡ true → EndsAt s low e → P (e + 1) (runs_from s (e + 1))
+    → P low ((low, e) ∷ runs_from s (e + 1)))
     → ((low : ℕ) → low < 256 → sets.contains s low ≡ false → P (low + 1) (runs_from s (low + 1)) → P low (runs_from s (low + 1)))
     → (n low : ℕ) → 256 ≤ low + n → parts_no_run s low ≡ true → P low (runs_from s low)
 for_runs_from s P none first skipped zero low far clean = subst (P low) (sym (runs_from_none s low (omega arith))) (none low (omega arith))
@@ -177,7 +179,8 @@ c-runs : (old s : Numbers) (k : ℕ) → sets.contains (sets.union old (edges_of
 c-runs old s k = contains-joined old (edges_of_each (runs s)) k ∙ ap (λ b. sets.contains old k || b) (contains-edges_of_runs s k)
 
 -- the boundaries before the first bytes of the runs, and after their last ones
-pub edges_of_ends : (s starts ends : Numbers) → ((b : ℕ) → sets.contains starts b ≡ begins_run s b) → ((b : ℕ) → sets.contains ends b ≡ ends_run s b) →
+pub edges_of_ends : (s starts ends : Numbers) → ((b : ℕ) → sets.contains starts b ≡ begins_run s b)
+    → ((b : ℕ) → sets.contains ends b ≡ ends_run s b) →
     (k : ℕ) → (nat_lt k 255 && (sets.contains starts (k + 1) || sets.contains ends k)) ≡ changes_at s k
 edges_of_ends s starts ends first last k =
     let e : k + 1 - 1 ≡ k = omega arith in

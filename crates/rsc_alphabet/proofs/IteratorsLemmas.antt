@@ -67,7 +67,8 @@ slice_get-append-left (x ∷ xs) ys (suc i) l = slice_get-append-left xs ys i (o
 
 pub length-symbols : (classes : List ℕ) → length (symbols classes) ≡ slice_index classes 255 + 2
 length-symbols classes =
-    let low : length (from_to 0 (slice_index classes 255 + 1)) ≡ slice_index classes 255 + 1 = length-from_to 0 (slice_index classes 255 + 1) ∙ omega arith in
+    let low : length (from_to 0 (slice_index classes 255 + 1)) ≡ slice_index classes 255 + 1 = length-from_to 0 (slice_index classes 255 + 1)
+    ∙ omega arith in
     rw (length-append, length-map) (omega (arith, low))
 
 -- each class is at the place of its number
@@ -101,7 +102,8 @@ elements_of-byte classes (end_of_input n) class s is same = cc
 -- ---- the representatives of a range
 
 -- a set whose members are the bytes from `low` up to, and without, `high` whose class isn't their predecessor's, and `low`
-representing_are : (classes : List ℕ) (s : Numbers) (low high : ℕ) → low ≤ high → high ≤ 256 → ((b : ℕ) → b < low → sets.contains s b ≡ false)
+representing_are : (classes : List ℕ) (s : Numbers) (low high : ℕ) → low ≤ high → high ≤ 256
+    → ((b : ℕ) → b < low → sets.contains s b ≡ false)
     → ((b : ℕ) → high ≤ b → b < 256 → sets.contains s b ≡ false) →
     ((b : ℕ) → low ≤ b → b < high → sets.contains s b ≡ (nat_eq b low || not (nat_eq (slice_index classes b) (slice_index classes (b - 1)))))
     → members s ≡ representing classes low high
@@ -131,8 +133,10 @@ pub members_none : members sets.empty ≡ []
 members_none = filter_none (λ b. sets.contains sets.empty b) 0 256 (λ b p q. contains-empty nat_cmp b)
 
 -- what a test says of each of the four words
-pub by_words : (s : Numbers) (p : ℕ → Bool) → ((i : ℕ) → i < 64 → sets.contains s i ≡ p i) → ((i : ℕ) → i < 64 → sets.contains s (64 + i) ≡ p (64 + i)) →
-    ((i : ℕ) → i < 64 → sets.contains s (128 + i) ≡ p (128 + i)) → ((i : ℕ) → i < 64 → sets.contains s (192 + i) ≡ p (192 + i)) → (b : ℕ) → b < 256
+pub by_words : (s : Numbers) (p : ℕ → Bool) → ((i : ℕ) → i < 64 → sets.contains s i ≡ p i)
+    → ((i : ℕ) → i < 64 → sets.contains s (64 + i) ≡ p (64 + i)) →
+    ((i : ℕ) → i < 64 → sets.contains s (128 + i) ≡ p (128 + i)) → ((i : ℕ) → i < 64 → sets.contains s (192 + i) ≡ p (192 + i)) → (b : ℕ)
+    → b < 256
     → sets.contains s b ≡ p b
 by_words s p first second third fourth b l =
     ⊎_elim (λ (h : b < 64). first b h) (λ (h : 64 ≤ b).
@@ -175,7 +179,8 @@ least_exponent n r k enough below =
     (cases_lt r k)
 
 -- one more byte has its class
-pub class_more : (f : ℕ → ℕ) (classes : List ℕ) (b : ℕ) → length classes ≡ 256 → ((k : ℕ) → k < b → slice_index classes k ≡ f k) → b < 256 →
+pub class_more : (f : ℕ → ℕ) (classes : List ℕ) (b : ℕ) → length classes ≡ 256 → ((k : ℕ) → k < b → slice_index classes k ≡ f k)
+    → b < 256 →
     (k : ℕ) → k < b + 1 → slice_index (set classes b (f b)) k ≡ f k
 class_more f classes b long before h =
     below_more _ b (λ k l. get_or-set_other classes b k (f b) 0 (omega arith) ∙ before k l) (get_or-set_same classes b (f b) 0 (omega arith))

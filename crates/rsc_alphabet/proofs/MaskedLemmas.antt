@@ -43,7 +43,8 @@ masked_none = masked_is 0 0 (omega arith) sets.empty (λ q. none q ∙ sym (cont
         (cases_lt q 128)
 
 -- sets are equal if their numbers are, and only then
-pub masks_same : (low high low2 high2 : ℕ) → low < 2 ^ 128 → high < 2 ^ 128 → low2 < 2 ^ 128 → high2 < 2 ^ 128 → masked low high ≡ masked low2 high2
+pub masks_same : (low high low2 high2 : ℕ) → low < 2 ^ 128 → high < 2 ^ 128 → low2 < 2 ^ 128 → high2 < 2 ^ 128
+    → masked low high ≡ masked low2 high2
     → (low ≡ low2) × (high ≡ high2)
 masks_same low high low2 high2 fl fh fl2 fh2 e = (
   sym (low_again low high fl fh) ∙ ap (λ s. mask_of (sets.contains s) 128) e ∙ low_again low2 high2 fl2 fh2,
@@ -52,14 +53,16 @@ masks_same low high low2 high2 fl fh fl2 fh2 e = (
 
 -- ---- one bit changed
 
-low_others : (low new high b : ℕ) → ((i : ℕ) → i < 128 → i ≢ b → bit_at new i ≡ bit_at low i) → (q : ℕ) → q ≢ b → is_masked new high q ≡ is_masked low high q
+low_others : (low new high b : ℕ) → ((i : ℕ) → i < 128 → i ≢ b → bit_at new i ≡ bit_at low i) → (q : ℕ) → q ≢ b
+    → is_masked new high q ≡ is_masked low high q
 low_others low new high b others q ne =
     ⊎_elim
     (λ (h : q < 128). is_masked-low new high q h ∙ ap (λ x. nat_eq x 1) (others q h ne) ∙ sym (is_masked-low low high q h))
     (λ (h : 128 ≤ q). is_masked-high new high q h ∙ sym (is_masked-high low high q h))
     (cases_lt q 128)
 
-high_others : (low high new b : ℕ) → high < 2 ^ 128 → new < 2 ^ 128 → 128 ≤ b → ((i : ℕ) → i < 128 → i ≢ b - 128 → bit_at new i ≡ bit_at high i) → (q : ℕ)
+high_others : (low high new b : ℕ) → high < 2 ^ 128 → new < 2 ^ 128 → 128 ≤ b
+    → ((i : ℕ) → i < 128 → i ≢ b - 128 → bit_at new i ≡ bit_at high i) → (q : ℕ)
     → q ≢ b → is_masked low new q ≡ is_masked low high q
 high_others low high new b fh fn l others q ne =
     ⊎_elim
@@ -98,7 +101,8 @@ pub insert_high : (low high new b : ℕ) → high < 2 ^ 128 → new < 2 ^ 128 �
 insert_high low high new b fh fn l here others =
     inserted low high low new b fh fn (is_masked-high low new b l ∙ rw here refl) (high_others low high new b fh fn l (λ i h ne. others i ne))
 
-pub remove_low : (low new high b : ℕ) → high < 2 ^ 128 → b < 128 → bit_at new b ≡ 0 → ((i : ℕ) → i < 128 → i ≢ b → bit_at new i ≡ bit_at low i)
+pub remove_low : (low new high b : ℕ) → high < 2 ^ 128 → b < 128 → bit_at new b ≡ 0
+    → ((i : ℕ) → i < 128 → i ≢ b → bit_at new i ≡ bit_at low i)
     → masked new high ≡ sets.remove (masked low high) b
 remove_low low new high b fh l here others =
     removed low high new high b fh fh (is_masked-low new high b l ∙ rw here refl) (low_others low new high b others)
@@ -112,7 +116,8 @@ remove_high low high new b fh fn l here others =
 
 -- a set of bytes is another one if the bits of both halves say so
 masked_from : (low high : ℕ) → high < 2 ^ 128 → (p : ℕ → Bool) → ((q : ℕ) → q < 128 → has_bit low q ≡ p q)
-    → ((i : ℕ) → i < 128 → has_bit high i ≡ p (128 + i)) → ((q : ℕ) → 256 ≤ q → p q ≡ false) → (q : ℕ) → sets.contains (masked low high) q ≡ p q
+    → ((i : ℕ) → i < 128 → has_bit high i ≡ p (128 + i)) → ((q : ℕ) → 256 ≤ q → p q ≡ false) → (q : ℕ)
+    → sets.contains (masked low high) q ≡ p q
 masked_from low high fits p lower upper past q =
     ⊎_elim
     (λ (h : q < 128). contains-low low high q fits h ∙ lower q h)
@@ -239,14 +244,16 @@ predecessors_are low high down down2 fits fits2 last others last2 others2 =
 -- ---- all bytes of a range
 
 pub all_low : (low high start end : ℕ) → high < 2 ^ 128 → end < 128
-    → ((i : ℕ) → start ≤ i → i ≤ end → bit_at low i ≡ 1) ↔ ((b : ℕ) → start ≤ b → b ≤ end → sets.contains (masked low high) b ≡ true)
+    → ((i : ℕ) → start ≤ i → i ≤ end → bit_at low i ≡ 1) ↔
+    ((b : ℕ) → start ≤ b → b ≤ end → sets.contains (masked low high) b ≡ true)
 all_low low high start end fits l = (
   (λ all b p q. contains-low low high b fits (omega arith) ∙ rw (all b p q) refl),
   (λ all i p q. eqb-true _ _ (sym (contains-low low high i fits (omega arith)) ∙ all i p q)),
 )
 
 pub all_high : (low high start end : ℕ) → high < 2 ^ 128 → 128 ≤ start → 128 ≤ end
-    → ((i : ℕ) → start - 128 ≤ i → i ≤ end - 128 → bit_at high i ≡ 1) ↔ ((b : ℕ) → start ≤ b → b ≤ end → sets.contains (masked low high) b ≡ true)
+    → ((i : ℕ) → start - 128 ≤ i → i ≤ end - 128 → bit_at high i ≡ 1) ↔
+    ((b : ℕ) → start ≤ b → b ≤ end → sets.contains (masked low high) b ≡ true)
 all_high low high start end fits l m = (
   (λ all b p q. contains-high low high b fits (omega arith) ∙ rw (all (b - 128) (omega arith) (omega arith)) refl),
   (λ all i p q. eqb-true _ _ (sym (contains-at low high i fits) ∙ inside all i p q)),
@@ -301,15 +308,18 @@ module _ (low high start end : ℕ) (fits : high < 2 ^ 128) where
       no_member false false = refl
 
   pub between_high : (new : ℕ) → new < 2 ^ 128 → 128 ≤ start → 128 ≤ end
-      → ((i : ℕ) → has_bit new i ≡ (nat_le (start - 128) i && nat_le i (end - 128) && has_bit high i)) → (b : ℕ) → sets.contains (masked 0 new) b ≡ is_between b
+      → ((i : ℕ) → has_bit new i ≡ (nat_le (start - 128) i && nat_le i (end - 128) && has_bit high i)) → (b : ℕ)
+      → sets.contains (masked 0 new) b ≡ is_between b
   between_high new new_fits l k each =
       masked_from 0 new new_fits is_between
       (λ q h. rw (bit_at-zero q, lt-leb start q (omega arith)) refl)
       (λ i h. in_high new k (start - 128) (λ i. same_le (start - 128) i start (128 + i) (λ m. omega arith) (λ m. omega arith)) each i)
       past_between
 
-  pub between_both : (new new2 : ℕ) → new2 < 2 ^ 128 → start < 128 → 128 ≤ end → ((i : ℕ) → has_bit new i ≡ (nat_le start i && nat_le i 127 && has_bit low i)) →
-      ((i : ℕ) → has_bit new2 i ≡ (nat_le 0 i && nat_le i (end - 128) && has_bit high i)) → (b : ℕ) → sets.contains (masked new new2) b ≡ is_between b
+  pub between_both : (new new2 : ℕ) → new2 < 2 ^ 128 → start < 128 → 128 ≤ end
+      → ((i : ℕ) → has_bit new i ≡ (nat_le start i && nat_le i 127 && has_bit low i)) →
+      ((i : ℕ) → has_bit new2 i ≡ (nat_le 0 i && nat_le i (end - 128) && has_bit high i)) → (b : ℕ)
+      → sets.contains (masked new new2) b ≡ is_between b
   between_both new new2 new_fits l k each each2 =
       masked_from new new2 new_fits is_between
       (λ q h. each q ∙ rw (same_le q 127 q end (λ m. omega arith) (λ m. omega arith), sym (contains-low low high q fits h)) refl)
@@ -318,22 +328,27 @@ module _ (low high start end : ℕ) (fits : high < 2 ^ 128) where
 
 -- ---- the four words
 
-pub word_0 : (low high word number : ℕ) → high < 2 ^ 128 → number ≡ 0 → ((i : ℕ) → i < 64 → bit_at word i ≡ bit_at low i) → (i : ℕ) → i < 64
+pub word_0 : (low high word number : ℕ) → high < 2 ^ 128 → number ≡ 0 → ((i : ℕ) → i < 64 → bit_at word i ≡ bit_at low i) → (i : ℕ)
+    → i < 64
     → has_bit word i ≡ sets.contains (masked low high) (64 * number + i)
 word_0 low high word number fits is same i l =
     let e : 64 * number + i ≡ i = omega (arith, is) in rw e (ap (λ x. nat_eq x 1) (same i l) ∙ sym (contains-low low high i fits (omega arith)))
 
-pub word_1 : (low high word number : ℕ) → high < 2 ^ 128 → number ≡ 1 → ((i : ℕ) → i < 64 → bit_at word i ≡ bit_at low (64 + i)) → (i : ℕ) → i < 64
+pub word_1 : (low high word number : ℕ) → high < 2 ^ 128 → number ≡ 1 → ((i : ℕ) → i < 64 → bit_at word i ≡ bit_at low (64 + i)) → (i : ℕ)
+    → i < 64
     → has_bit word i ≡ sets.contains (masked low high) (64 * number + i)
 word_1 low high word number fits is same i l =
-    let e : 64 * number + i ≡ 64 + i = omega (arith, is) in rw e (ap (λ x. nat_eq x 1) (same i l) ∙ sym (contains-low low high (64 + i) fits (omega arith)))
+    let e : 64 * number + i ≡ 64 + i =
+    omega (arith, is) in rw e (ap (λ x. nat_eq x 1) (same i l) ∙ sym (contains-low low high (64 + i) fits (omega arith)))
 
-pub word_2 : (low high word number : ℕ) → high < 2 ^ 128 → number ≡ 2 → ((i : ℕ) → i < 64 → bit_at word i ≡ bit_at high i) → (i : ℕ) → i < 64
+pub word_2 : (low high word number : ℕ) → high < 2 ^ 128 → number ≡ 2 → ((i : ℕ) → i < 64 → bit_at word i ≡ bit_at high i) → (i : ℕ)
+    → i < 64
     → has_bit word i ≡ sets.contains (masked low high) (64 * number + i)
 word_2 low high word number fits is same i l =
     let e : 64 * number + i ≡ 128 + i = omega (arith, is) in rw e (ap (λ x. nat_eq x 1) (same i l) ∙ sym (contains-at low high i fits))
 
-pub word_3 : (low high word number : ℕ) → high < 2 ^ 128 → number ≡ 3 → ((i : ℕ) → i < 64 → bit_at word i ≡ bit_at high (64 + i)) → (i : ℕ) → i < 64
+pub word_3 : (low high word number : ℕ) → high < 2 ^ 128 → number ≡ 3 → ((i : ℕ) → i < 64 → bit_at word i ≡ bit_at high (64 + i))
+    → (i : ℕ) → i < 64
     → has_bit word i ≡ sets.contains (masked low high) (64 * number + i)
 word_3 low high word number fits is same i l =
     let e : 64 * number + i ≡ 128 + (64 + i) = omega (arith, is) in rw e (ap (λ x. nat_eq x 1) (same i l) ∙ sym (contains-at low high (64 + i) fits))

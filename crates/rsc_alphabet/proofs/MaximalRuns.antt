@@ -71,7 +71,8 @@ pub runs_ordered : (s : Numbers) → All (λ r. r.0 ≤ r.1) (runs s)
 runs_ordered s = All-weaker (λ r. is_ordered r ≡ true) (λ r. r.0 ≤ r.1) (λ r h. leb-true r.0 r.1 h) (runs s)
     (AllPass-from_list_all is_ordered (runs s) (ordered_runs s))
 
-not_before : (s : Numbers) (low : ℕ) → parts_no_run s low ≡ true → sets.contains s low ≡ true → low < 256 → (b : ℕ) → b + 1 ≡ low → sets.contains s b ≡ false
+not_before : (s : Numbers) (low : ℕ) → parts_no_run s low ≡ true → sets.contains s low ≡ true → low < 256 → (b : ℕ) → b + 1 ≡ low
+    → sets.contains s b ≡ false
 not_before s low clean is l b e =
     let at : low - 1 ≡ b = omega (arith, e) in
     by_cases (sets.contains s low) (sets.contains s b) is (rw at at clean)
@@ -161,7 +162,8 @@ apart_first r [] first rest k d l = absurd (omega (arith, l))
 apart_first r (q ∷ rs) first rest zero d l = first q (Contains-first q rs)
 apart_first r (q ∷ rs) first rest (suc k) d l = let e : suc k + 1 ≡ suc (k + 1) = omega arith in rw e (rest k d (omega (arith, l)))
 
-apart_from : (s : Numbers) (n low : ℕ) → 256 ≤ low + n → parts_no_run s low ≡ true → AllAdjacentBelow Apart (runs_from s low) (length (runs_from s low))
+apart_from : (s : Numbers) (n low : ℕ) → 256 ≤ low + n → parts_no_run s low ≡ true
+    → AllAdjacentBelow Apart (runs_from s low) (length (runs_from s low))
 apart_from s =
     for_runs_from s (λ low rs. AllAdjacentBelow Apart rs (length rs))
     (λ low h k d l. absurd (omega (arith, l)))

@@ -22,7 +22,8 @@ edges_above ends s e low order high = same_set nat_cmp_total nat_cmp-IsAntisymme
     by_cases true q = grind (arith, nat_tests)
     by_cases false q = grind (arith, nat_tests)
 
-pub edges_at_zero : (ends : Numbers) (s e : ℕ) → s ≤ 0 → e < 256 → sets.remove (sets.insert ends e) 255 ≡ sets.union (sets.remove ends 255) (edges_of (s, e))
+pub edges_at_zero : (ends : Numbers) (s e : ℕ) → s ≤ 0 → e < 256
+    → sets.remove (sets.insert ends e) 255 ≡ sets.union (sets.remove ends 255) (edges_of (s, e))
 edges_at_zero ends s e low high = same_set nat_cmp_total nat_cmp-IsAntisymmetric _ _ (λ q.
     rw (contains-removed, contains-inserted, contains-joined, contains-removed, contains-edges_of) (by_cases (sets.contains ends q) q))
   where
@@ -40,7 +41,8 @@ no_edges = same_set nat_cmp_total nat_cmp-IsAntisymmetric _ _
 inner_boundary : (ends : Numbers) (b : ℕ) → b < 255 → sets.contains ends b ≡ sets.contains (sets.remove ends 255) b
 inner_boundary ends b l = sym (contains-removed ends 255 b ∙ rw (ne_eqb b 255 (λ e. omega arith)) refl)
 
-pub boundary_below : (ends : Numbers) → ((b : ℕ) → sets.contains ends b ≡ true → b < 256) → (k : ℕ) → sets.contains (sets.remove ends 255) k ≡ true → k < 255
+pub boundary_below : (ends : Numbers) → ((b : ℕ) → sets.contains ends b ≡ true → b < 256) → (k : ℕ)
+    → sets.contains (sets.remove ends 255) k ≡ true → k < 255
 boundary_below ends bytes k is = parts (sets.contains ends k) (bytes k) (sym (contains-removed ends 255 k) ∙ is)
   where
     parts : (x : Bool) → (x ≡ true → k < 256) → (not (nat_eq k 255) && x) ≡ true → k < 255
@@ -54,7 +56,8 @@ pub edges_joined : (ends before after : Numbers) (starts lasts : ℕ → Bool) �
     (k : ℕ) → sets.contains (sets.remove after 255) k ≡ (sets.contains (sets.remove ends 255) k || (nat_lt k 255 && (starts k || lasts k)))
 edges_joined ends before after starts lasts first second bytes k =
     let added : sets.contains after k ≡ ((sets.contains ends k || starts k) || lasts k) = second k ∙ ap (λ x. x || lasts k) (first k) in
-    contains-removed after 255 k ∙ rw (added, contains-removed ends 255 k) (by_cases (sets.contains ends k) (starts k) (lasts k) (λ is. bytes k (added ∙ is)))
+    contains-removed after 255 k ∙ rw (added, contains-removed ends 255 k)
+    (by_cases (sets.contains ends k) (starts k) (lasts k) (λ is. bytes k (added ∙ is)))
   where
     by_cases : (x y z : Bool) → (((x || y) || z) ≡ true → k < 256)
         → (not (nat_eq k 255) && ((x || y) || z)) ≡ ((not (nat_eq k 255) && x) || (nat_lt k 255 && (y || z)))
@@ -80,7 +83,8 @@ class_of-parts p a (suc n) =
     regroup x y z = omega arith
 
 -- the classes of a word's bytes, by how many boundaries are below the word
-pub classes_of_word : (p : ℕ → Bool) (n word : ℕ) {below : ℕ} → ((i : ℕ) → i < 64 → has_bit word i ≡ p (64 * n + i)) → below ≡ class_of p (64 * n)
+pub classes_of_word : (p : ℕ → Bool) (n word : ℕ) {below : ℕ} → ((i : ℕ) → i < 64 → has_bit word i ≡ p (64 * n + i))
+    → below ≡ class_of p (64 * n)
     → (i : ℕ) → i ≤ 64 → below + class_of (has_bit word) i ≡ class_of p (64 * n + i)
 classes_of_word p n word bits below_is i l =
     let same = class_of_same (has_bit word) (λ k. p (64 * n + k)) i (λ k h. bits k (omega (arith, h, l))) in
@@ -99,7 +103,8 @@ abbrev is_inner : Numbers → ℕ → Bool
 is_inner ends = sets.contains (sets.remove ends 255)
 
 -- the classes of all bytes, by how many members of the set are below each: the byte 255 is below none
-pub map_of_counts : (ends : Numbers) (classes : List ℕ) → length classes ≡ 256 → ((b : ℕ) → b < 256 → slice_index classes b ≡ class_of (sets.contains ends) b) →
+pub map_of_counts : (ends : Numbers) (classes : List ℕ) → length classes ≡ 256
+    → ((b : ℕ) → b < 256 → slice_index classes b ≡ class_of (sets.contains ends) b) →
     classes ≡ class_map (is_inner ends)
 map_of_counts ends classes long each =
     class_map_is (is_inner ends) classes long (λ b l. each b l

@@ -28,7 +28,8 @@ edges-boundary r k l = (
   (λ q. contains-edges_of r.0 r.1 k ∙ is_edge r.0 r.1 k l q),
 )
 
-moves : (p : ℕ → Bool) (r : ℕ × ℕ) (b c : ℕ) → c < 256 → ((k : ℕ) → k < 255 → sets.contains (edges_of r) k ≡ true → p k ≡ true) → Together p b c
+moves : (p : ℕ → Bool) (r : ℕ × ℕ) (b c : ℕ) → c < 256 → ((k : ℕ) → k < 255 → sets.contains (edges_of r) k ≡ true → p k ≡ true)
+    → Together p b c
     → (r.0 ≤ b) × (b ≤ r.1) → b < 256 → (r.0 ≤ c) × (c ≤ r.1)
 moves p r b c small has together within here = (
   ⊎_elim
@@ -51,7 +52,8 @@ from_within r b w = grind (arith, nat_tests)
 Together-sym : (p : ℕ → Bool) (b c : ℕ) → Together p b c → Together p c b
 Together-sym p b c t k l u = t k (omega arith) (omega arith)
 
-pub edges-together : (p : ℕ → Bool) (r : ℕ × ℕ) (b c : ℕ) → b < 256 → c < 256 → ((k : ℕ) → k < 255 → sets.contains (edges_of r) k ≡ true → p k ≡ true)
+pub edges-together : (p : ℕ → Bool) (r : ℕ × ℕ) (b c : ℕ) → b < 256 → c < 256
+    → ((k : ℕ) → k < 255 → sets.contains (edges_of r) k ≡ true → p k ≡ true)
     → Together p b c → holds r b ≡ holds r c
 edges-together p r b c l u has t =
     same_bools (holds r b) (holds r c)

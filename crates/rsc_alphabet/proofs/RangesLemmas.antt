@@ -83,7 +83,8 @@ and_pairs false b x y = refl
 are_alike_more : (ranges : List (ℕ × ℕ)) (b c : ℕ) → b ≤ c → are_alike ranges b (c + 1) ≡ (are_alike ranges b c && are_alike ranges c (c + 1))
 are_alike_more [] b c l = refl
 are_alike_more (r ∷ rs) b c l =
-    ap₂ (λ t u. t && u) one (are_alike_more rs b c l) ∙ and_pairs (treats_alike r b c) (treats_alike r c (c + 1)) (are_alike rs b c) (are_alike rs c (c + 1))
+    ap₂ (λ t u. t && u) one (are_alike_more rs b c l) ∙ and_pairs (treats_alike r b c) (treats_alike r c (c + 1)) (are_alike rs b c) (are_alike rs c
+    (c + 1))
   where
     one : treats_alike r b (c + 1) ≡ (treats_alike r b c && treats_alike r c (c + 1))
     one =
@@ -99,13 +100,15 @@ are_alike_down [] b c = refl
 are_alike_down (r ∷ rs) b c = ap₂ (λ t u. t && u) (treats_alike_down r b c) (are_alike_down rs b c)
 
 -- bytes in order are alike if they have one class
-are_alike_up : (ranges : List (ℕ × ℕ)) (b n : ℕ) → are_alike ranges b (b + n) ≡ nat_eq (class_of (separates ranges) (b + n)) (class_of (separates ranges) b)
+are_alike_up : (ranges : List (ℕ × ℕ)) (b n : ℕ) → are_alike ranges b (b + n) ≡ nat_eq (class_of (separates ranges) (b + n)) (class_of
+    (separates ranges) b)
 are_alike_up ranges b zero = let e : b + zero ≡ b = omega arith in rw e (are_alike_same ranges b ∙ sym (eq-eqb _ _ refl))
 are_alike_up ranges b (suc n) =
     let e : b + suc n ≡ b + n + 1 = omega arith in
     rw (e, class_of_more (separates ranges) (b + n)) (are_alike_more ranges b (b + n) (omega arith)
     ∙ ap (λ t. t && are_alike ranges (b + n) (b + n + 1)) (are_alike_up ranges b n)
-    ∙ step (class_of (separates ranges) (b + n)) (class_of (separates ranges) b) (are_alike ranges (b + n) (b + n + 1)) (class_of-rises (separates ranges) b n))
+    ∙ step (class_of (separates ranges) (b + n)) (class_of (separates ranges) b) (are_alike ranges (b + n) (b + n + 1))
+    (class_of-rises (separates ranges) b n))
   where
     step : (x y : ℕ) (t : Bool) → y ≤ x → (nat_eq x y && t) ≡ nat_eq (x + cond (not t) 1 0) y
     step x y true l = let e : x + 0 ≡ x = omega arith in rw e (and-true (nat_eq x y))

@@ -27,10 +27,12 @@ begins s b l clean is = by_cases (sets.contains s b) (sets.contains s (b - 1)) i
 
 -- a byte after a member begins no run, and one before a member ends none
 begins_later : (s : Numbers) (b : ℕ) → 0 < b → sets.contains s (b - 1) ≡ true → begins_run s b ≡ false
-begins_later s b l before = rw (before, ne_eqb b 0 (λ e. omega arith)) (elim (sets.contains s b) as (λ v. (v && false) ≡ false) [ true ↦ refl | false ↦ refl ])
+begins_later s b l before =
+    rw (before, ne_eqb b 0 (λ e. omega arith)) (elim (sets.contains s b) as (λ v. (v && false) ≡ false) [ true ↦ refl | false ↦ refl ])
 
 ends_earlier : (s : Numbers) (b : ℕ) → b < 255 → sets.contains s (b + 1) ≡ true → ends_run s b ≡ false
-ends_earlier s b l after = rw (after, ne_eqb b 255 (λ e. omega arith)) (elim (sets.contains s b) as (λ v. (v && false) ≡ false) [ true ↦ refl | false ↦ refl ])
+ends_earlier s b l after =
+    rw (after, ne_eqb b 255 (λ e. omega arith)) (elim (sets.contains s b) as (λ v. (v && false) ≡ false) [ true ↦ refl | false ↦ refl ])
 
 module _ (s : Numbers) (b e : ℕ) (from : b ≤ e) (fits : e < 256) (within : (k : ℕ) → b ≤ k → k ≤ e → sets.contains s k ≡ true)
     (last : ends_run s e ≡ true) where

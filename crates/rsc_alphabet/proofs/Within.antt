@@ -65,7 +65,8 @@ symbols_within classes =
     (All-weaker (λ c. c < end) (λ c. c < slice_index classes 255 + 2) (λ c l. omega (arith, l)) (from_to 0 end) (All-from_to 0 end)))
     (All-cons (λ u. number_of u < slice_index classes 255 + 2) (end_of classes) [] (omega arith) (All-nil (λ u. number_of u < slice_index classes 255 + 2)))
 
-pub elements_have_class : (classes : List ℕ) (unit : Symbol) → IsSome (byte_of unit) → All (λ u. class_at classes u ≡ number_of unit) (elements_of classes unit)
+pub elements_have_class : (classes : List ℕ) (unit : Symbol) → IsSome (byte_of unit)
+    → All (λ u. class_at classes u ≡ number_of unit) (elements_of classes unit)
 elements_have_class classes (byte c) some =
     All-map (λ u. class_at classes u ≡ c) (λ b. byte b) (filter (λ b. nat_eq (slice_index classes b) c) bytes)
     (All-weaker (λ b. nat_eq (slice_index classes b) c ≡ true) (λ b. slice_index classes b ≡ c) (λ b h. eqb-true (slice_index classes b) c h)
@@ -107,11 +108,13 @@ exponent_counted n r most enough least =
     ∙ counts_all p r (λ k l. below k l)
   where
     below : (k : ℕ) → k < r → nat_lt (2 ^ k) n ≡ true
-    below k l = ⊎_elim (λ (h : 2 ^ k < n). grind (arith, nat_tests)) (λ (h : n ≤ 2 ^ k). let b = least k h in absurd (omega (arith, b, l))) (cases_lt (2 ^ k) n)
+    below k l = ⊎_elim (λ (h : 2 ^ k < n). grind (arith, nat_tests)) (λ (h : n ≤ 2 ^ k). let b = least k h in absurd (omega (arith, b, l)))
+        (cases_lt (2 ^ k) n)
 
     not_below : (k : ℕ) → r ≤ k → ¬ (nat_lt (2 ^ k) n ≡ true)
     not_below k l is = let more : 2 ^ r ≤ 2 ^ k = pow_mono {i = r} {j = k} l in grind (arith, nat_tests)
 
-pub stride2_is : (classes : List ℕ) (r : ℕ) → r ≤ 9 → slice_index classes 255 + 2 ≤ 2 ^ r → ((k : ℕ) → slice_index classes 255 + 2 ≤ 2 ^ k → r ≤ k)
+pub stride2_is : (classes : List ℕ) (r : ℕ) → r ≤ 9 → slice_index classes 255 + 2 ≤ 2 ^ r
+    → ((k : ℕ) → slice_index classes 255 + 2 ≤ 2 ^ k → r ≤ k)
     → r ≡ stride2_of classes
 stride2_is classes r most enough least = sym (exponent_counted (slice_index classes 255 + 2) r most enough least)

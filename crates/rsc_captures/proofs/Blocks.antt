@@ -29,13 +29,15 @@ module _ {block : Groups} (order : List ℕ) (is_order : IsOrder order block) wh
 
 -- one more group whose name none before it in the block has
 pub apart_more : (groups : Groups) (block n : ℕ) → AreApart groups block n
-    → ((g : ℕ) (name : List ℕ) → g < block → g < n → name_at groups g ≡ Some name → name_at groups n ≡ Some name → ⊥) → AreApart groups block (n + 1)
+    → ((g : ℕ) (name : List ℕ) → g < block → g < n → name_at groups g ≡ Some name → name_at groups n ≡ Some name → ⊥)
+    → AreApart groups block (n + 1)
 apart_more groups block n apart last g h name lt before below one other =
     ⊎_elim (λ (e : h ≡ n). last g name lt (rw e at before) one (rw e at other)) (λ (ne : h ≢ n). apart g h name lt before (omega arith) one other)
     (cases_eq h n)
 
 -- the group after a lesser one with its name
-pub repeat_of_pair : (groups : Groups) (g h : ℕ) (name : List ℕ) → g < h → h < length groups → name_at groups g ≡ Some name → name_at groups h ≡ Some name
+pub repeat_of_pair : (groups : Groups) (g h : ℕ) (name : List ℕ) → g < h → h < length groups → name_at groups g ≡ Some name
+    → name_at groups h ≡ Some name
     → is_repeat groups h ≡ true
 repeat_of_pair groups g h name lt in_groups one other =
     let in_take : g < length (take h groups) = let le : length (take h groups) ≡ h = length-take-le h groups (omega arith) in omega arith in
@@ -110,7 +112,8 @@ module _ (groups : Groups) (from end : ℕ) where
   name_of_rest g lt = sym (get_or-take (end - from) (drop from groups) g None lt ∙ get_or-drop from groups g None)
 
   -- no group of the block has the name of a later one among the first s, nor has one of the blocks before
-  pub apart_blocks : (block to s : ℕ) → to ≤ from + block → from + s ≤ end → AreApart groups from end → AreApart rest block s → AreApart groups to (from + s)
+  pub apart_blocks : (block to s : ℕ) → to ≤ from + block → from + s ≤ end → AreApart groups from end → AreApart rest block s
+      → AreApart groups to (from + s)
   apart_blocks block to s within le earlier here g h name lt before below one other =
       ⊎_elim
       (λ (early : g < from). earlier g h name early before (omega arith) one other)

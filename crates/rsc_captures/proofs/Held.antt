@@ -58,7 +58,8 @@ name_added text None short = refl
 name_added text (Some bytes) short =
     let some : eqb (length bytes) NO_NAME ≡ false = grind (arith, common_steps) in
     let all : (length text + length bytes) - length text ≡ length bytes = omega arith in
-    rw some (ap Some (ap (take ((length text + length bytes) - length text)) (drop-append_seam text bytes) ∙ ap (λ n. take n bytes) all ∙ take-length bytes))
+    rw some (ap Some (ap (take ((length text + length bytes) - length text)) (drop-append_seam text bytes) ∙ ap (λ n. take n bytes) all
+    ∙ take-length bytes))
 
 cut_added : (text : List ℕ) (name : Option (List ℕ)) → IsUtf8 (unwrap_or name []) → (place_held text name).length ≢ NO_NAME
     → IsCut (text ++ unwrap_or name []) (place_held text name)

@@ -131,7 +131,8 @@ repeat_pair groups h lt = by_name (name_at groups h) refl
 
 module _ (groups : Groups) where
   -- a group that has a lesser one's name
-  repeats_from : (g h : ℕ) (name : List ℕ) → g < h → name_at groups g ≡ Some name → name_at groups h ≡ Some name → has_name_of groups g h ≡ true
+  repeats_from : (g h : ℕ) (name : List ℕ) → g < h → name_at groups g ≡ Some name → name_at groups h ≡ Some name
+      → has_name_of groups g h ≡ true
   repeats_from g h name lt at_g at_h = rw (lt-ltb g h lt, at_g, at_h, has_name-itself name) refl
 
   pub is_repeat-from : (g h : ℕ) → has_name_of groups g h ≡ true → is_repeat groups h ≡ true
@@ -216,7 +217,8 @@ module _ (groups : Groups) where
 
     -- one more neighbour
     pub above_more : (i least less : ℕ) → 0 < i
-        → ((k : ℕ) → k + 1 < i → has_name_of groups (get_or order k 0) (get_or order (k + 1) 0) ≡ true → least ≤ get_or order (k + 1) 0) → less ≤ least
+        → ((k : ℕ) → k + 1 < i → has_name_of groups (get_or order k 0) (get_or order (k + 1) 0) ≡ true → least ≤ get_or order (k + 1) 0)
+        → less ≤ least
         → (has_name_of groups (get_or order (i - 1) 0) (get_or order i 0) ≡ true → less ≤ get_or order i 0)
         → (k : ℕ) → k + 1 < i + 1 → has_name_of groups (get_or order k 0) (get_or order (k + 1) 0) ≡ true → less ≤ get_or order (k + 1) 0
     above_more i least less some above le last k lt found =

@@ -118,7 +118,8 @@ one_owner lists s p g q h mine other =
     let y = even lists q h in
     same_slot lists p g q h a.0 b.0 (numbers (slot_number lists p g) (slot_number lists q h) mine.0 other.0 s x.0 y.0 a.1 b.1 x.1 y.1 mine.1.1 other.1.1)
   where
-    numbers : (m n a b s x y : ℕ) → a ≡ m → b ≡ n → m ≡ 2 * x → n ≡ 2 * y → (s ≡ a) ⊎ (s ≡ a + 1) → (s ≡ b) ⊎ (s ≡ b + 1) → m ≡ n
+    numbers : (m n a b s x y : ℕ) → a ≡ m → b ≡ n → m ≡ 2 * x → n ≡ 2 * y → (s ≡ a) ⊎ (s ≡ a + 1) → (s ≡ b) ⊎ (s ≡ b + 1)
+        → m ≡ n
     numbers m n a b s x y am bn mx ny sa sb =
         ⊎_elim
         (λ (e : s ≡ a). ⊎_elim (λ (f : s ≡ b). omega arith) (λ (f : s ≡ b + 1). absurd (omega arith)) sb)

@@ -71,7 +71,8 @@ module _ (firsts : List ℕ) (names : Groups) (lists : GroupLists) (are : lists_
       sym (ap (λ (groups : Groups). get_or groups g None) (part_is p (pattern_in lists p g lt))
       ∙ get_or-take (group_count lists p) (drop (groups_before lists p) names) g None lt ∙ get_or-drop (groups_before lists p) names g None)
 
-  pub named_at : (p g first : ℕ) (held : Option (List ℕ)) → first ≡ groups_before lists p → g < group_count lists p → held ≡ get_or names (first + g) None
+  pub named_at : (p g first : ℕ) (held : Option (List ℕ)) → first ≡ groups_before lists p → g < group_count lists p
+      → held ≡ get_or names (first + g) None
       → held ≡ name_of lists p g
   named_at p g first held is_first lt is = is ∙ ap (λ n. get_or names (n + g) None) is_first ∙ name_in p g lt
 
@@ -94,7 +95,8 @@ module _ (firsts : List ℕ) (names : Groups) (lists : GroupLists) (are : lists_
       (omega (arith, last, some, is_end, groups_more lists p lt), ap₂ (λ k from. take k (drop from names)) count is_first ∙ sym (part_is p lt))
 
 -- the part of a pattern's groups, as it is cut
-pub part_ordered : (order lent : List ℕ) (lists : GroupLists) (p first len : ℕ) → AreOrdered order lists (length lists) → p < length lists → lent ≡ order
+pub part_ordered : (order lent : List ℕ) (lists : GroupLists) (p first len : ℕ) → AreOrdered order lists (length lists) → p < length lists
+    → lent ≡ order
     → first ≡ groups_before lists p → len ≡ group_count lists p
     → ((first + len) ≤ length lent) × IsOrder (take ((first + len) - first) (drop first lent)) (groups_of lists p)
 part_ordered order lent lists p first len ordered lt is_order is_first is_len =
@@ -109,7 +111,8 @@ part_stays xs a k n le =
     (rw e at (ap (take k) (drop-take a (n - a) xs))) ∙ take-take k (n - a) (drop a xs) (omega arith)
 
 -- the order of one more pattern
-pub ordered_more : (order more : List ℕ) (lists : GroupLists) (p : ℕ) → p < length lists → AreOrdered order lists p → take (length order) more ≡ order
+pub ordered_more : (order more : List ℕ) (lists : GroupLists) (p : ℕ) → p < length lists → AreOrdered order lists p
+    → take (length order) more ≡ order
     → length more ≡ length order + group_count lists p
     → IsOrder (drop (length order) more) (groups_of lists p) → AreOrdered more lists (p + 1)
 ordered_more order more lists p lt ordered kept count indexed = record {
@@ -136,7 +139,8 @@ module _ (firsts order : List ℕ) (names : Groups) (lists : GroupLists) (n : �
   pub held_are : lists_held firsts names ≡ lists
   held_are = rw are (lists_are firsts lists (rw all_patterns firsts_are))
 
-  pub layout_is : HasNoOtherFault LIMIT_OF_IDS lists → HasNoRepeatBefore lists n 0 → AreOrdered order lists n → IsLayout firsts order (lists_held firsts names)
+  pub layout_is : HasNoOtherFault LIMIT_OF_IDS lists → HasNoRepeatBefore lists n 0 → AreOrdered order lists n
+      → IsLayout firsts order (lists_held firsts names)
   layout_is no_other none ordered = rw held_are (record {
     laid_out = record { faultless = faultless_from no_other (rw all_patterns none); firsts_are = rw all_patterns firsts_are };
     ordered = rw all_patterns ordered;

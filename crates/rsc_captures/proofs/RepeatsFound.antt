@@ -57,7 +57,8 @@ repeat_of_pattern lists p g r s name none first named before = record {
   before = before;
   group = first.group;
   repeats = first.repeats;
-  least = λ q h group earlier. ⊎_elim (λ (lt : q < p). none q h group (inl lt)) (λ (same : (q ≡ p) × (h < g)). rw same.0 (first.distinct h same.1)) earlier;
+  least = λ q h group earlier. ⊎_elim (λ (lt : q < p). none q h group (inl lt)) (λ (same : (q ≡ p) × (h < g)). rw same.0 (first.distinct h same.1))
+      earlier;
   named = named;
   fault = refl;
 }
@@ -68,7 +69,8 @@ pub none_more : (lists : GroupLists) (p : ℕ) → HasNoRepeatBefore lists p 0 �
 none_more lists p none distinct q h group earlier =
     ⊎_elim
     (λ (lt : q < p). none q h group (inl lt))
-    (λ (ge : p ≤ q). let same : q ≡ p = ⊎_elim (λ (lt : q < p + 1). omega arith) (λ (s : (q ≡ p + 1) × (h < 0)). absurd (omega (arith, s.1))) earlier in
+    (λ (ge : p ≤ q). let same : q ≡ p = ⊎_elim (λ (lt : q < p + 1). omega arith) (λ (s : (q ≡ p + 1) × (h < 0)). absurd (omega (arith, s.1)))
+    earlier in
     rw same (distinct h (rw same at group)))
     (cases_lt q p)
 
@@ -84,7 +86,8 @@ none_before lists p r s le none q h group = ⊎_elim (λ (lt : q < p). none q h 
     (λ (same : (q ≡ p) × (h < 0)). absurd (omega (arith, same.1)))
 
 -- one more pattern, of whose groups those before the place are distinct
-pub none_so_far : (lists : GroupLists) (p r s end : ℕ) → NoneSoFar lists p r s → ((h : ℕ) → h < group_count lists p → ComesBefore p h r s → h < end)
+pub none_so_far : (lists : GroupLists) (p r s end : ℕ) → NoneSoFar lists p r s
+    → ((h : ℕ) → h < group_count lists p → ComesBefore p h r s → h < end)
     → AreDistinctBelow (groups_of lists p) end
     → NoneSoFar lists (p + 1) r s
 none_so_far lists p r s end none all distinct q h lt group before =

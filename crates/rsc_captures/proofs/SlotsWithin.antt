@@ -19,7 +19,8 @@ number_within lists checked p (suc g) lt =
     let rises : explicit_before lists (p + 1) ≤ explicit_before lists (length lists) = sum_rises explicit_groups lists (p + 1) (length lists) (omega arith) in
     omega (arith, slot_explicit lists p g, before_more lists p pattern, all_groups_are lists checked)
 
-pub slot_within : (lists : GroupLists) → IsFaultless LIMIT_OF_IDS lists → (p g slot : ℕ) → slot_of lists p g ≡ Some slot → slot + 1 < 2 * all_groups lists
+pub slot_within : (lists : GroupLists) → IsFaultless LIMIT_OF_IDS lists → (p g slot : ℕ) → slot_of lists p g ≡ Some slot
+    → slot + 1 < 2 * all_groups lists
 slot_within lists checked p g slot is = let facts = slot_facts lists p g slot is in omega (arith, facts.1, number_within lists checked p g facts.0)
 
 -- all slots are within the limit
@@ -35,7 +36,8 @@ slots_within_limit lists checked =
     omega (arith, all_groups_are lists checked, empty))
     (cases_lt 0 (length lists))
 
-pub slot_of-within : (lists : GroupLists) → IsFaultless LIMIT_OF_IDS lists → (p g : ℕ) → IfSome (slot_of lists p g) (λ slot. slot + 1 < 2 * all_groups lists)
+pub slot_of-within : (lists : GroupLists) → IsFaultless LIMIT_OF_IDS lists → (p g : ℕ)
+    → IfSome (slot_of lists p g) (λ slot. slot + 1 < 2 * all_groups lists)
 slot_of-within lists faultless p g =
     elim (slot_of lists p g) as (λ o. slot_of lists p g ≡ o → IfSome o (λ slot. slot + 1 < 2 * all_groups lists)) [
       | None ↦ λ _. tt
@@ -43,7 +45,8 @@ slot_of-within lists faultless p g =
     ] refl
 
 -- the slot of an explicit group: each pattern before has a first group, whose slots are counted apart
-pub explicit_slot : (lists : GroupLists) (p g first : ℕ) → IsFaultless LIMIT_OF_IDS lists → g < group_count lists p → 0 < g → first ≡ groups_before lists p
+pub explicit_slot : (lists : GroupLists) (p g first : ℕ) → IsFaultless LIMIT_OF_IDS lists → g < group_count lists p → 0 < g
+    → first ≡ groups_before lists p
     → (Some (2 * ((((length lists - p) + first) + g) - 1)) ≡ slot_of lists p g) × (2 * ((((length lists - p) + first) + g) - 1) < 2147483646)
 explicit_slot lists p g first faultless group explicit is =
     (slot, omega (arith, slot_within lists faultless p g (2 * ((((length lists - p) + first) + g) - 1)) (sym slot), slots_within_limit lists faultless))

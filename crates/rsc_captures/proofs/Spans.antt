@@ -9,7 +9,8 @@ pub length-spans_from : (c : Captured) (i : ℕ) → length (spans_from c i) ≡
 length-spans_from c i = length-map-range_with_len (group_span c) i (matched_groups c - i)
 
 pub spans_from_first : (c : Captured) (i : ℕ) → i < matched_groups c → spans_from c i ≡ group_span c i ∷ spans_from c (i + 1)
-spans_from_first c i lt = let e : matched_groups c - i ≡ suc (matched_groups c - (i + 1)) = omega arith in ap (λ n. map (group_span c) (range_with_len i n)) e
+spans_from_first c i lt =
+    let e : matched_groups c - i ≡ suc (matched_groups c - (i + 1)) = omega arith in ap (λ n. map (group_span c) (range_with_len i n)) e
 
 -- those of all groups are those from the first on
 none_before : (c : Captured) → matched_groups c ≡ matched_groups c - 0

@@ -21,7 +21,8 @@ pub record IsFirstRepeat (groups : Groups) (g : ℕ) : Type 0 where
 -- no group below `end` has the name of a lesser one that is among the first n
 abbrev pub AreApart : Groups → ℕ → ℕ → Type 0
 AreApart groups n end =
-    (g h : ℕ) (name : List ℕ) → g < n → g < h → h < end → slice_index_or groups g None ≡ Some name → slice_index_or groups h None ≡ Some name → ⊥
+    (g h : ℕ) (name : List ℕ) → g < n → g < h → h < end → slice_index_or groups g None ≡ Some name → slice_index_or groups h None ≡ Some name
+    → ⊥
 
 -- group h is the first that has the name of a lesser one that is among the first n
 pub record IsRepeatOf (groups : Groups) (n h : ℕ) : Type 0 where

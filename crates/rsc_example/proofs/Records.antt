@@ -21,7 +21,8 @@ recorded-drop states run (suc k) slot some l =
     let same : suc k - 1 ≡ k = omega arith in
     let h : k < length run = omega (arith, l) in
     let left : 0 < length (drop (suc k) run) = omega (arith, l, length-drop (suc k) run) in
-    rw same (ap (λ (x : List (ℕ × ℕ)). recorded states x slot) (drop-cons run k (0, 0) h) ∙ recorded-cons states (place run k) (drop (suc k) run) slot left)
+    rw same (ap (λ (x : List (ℕ × ℕ)). recorded states x slot) (drop-cons run k (0, 0) h)
+    ∙ recorded-cons states (place run k) (drop (suc k) run) slot left)
 
 none_of_one : (states : List State) (run : List (ℕ × ℕ)) (slot : ℕ) → length run ≤ 1 → recorded states run slot ≡ None
 none_of_one states [] slot l = refl
@@ -31,7 +32,8 @@ none_of_one states (p ∷ (q ∷ rest)) slot l = absurd (omega (arith, l))
 pub recorded-last_place : (states : List State) (run : List (ℕ × ℕ)) (slot : ℕ) → recorded states (drop (length run - 1) run) slot ≡ None
 recorded-last_place states run slot = none_of_one states (drop (length run - 1) run) slot (omega (arith, length-drop (length run - 1) run))
 
-pub recorded-more : (states : List State) (run : List (ℕ × ℕ)) (k slot : ℕ) (p q : ℕ × ℕ) (state : State) (before after : Option ℕ) → 0 < k → k < length run
+pub recorded-more : (states : List State) (run : List (ℕ × ℕ)) (k slot : ℕ) (p q : ℕ × ℕ) (state : State) (before after : Option ℕ) → 0 < k
+    → k < length run
     → p ≡ place run (k - 1) → q ≡ place run (k - 1) → slice_get states p.0 ≡ Some state → before ≡ recorded states (drop k run) slot
     → after ≡ or_earlier before (cond (is_capture_of slot (Some state)) (Some q.1) None) → after ≡ recorded states (drop (k - 1) run) slot
 recorded-more states run k slot p q state before after some l here there at had has =

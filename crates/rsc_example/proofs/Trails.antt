@@ -25,7 +25,8 @@ place-after run p k e =
 
 -- ---- a place more
 
-run_more : (e : Scene) (from : ℕ × ℕ) (run : List (ℕ × ℕ)) (p : ℕ × ℕ) → IsRun e.states e.terminator e.words e.haystack e.start e.end run → IsNext e from run p
+run_more : (e : Scene) (from : ℕ × ℕ) (run : List (ℕ × ℕ)) (p : ℕ × ℕ) → IsRun e.states e.terminator e.words e.haystack e.start e.end run
+    → IsNext e from run p
     → IsRun e.states e.terminator e.words e.haystack e.start e.end (run ++ p ∷ [])
 run_more e from run p r n = record {
   places = λ k l. ⊎_elim
@@ -67,7 +68,8 @@ IsTrail-more e from run others p other t n way = record {
         get_or-append_right others (other ∷ []) (length others) k None refl (omega (arith, e)) ∙ ap (λ (i : ℕ). get_or (other ∷ []) i None) none
 
 -- what goes on from the last place
-pub IsNext-more : (e : Scene) (from : ℕ × ℕ) (run : List (ℕ × ℕ)) (p q : ℕ × ℕ) → IsPlace e q → Leads e p q → IsNext e from (run ++ p ∷ []) q
+pub IsNext-more : (e : Scene) (from : ℕ × ℕ) (run : List (ℕ × ℕ)) (p q : ℕ × ℕ) → IsPlace e q → Leads e p q
+    → IsNext e from (run ++ p ∷ []) q
 IsNext-more e from run p q there leads = record {
   there = there;
   first = λ none. absurd (omega (arith, none, length-append run (p ∷ [])));
@@ -75,7 +77,8 @@ IsNext-more e from run p q there leads = record {
 }
 
 -- the run to a place that accepts
-pub IsMatchRun-more : (e : Scene) (from : ℕ × ℕ) (run : List (ℕ × ℕ)) (others : List (Option ℕ)) (p : ℕ × ℕ) → IsTrail e from run others → IsNext e from run p
+pub IsMatchRun-more : (e : Scene) (from : ℕ × ℕ) (run : List (ℕ × ℕ)) (others : List (Option ℕ)) (p : ℕ × ℕ) → IsTrail e from run others
+    → IsNext e from run p
     → accepts e p ≡ true → IsMatchRun e from (run ++ p ∷ [])
 IsMatchRun-more e from run others p t n accepted = record {
   is_run = run_more e from run p t.is_run n;
@@ -90,7 +93,8 @@ IsMatchRun-more e from run others p t n accepted = record {
 -- ---- back to a place
 
 -- the last place is dropped
-pub IsTrail-less : (e : Scene) (from : ℕ × ℕ) (run : List (ℕ × ℕ)) (others : List (Option ℕ)) (n m : ℕ) → IsTrail e from run others → n < length run → n ≡ m
+pub IsTrail-less : (e : Scene) (from : ℕ × ℕ) (run : List (ℕ × ℕ)) (others : List (Option ℕ)) (n m : ℕ) → IsTrail e from run others
+    → n < length run → n ≡ m
     → IsTrail e from (take n run) (take m others)
 IsTrail-less e from run others n m t l same = record {
   as_many = omega (arith, length-take-le n run (omega arith), length-take-le m others (omega (arith, t.as_many)));
@@ -133,7 +137,8 @@ IsTrail-none e from run others i t = record {
         (cases_eq k i)
 
 -- and the trail goes on with it
-pub IsNext-back : (e : Scene) (from : ℕ × ℕ) (run : List (ℕ × ℕ)) (others : List (Option ℕ)) (k b : ℕ) → IsTrail e from run others → k + 1 ≡ length run
+pub IsNext-back : (e : Scene) (from : ℕ × ℕ) (run : List (ℕ × ℕ)) (others : List (Option ℕ)) (k b : ℕ) → IsTrail e from run others
+    → k + 1 ≡ length run
     → get_or others k None ≡ Some b → IsNext e from run (b, (place run k).1)
 IsNext-back e from run others k b t last at = record {
   there = ((t.ways k b (omega (arith, last, t.as_many)) at).0, (t.is_run.places k (omega (arith, last))).1, (t.is_run.places k (omega (arith, last))).2);
@@ -143,7 +148,8 @@ IsNext-back e from run others k b t last at = record {
 
 -- ---- a visit
 
-pub IsAfter-more : (e : Scene) (from : ℕ × ℕ) (run : List (ℕ × ℕ)) (others : List (Option ℕ)) (p : ℕ × ℕ) (step : Move) → IsTrail e from run others
+pub IsAfter-more : (e : Scene) (from : ℕ × ℕ) (run : List (ℕ × ℕ)) (others : List (Option ℕ)) (p : ℕ × ℕ) (step : Move)
+    → IsTrail e from run others
     → IsNext e from run p
     → IsMove e p step → IsAfter e from p (run ++ p ∷ []) (others ++ other_of step ∷ []) step
 IsAfter-more e from run others p Fails t n m = IsTrail-more e from run others p None t n (λ b h. absurd (none_is_none b h))

@@ -39,7 +39,8 @@ count_le f g a (suc n) h =
           (h a (omega arith) (omega arith)) rest,
     )
 
-pub count_lt : (f g : ℕ → Bool) (p a n : ℕ) → ((q : ℕ) → a ≤ q → q < a + n → f q ≡ true → g q ≡ true) → a ≤ p → p < a + n → f p ≡ false → g p ≡ true
+pub count_lt : (f g : ℕ → Bool) (p a n : ℕ) → ((q : ℕ) → a ≤ q → q < a + n → f q ≡ true → g q ≡ true) → a ≤ p → p < a + n
+    → f p ≡ false → g p ≡ true
     → count_by f (range_with_len a n) < count_by g (range_with_len a n)
 count_lt f g p a zero h low high out inside = absurd (omega (arith, low, high))
 count_lt f g p a (suc n) h low high out inside =
@@ -93,7 +94,8 @@ unvisited-no_more s p adds =
     (λ q low high n. fewer (has_member (with_member s p).members q) (has_member s.members q) q p (adds s p q (omega (arith, high))) n)
 
 -- so there is less to do, whatever way is left at the place
-pub IsLess-more : (v : Patterns) (p : ℕ) (others : List (Option ℕ)) (other : Option ℕ) (step : Move) → AddsOne → p < v.capacity → has_member v.members p ≡ false
+pub IsLess-more : (v : Patterns) (p : ℕ) (others : List (Option ℕ)) (other : Option ℕ) (step : Move) → AddsOne → p < v.capacity
+    → has_member v.members p ≡ false
     → IsLess (work (with_member v p) (others ++ other ∷ [])) (work v others) step
 IsLess-more v p others other step adds l none = go step
   where

@@ -22,17 +22,20 @@ pub HasAsked-none : (s : Looks) (rest : List Look) (P : Look → Type 0) → res
 HasAsked-none s rest P e = rw e (record { asked = λ l h. inl (contains-members s l ∙ h); left = λ l h. sym (contains-members s l) ∙ h })
 
 with_first : (x : Look) (rest : List Look) (l : Look)
-    → sets.contains (sets.from_list {R = look_cmp} (x ∷ rest)) l ≡ (nat_eq (repr_of l) (repr_of x) || sets.contains (sets.from_list {R = look_cmp} rest) l)
+    → sets.contains (sets.from_list {R = look_cmp} (x ∷ rest)) l ≡
+    (nat_eq (repr_of l) (repr_of x) || sets.contains (sets.from_list {R = look_cmp} rest) l)
 with_first x rest l =
     contains-insert look_cmp_total (sets.from_list rest) x l
     ∙ ap (λ b. b || sets.contains (sets.from_list {R = look_cmp} rest) l) (unsigned_tied (repr_of l) (repr_of x))
 
-pub HasAsked-more : (s : Looks) (x : Look) (all rest : List Look) (P : Look → Type 0) → HasAsked s all P → all ≡ x ∷ rest → P x → HasAsked s rest P
+pub HasAsked-more : (s : Looks) (x : Look) (all rest : List Look) (P : Look → Type 0) → HasAsked s all P → all ≡ x ∷ rest → P x
+    → HasAsked s rest P
 HasAsked-more s x all rest P a e p = record {
   asked = λ l h. ⊎_elim
       (λ (q : sets.contains (sets.from_list {R = look_cmp} all) l ≡ true). ⊎_elim
       (λ (same : repr_of l ≡ repr_of x). inr (subst P (sym (repr_of-injective l x same)) p))
-      (λ (other : repr_of l ≢ repr_of x). inl (sym (ap (λ b. b || sets.contains (sets.from_list {R = look_cmp} rest) l) (ne_eqb (repr_of l) (repr_of x) other))
+      (λ (other : repr_of l ≢ repr_of x). inl
+      (sym (ap (λ b. b || sets.contains (sets.from_list {R = look_cmp} rest) l) (ne_eqb (repr_of l) (repr_of x) other))
       ∙ sym (with_first x rest l) ∙ sym (ap (λ (r : List Look). sets.contains (sets.from_list {R = look_cmp} r) l) e) ∙ q))
       (cases_eq (repr_of l) (repr_of x)))
       (λ (q : P l). inr q)
@@ -41,7 +44,8 @@ HasAsked-more s x all rest P a e p = record {
       ∙ ap (λ b. nat_eq (repr_of l) (repr_of x) || b) h ∙ or-true (nat_eq (repr_of l) (repr_of x)));
 }
 
-pub HasAsked-all : (s : Looks) (rest : List Look) (P : Look → Type 0) → HasAsked s rest P → rest ≡ [] → (l : Look) → sets.contains s l ≡ true → P l
+pub HasAsked-all : (s : Looks) (rest : List Look) (P : Look → Type 0) → HasAsked s rest P → rest ≡ [] → (l : Look) → sets.contains s l ≡ true
+    → P l
 HasAsked-all s rest P a e l h = ⊎_elim
     (λ (q : sets.contains (sets.from_list {R = look_cmp} rest) l ≡ true). absurd
     (true≢false (sym q ∙ ap (λ (r : List Look). sets.contains (sets.from_list {R = look_cmp} r) l) e ∙ contains-empty look_cmp l)))

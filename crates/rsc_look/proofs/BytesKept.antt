@@ -24,7 +24,8 @@ Together-leb p a b x t h =
 Together-leb-mark : (p m : ℕ → Bool) (a b x : ℕ) → HasMarks p m → Together p a b → x < 255 → m x ≡ true → leb a x ≡ leb b x
 Together-leb-mark p m a b x s t l h = Together-leb p a b x t (s x l h)
 
-same_eqb : (a b t : ℕ) → a < 256 → b < 256 → (t < 255 → leb a t ≡ leb b t) → (0 < t → t < 256 → leb a (t - 1) ≡ leb b (t - 1)) → eqb a t ≡ eqb b t
+same_eqb : (a b t : ℕ) → a < 256 → b < 256 → (t < 255 → leb a t ≡ leb b t) → (0 < t → t < 256 → leb a (t - 1) ≡ leb b (t - 1))
+    → eqb a t ≡ eqb b t
 same_eqb a b t la lb f g = grind (arith, nat_tests)
 
 pub Together-eqb : (p : ℕ → Bool) (a b t : ℕ) → a < 256 → b < 256 → HasMarks p (is_edge t) → Together p a b → eqb a t ≡ eqb b t
@@ -113,7 +114,8 @@ crlf_lf : (p : ℕ → Bool) → HasMarks p (λ b. is_edge 13 b || is_edge 10 b)
 crlf_lf p s b l e = s b l (or_right (is_edge 13 b) (is_edge 10 b) e)
 
 -- the table gives the same at neighbours that are together
-pub holds_at_bytes-same : (p : ℕ → Bool) (l : Look) (t : ℕ) → HasMarks p (is_mark l t) → (a b x y : Option ℕ) → TogetherAt p a b → TogetherAt p x y
+pub holds_at_bytes-same : (p : ℕ → Bool) (l : Look) (t : ℕ) → HasMarks p (is_mark l t) → (a b x y : Option ℕ) → TogetherAt p a b
+    → TogetherAt p x y
     → holds_at_bytes l t a x ≡ holds_at_bytes l t b y
 holds_at_bytes-same p Start t s a b x y h k = same_none p a b h
 holds_at_bytes-same p End t s a b x y h k = same_none p x y k

@@ -30,7 +30,8 @@ is_mark-unicode _ t b e = refl
 
 -- ---- one assertion is kept by every partition that has its boundaries
 
-pub kept_at_bytes : (p : ℕ → Bool) (l : Look) (t : ℕ) (W : ℕ → Bool) → HasMarks p (is_mark l t) → is_unicode l ≡ false → (h k : List ℕ) → AreInterchanged p h k
+pub kept_at_bytes : (p : ℕ → Bool) (l : Look) (t : ℕ) (W : ℕ → Bool) → HasMarks p (is_mark l t) → is_unicode l ≡ false → (h k : List ℕ)
+    → AreInterchanged p h k
     → (i : ℕ) → Holds l t W h i ↔ Holds l t W k i
 kept_at_bytes p l t W m e h k s i =
     let same : holds_at_bytes l t (byte_before h i) (byte_after h i) ≡ holds_at_bytes l t (byte_before k i) (byte_after k i) =
@@ -54,7 +55,8 @@ kept_at_characters p l t W ascii m e h k s d i =
 members_marks : (p : ℕ → Bool) (looks : List Look) (l : Look) (t : ℕ) → HasMarks p (marks_of looks t) → Contains looks l → HasMarks p (is_mark l t)
 members_marks p looks l t has c b lt m = has b lt (list_any_at (λ x. is_mark x t b) looks c.0 l c.1 (ap (λ x. is_mark x t b) c.2 ∙ m))
 
-pub Keeps-from : (p : ℕ → Bool) (looks : List Look) (t : ℕ) (W : ℕ → Bool) → HasMarks p (marks_of looks t) → AgreesWhereAsked W looks → Keeps p looks t W
+pub Keeps-from : (p : ℕ → Bool) (looks : List Look) (t : ℕ) (W : ℕ → Bool) → HasMarks p (marks_of looks t) → AgreesWhereAsked W looks
+    → Keeps p looks t W
 Keeps-from p looks t W has a = record {
   at_bytes = λ l c e h k s i r. kept_at_bytes p l t W (members_marks p looks l t has c) e h k s i;
   at_characters = λ l c e h k s d i r. kept_at_characters p l t W (a l c e) (members_marks p looks l t has c) e h k s d i;
@@ -94,7 +96,8 @@ boundaries-IsCoarsest looks t W a = record {
       mark_is_needed q looks y.1 t W b (a y.1 c) keeps c lt y.4;
 }
 
-boundaries-IsNeeded : (looks : List Look) (t : ℕ) (W : ℕ → Bool) (b : ℕ) → AgreesWhereAsked W looks → sets.contains (boundaries_of_each looks t) b ≡ true
+boundaries-IsNeeded : (looks : List Look) (t : ℕ) (W : ℕ → Bool) (b : ℕ) → AgreesWhereAsked W looks
+    → sets.contains (boundaries_of_each looks t) b ≡ true
     → IsNeeded b looks t W
 boundaries-IsNeeded looks t W b a m =
     let y : Any (λ l. is_mark l t b ≡ true) looks = member_with looks t b m in

@@ -61,7 +61,8 @@ first_member s k l is none =
 
     kept : (j : ℕ) → k + 1 ≤ j → j < 18 → q j ≡ p j
     kept j low high = without j ∙ ap (λ b. not b && p j) (ne_eqb (repr_of (look_at j)) (repr_of (look_at k)) (λ e.
-        let same : j ≡ k = sym (place_of-look_at j high) ∙ ap place_of (repr_of-injective (look_at j) (look_at k) e) ∙ place_of-look_at k l in omega arith))
+        let same : j ≡ k = sym (place_of-look_at j high) ∙ ap place_of (repr_of-injective (look_at j) (look_at k) e)
+        ∙ place_of-look_at k l in omega arith))
 
 pub no_member : (s : Looks) → s ≡ sets.empty → members s ≡ []
 no_member s e = members-at s
@@ -98,7 +99,8 @@ shifted k l =
     let small : 2 ^ k < 2 ^ 32 = subst (λ x. x < 2 ^ 32) (repr_of-look_at k l) (let m = repr_of-lt (look_at k) in omega arith) in
     rw one (omega (arith, small))
 
-pub first_some : (n : ℕ) (r : Option Look) → (n ≡ 0 → ⊥) → n < 2 ^ 18 → ((l : Look) → (r ≡ Some l) ↔ (repr_of l ≡ 1 * 2 ^ trailing_zeros w32 n % 2 ^ 32))
+pub first_some : (n : ℕ) (r : Option Look) → (n ≡ 0 → ⊥) → n < 2 ^ 18
+    → ((l : Look) → (r ≡ Some l) ↔ (repr_of l ≡ 1 * 2 ^ trailing_zeros w32 n % 2 ^ 32))
     → IsFirstMember (looks_of n) r
 first_some n r some h is =
     let k = trailing_zeros w32 n in

@@ -68,7 +68,8 @@ has_bit-and a b l = ap (λ n. nat_eq n 1) (bit_at_and a b (place_of l)) ∙ min_
 
 has_bit-not : (b : ℕ) (l : Look) → b < 2 ^ 32 → has_bit (4294967295 - b) l ≡ not (has_bit b l)
 has_bit-not b l h =
-    ap (λ n. nat_eq n 1) (bit_at_not w32 b (place_of l) h (let p = place_of-lt l in omega arith)) ∙ minus_is (bit_at b (place_of l)) (bit_at-lt b (place_of l))
+    ap (λ n. nat_eq n 1) (bit_at_not w32 b (place_of l) h (let p = place_of-lt l in omega arith))
+    ∙ minus_is (bit_at b (place_of l)) (bit_at-lt b (place_of l))
 
 -- ---- the operations
 

@@ -164,11 +164,13 @@ scalars_reversed [] ys p q = q
 scalars_reversed (x ∷ xs) ys p q = let b = and_parts (scalar x) (all_scalars xs) p in let e = b.0 in scalars_reversed xs (x ∷ ys) b.1 (rw (e, q))
 
 -- the answer of `matches`, and the mirrors
-pub matches_mirror : (l : Look) (t : ℕ) (W : ℕ → Bool) (h : List ℕ) (i : ℕ) (r : Bool) → i ≤ length h → IsTrue r ↔ Holds l t W h i → is_unicode l ≡ false
+pub matches_mirror : (l : Look) (t : ℕ) (W : ℕ → Bool) (h : List ℕ) (i : ℕ) (r : Bool) → i ≤ length h → IsTrue r ↔ Holds l t W h i
+    → is_unicode l ≡ false
     → IsTrue r ↔ Holds (reversed l) t W (mirror l h) (length h - i)
 matches_mirror l t W h i r o e u = let m = Holds-mirror l t W h i u o in ((λ x. m.0 (e.0 x)), (λ x. e.1 (m.1 x)))
 
-pub Holds-text_mirror : (l : Look) (t : ℕ) (W : ℕ → Bool) (cs : List ℕ) (k : ℕ) → is_unicode l ≡ true → all_scalars cs ≡ true → k ≤ length cs
+pub Holds-text_mirror : (l : Look) (t : ℕ) (W : ℕ → Bool) (cs : List ℕ) (k : ℕ) → is_unicode l ≡ true → all_scalars cs ≡ true
+    → k ≤ length cs
     → Holds l t W (encode_utf8_all cs) (place cs k) ↔ Holds (reversed l) t W (encode_utf8_all (reverse cs)) (place (reverse cs) (length cs - k))
 Holds-text_mirror l t W cs k u s o =
     let r = scalars_reversed cs [] s refl in
@@ -181,7 +183,8 @@ Holds-text_mirror l t W cs k u s o =
     same_tests _ _ _ _ (Holds-place l t W cs k u s o) m (rw (p, q) (sym (sides_reversed l (side_by W (byte_before cs k)) (side_by W (byte_after cs k)))))
 
 -- in the words of the encodings
-ends_first : (h : List ℕ) (i : ℕ) (cs : List ℕ) (k : ℕ) → EndsFirst h i cs k → (all_scalars cs ≡ true) × (h ≡ encode_utf8_all cs) × (i ≡ place cs k)
+ends_first : (h : List ℕ) (i : ℕ) (cs : List ℕ) (k : ℕ) → EndsFirst h i cs k → (all_scalars cs ≡ true) × (h ≡ encode_utf8_all cs)
+    × (i ≡ place cs k)
 ends_first h i cs k e =
     let whole = (EncodesAll-std h cs).0 e.text in
     let front = (EncodesAll-std e.front (take k cs)).0 e.front_text in

@@ -67,21 +67,24 @@ after_alone W b l w = go (is_word_byte b) w
     go true e = (b, (1, encoded_alone b l), e)
     go false e = (b, (1, encoded_alone b l), e)
 
-sides_alone : (W : ℕ → Bool) (b i : ℕ) → b < 128 → W b ≡ is_word_byte b → i ≤ 1 → IsBefore W (b ∷ []) i (sides_at i b).0 × IsAfter W (b ∷ []) i (sides_at i b).1
+sides_alone : (W : ℕ → Bool) (b i : ℕ) → b < 128 → W b ≡ is_word_byte b → i ≤ 1 → IsBefore W (b ∷ []) i (sides_at i b).0
+    × IsAfter W (b ∷ []) i (sides_at i b).1
 sides_alone W b zero l w h = (refl, after_alone W b l w)
 sides_alone W b (suc zero) l w h = (before_alone W b l w, refl)
 sides_alone W b (suc (suc i)) l w h = absurd (omega arith)
 
 -- ---- from tests to facts
 
-Tells-from : (A B : Type 0) (x y : Bool) → (A → x ≡ true) → (x ≡ true → A) → (B → y ≡ true) → (y ≡ true → B) → exactly_one x y ≡ true → (A × (B → ⊥))
+Tells-from : (A B : Type 0) (x y : Bool) → (A → x ≡ true) → (x ≡ true → A) → (B → y ≡ true) → (y ≡ true → B)
+    → exactly_one x y ≡ true → (A × (B → ⊥))
     ⊎ ((A → ⊥) × B)
 Tells-from A B true true f g m n e = absurd (true≢false (sym e))
 Tells-from A B true false f g m n e = inl (g refl, λ b. true≢false (sym (m b)))
 Tells-from A B false true f g m n e = inr ((λ a. true≢false (sym (f a))), n refl)
 Tells-from A B false false f g m n e = absurd (true≢false (sym e))
 
-tells_bytes : (l : Look) (t : ℕ) (W : ℕ → Bool) (b : ℕ) → is_unicode l ≡ false → exactly_one (alone_at_bytes l t b) (alone_at_bytes l t (b + 1)) ≡ true
+tells_bytes : (l : Look) (t : ℕ) (W : ℕ → Bool) (b : ℕ) → is_unicode l ≡ false
+    → exactly_one (alone_at_bytes l t b) (alone_at_bytes l t (b + 1)) ≡ true
     → Tells l t W (b ∷ []) ((b + 1) ∷ []) (place_of l)
 tells_bytes l t W b e x =
     rw e (Tells-from (IsTrue (alone_at_bytes l t b)) (IsTrue (alone_at_bytes l t (b + 1))) (alone_at_bytes l t b) (alone_at_bytes l t (b + 1)) (λ q. q)
@@ -101,7 +104,8 @@ tells_sides l t W b e a lt x =
 -- ---- the boundaries, one by one
 
 -- a test that each number of a list passes
-each_passes_step : (test : ℕ → Bool) (x b : ℕ) (m h u v : Bool) → nat_eq x b ≡ u → test x ≡ v → (m ≡ true → h ≡ true → test b ≡ true) → (u || m) ≡ true
+each_passes_step : (test : ℕ → Bool) (x b : ℕ) (m h u v : Bool) → nat_eq x b ≡ u → test x ≡ v → (m ≡ true → h ≡ true → test b ≡ true)
+    → (u || m) ≡ true
     → (v && h) ≡ true → test b ≡ true
 each_passes_step test x b m h true true e f r p q = let s : b ≡ x = grind (arith, nat_tests) in ap test s ∙ f
 each_passes_step test x b m h false true e f r p q = r p q
@@ -140,7 +144,8 @@ Tells-mark End t W b a m = absurd (true≢false (sym m))
 Tells-mark StartLF t W b a m = tells_bytes StartLF t W b refl (tells_line t b m)
 Tells-mark EndLF t W b a m = tells_bytes EndLF t W b refl (tells_line t b m)
 Tells-mark StartCRLF t W b a m = tells_bytes StartCRLF t W b refl
-    (each_passes (λ x. exactly_one (alone_at_bytes StartCRLF t x) (alone_at_bytes StartCRLF t (x + 1))) (12 ∷ 13 ∷ 9 ∷ 10 ∷ []) b (crlf_listed b m) refl)
+    (each_passes (λ x. exactly_one (alone_at_bytes StartCRLF t x) (alone_at_bytes StartCRLF t (x + 1))) (12 ∷ 13 ∷ 9 ∷ 10 ∷ []) b (crlf_listed b m)
+    refl)
 Tells-mark EndCRLF t W b a m = tells_bytes EndCRLF t W b refl
     (each_passes (λ x. exactly_one (alone_at_bytes EndCRLF t x) (alone_at_bytes EndCRLF t (x + 1))) (12 ∷ 13 ∷ 9 ∷ 10 ∷ []) b (crlf_listed b m) refl)
 Tells-mark WordAscii t W b a m = tells_word_bytes WordAscii t W b refl refl m

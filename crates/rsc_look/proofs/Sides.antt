@@ -74,7 +74,8 @@ HoldsAtSides-is l W h i a b p q s =
     let f : b ≡ s.after = IsAfter-same W h i b s.after q s.is_after in
     rw (e, f) s.holds
 
-pub HoldsAtSides-from : (l : Look) (W : ℕ → Bool) (h : List ℕ) (i : ℕ) (a b : Side) → IsBefore W h i a → IsAfter W h i b → holds_at_sides l a b ≡ true
+pub HoldsAtSides-from : (l : Look) (W : ℕ → Bool) (h : List ℕ) (i : ℕ) (a b : Side) → IsBefore W h i a → IsAfter W h i b
+    → holds_at_sides l a b ≡ true
     → HoldsAtSides l W h i
 HoldsAtSides-from l W h i a b p q s = record { before = a; after = b; is_before = p; is_after = q; holds = s }
 
@@ -105,7 +106,8 @@ pub Interchange-sym : (W : ℕ → Bool) (h k : List ℕ) → Interchange W h k 
 Interchange-sym W h k s = let e = s.agree.same_length in
     record { agree = AgreePastAscii-sym h k s.agree; ascii = s.ascii; words = λ i l. sym (s.words i (omega arith)) }
 
-encoded_moves : (W : ℕ → Bool) (h k : List ℕ) (i j c : ℕ) → Interchange W h k → EncodedFrom h i j c → (d : ℕ) × EncodedFrom k i j d × (W d ≡ W c)
+encoded_moves : (W : ℕ → Bool) (h k : List ℕ) (i j c : ℕ) → Interchange W h k → EncodedFrom h i j c → (d : ℕ) × EncodedFrom k i j d
+    × (W d ≡ W c)
 encoded_moves W h k i j c s e =
     ⊎_elim
     (λ q. (c, q.0, refl))
@@ -169,31 +171,36 @@ IsAfter-from_char W h i c Invalid e s = absurd s
 IsAfter-from_char W h i c Word e s = (c, e, s)
 IsAfter-from_char W h i c Other e s = (c, e, s)
 
-pub sides_decide : (l : Look) (W : ℕ → Bool) (h : List ℕ) (i : ℕ) (a b : Side) (r : Bool) → IsBefore W h i a → IsAfter W h i b → r ≡ holds_at_sides l a b
+pub sides_decide : (l : Look) (W : ℕ → Bool) (h : List ℕ) (i : ℕ) (a b : Side) (r : Bool) → IsBefore W h i a → IsAfter W h i b
+    → r ≡ holds_at_sides l a b
     → IsTrue r ↔ HoldsAtSides l W h i
 sides_decide l W h i a b r p q e = ((λ t. HoldsAtSides-from l W h i a b p q (sym e ∙ t)), (λ s. e ∙ HoldsAtSides-is l W h i a b p q s))
 
 pub Holds-decided : (l : Look) (t : ℕ) (W : ℕ → Bool) (h : List ℕ) (i : ℕ) (a b : Side) (r : Bool) → is_unicode l ≡ true → IsBefore W h i a
     → IsAfter W h i b → r ≡ holds_at_sides l a b → IsTrue r ↔ Holds l t W h i
-Holds-decided l t W h i a b r u p q e = let s = sides_decide l W h i a b r p q e in let k = Holds-sides l t W h i u in ((λ x. k.1 (s.0 x)), (λ x. s.1 (k.0 x)))
+Holds-decided l t W h i a b r u p q e =
+    let s = sides_decide l W h i a b r p q e in let k = Holds-sides l t W h i u in ((λ x. k.1 (s.0 x)), (λ x. s.1 (k.0 x)))
 
 -- ---- each place has a side before it and one after it
 
 pub has_before : (W : ℕ → Bool) (h : List ℕ) (i : ℕ) → (a : Side) × IsBefore W h i a
 has_before W h i =
     ⊎_elim (λ e. (Absent, e))
-    (λ ne. ⊎_elim (λ p. ⊎_elim (λ w. (Word, (p.0, p.1, w))) (λ w. (Other, (p.0, p.1, w))) (cases_Bool (W p.0))) (λ n. (Invalid, (omega (arith, ne), n)))
+    (λ ne. ⊎_elim (λ p. ⊎_elim (λ w. (Word, (p.0, p.1, w))) (λ w. (Other, (p.0, p.1, w))) (cases_Bool (W p.0)))
+    (λ n. (Invalid, (omega (arith, ne), n)))
     (EndsAt-decided h i))
     (cases_eq i 0)
 
 pub has_after : (W : ℕ → Bool) (h : List ℕ) (i : ℕ) → i ≤ length h → (a : Side) × IsAfter W h i a
 has_after W h i o =
     ⊎_elim (λ e. (Absent, e))
-    (λ ne. ⊎_elim (λ p. ⊎_elim (λ w. (Word, (p.0, p.1, w))) (λ w. (Other, (p.0, p.1, w))) (cases_Bool (W p.0))) (λ n. (Invalid, (omega (arith, ne), n)))
+    (λ ne. ⊎_elim (λ p. ⊎_elim (λ w. (Word, (p.0, p.1, w))) (λ w. (Other, (p.0, p.1, w))) (cases_Bool (W p.0)))
+    (λ n. (Invalid, (omega (arith, ne), n)))
     (BeginsAt-decided h i))
     (cases_eq i (length h))
 
-pub half_before : (t : ℕ) (W : ℕ → Bool) (h : List ℕ) (i : ℕ) (a : Side) (r : Bool) → i ≤ length h → IsBefore W h i a → r ≡ is_edge_or_non_word a → IsTrue r
+pub half_before : (t : ℕ) (W : ℕ → Bool) (h : List ℕ) (i : ℕ) (a : Side) (r : Bool) → i ≤ length h → IsBefore W h i a
+    → r ≡ is_edge_or_non_word a → IsTrue r
     ↔ Holds WordStartHalfUnicode t W h i
 half_before t W h i a r o p e = let q = has_after W h i o in sides_decide WordStartHalfUnicode W h i a q.0 r p q.1 e
 
@@ -202,7 +209,8 @@ pub half_after : (t : ℕ) (W : ℕ → Bool) (h : List ℕ) (i : ℕ) (b : Side
 half_after t W h i b r p e = let q = has_before W h i in sides_decide WordEndHalfUnicode W h i q.0 b r q.1 p e
 
 -- what a call may answer when it has looked at the side before alone
-Holds-before : (l : Look) (t : ℕ) (W : ℕ → Bool) (h : List ℕ) (i : ℕ) (a : Side) (r : Bool) → i ≤ length h → is_unicode l ≡ true → IsBefore W h i a
+Holds-before : (l : Look) (t : ℕ) (W : ℕ → Bool) (h : List ℕ) (i : ℕ) (a : Side) (r : Bool) → i ≤ length h → is_unicode l ≡ true
+    → IsBefore W h i a
     → ((b : Side) → r ≡ holds_at_sides l a b) → IsTrue r ↔ Holds l t W h i
 Holds-before l t W h i a r o u p e = let q = has_after W h i o in Holds-decided l t W h i a q.0 r u p q.1 (e q.0)
 
@@ -229,11 +237,13 @@ pub differs : (t : ℕ) (W : ℕ → Bool) (h : List ℕ) (i : ℕ) (a b : Side)
     → y ≡ is_word_side b → IsTrue (not (beq x y)) ↔ Holds WordUnicode t W h i
 differs t W h i a b x y p q e f = Holds-decided WordUnicode t W h i a b (not (beq x y)) refl p q (exactly_one-ne x y ∙ ap₂ exactly_one e f)
 
-pub bad_is_none : (t : ℕ) (W : ℕ → Bool) (h : List ℕ) (i : ℕ) (a : Side) (w : Bool) → i ≤ length h → IsBefore W h i a → w ≡ is_invalid a → w ≡ true
+pub bad_is_none : (t : ℕ) (W : ℕ → Bool) (h : List ℕ) (i : ℕ) (a : Side) (w : Bool) → i ≤ length h → IsBefore W h i a → w ≡ is_invalid a
+    → w ≡ true
     → IsTrue false ↔ Holds WordUnicodeNegate t W h i
 bad_is_none t W h i a w o p e f = Holds-before WordUnicodeNegate t W h i a false o refl p (λ b. let z : is_invalid a ≡ true = sym e ∙ f in rw z)
 
-pub agrees : (t : ℕ) (W : ℕ → Bool) (h : List ℕ) (i : ℕ) (a b : Side) (w v x y : Bool) → IsBefore W h i a → IsAfter W h i b → w ≡ is_invalid a → w ≡ false
+pub agrees : (t : ℕ) (W : ℕ → Bool) (h : List ℕ) (i : ℕ) (a b : Side) (w v x y : Bool) → IsBefore W h i a → IsAfter W h i b → w ≡ is_invalid a
+    → w ≡ false
     → v ≡ is_invalid b → x ≡ is_word_side a → y ≡ is_word_side b
     → IsTrue (not v && beq x y) ↔ Holds WordUnicodeNegate t W h i
 agrees t W h i a b w v x y p q e f g k m =

@@ -48,7 +48,8 @@ IsExactFor-from old new l t W e a = record {
 }
 
 -- the same of the assertion's own boundaries alone
-pub IsExactFor-own : (l : Look) (t : ℕ) (W : ℕ → Bool) → (is_unicode l ≡ true → AgreesWithAscii W) → IsExactFor (sets.contains (boundaries_of l t)) l t W
+pub IsExactFor-own : (l : Look) (t : ℕ) (W : ℕ → Bool) → (is_unicode l ≡ true → AgreesWithAscii W)
+    → IsExactFor (sets.contains (boundaries_of l t)) l t W
 IsExactFor-own l t W =
     IsExactFor-from sets.empty (boundaries_of l t) l t W (same_set nat_cmp_total nat_cmp-IsAntisymmetric _ _ (λ b.
     sym (contains-joined sets.empty (boundaries_of l t) b ∙ ap (λ x. x || sets.contains (boundaries_of l t) b) (contains-empty nat_cmp b))))

@@ -32,4 +32,5 @@ pub record EndsFirst (h : List ℕ) (i : ℕ) (cs : List ℕ) (k : ℕ) : Type 0
 -- characters in reverse, after all but k of them
 abbrev pub IsTextMirrored : Look → ℕ → (ℕ → Bool) → List ℕ → ℕ → Type 0 → Type 0
 IsTextMirrored l t W h i P =
-    (cs : List ℕ) (k : ℕ) (m : List ℕ) (j : ℕ) → EndsFirst h i cs k → EndsFirst m j (reverse cs) (length cs - k) → P ↔ Holds (reversed l) t W m j
+    (cs : List ℕ) (k : ℕ) (m : List ℕ) (j : ℕ) → EndsFirst h i cs k → EndsFirst m j (reverse cs) (length cs - k)
+    → P ↔ Holds (reversed l) t W m j

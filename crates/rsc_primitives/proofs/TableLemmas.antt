@@ -16,7 +16,8 @@ alike f h d e b low =
     sym (get_or-map-range_with_len f 0 256 b b d low (omega arith)) ∙ ap (λ t. get_or t b d) e ∙ get_or-map-range_with_len h 0 256 b b d low (omega arith)
 
 pub tabled_is : (width : ℕ) (texts lengths : List ℕ) (text : ℕ → List ℕ)
-    → map (tabled width texts lengths) (range_with_len 0 256) ≡ map text (range_with_len 0 256) → (b : ℕ) → b < 256 → tabled width texts lengths b ≡ text b
+    → map (tabled width texts lengths) (range_with_len 0 256) ≡ map text (range_with_len 0 256) → (b : ℕ) → b < 256
+    → tabled width texts lengths b ≡ text b
 tabled_is width texts lengths text = alike (tabled width texts lengths) text []
 
 at_most : (n m : ℕ) → nat_le n m ≡ true → n ≤ m

@@ -21,7 +21,8 @@ pred_lowest (suc j) n some one none =
     let even : n % 2 ≡ 0 = sym (bit_at_lowest n) ∙ none 0 (omega arith) in
     let half : (n - 1) / 2 ≡ n / 2 - 1 = omega (arith, even) in
     let some_half : 0 < n / 2 = omega (arith, even) in
-    bit_at-suc (n - 1) j ∙ rw half (pred_lowest j (n / 2) some_half (sym (bit_at-suc n j) ∙ one) (λ i lt. sym (bit_at-suc n i) ∙ none (suc i) (omega arith)))
+    bit_at-suc (n - 1) j ∙ rw half (pred_lowest j (n / 2) some_half (sym (bit_at-suc n j) ∙ one)
+    (λ i lt. sym (bit_at-suc n i) ∙ none (suc i) (omega arith)))
 
 pred_odd : (j n : ℕ) → n % 2 ≡ 1 → bit_at (n - 1) (suc j) ≡ bit_at n (suc j)
 pred_odd j n odd =
@@ -164,7 +165,8 @@ begins_later {word} {rest} fits rest_fits some without = elim (cases_lt (trailin
       absurd (true≢false (sym set.0 ∙ none_under word (trailing_zeros w64 rest) fits (omega (arith, early, before))))
 ]
 
-pub ends_earlier : {word rest : ℕ} → word < 2 ^ 64 → rest < 2 ^ 64 → 0 < word → IsWithout word (highest_place word) rest → bit_length rest ≤ highest_place word
+pub ends_earlier : {word rest : ℕ} → word < 2 ^ 64 → rest < 2 ^ 64 → 0 < word → IsWithout word (highest_place word) rest
+    → bit_length rest ≤ highest_place word
 ends_earlier {word} {rest} fits rest_fits some without = elim (cases_lt (highest_place word) (bit_length rest)) [
   | inl late ↦
       let set = of_rest without (highest_place rest) (highest_set rest rest_fits (omega (arith, late))) in

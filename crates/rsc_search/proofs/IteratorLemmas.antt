@@ -15,7 +15,8 @@ use Rattle.rsc_search.proofs.WordsLemmas.{at_word, at_number, clear_before, clea
 use Rattle.rsc_search.proofs.PatternSetsLemmas.{set_below}
 
 -- ---- a step from either end, where a member is left
-module _ {words : List ℕ} {front_index front back_index back left : ℕ} (it : IsBetween words front_index front back_index back left) (some : left ≢ 0) where
+module _ {words : List ℕ} {front_index front back_index back left : ℕ}
+    (it : IsBetween words front_index front back_index back left) (some : left ≢ 0) where
   not_none : left_between words front_index front back_index back ≡ [] → ⊥
   not_none none = some (it.left_is ∙ ap length none)
 

@@ -36,7 +36,8 @@ rises members ascends (suc k) lt =
     let step : get_or members k 0 < get_or members (suc k) 0 = rw same at (ascends k (omega arith)) in
     omega arith
 
-pub first_is_least : (members rest : List ℕ) (first p : ℕ) → members ≡ first ∷ rest → IsStrictlyIncreasing members → has_member members p ≡ true → first ≤ p
+pub first_is_least : (members rest : List ℕ) (first p : ℕ) → members ≡ first ∷ rest → IsStrictlyIncreasing members → has_member members p ≡ true
+    → first ≤ p
 first_is_least members rest first p parts ascends is =
     let there : Contains members p = to_contains members p is in
     let head : get_or members 0 0 ≡ first = ap (λ ms. get_or ms 0 0) parts in
@@ -86,7 +87,8 @@ one_more s p is_set below =
     let all : numbers_below s.capacity (has_member s.members) ≡ s.members =
     filtered s.members 0 s.capacity (AllPairs-from_increasing s.members is_set.ascending) (λ k d lt. omega arith) within in
     elim (cases_Bool (has_member s.members p)) [
-      | inl is ↦ rw is (ap length (filter_alike (λ q. eqb q p || has_member s.members q) (has_member s.members) 0 s.capacity (λ q from lt. had is q) ∙ all))
+      | inl is ↦ rw is (ap length (filter_alike (λ q. eqb q p || has_member s.members q) (has_member s.members) 0 s.capacity (λ q from lt. had is q) ∙
+          all))
       | inr out ↦ rw out (length_one_more (has_member s.members) (λ q. eqb q p || has_member s.members q) 0 s.capacity p (omega arith)
           (omega (arith, below)) out (rw (eq-eqb p p refl) refl) (λ q ne. rw (ne_eqb q p ne) refl) ∙ ap (λ (ms : List ℕ). length ms + 1) all)
     ]

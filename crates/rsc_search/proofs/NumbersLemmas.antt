@@ -21,7 +21,8 @@ module _ (t : ℕ → Bool) where
       has_cond (t a) a q (filter t (range_with_len (a + 1) n))
       ∙ rw (other, rest) (elim (t a) as (λ b. cond b false false ≡ false) [ true ↦ refl | false ↦ refl ])
 
-  by_place : (a q : ℕ) (b : Bool) (rest : Bool) → t a ≡ b → (q ≡ a → rest ≡ false) → (a ≢ q → rest ≡ t q) → cond b (eqb a q || rest) rest ≡ t q
+  by_place : (a q : ℕ) (b : Bool) (rest : Bool) → t a ≡ b → (q ≡ a → rest ≡ false) → (a ≢ q → rest ≡ t q)
+      → cond b (eqb a q || rest) rest ≡ t q
   by_place a q b rest is here there =
       elim (eqb a q) as (λ e. eqb a q ≡ e → cond b (e || rest) rest ≡ t q) [
         | true ↦ λ e. let eq : a ≡ q = eqb-true a q e in (elim b as
@@ -52,7 +53,8 @@ module _ (t : ℕ → Bool) where
           rw (more, there) (ap (λ (ps : List ℕ). a ∷ ps) (parts (a + 1) m))
 
   -- from a on and below b: nothing between a and c passes, so it may begin at c
-  pub skip_front : (a c b : ℕ) → a ≤ c → ((q : ℕ) → a ≤ q → q < c → t q ≡ false) → filter t (range_with_len a (b - a)) ≡ filter t (range_with_len c (b - c))
+  pub skip_front : (a c b : ℕ) → a ≤ c → ((q : ℕ) → a ≤ q → q < c → t q ≡ false)
+      → filter t (range_with_len a (b - a)) ≡ filter t (range_with_len c (b - c))
   skip_front a c b order fails =
       elim (ltb b c) as (λ d. ltb b c ≡ d → filter t (range_with_len a (b - a)) ≡ filter t (range_with_len c (b - c))) [
         | true ↦ λ e.
@@ -67,7 +69,8 @@ module _ (t : ℕ → Bool) where
       ] refl
 
   -- nothing between c and b passes, so it may end at c
-  pub skip_back : (a c b : ℕ) → c ≤ b → ((q : ℕ) → c ≤ q → q < b → t q ≡ false) → filter t (range_with_len a (b - a)) ≡ filter t (range_with_len a (c - a))
+  pub skip_back : (a c b : ℕ) → c ≤ b → ((q : ℕ) → c ≤ q → q < b → t q ≡ false)
+      → filter t (range_with_len a (b - a)) ≡ filter t (range_with_len a (c - a))
   skip_back a c b order fails =
       elim (ltb c a) as (λ d. ltb c a ≡ d → filter t (range_with_len a (b - a)) ≡ filter t (range_with_len a (c - a))) [
         | true ↦ λ e.

@@ -153,7 +153,8 @@ is_set_below capacity words = record {
 }
 
 -- ---- an insertion: the word of a number, and the same with its bit set
-module _ {capacity count : ℕ} {words : List ℕ} (packed : IsPacked capacity words count) {p n word : ℕ} (more d : ℕ) (below : p < capacity) (n_is : n ≡ p)
+module _ {capacity count : ℕ} {words : List ℕ} (packed : IsPacked capacity words count) {p n word : ℕ} (more d : ℕ) (below : p < capacity)
+    (n_is : n ≡ p)
     (word_is : word ≡ get_or words (n / 64) d) (bits : (j : ℕ) → has_bit more j ≡ (eqb j (n % 64) || has_bit word j)) where
   has_word : p / 64 < length words
   has_word = omega (arith, packed.length_is, below)

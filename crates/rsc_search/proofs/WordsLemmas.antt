@@ -32,7 +32,8 @@ whole_to words w word is = record { bits_are = λ i below. rw is refl }
 -- below the lowest set bit of a whole word no number of it is set, nor above its highest
 module _ (words : List ℕ) (w word : ℕ) (fits : word < 2 ^ 64) (is : word ≡ word_of words w) where
   pub clear_before : (q : ℕ) → 64 * w ≤ q → q < rest_start w word → is_set words q ≡ false
-  clear_before q from below = at_number words w q from (omega (arith, below, trailing_le 64 word)) ∙ rw (← is) (none_under word (q - 64 * w) fits (omega arith))
+  clear_before q from below =
+      at_number words w q from (omega (arith, below, trailing_le 64 word)) ∙ rw (← is) (none_under word (q - 64 * w) fits (omega arith))
 
   pub clear_after : (q : ℕ) → rest_end w word ≤ q → q < 64 * w + 64 → is_set words q ≡ false
   clear_after q from below = at_number words w q (omega arith) below ∙ rw (← is) (none_above word (q - 64 * w) fits (omega arith))
@@ -58,7 +59,8 @@ module _ (words : List ℕ) (index rest found next : ℕ) (fits : next < 2 ^ 64)
   pub order_to : 0 < found → rest_end found 0 ≤ rest_end index rest → rest_end (found - 1) next ≤ rest_end index rest
   order_to some order = let none : bit_length 0 ≡ 0 = length_of_zero in omega arith
 
-  pub clear_to : 0 < found → next ≡ word_of words (found - 1) → ((q : ℕ) → rest_end found 0 ≤ q → q < rest_end index rest → is_set words q ≡ false)
+  pub clear_to : 0 < found → next ≡ word_of words (found - 1)
+      → ((q : ℕ) → rest_end found 0 ≤ q → q < rest_end index rest → is_set words q ≡ false)
       → (q : ℕ) → rest_end (found - 1) next ≤ q → q < rest_end index rest → is_set words q ≡ false
   clear_to some is clear q from below = elim (cases_lt q (rest_end found 0)) [
     | inl before ↦ let none : bit_length 0 ≡ 0 = length_of_zero in clear_after words (found - 1) next fits is q from (omega (arith, none, before))

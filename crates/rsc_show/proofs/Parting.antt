@@ -105,7 +105,8 @@ edges_added p q edges ranges r joined edge fills before = (
 )
 
 -- and as it is, with one more range that holds none
-pub edges_as_they_are : (p : ℕ → Bool) (ranges : List (ℕ × ℕ)) (r : ℕ × ℕ) → ¬ (r.0 ≤ r.1) → HasEdgesOf p ranges → HasEdgesOf p (ranges ++ r ∷ [])
+pub edges_as_they_are : (p : ℕ → Bool) (ranges : List (ℕ × ℕ)) (r : ℕ × ℕ) → ¬ (r.0 ≤ r.1) → HasEdgesOf p ranges
+    → HasEdgesOf p (ranges ++ r ∷ [])
 edges_as_they_are p ranges r empty before = (
   parts_more p p ranges r (λ b e. e) (λ fills. absurd (empty fills)) before.0,
   λ b lt e. edge_kept b ranges r (before.1 b lt e),

@@ -13,11 +13,13 @@ pub differ_if : (x y : Bool) (P Q : Type 0) → (IsTrue x ↔ P) → (IsTrue y �
 differ_if true true P Q p q = (λ h. cc, λ t. ⊎_elim (λ (l : P × ¬ Q). absurd (l.1 (q.0 refl))) (λ r. absurd (r.0 (p.0 refl))) t)
 differ_if true false P Q p q = (λ h. inl (p.0 refl, λ n. true≢false (sym (q.1 n))), λ t. refl)
 differ_if false true P Q p q = (λ h. inr (λ n. true≢false (sym (p.1 n)), q.0 refl), λ t. refl)
-differ_if false false P Q p q = (λ h. cc, λ t. ⊎_elim (λ (l : P × ¬ Q). absurd (true≢false (sym (p.1 l.0)))) (λ r. absurd (true≢false (sym (q.1 r.1)))) t)
+differ_if false false P Q p q =
+    (λ h. cc, λ t. ⊎_elim (λ (l : P × ¬ Q). absurd (true≢false (sym (p.1 l.0)))) (λ r. absurd (true≢false (sym (q.1 r.1)))) t)
 
 -- the first assertions of a list do not tell the byte
 abbrev pub NoneTells : ℕ → ℕ → List Look → ℕ → (ℕ → Bool) → Type 0
-NoneTells b n looks t W = (k : ℕ) (d : Look) → k < n → k < length looks → (i : ℕ) → i ≤ 1 → ¬ (Tells (get_or looks k d) t W (b ∷ []) ((b + 1) ∷ []) i)
+NoneTells b n looks t W =
+    (k : ℕ) (d : Look) → k < n → k < length looks → (i : ℕ) → i ≤ 1 → ¬ (Tells (get_or looks k d) t W (b ∷ []) ((b + 1) ∷ []) i)
 
 -- and with one more
 pub none_tells_more : (b n : ℕ) (looks : List Look) (e : Look) (t : ℕ) (W : ℕ → Bool) → NoneTells b n looks t W

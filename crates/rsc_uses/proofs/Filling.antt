@@ -26,7 +26,8 @@ pub next_is_among : (place value : Symbol → ℕ) (row : List ℕ) (left rest a
 next_is_among place value row left rest all u e a = a.among u (subst (λ xs. Contains xs u) (sym e) (0, omega arith, refl))
 
 -- units with one place have one value, so an entry that is filled stays right
-pub one_filled : (place value : Symbol → ℕ) (row : List ℕ) (left rest all : List Symbol) (u : Symbol) (at n : ℕ) → left ≡ u ∷ rest → at ≡ place u → n ≡ value u
+pub one_filled : (place value : Symbol → ℕ) (row : List ℕ) (left rest all : List Symbol) (u : Symbol) (at n : ℕ) → left ≡ u ∷ rest
+    → at ≡ place u → n ≡ value u
     → at < length row → ((v w : Symbol) → Contains all v → Contains all w → place v ≡ place w → value v ≡ value w)
     → Awaits place value row left all → Awaits place value (slice_set row at n) rest all
 one_filled place value row left rest all u at n e is_place is_value within one a = record {
@@ -81,7 +82,8 @@ one_way classes leads end all only rises alike v w in_v in_w same =
     (λ (ew : w ≡ end_of classes). absurd (apart bv.0 bv.1.0 (sym (ap (class_at classes) bv.1.1) ∙ same ∙ ap (class_at classes) ew)))
     (only w in_w))
     (λ (ev : v ≡ end_of classes). ⊎_elim
-    (λ (bw : (b : ℕ) × ((b < 256) × (w ≡ byte b))). absurd (apart bw.0 bw.1.0 (sym (ap (class_at classes) bw.1.1) ∙ sym same ∙ ap (class_at classes) ev)))
+    (λ (bw : (b : ℕ) × ((b < 256) × (w ≡ byte b))). absurd
+    (apart bw.0 bw.1.0 (sym (ap (class_at classes) bw.1.1) ∙ sym same ∙ ap (class_at classes) ev)))
     (λ (ew : w ≡ end_of classes). ap (lead_of leads end) (ev ∙ sym ew))
     (only w in_w))
     (only v in_v)

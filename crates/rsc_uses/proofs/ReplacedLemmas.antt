@@ -28,6 +28,7 @@ same_text h r from (s ∷ rest) within same =
     let whole : r ++ replaced h r s.end rest ≡ drop s.start h = ap (λ t. r ++ t) later ∙ ap (λ t. t ++ drop s.end h) (sym part)
     ∙ seam h s.start s.end ordered in
     elim (nat_le from s.start) as (λ v. nat_le from s.start ≡ v → replaced h r from (s ∷ rest) ≡ drop from h) [
-      | true ↦ λ e. let le : from ≤ s.start = grind (arith, nat_tests) in rw e (ap (λ t. slice_range h from s.start ++ t) whole ∙ seam h from s.start le)
+      | true ↦ λ e. let le : from ≤ s.start =
+          grind (arith, nat_tests) in rw e (ap (λ t. slice_range h from s.start ++ t) whole ∙ seam h from s.start le)
       | false ↦ λ e. rw e passed
     ] refl

@@ -17,12 +17,16 @@ loop-start-preserved c = λ k h.
     ∙ ap₂ (λ x y. x || y) (c.loop-start.invariant k h) (contains-edges_of_range _ k (c.requires c.loop-start.start-index (0, 0) c.loop-start-test.true) h)
     ∙ sym (separates_more c.args.ranges.now c.loop-start.start-index _ k c.loop-start-test.true))
 
-counts : (p : sets.FinSet nat_cmp) (ranges : List (ℕ × ℕ)) (i : ℕ) → ((k : ℕ) → k < 255 → sets.contains p k ≡ separates (take i ranges) k) → length ranges ≤ i → class_map (sets.contains p) ≡ class_map (separates ranges)
+counts : (p : sets.FinSet nat_cmp) (ranges : List (ℕ × ℕ)) (i : ℕ) → ((k : ℕ) → k < 255 → sets.contains p k ≡ separates (take i ranges) k)
+    → length ranges ≤ i → class_map (sets.contains p) ≡ class_map (separates ranges)
 counts p ranges i same all = class_map_same (sets.contains p) (separates ranges) (λ k h. same k h ∙ ap (λ rs. separates rs k) (take_all i ranges all))
 
 pub returns-clause-counts : goal.returns-clause-counts
-returns-clause-counts c = c.byte_classes.ensures.map ∙ counts c.loop-start.partition c.args.ranges.now c.loop-start.start-index c.loop-start.invariant c.loop-start-test.false
+returns-clause-counts c =
+    c.byte_classes.ensures.map ∙ counts c.loop-start.partition c.args.ranges.now c.loop-start.start-index c.loop-start.invariant c.loop-start-test.false
 
 pub returns-clause-alike : goal.returns-clause-alike
 returns-clause-alike c = λ b c' l l'.
-    same_class_is c.args.ranges.now c.byte_classes.result b c' (c.byte_classes.ensures.map ∙ counts c.loop-start.partition c.args.ranges.now c.loop-start.start-index c.loop-start.invariant c.loop-start-test.false) l l'
+    same_class_is c.args.ranges.now c.byte_classes.result b c'
+    (c.byte_classes.ensures.map ∙ counts c.loop-start.partition c.args.ranges.now c.loop-start.start-index c.loop-start.invariant c.loop-start-test.false)
+    l l'

@@ -14,5 +14,6 @@ pub returns-clause-above : goal.returns-clause-above
 returns-clause-above c = λ i l.
     let e : 64 + i - 64 ≡ i = omega arith in
     rw (c.from.ensures, c.from-2.ensures) (bit_at_or (c.args.upper * 2 ^ 64 % 2 ^ 128) c.args.lower (64 + i)
-    ∙ ap₂ max (bit_at-shl c.args.upper 64 128 (64 + i) (omega arith) (omega arith) ∙ ap (bit_at c.args.upper) e) (bit_at_above c.args.lower 64 (64 + i) c.ranges.lower.fits (omega arith))
+    ∙ ap₂ max (bit_at-shl c.args.upper 64 128 (64 + i) (omega arith) (omega arith) ∙ ap (bit_at c.args.upper) e)
+    (bit_at_above c.args.lower 64 (64 + i) c.ranges.lower.fits (omega arith))
     ∙ omega arith)

@@ -5,7 +5,11 @@ use Rattle.rsc_alphabet.proofs.masks.run_of_bits.Goals as goal
 pub returns-clause-inside : goal.returns-clause-inside
 returns-clause-inside c = λ i low high.
     rw (ones_shr 128 (127 - c.args.end) (omega arith), ones_shl 128 c.args.start (omega (arith, c.requires)))
-    (bit_at_and _ _ i ∙ rw (bit_at_ones (128 - (127 - c.args.end)) i (omega (arith, c.requires)), bit_at_mask_inside c.args.start 128 i low (omega (arith, c.requires))) (omega arith))
+    (bit_at_and _ _ i ∙ rw (
+      bit_at_ones (128 - (127 - c.args.end)) i (omega (arith, c.requires)),
+      bit_at_mask_inside c.args.start 128 i low
+          (omega (arith, c.requires)),
+    ) (omega arith))
 
 pub returns-clause-below : goal.returns-clause-below
 returns-clause-below c = λ i l.
@@ -13,4 +17,5 @@ returns-clause-below c = λ i l.
 
 pub returns-clause-above : goal.returns-clause-above
 returns-clause-above c = λ i l.
-    rw (ones_shr 128 (127 - c.args.end) (omega arith)) (bit_at_and _ _ i ∙ rw (bit_at_ones_above (128 - (127 - c.args.end)) i (omega (arith, c.requires))) (omega arith))
+    rw (ones_shr 128 (127 - c.args.end) (omega arith)) (bit_at_and _ _ i ∙ rw (bit_at_ones_above (128 - (127 - c.args.end)) i (omega (arith, c.requires)))
+    (omega arith))

@@ -12,5 +12,6 @@ returns-clause-first c =
 pub returns-clause-others : goal.returns-clause-others
 returns-clause-others c = λ i low high.
     ap (λ x. nat_eq x 1) (bit_at_or (c.args.mask * 2 ^ 1 % 2 ^ 128) (c.args.below / 2 ^ 127) i
-    ∙ ap₂ max (bit_at-shl c.args.mask 1 128 i low high) (bit_at-shr c.args.below 127 i ∙ bit_at_above c.args.below 128 (127 + i) c.ranges.below.fits (omega arith))
+    ∙ ap₂ max (bit_at-shl c.args.mask 1 128 i low high) (bit_at-shr c.args.below 127 i ∙ bit_at_above c.args.below 128 (127 + i) c.ranges.below.fits
+    (omega arith))
     ∙ omega arith)

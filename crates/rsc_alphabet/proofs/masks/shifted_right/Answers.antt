@@ -7,7 +7,8 @@ use Rattle.rsc_alphabet.proofs.masks.shifted_right.Goals as goal
 pub returns-clause-last : goal.returns-clause-last
 returns-clause-last c =
     ap (λ x. nat_eq x 1) (bit_at_or (c.args.mask / 2 ^ 1) (c.args.above * 2 ^ 127 % 2 ^ 128) 127
-    ∙ ap₂ max (bit_at-shr c.args.mask 1 127 ∙ bit_at_above c.args.mask 128 128 c.ranges.mask.fits (omega arith)) (bit_at-shl c.args.above 127 128 127 (omega arith) (omega arith))
+    ∙ ap₂ max (bit_at-shr c.args.mask 1 127 ∙ bit_at_above c.args.mask 128 128 c.ranges.mask.fits (omega arith))
+    (bit_at-shl c.args.above 127 128 127 (omega arith) (omega arith))
     ∙ omega arith)
 
 pub returns-clause-others : goal.returns-clause-others

@@ -16,6 +16,8 @@ loop-group-preserved g c =
       c.in_ok-push.ensures.items,
       c.in_ok-place.ensures.place,
       take_groups_more c.args.groups.now c.loop-group.group-index lt,
-      ← append_assoc (names_held (string_bytes c.args.text.now) c.args.places.now.items) (take c.loop-group.group-index (groups_in c.args.groups.now)) (option_copied (get_or c.args.groups.now c.loop-group.group-index None) ∷ []),
+      ← append_assoc (names_held (string_bytes c.args.text.now) c.args.places.now.items) (take c.loop-group.group-index (groups_in c.args.groups.now))
+          (option_copied (get_or c.args.groups.now c.loop-group.group-index None) ∷ []),
     )
-    (held_more (string_bytes c.loop-group.text) c.loop-group.places.items _ (option_copied (get_or c.args.groups.now c.loop-group.group-index None)) c.in_ok-place.ensures.utf8 c.in_ok-place.ensures.length c.loop-group.invariant)
+    (held_more (string_bytes c.loop-group.text) c.loop-group.places.items _ (option_copied (get_or c.args.groups.now c.loop-group.group-index None))
+    c.in_ok-place.ensures.utf8 c.in_ok-place.ensures.length c.loop-group.invariant)

@@ -29,9 +29,13 @@ module _ (g : _) (c : goal.After-order-1 g) where
   pub sorted : IsPermutation (range_with_len 0 (length c.args.groups.now)) c.sort_by_name.new.order
   sorted = added_moved old added c.sort_by_name.new.order c.add_numbers.new.order.items moved
 
-  left : take c.add_numbers.new.order.len (put_mid c.len-first.result (length c.as_mut_slice.result.now - c.len-first.result) c.as_mut_slice.result.now c.sort_by_name.new.order ++ drop (length (put_mid c.len-first.result (length c.as_mut_slice.result.now - c.len-first.result) c.as_mut_slice.result.now c.sort_by_name.new.order)) c.add_numbers.new.order.items)
+  left : take c.add_numbers.new.order.len (put_mid c.len-first.result (length c.as_mut_slice.result.now - c.len-first.result) c.as_mut_slice.result.now
+      c.sort_by_name.new.order ++ drop
+      (length (put_mid c.len-first.result (length c.as_mut_slice.result.now - c.len-first.result) c.as_mut_slice.result.now c.sort_by_name.new.order))
+      c.add_numbers.new.order.items)
       ≡ c.args.order.now.items ++ c.sort_by_name.new.order
-  left = rw (first, lent) (tail_sorted old added c.sort_by_name.new.order c.add_numbers.new.order.items moved c.add_numbers.new.order.len (c.add_numbers.new.order.ok.0 ∙ ap length c.in_ok-add_numbers.ensures))
+  left = rw (first, lent) (tail_sorted old added c.sort_by_name.new.order c.add_numbers.new.order.items moved c.add_numbers.new.order.len
+      (c.add_numbers.new.order.ok.0 ∙ ap length c.in_ok-add_numbers.ensures))
 
 pub returns-clause-len : goal.returns-clause-len
 returns-clause-len g c =

@@ -7,6 +7,7 @@ pub loop-i-preserved : goal.loop-i-preserved
 loop-i-preserved c =
     let lt : c.loop-i.i < length c.loop-i.order = omega (arith, c.loop-i.invariant.count) in
     record {
-      so_far = take_more_set c.loop-i.order c.loop-i.i c.loop-i.i lt ∙ ap (λ numbers. numbers ++ c.loop-i.i ∷ []) c.loop-i.invariant.so_far ∙ counted_more c.loop-i.i;
+      so_far = take_more_set c.loop-i.order c.loop-i.i c.loop-i.i lt ∙ ap (λ numbers. numbers ++ c.loop-i.i ∷ []) c.loop-i.invariant.so_far
+          ∙ counted_more c.loop-i.i;
       count = length-set c.loop-i.order c.loop-i.i c.loop-i.i ∙ c.loop-i.invariant.count;
     }

@@ -18,7 +18,8 @@ loop-from-preserved c =
     elim c.match-repeat_of_block.branch [
       | in-Some w ↦
           let found = rw (rest_in c.args.groups.now c.loop-from.from c.loop-from.end, block) at w.in-Some.ensures in
-          let lt : c.loop-from.from + w.in-Some.g < c.loop-from.end = let group = found.group in omega (arith, group, length_rest (groups_in c.args.groups.now) c.loop-from.from c.loop-from.end all) in
+          let lt : c.loop-from.from + w.in-Some.g < c.loop-from.end =
+          let group = found.group in omega (arith, group, length_rest (groups_in c.args.groups.now) c.loop-from.from c.loop-from.end all) in
           record {
             within = omega (arith, w.end-is, lt, c.loop-from.invariant.within);
             apart = rw w.end-is (apart_blocks (groups_in c.args.groups.now) c.loop-from.from c.loop-from.end c.min-len.result

@@ -15,7 +15,8 @@ returns g c = λ s l.
 pub state-requires : goal.state-requires
 state-requires g c =
     let lt : c.places.k - 1 < length c.args.run.now = omega (arith, c.places.auto.k, c.places-test.true) in
-    rw (← c.index-run-k.is, get_or_read c.args.run.now (c.places.k - 1) c.index-run-k.result lt c.index-run-k.is (0, 0)) ((c.requires.run.is_run.places (c.places.k - 1) lt).0)
+    rw (← c.index-run-k.is, get_or_read c.args.run.now (c.places.k - 1) c.index-run-k.result lt c.index-run-k.is (0, 0))
+    ((c.requires.run.is_run.places (c.places.k - 1) lt).0)
 
 pub record_one-requires : goal.record_one-requires
 record_one-requires g c =
@@ -28,6 +29,7 @@ places-preserved g c = λ s l.
     let lt : c.places.k - 1 < length c.args.run.now = omega (arith, c.places.auto.k, c.places-test.true) in
     let here = get_or_read c.args.run.now (c.places.k - 1) c.index-run-k.result lt c.index-run-k.is (0, 0) in
     let there = get_or_read c.args.run.now (c.places.k - 1) c.index-run-k-in-places.result lt c.index-run-k-in-places.is (0, 0) in
-    recorded-more c.args.program.now.automaton.states c.args.run.now c.places.k s _ _ c.state.result _ _ c.places-test.true (omega (arith, lt, c.places.auto.k, c.places-test.true))
+    recorded-more c.args.program.now.automaton.states c.args.run.now c.places.k s _ _ c.state.result _ _ c.places-test.true
+    (omega (arith, lt, c.places.auto.k, c.places-test.true))
     (sym c.index-run-k.is ∙ here) (sym c.index-run-k-in-places.is ∙ there) c.state.ensures.state
     (c.places.invariant s (omega (arith, l, c.record_one.auto.slots))) (c.record_one.ensures s l)

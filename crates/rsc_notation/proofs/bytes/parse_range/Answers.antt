@@ -30,6 +30,8 @@ returns-in_err-end-clause-found c = λ first last w order.
 pub returns-else-start-end-clause-found : goal.returns-else-start-end-clause-found
 returns-else-start-end-clause-found c = λ first last w order.
     let text = c.args.text.now in
-    let start = decode_of-same (slice_index_or text 0 0 ∷ slice_index_or text 1 0 ∷ []) (first ∷ []) (c.in_ok-start.start ∷ []) (written text first last w).2 c.in_ok-start.ensures.value in
-    let end = decode_of-same (slice_index_or text 3 0 ∷ slice_index_or text 4 0 ∷ []) (last ∷ []) (c.in_ok-end.end ∷ []) (written text first last w).3 c.in_ok-end.ensures.value in
+    let start = decode_of-same (slice_index_or text 0 0 ∷ slice_index_or text 1 0 ∷ []) (first ∷ []) (c.in_ok-start.start ∷ [])
+    (written text first last w).2 c.in_ok-start.ensures.value in
+    let end = decode_of-same (slice_index_or text 3 0 ∷ slice_index_or text 4 0 ∷ []) (last ∷ []) (c.in_ok-end.end ∷ []) (written text first last w).3
+    c.in_ok-end.ensures.value in
     absurd (omega (arith, order, c.if-start-end.false, ap (λ s. slice_index_or s 0 0) start, ap (λ s. slice_index_or s 0 0) end))

@@ -8,5 +8,6 @@ returns c = λ look. (
   λ e. cc,
   λ same.
       let at = is_listed look in
-      absurd (c.loop-look.invariant at.0 (omega (arith, at.1, eighteen, ap length c.every_look-look-items.ensures, c.loop-look-test.false)) (same ∙ ap look_name (sym at.2))),
+      absurd (c.loop-look.invariant at.0 (omega (arith, at.1, eighteen, ap length c.every_look-look-items.ensures, c.loop-look-test.false))
+      (same ∙ ap look_name (sym at.2))),
 )

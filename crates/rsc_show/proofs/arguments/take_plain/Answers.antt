@@ -5,8 +5,12 @@ use Rattle.rsc_show.proofs.arguments.take_plain.Goals as goal
 pub returns-clause-looks : goal.returns-clause-looks
 returns-clause-looks c = λ rest.
     rw c.in_ok-push.ensures.items
-    (listed_push c.args.request.now.looks.items c.in-Some-look_of.look c.args.argument.now rest (sym c.as_bytes.ensures.value ∙ (c.in-Some-look_of.ensures c.in-Some-look_of.look).0 refl))
+    (listed_push c.args.request.now.looks.items c.in-Some-look_of.look c.args.argument.now rest
+    (sym c.as_bytes.ensures.value ∙ (c.in-Some-look_of.ensures c.in-Some-look_of.look).0 refl))
 
 pub returns-clause-haystack : goal.returns-clause-haystack
-returns-clause-haystack c = λ h rest before.
-    (before.0, before.1 ∙ haystack_behind_name c.in-Some-look_of.look c.args.argument.now rest (sym c.as_bytes.ensures.value ∙ (c.in-Some-look_of.ensures c.in-Some-look_of.look).0 refl))
+returns-clause-haystack c = λ h rest before. (
+  before.0,
+  before.1 ∙ haystack_behind_name c.in-Some-look_of.look c.args.argument.now rest
+      (sym c.as_bytes.ensures.value ∙ (c.in-Some-look_of.ensures c.in-Some-look_of.look).0 refl),
+)

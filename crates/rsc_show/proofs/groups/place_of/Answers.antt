@@ -11,7 +11,8 @@ loop-place-preserved c =
     let i = c.loop-place.place in
     let b = get_or lists i 0 in
     let before = c.loop-place.invariant in (
-      rw c.place_after-at.ensures (ap (λ bytes. reached (0, 0) bytes) (take_more lists i 0 c.loop-place-test.true) ∙ reached_more (0, 0) (take i lists) b ∙ ap (λ at. place_after at b) before.0),
+      rw c.place_after-at.ensures (ap (λ bytes. reached (0, 0) bytes) (take_more lists i 0 c.loop-place-test.true) ∙ reached_more (0, 0) (take i lists) b ∙
+          ap (λ at. place_after at b) before.0),
       rw c.place_after-at.ensures (at_most_one_more c.loop-place.at b i before.1),
       λ k small.
           ⊎_elim (λ (old : k < i). before.2 k old)

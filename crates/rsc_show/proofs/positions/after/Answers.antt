@@ -12,5 +12,6 @@ returns-in-Some-Ok c =
 pub returns-in-Some-Err-2 : goal.returns-in-Some-Err-2
 returns-in-Some-Err-2 c =
     let e = rw (take_rest c.args.haystack.now c.args.at) at c.decode.ensures.answer in
-    let n = DecodesTo-err_at c.args.haystack.now c.args.at c.in-Some-Err.field-0-0 c.requires (DecodesTo-at_err (drop c.args.at c.args.haystack.now) _ _ _ e c.in-Some-Err.is c.in-Some-Err.field-0-is) in
+    let n = DecodesTo-err_at c.args.haystack.now c.args.at c.in-Some-Err.field-0-0 c.requires
+    (DecodesTo-at_err (drop c.args.at c.args.haystack.now) _ _ _ e c.in-Some-Err.is c.in-Some-Err.field-0-is) in
     (n.0, n.1, refuted _ _ c.is_inside.ensures c.if-is_inside.false)

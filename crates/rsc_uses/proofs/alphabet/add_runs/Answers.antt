@@ -5,7 +5,12 @@ use Rattle.rsc_alphabet.specs.PartitionsLaws.{union_assoc, union_none}
 use Rattle.rsc_uses.proofs.alphabet.add_runs.Goals as goal
 
 pub loop-start-init : goal.loop-start-init
-loop-start-init c = (tt, tt, ap (λ rs. sets.union c.args.partition.now (edges_of_each rs)) (c.into_iter-start-iterator.ensures.into_iter_gives ∙ c.iter_ranges-start-items.ensures.list))
+loop-start-init c = (
+  tt,
+  tt,
+  ap (λ rs. sets.union c.args.partition.now (edges_of_each rs))
+      (c.into_iter-start-iterator.ensures.into_iter_gives ∙ c.iter_ranges-start-items.ensures.list),
+)
 
 pub loop-start-preserved : goal.loop-start-preserved
 loop-start-preserved c =

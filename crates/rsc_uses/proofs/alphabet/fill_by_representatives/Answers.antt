@@ -14,12 +14,20 @@ loop-unit-preserved c =
     let end = c.args.end in
     let all = representatives_of map Unbounded Unbounded in
     let only = c.each_class_is_represented.ensures.only map in
-    let among = next_is_among (class_at map) (lead_of leads end) c.loop-unit.row c.loop-unit.unit-iterator c.next.new.self all c.in-Some.unit c.in-Some.ensures.steps c.loop-unit.invariant.3 in (
+    let among = next_is_among (class_at map) (lead_of leads end) c.loop-unit.row c.loop-unit.unit-iterator c.next.new.self all c.in-Some.unit
+    c.in-Some.ensures.steps c.loop-unit.invariant.3 in (
       tt,
       tt,
       length-set c.loop-unit.row c.get_by_unit.result c.lead_of.result ∙ c.loop-unit.invariant.2,
-      one_filled (class_at map) (lead_of leads end) c.loop-unit.row c.loop-unit.unit-iterator c.next.new.self all c.in-Some.unit c.get_by_unit.result c.lead_of.result c.in-Some.ensures.steps c.get_by_unit.ensures c.lead_of.ensures
-          (omega (arith, c.get_by_unit.ensures, class_within map c.in-Some.unit (only c.in-Some.unit among) c.requires.rise.within, c.loop-unit.invariant.2, c.requires.room))
+      one_filled (class_at map) (lead_of leads end) c.loop-unit.row c.loop-unit.unit-iterator c.next.new.self all c.in-Some.unit c.get_by_unit.result
+          c.lead_of.result c.in-Some.ensures.steps c.get_by_unit.ensures c.lead_of.ensures
+          (omega (
+            arith,
+            c.get_by_unit.ensures,
+            class_within map c.in-Some.unit (only c.in-Some.unit among) c.requires.rise.within,
+            c.loop-unit.invariant.2,
+            c.requires.room,
+          ))
           (one_way map leads end all only c.requires.rise.within c.requires.alike) c.loop-unit.invariant.3,
     )
 
@@ -28,11 +36,13 @@ returns-clause-bytes c = λ b l.
     let map = c.args.map.now in
     let all = representatives_of map Unbounded Unbounded in
     let r = c.each_class_is_represented.ensures.reached map b l in
-    let filled = all_filled (class_at map) (lead_of c.args.leads.now c.args.end) c.loop-unit.row c.loop-unit.unit-iterator all c.in-None.ensures.steps.0 c.loop-unit.invariant.3 (byte r.0) r.1.1 in
+    let filled = all_filled (class_at map) (lead_of c.args.leads.now c.args.end) c.loop-unit.row c.loop-unit.unit-iterator all c.in-None.ensures.steps.0
+    c.loop-unit.invariant.3 (byte r.0) r.1.1 in
     sym (ap (slice_index c.loop-unit.row) r.1.2) ∙ filled ∙ c.requires.alike r.0 b r.1.0 l r.1.2
 
 pub returns-clause-end : goal.returns-clause-end
 returns-clause-end c =
     let map = c.args.map.now in
     let all = representatives_of map Unbounded Unbounded in
-    all_filled (class_at map) (lead_of c.args.leads.now c.args.end) c.loop-unit.row c.loop-unit.unit-iterator all c.in-None.ensures.steps.0 c.loop-unit.invariant.3 (end_of map) (c.each_class_is_represented.ensures.end map)
+    all_filled (class_at map) (lead_of c.args.leads.now c.args.end) c.loop-unit.row c.loop-unit.unit-iterator all c.in-None.ensures.steps.0
+    c.loop-unit.invariant.3 (end_of map) (c.each_class_is_represented.ensures.end map)

@@ -20,7 +20,9 @@ loop-unit-preserved c =
     let old = c.loop-unit.invariant.3 in
     let long = c.loop-unit.invariant.2 in
     let among = next_is_among number_of (λ _. 1) row left rest (symbols map) u steps old in
-    let small : number_of u < slice_index map 255 + 2 = All-contains (λ v. number_of v < slice_index map 255 + 2) (symbols map) u (subst (All (λ v. number_of v < slice_index map 255 + 2)) c.iter-unit-items.ensures.list c.iter-unit-items.ensures.within) among in (
+    let small : number_of u < slice_index map 255 + 2 =
+    All-contains (λ v. number_of v < slice_index map 255 + 2) (symbols map) u
+    (subst (All (λ v. number_of v < slice_index map 255 + 2)) c.iter-unit-items.ensures.list c.iter-unit-items.ensures.within) among in (
       tt,
       tt,
       length-set row i 1 ∙ long,
@@ -32,4 +34,5 @@ pub returns-clause-marked : goal.returns-clause-marked
 returns-clause-marked c = λ k small.
     let map = c.args.map.now in
     let u = unit_of_number map k (c.each_class_comes_once.ensures.place map) (c.each_class_comes_once.ensures.end map) small in
-    sym (ap (slice_index c.loop-unit.row) u.1.1) ∙ all_filled number_of (λ _. 1) c.loop-unit.row c.loop-unit.unit-iterator (symbols map) c.in-None.ensures.steps.0 c.loop-unit.invariant.3 u.0 u.1.0
+    sym (ap (slice_index c.loop-unit.row) u.1.1) ∙ all_filled number_of (λ _. 1) c.loop-unit.row c.loop-unit.unit-iterator (symbols map)
+    c.in-None.ensures.steps.0 c.loop-unit.invariant.3 u.0 u.1.0

@@ -9,6 +9,7 @@ returns g c =
     let W = g.W.WordClass.word_chars c.args.matcher.now.1 in
     let hs = bytes_all c.args.haystack.now (λ i. omega (arith, c.type_inv.haystack i)) in
     let ks = bytes_all c.args.other.now (λ i. omega (arith, c.type_inv.other i)) in
-    let same = c.same_classes_change_nothing.ensures.bytes c.args.map.now (c.args.look ∷ []) t W c.requires.map c.args.look (Contains-push [] c.args.look) c.requires.bytes c.args.haystack.now
+    let same = c.same_classes_change_nothing.ensures.bytes c.args.map.now (c.args.look ∷ []) t W c.requires.map c.args.look (Contains-push [] c.args.look)
+    c.requires.bytes c.args.haystack.now
     c.args.other.now hs ks c.requires.len c.requires.one_class c.args.at c.requires.at in
     grind (rules, same)

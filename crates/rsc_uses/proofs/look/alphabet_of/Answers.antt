@@ -23,7 +23,9 @@ loop-look-preserved g c = λ q h.
     let exact = c.add_to_byteset.ensures.exact (c.requires.words look (Contains-get_or looks i Start c.loop-look-test.true)) in
     rw (take_more looks i Start c.loop-look-test.true)
     (c.kept_lists_are_joined.ensures.both q (take i looks) (look ∷ []) t W
-    (c.loop-look.invariant q (λ b lt e. h b lt (rw c.add_to_byteset.ensures.adds (contains-union nat_cmp_total c.loop-look.set added b ∙ ap (λ x. x || sets.contains added b) e))))
+    (c.loop-look.invariant q
+    (λ b lt e. h b lt (rw c.add_to_byteset.ensures.adds
+    (contains-union nat_cmp_total c.loop-look.set added b ∙ ap (λ x. x || sets.contains added b) e))))
     (exact.kept q h))
 
 pub returns : goal.returns

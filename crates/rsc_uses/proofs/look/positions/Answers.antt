@@ -13,5 +13,6 @@ loop-at-preserved g c =
           rw e (listed_push P c.loop-at.at c.loop-at.found.items c.loop-at.invariant (c.matches.ensures.holds.0 w.if-matches.true))
       | else-matches w ↦
           let e : c.if-matches.found.items ≡ c.loop-at.found.items = grind rules in
-          rw e (listed_skip P c.loop-at.at c.loop-at.found.items c.loop-at.invariant (λ p. true≢false (sym (c.matches.ensures.holds.1 p) ∙ w.if-matches.false)))
+          rw e (listed_skip P c.loop-at.at c.loop-at.found.items c.loop-at.invariant
+          (λ p. true≢false (sym (c.matches.ensures.holds.1 p) ∙ w.if-matches.false)))
     ]

@@ -6,18 +6,21 @@ use Rattle.rsc_alphabet.proofs.ascending.AscendingIterator.next.Goals as goal
 pub returns-then-self-eq1-clause-steps : goal.returns-then-self-eq1-clause-steps
 returns-then-self-eq1-clause-steps c =
     let s = c.self.inside in
-    sym c.self.view_is ∙ first_left s.set s.number s.byte s.word c.word_shifted_right-self-inside.result (omega (arith, c.self.ranges)) c.if-self-eq1.true c.word_shifted_right-self-inside.ensures
+    sym c.self.view_is ∙ first_left s.set s.number s.byte s.word c.word_shifted_right-self-inside.result (omega (arith, c.self.ranges)) c.if-self-eq1.true
+    c.word_shifted_right-self-inside.ensures
 
 pub returns-then-self-eq1-clause-goes : goal.returns-then-self-eq1-clause-goes
 returns-then-self-eq1-clause-goes c =
     let s = c.self.inside in
-    let steps : c.args.self.now ≡ s.byte ∷ members_left s.set s.number (s.byte + 1) c.word_shifted_right-self-inside.result = returns-then-self-eq1-clause-steps c in
+    let steps : c.args.self.now ≡ s.byte ∷ members_left s.set s.number (s.byte + 1) c.word_shifted_right-self-inside.result =
+    returns-then-self-eq1-clause-steps c in
     search rules
 
 pub returns-then-self-eq3-clause-steps : goal.returns-then-self-eq3-clause-steps
 returns-then-self-eq3-clause-steps c =
     let s = c.loop-self.self-inside in
-    let none : members_left s.set s.number s.byte s.word ≡ [] = ap (members_left s.set s.number s.byte) c.loop-self-test.true ∙ none_left s.set s.number s.byte c.if-self-eq3.true in
+    let none : members_left s.set s.number s.byte s.word ≡ [] =
+    ap (members_left s.set s.number s.byte) c.loop-self-test.true ∙ none_left s.set s.number s.byte c.if-self-eq3.true in
     (sym c.loop-self.invariant.2 ∙ none, none)
 
 pub loop-self-preserved : goal.loop-self-preserved
@@ -42,5 +45,6 @@ returns-clause-steps c =
 pub returns-clause-goes : goal.returns-clause-goes
 returns-clause-goes c =
     let s = c.loop-self.self-inside in
-    let steps : c.args.self.now ≡ (s.byte + c.from-2.result) ∷ members_left s.set s.number (s.byte + c.from-2.result + 1) c.word_shifted_right-self-inside-2.result = returns-clause-steps c in
+    let steps : c.args.self.now ≡ (s.byte + c.from-2.result) ∷ members_left s.set s.number (s.byte + c.from-2.result + 1)
+    c.word_shifted_right-self-inside-2.result = returns-clause-steps c in
     search rules

@@ -11,7 +11,8 @@ use Rattle.rsc_alphabet.proofs.byte_classes.ByteClasses.elements.Goals as goal
 pub returns-in-Some : goal.returns-in-Some
 returns-in-Some c =
     let map = c.args.self.now in
-    let list = c.new.ensures ∙ elements_of-byte map c.args.class c.in-Some.class c.bytes_of.result (sym c.as_u8.ensures ∙ c.in-Some.is) c.bytes_of.ensures in
+    let list = c.new.ensures ∙ elements_of-byte map c.args.class c.in-Some.class c.bytes_of.result (sym c.as_u8.ensures ∙ c.in-Some.is)
+    c.bytes_of.ensures in
     record {
       list = list;
       class = λ some. subst (All (λ u. class_at map u ≡ number_of c.args.class)) (sym list) (elements_have_class map c.args.class some);
@@ -22,7 +23,8 @@ pub returns-in-None : goal.returns-in-None
 returns-in-None c =
     let map = c.args.self.now in
     let none = ap members c.empty.ensures.set ∙ members_none in
-    let list = c.new-in-None.ensures ∙ ap (λ bytes. elements_left bytes true) none ∙ elements_of-end map c.args.class (sym c.as_u8.ensures ∙ c.in-None.is) in
+    let list = c.new-in-None.ensures ∙ ap (λ bytes. elements_left bytes true) none
+    ∙ elements_of-end map c.args.class (sym c.as_u8.ensures ∙ c.in-None.is) in
     record {
       list = list;
       class = λ some. subst (All (λ u. class_at map u ≡ number_of c.args.class)) (sym list) (elements_have_class map c.args.class some);

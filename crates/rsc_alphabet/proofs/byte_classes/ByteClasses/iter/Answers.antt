@@ -9,7 +9,9 @@ pub returns-clause-list : goal.returns-clause-list
 returns-clause-list c = symbols_left_all c.args.self.now
 
 pub returns-clause-within : goal.returns-clause-within
-returns-clause-within c = subst (All (λ u. number_of u < slice_index c.args.self.now 255 + 2)) (sym (symbols_left_all c.args.self.now)) (symbols_within c.args.self.now)
+returns-clause-within c =
+    subst (All (λ u. number_of u < slice_index c.args.self.now 255 + 2)) (sym (symbols_left_all c.args.self.now)) (symbols_within c.args.self.now)
 
 pub returns-clause-most : goal.returns-clause-most
-returns-clause-most c = rw (symbols_left_all c.args.self.now) (omega (arith, length-symbols c.args.self.now, c.alphabet_len.ensures.value, c.alphabet_len.ensures.most))
+returns-clause-most c = rw (symbols_left_all c.args.self.now)
+    (omega (arith, length-symbols c.args.self.now, c.alphabet_len.ensures.value, c.alphabet_len.ensures.most))

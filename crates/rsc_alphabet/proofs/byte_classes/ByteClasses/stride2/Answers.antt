@@ -15,7 +15,8 @@ returns-clause-value c =
     let r = c.ilog2.result in
     let classes = c.args.self.now in
     let len : c.alphabet_len.result ≡ slice_index classes 255 + 2 = c.alphabet_len.ensures.value in
-    let least : (k : ℕ) → slice_index classes 255 + 2 ≤ 2 ^ k → r + 1 ≤ k = λ k enough. least_exponent (c.alphabet_len.result - 1) r k c.ilog2.ensures.power_le (omega (arith, enough, len)) in
+    let least : (k : ℕ) → slice_index classes 255 + 2 ≤ 2 ^ k → r + 1 ≤ k =
+    λ k enough. least_exponent (c.alphabet_len.result - 1) r k c.ilog2.ensures.power_le (omega (arith, enough, len)) in
     let more : r + 1 ≡ suc r = omega arith in
     let double : 2 ^ (r + 1) ≡ 2 * 2 ^ r = ap (λ e. 2 ^ e) more ∙ pow-succ' 2 r in
     let below = c.ilog2.ensures.next_power_gt in

@@ -6,5 +6,6 @@ pub returns : goal.returns
 returns c =
     let low = c.shifted_right.ensures in
     let high = c.shifted_right-2.ensures in
-    rw (← c.self.view_is) (ends_are c.self.inside.low c.self.inside.high c.shifted_right.result c.shifted_right-2.result c.difference.result c.difference-2.result
+    rw (← c.self.view_is) (ends_are c.self.inside.low c.self.inside.high c.shifted_right.result c.shifted_right-2.result c.difference.result
+    c.difference-2.result
     c.self.invariant.1 (omega (arith, c.difference-2.type_inv)) low.last low.others c.difference.ensures high.last high.others c.difference-2.ensures)

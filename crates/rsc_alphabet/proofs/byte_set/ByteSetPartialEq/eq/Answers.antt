@@ -13,7 +13,8 @@ returns-then-self-other c =
     let t = c.other.inside in
     rw (← c.self.view_is, ← c.other.view_is) (same_bools (nat_eq s.high t.high) (same_members (masked s.low s.high) (masked t.low t.high))
     (λ h. same_to nat_cmp_total nat_cmp-IsAntisymmetric _ _ (ap₂ masked c.if-self-other.true (eqb-true _ _ h)))
-    (λ h. eq-eqb _ _ (masks_same s.low s.high t.low t.high c.self.invariant.0 c.self.invariant.1 c.other.invariant.0 c.other.invariant.1 (same_from nat_cmp_total nat_cmp-IsAntisymmetric _ _ h)).1))
+    (λ h. eq-eqb _ _ (masks_same s.low s.high t.low t.high c.self.invariant.0 c.self.invariant.1 c.other.invariant.0 c.other.invariant.1
+    (same_from nat_cmp_total nat_cmp-IsAntisymmetric _ _ h)).1))
 
 pub returns-else-self-other : goal.returns-else-self-other
 returns-else-self-other c =
@@ -21,4 +22,5 @@ returns-else-self-other c =
     let t = c.other.inside in
     rw (← c.self.view_is, ← c.other.view_is) (same_bools (nat_eq s.low t.low) (same_members (masked s.low s.high) (masked t.low t.high))
     (λ h. absurd (omega (arith, eqb-true _ _ h)))
-    (λ h. eq-eqb _ _ (masks_same s.low s.high t.low t.high c.self.invariant.0 c.self.invariant.1 c.other.invariant.0 c.other.invariant.1 (same_from nat_cmp_total nat_cmp-IsAntisymmetric _ _ h)).0))
+    (λ h. eq-eqb _ _ (masks_same s.low s.high t.low t.high c.self.invariant.0 c.self.invariant.1 c.other.invariant.0 c.other.invariant.1
+    (same_from nat_cmp_total nat_cmp-IsAntisymmetric _ _ h)).0))

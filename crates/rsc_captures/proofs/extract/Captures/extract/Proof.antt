@@ -48,9 +48,13 @@ pub extract_spec : {M : Type 1} → statement M
 extract_spec 𝓤 𝓛 𝓜 𝓡 wired n fits =
     let N : RattleType = number n in let c = f.clauses N 𝓛 𝓜.mem 𝓡.returns in
     let Ts : Types (a_number ∷ []) = (N, tt) in
-    proved 𝓛 (f.ended N) (stayed N) c 𝓜 𝓡 (Goes-dropped 𝓛 3 self_slot yes (λ κs x w. refl), (Goes-dropped 𝓛 3 haystack_slot yes (λ κs x w. refl), tt))
+    proved 𝓛 (f.ended N) (stayed N) c 𝓜 𝓡 (
+      Goes-dropped 𝓛 3 self_slot yes (λ κs x w. refl),
+      (Goes-dropped 𝓛 3 haystack_slot yes (λ κs x w. refl), tt),
+    )
     (f.Key.name (layouts (a_number ∷ []) Ts)) (inst_fn (layouts (a_number ∷ []) Ts) code.function) (code.unfolded 𝓤 𝓛.H 𝓜 𝓡 wired Ts)
-    (λ κs. (shr_vals, (shr_slice_vals, tt))) (λ κs. (shr_Tells (named 0) κs.0 captures_row, ((str-laws (second κs)).tells, tt))) (λ κs qs bounds a _ are.
+    (λ κs. (shr_vals, (shr_slice_vals, tt))) (λ κs. (shr_Tells (named 0) κs.0 captures_row, ((str-laws (second κs)).tells, tt)))
+    (λ κs qs bounds a _ are.
     let F : Field = str-field (second κs) in let L = str_laws (second κs) in let H : RattleType = passed F in let R : RattleType = Result F n in
     -- the callee's contract at this haystack, that it is met, and what is picked of it
     let T : Ended = g.ended H N haystack.ghosts haystack.dict clone.ghosts clone.dict in
@@ -67,7 +71,8 @@ extract_spec 𝓤 𝓛 𝓜 𝓡 wired n fits =
     move ! (1 ∷ []) $ use1 𝓛 (raw (d.requires tt)) (beside 𝓤 (κs.1.0 ⊑ H.lives) pre (lives_so κs.1.0)) $ move ! (1 ∷ 0 ∷ []) $ use2 𝓛
     (raw (G.pre z)) (id⊢ 𝓤 _) $
     enter ! _ _ _ _ _ $ alloc_all ! (λ l. pass_all ! refl ((tt, tt), ((((str-laws (second κs)).lawful 𝓛).typed a.1.0 _ are.1.0).0, tt)) $
-    calls_at ! (framed 𝓤 𝓛.H 𝓜 (tables 𝓤 𝓛.H 𝓜 𝓡 𝓡.env)) G meets z (and_then ! (get ! refl) (and_then ! (get ! refl) (no_more !))) (λ v.
+    calls_at ! (framed 𝓤 𝓛.H 𝓜 (tables 𝓤 𝓛.H 𝓜 𝓡 𝓡.env)) G meets z (and_then ! (get ! refl) (and_then ! (get ! refl) (no_more !)))
+    (λ v.
     use1 𝓛 (later (some (λ (r : R.Denot). (raw (alive 𝓛 (f.signature N) κs qs) ⊛ ‵ (R.own_val r (v ∷ []))) ⊛
     some (λ (ws : Unit {0} × (Unit {0} × Unit {0})). ‵ (lasts T κs a ws) ⊛ raw (d.ensures tt r (at_exit T κs a ws)))))) (id⊢ 𝓤 _) $
     await ! tt $ pick ! (λ r. split ! $ split ! $

@@ -7,4 +7,5 @@ pub returns-clause-count : goal.returns-clause-count
 returns-clause-count g c = rw (c.new.ensures.groups, ← c.lists.ensures) (length-all_names_of c.lists.result.now)
 
 pub returns-clause-limit : goal.returns-clause-limit
-returns-clause-limit g c = rw c.new.ensures.groups (omega (arith, length-all_names_of c.lists.result.now, slots_within_limit c.lists.result.now c.new.ensures.faultless))
+returns-clause-limit g c =
+    rw c.new.ensures.groups (omega (arith, length-all_names_of c.lists.result.now, slots_within_limit c.lists.result.now c.new.ensures.faultless))

@@ -9,5 +9,6 @@ returns-clause-within g c =
     let lists : c.lists.result.now ≡ c.args.self.now = c.lists.ensures in
     let len : c.len.result ≡ length c.args.self.now = c.len.ensures.value ∙ ap length lists in
     let checked : IsFaultless LIMIT_OF_IDS c.args.self.now = rw lists at c.len.ensures.faultless in
-    let all : all_groups c.args.self.now ≡ length c.args.self.now + explicit_before c.args.self.now (length c.args.self.now) = all_groups_are c.args.self.now checked in
+    let all : all_groups c.args.self.now ≡ length c.args.self.now + explicit_before c.args.self.now (length c.args.self.now) = all_groups_are c.args.self.now
+    checked in
     omega arith

@@ -17,4 +17,5 @@ first_repeat_before-requires g c = λ p before. (pattern_clear (lists_in c.args.
 pub returns-clause-refused : goal.returns-clause-refused
 returns-clause-refused g c =
     refuses_found
-    (rw c.unwrap_or-first.ensures (first_fault c.in-Some.other c.first_repeat_before.result c.in-Some.ensures c.first_repeat_before.ensures)) c.refusal.result c.refusal.ensures
+    (rw c.unwrap_or-first.ensures (first_fault c.in-Some.other c.first_repeat_before.result c.in-Some.ensures c.first_repeat_before.ensures)) c.refusal.result
+    c.refusal.ensures

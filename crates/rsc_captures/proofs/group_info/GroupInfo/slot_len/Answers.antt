@@ -14,7 +14,8 @@ returns-clause-limit g c = omega (arith, c.all_group_len.ensures.value, slots_wi
 pub returns-clause-owned : goal.returns-clause-owned
 returns-clause-owned g c =
     let faultless : IsFaultless LIMIT_OF_IDS c.args.self.now = rw c.lists.ensures at c.all_group_len.ensures.faultless in
-    let all : 2 * c.all_group_len.result ≡ 2 * all_groups c.args.self.now = ap (λ k. 2 * k) (c.all_group_len.ensures.value ∙ ap all_groups c.lists.ensures) in
+    let all : 2 * c.all_group_len.result ≡ 2 * all_groups c.args.self.now =
+    ap (λ k. 2 * k) (c.all_group_len.ensures.value ∙ ap all_groups c.lists.ensures) in
     λ s lt. each_owned c.args.self.now faultless s (rw all at lt)
 
 pub returns-clause-once : goal.returns-clause-once

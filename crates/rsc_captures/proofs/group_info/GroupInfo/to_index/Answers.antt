@@ -9,7 +9,8 @@ pub returns-clause-named : goal.returns-clause-named
 returns-clause-named g c =
     let lists : c.lists.result.now ≡ c.args.self.now = c.lists.ensures in
     let faultless : IsFaultless LIMIT_OF_IDS c.args.self.now = rw lists at c.index.ensures.faultless in
-    rw (c.index.ensures.value, lists, c.as_usize.ensures.value) (index_of-is (groups_of c.args.self.now c.args.pid) c.args.name.now (distinct_in c.args.self.now faultless c.args.pid))
+    rw (c.index.ensures.value, lists, c.as_usize.ensures.value)
+    (index_of-is (groups_of c.args.self.now c.args.pid) c.args.name.now (distinct_in c.args.self.now faultless c.args.pid))
 
 pub returns-clause-within : goal.returns-clause-within
 returns-clause-within g c =

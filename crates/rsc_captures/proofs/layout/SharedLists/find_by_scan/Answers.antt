@@ -9,7 +9,8 @@ use Rattle.rsc_captures.proofs.layout.SharedLists.find_by_scan.Goals as goal
 pub returns-then-has_name : goal.returns-then-has_name
 returns-then-has_name g c =
     let lt : c.loop-group.group < group_count c.args.self.now c.args.p = omega arith in
-    let named : has_name c.args.name.now (name_of c.args.self.now c.args.p c.loop-group.group) ≡ true = ap (has_name c.args.name.now) (sym c.name_within.ensures) ∙ sym c.has_name.ensures ∙ c.if-has_name.true in
+    let named : has_name c.args.name.now (name_of c.args.self.now c.args.p c.loop-group.group) ≡ true =
+    ap (has_name c.args.name.now) (sym c.name_within.ensures) ∙ sym c.has_name.ensures ∙ c.if-has_name.true in
     sym (index_of_first (groups_of c.args.self.now c.args.p) c.args.name.now c.loop-group.group lt c.loop-group.invariant named)
 
 pub returns : goal.returns
@@ -21,5 +22,7 @@ returns g c =
 pub loop-group-preserved : goal.loop-group-preserved
 loop-group-preserved g c =
     let lt : c.loop-group.group < group_count c.args.self.now c.args.p = omega arith in
-    let other : has_name c.args.name.now (name_of c.args.self.now c.args.p c.loop-group.group) ≡ false = ap (has_name c.args.name.now) (sym c.name_within.ensures) ∙ sym c.has_name.ensures ∙ c.if-has_name.false in
-    list_any_more (has_name c.args.name.now) (groups_of c.args.self.now c.args.p) c.loop-group.group None lt ∙ ap₂ (λ a b. a || b) c.loop-group.invariant other
+    let other : has_name c.args.name.now (name_of c.args.self.now c.args.p c.loop-group.group) ≡ false =
+    ap (has_name c.args.name.now) (sym c.name_within.ensures) ∙ sym c.has_name.ensures ∙ c.if-has_name.false in
+    list_any_more (has_name c.args.name.now) (groups_of c.args.self.now c.args.p) c.loop-group.group None lt
+    ∙ ap₂ (λ a b. a || b) c.loop-group.invariant other

@@ -6,7 +6,8 @@ use Rattle.rsc_example.proofs.backtrack.Walk.turn_back.Given as goal
 
 abbrev pub invariant-places : goal.invariant-places
 invariant-places g l = record {
-  trail : IsTrail (scene_of l.program.automaton (g.W.WordClass.word_chars l.program.automaton.matcher.1) l.input) l.self.from l.self.run.items l.self.others.items;
+  trail : IsTrail (scene_of l.program.automaton (g.W.WordClass.word_chars l.program.automaton.matcher.1) l.input) l.self.from l.self.run.items
+      l.self.others.items;
   from : l.self.from ≡ l.initial.self.from;
   visited : l.self.visited ≡ l.initial.self.visited;
   ways : count_by is_some l.self.others.items ≤ count_by is_some l.initial.self.others.items;

@@ -17,6 +17,8 @@ returns-clause-after g c =
 
 pub returns-clause-less : goal.returns-clause-less
 returns-clause-less g c =
-    let none : has_member c.args.self.now.visited.members c.number_of-number.result ≡ false = grind (arith, common_steps, c.insert.ensures.new, c.if-not-insert.false) in
+    let none : has_member c.args.self.now.visited.members c.number_of-number.result ≡ false =
+    grind (arith, common_steps, c.insert.ensures.new, c.if-not-insert.false) in
     rw (c.in_ok-push.ensures.others, c.push.ensures.visited, c.insert.ensures.set)
-    (IsLess-more c.args.self.now.visited c.number_of-number.result c.args.self.now.others.items _ _ c.insertion_adds_one_member.ensures.members (omega (arith, c.number_of-number.ensures.within, c.capacity-capacity.ensures.capacity)) none)
+    (IsLess-more c.args.self.now.visited c.number_of-number.result c.args.self.now.others.items _ _ c.insertion_adds_one_member.ensures.members
+    (omega (arith, c.number_of-number.ensures.within, c.capacity-capacity.ensures.capacity)) none)

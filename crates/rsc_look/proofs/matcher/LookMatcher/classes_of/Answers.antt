@@ -8,10 +8,15 @@ pub loop-look-init : goal.loop-look-init
 loop-look-init g c = HasBoundaries-none c.args.looks.now c.args.self.now.0 c.empty-set.result c.empty-set.ensures.set
 
 pub loop-look-preserved : goal.loop-look-preserved
-loop-look-preserved g c = HasBoundaries-more c.loop-look.set c.add_to_byteset.new.set c.args.looks.now c.loop-look.look-index Start c.args.self.now.0 c.loop-look-test.true c.loop-look.invariant c.add_to_byteset.ensures.adds
+loop-look-preserved g c =
+    HasBoundaries-more c.loop-look.set c.add_to_byteset.new.set c.args.looks.now c.loop-look.look-index Start c.args.self.now.0 c.loop-look-test.true
+    c.loop-look.invariant c.add_to_byteset.ensures.adds
 
 pub returns-clause-classes : goal.returns-clause-classes
-returns-clause-classes g c = classes_whole c.args.looks.now c.args.self.now.0 c.loop-look.look-index c.loop-look.set c.byte_classes.result c.loop-look-test.false c.loop-look.invariant c.byte_classes.ensures.map
+returns-clause-classes g c =
+    classes_whole c.args.looks.now c.args.self.now.0 c.loop-look.look-index c.loop-look.set c.byte_classes.result c.loop-look-test.false c.loop-look.invariant
+    c.byte_classes.ensures.map
 
 pub returns-clause-coarsest : goal.returns-clause-coarsest
-returns-clause-coarsest g c = IsCoarsestMap-from c.byte_classes.result c.args.looks.now c.args.self.now.0 (g.W.WordClass.word_chars c.args.self.now.1) (returns-clause-classes g c)
+returns-clause-coarsest g c =
+    IsCoarsestMap-from c.byte_classes.result c.args.looks.now c.args.self.now.0 (g.W.WordClass.word_chars c.args.self.now.1) (returns-clause-classes g c)

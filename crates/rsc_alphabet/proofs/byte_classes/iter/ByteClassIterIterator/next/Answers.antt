@@ -14,7 +14,8 @@ returns-then-self-end-clause-goes c =
     rw (← c.self.view_is, c.u8.ensures) (symbols_left_more c.self.inside.classes.now c.self.inside.next_class (omega arith)) in
     search rules
 
-end_is : (classes : List ℕ) (next len end : ℕ) → len ≡ slice_index classes 255 + 2 → end ≡ len - 1 → next ≡ end → symbols_left classes next ≡ end_of_input end ∷ symbols_left classes (next + 1)
+end_is : (classes : List ℕ) (next len end : ℕ) → len ≡ slice_index classes 255 + 2 → end ≡ len - 1 → next ≡ end
+    → symbols_left classes next ≡ end_of_input end ∷ symbols_left classes (next + 1)
 end_is classes next len end value is here =
     let last : next ≡ slice_index classes 255 + 1 = omega arith in
     let same : end ≡ slice_index classes 255 + 1 = omega arith in
@@ -22,12 +23,14 @@ end_is classes next len end value is here =
 
 pub returns-then-self-end-2-clause-steps : goal.returns-then-self-end-2-clause-steps
 returns-then-self-end-2-clause-steps c =
-    rw (← c.self.view_is, c.eoi.ensures) (end_is c.self.inside.classes.now c.self.inside.next_class c.alphabet_len-end.result (c.alphabet_len-end.result - 1) c.alphabet_len-end.ensures.value (omega arith) (omega arith))
+    rw (← c.self.view_is, c.eoi.ensures) (end_is c.self.inside.classes.now c.self.inside.next_class c.alphabet_len-end.result (c.alphabet_len-end.result - 1)
+    c.alphabet_len-end.ensures.value (omega arith) (omega arith))
 
 pub returns-then-self-end-2-clause-goes : goal.returns-then-self-end-2-clause-goes
 returns-then-self-end-2-clause-goes c =
     let steps : c.args.self.now ≡ c.eoi.result ∷ symbols_left c.self.inside.classes.now (c.self.inside.next_class + 1) =
-    rw (← c.self.view_is, c.eoi.ensures) (end_is c.self.inside.classes.now c.self.inside.next_class c.alphabet_len-end.result (c.alphabet_len-end.result - 1) c.alphabet_len-end.ensures.value (omega arith) (omega arith)) in
+    rw (← c.self.view_is, c.eoi.ensures) (end_is c.self.inside.classes.now c.self.inside.next_class c.alphabet_len-end.result (c.alphabet_len-end.result - 1)
+    c.alphabet_len-end.ensures.value (omega arith) (omega arith)) in
     search rules
 
 pub returns-clause-steps : goal.returns-clause-steps
