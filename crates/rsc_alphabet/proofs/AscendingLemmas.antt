@@ -1,26 +1,10 @@
 -- What an iterator over a set's members has left, word by word.
-use Rattle.std.proofs.Common.{◌≡◌, ℕ, ◌+◌, ◌-◌, ◌*◌, ◌<◌, ◌≤◌, Bool, true, false, [], ◌∷◌, ◌++◌, filter, refl, sym, ap, ap₂, ◌∙◌, ◌^◌, nat_eq, arith, append-nil, min, ⊎_elim}
+use Rattle.std.proofs.Common.{◌≡◌, ℕ, ◌+◌, ◌-◌, ◌*◌, ◌<◌, ◌≤◌, Bool, true, false, [], ◌∷◌, ◌++◌, filter, refl, sym, ap, ◌∙◌, ◌^◌, nat_eq, arith, append-nil, min, ⊎_elim, bit_and}
 use Rattle.std.specs.Int.{bit_at}
-use Rattle.std.specs.Int.Bits.{bit_and}
 use Rattle.std.specs.FinSet as sets
-use Rattle.std.proofs.lemmas.List.Elements.{filter-append}
 use Rattle.std.proofs.lemmas.Bool.{cases_lt}
 use Rattle.std.proofs.lemmas.Nat.Bits.{bit_at-zero, bit_at_above, bit_at_and}
-use Rattle.rsc_alphabet.specs.Bytes.{from_to}
-use Rattle.rsc_alphabet.specs.BytesLaws.{from_to_none, from_to_parts, filter_none, filter_first, filter_same}
-use Rattle.rsc_alphabet.specs.ByteSets.{Numbers}
-use Rattle.rsc_primitives.specs.BitsLaws.{has_bit}
-use Rattle.rsc_alphabet.specs.ByteSetLayout.{members_from, members_left}
-
-pub filter_parts : (p : ℕ → Bool) (low mid high : ℕ) → low ≤ mid → mid ≤ high
-    → filter p (from_to low high) ≡ filter p (from_to low mid) ++ filter p (from_to mid high)
-filter_parts p low mid high l h = ap (filter p) (from_to_parts low mid high l h) ∙ filter-append p (from_to low mid) (from_to mid high)
-
--- the first number of a range at which a test gives true
-filter_at : (p : ℕ → Bool) (low k high : ℕ) → low ≤ k → k < high → ((i : ℕ) → low ≤ i → i < k → p i ≡ false) → p k ≡ true
-    → filter p (from_to low high) ≡ k ∷ filter p (from_to (k + 1) high)
-filter_at p low k high l h none is =
-    filter_parts p low k high l (omega arith) ∙ ap₂ (λ x y. x ++ y) (filter_none p low k none) (filter_first p k high h is)
+use Rattle.rsc_alphabet.proofs.Words.{from_to, from_to_none, filter_none, filter_same, filter_parts, filter_at, Numbers, has_bit, members_from, members_left}
 
 -- a word of which nothing was taken
 pub whole_word : (s : Numbers) (number word : ℕ) → number < 4 → ((i : ℕ) → i < 64 → has_bit word i ≡ sets.contains s (64 * number + i))
@@ -44,20 +28,19 @@ no_word s number byte =
     ap (λ x. x ++ members_from s (64 * number + 64)) (filter_none (λ b. has_bit 0 (b - byte)) byte (byte + 64)
     (λ k low high. rw (bit_at-zero (k - byte)) refl))
 
+-- in the fourth word nothing is left
 pub none_left : (s : Numbers) (number byte : ℕ) → number ≡ 3 → members_left s number byte 0 ≡ []
 none_left s number byte is = no_word s number byte ∙ let e : 64 * number + 64 ≡ 256 = omega (arith, is) in rw (e, from_to_none 256 256 (omega arith)) refl
 
 -- from a word with nothing left to the next one
-pub next_word : (s : Numbers) (number byte word : ℕ) → number + 1 < 4
-    → ((i : ℕ) → i < 64 → has_bit word i ≡ sets.contains s (64 * (number + 1) + i))
+pub next_word : (s : Numbers) (number byte word : ℕ) → number + 1 < 4 → ((i : ℕ) → i < 64 → has_bit word i ≡ sets.contains s (64 * (number + 1) + i))
     → members_left s (number + 1) (64 * (number + 1)) word ≡ members_left s number byte 0
 next_word s number byte word l same =
     let e : 64 * (number + 1) ≡ 64 * number + 64 = omega arith in
     whole_word s (number + 1) word l same ∙ ap (members_from s) e ∙ sym (no_word s number byte)
 
 -- the bits above the lowest one that is 1, shifted right
-pub lowest_left : (s : Numbers) (number byte word rest k : ℕ) → word < 2 ^ 64 → k < 64 → bit_at word k ≡ 1
-    → ((i : ℕ) → i < k → bit_at word i ≡ 0)
+pub lowest_left : (s : Numbers) (number byte word rest k : ℕ) → word < 2 ^ 64 → k < 64 → bit_at word k ≡ 1 → ((i : ℕ) → i < k → bit_at word i ≡ 0)
     → ((i : ℕ) → bit_at rest i ≡ bit_at word (k + (1 + i))) →
     members_left s number byte word ≡ (byte + k) ∷ members_left s number (byte + k + 1) rest
 lowest_left s number byte word rest k fits l here below moved =
@@ -88,8 +71,7 @@ lowest_left s number byte word rest k fits l here below moved =
     past i p q = ap (λ x. nat_eq x 1) (moved (i - (byte + k + 1)) ∙ bit_at_above word 64 (k + (1 + (i - (byte + k + 1)))) fits (omega arith))
 
 -- the same where the lowest bit is 1
-pub first_left : (s : Numbers) (number byte word rest : ℕ) → word < 2 ^ 64 → bit_and word 1 ≡ 1
-    → ((i : ℕ) → bit_at rest i ≡ bit_at word (1 + i)) →
+pub first_left : (s : Numbers) (number byte word rest : ℕ) → word < 2 ^ 64 → bit_and word 1 ≡ 1 → ((i : ℕ) → bit_at rest i ≡ bit_at word (1 + i)) →
     members_left s number byte word ≡ byte ∷ members_left s number (byte + 1) rest
 first_left s number byte word rest fits here moved =
     let e : byte + 0 ≡ byte = omega arith in

@@ -1,24 +1,23 @@
 -- The bits of a number that was shifted or masked, and how many bits are 1.
-use Rattle.std.proofs.Common.{◌≡◌, ◌≢◌, ℕ, zero, suc, ◌+◌, ◌-◌, ◌*◌, ◌/◌, ◌%◌, ◌^◌, ◌<◌, ◌≤◌, Bool, true, false, min, max, not, ◌&&◌, ◌||◌, cond, nat_eq, nat_le, refl, sym, ap, ap₂, ◌∙◌, arith, ⊎_elim}
+use Rattle.std.proofs.Common.{◌≡◌, ◌≢◌, ◌↔◌, ℕ, zero, suc, ◌+◌, ◌-◌, ◌*◌, ◌/◌, ◌%◌, ◌^◌, ◌<◌, ◌≤◌, Bool, true, false, min, max, not, ◌&&◌, ◌||◌, cond, nat_eq, nat_le, refl, sym, ap, ap₂, ◌∙◌, arith, ⊎_elim, bit_and, bit_or, mod-lt}
 use Rattle.std.specs.Int.{w128, bit_at, bit_not}
-use Rattle.std.specs.Int.Bits.{bit_and, bit_or}
 use Rattle.std.specs.Int.Count.{ones, ones_in, ones_cat}
-use Rattle.std.proofs.lemmas.Bool.{cases_lt, le-leb, lt-leb}
-use Rattle.std.proofs.lemmas.Nat.{and_mask, pow-add, pow_pos, mod-pow-add}
-use Rattle.std.proofs.lemmas.Nat.Bits.{bit_at-lt, bit_at-zero, bit_at_above, bit_at_and, bit_at_or, bit_at_not, bit_at_ones, bit_at_cat_low, bit_at_cat_high, same_from_bits}
-use Rattle.std.proofs.Math.Nat.{mod-lt, div-div-eq-div-mul}
-use Rattle.rsc_primitives.specs.BitsLaws.{has_bit}
-use Rattle.rsc_alphabet.specs.Partitions.{class_of}
-use Rattle.rsc_alphabet.specs.PartitionsLaws.{class_of_more, class_of_none}
+use Rattle.std.proofs.lemmas.Bool.{cases_lt, cases_eq, eq-eqb, ne_eqb, le-leb}
+use Rattle.std.proofs.lemmas.Bool.Decides.{nat_tests}
+use Rattle.std.proofs.lemmas.Nat.{and_mask, mod-pow-add, one_shl, pow_pos, shr-shr}
+use Rattle.std.proofs.lemmas.Nat.Bits.{bit_at-lt, bit_at-pow_same, bit_at-pow_other, bit_at-zero, bit_at_and, bit_at_or, bit_at_not, bit_at_ones, bit_at_cat_low, bit_at_cat_high, same_from_bits}
+use Rattle.rsc_alphabet.proofs.Words.{has_bit, same_digit, class_of, class_of_more, class_of_none}
 
--- ---- shifts and masks
+-- ---- shifts
 
+-- the bits of a number that was shifted right
 pub bit_at-shr : (n k i : ℕ) → bit_at (n / 2 ^ k) i ≡ bit_at n (k + i)
-bit_at-shr n k i = ap (λ x. x % 2) (div-div-eq-div-mul n (2 ^ k) (2 ^ i) ∙ ap (λ x. n / x) (sym (pow-add 2 k i)))
+bit_at-shr n k i = ap (λ x. x % 2) (shr-shr n k i)
 
-pub bit_at-mod : (n k i : ℕ) → i < k → bit_at (n % 2 ^ k) i ≡ bit_at n i
+bit_at-mod : (n k i : ℕ) → i < k → bit_at (n % 2 ^ k) i ≡ bit_at n i
 bit_at-mod n k i l = rw (← and_mask n k) (bit_at_and n (2 ^ k - 1) i ∙ rw (bit_at_ones k i l) (omega (arith, bit_at-lt n i)))
 
+-- the bits of a number that was shifted left, from the lowest one on, and below it
 pub bit_at-shl : (n k w i : ℕ) → k ≤ i → i < w → bit_at (n * 2 ^ k % 2 ^ w) i ≡ bit_at n (i - k)
 bit_at-shl n k w i low high =
     let e : n * 2 ^ k + 0 ≡ n * 2 ^ k = omega arith in
@@ -29,105 +28,70 @@ bit_at-shl_below n k w i low high =
     let e : n * 2 ^ k + 0 ≡ n * 2 ^ k = omega arith in
     bit_at-mod (n * 2 ^ k) w i high ∙ ap (λ x. bit_at x i) (sym e) ∙ bit_at_cat_low n k 0 i low ∙ bit_at-zero i
 
--- the bits of a number that aren't bits of another one
-pub has_bit-difference : (mask other i : ℕ) → other < 2 ^ 128 → i < 128
-    → has_bit (bit_and mask (bit_not w128 other)) i ≡ (has_bit mask i && not (has_bit other i))
-has_bit-difference mask other i fits l =
-    ap (λ x. nat_eq x 1) (bit_at_and mask (bit_not w128 other) i ∙ ap (min (bit_at mask i)) (bit_at_not w128 other i fits l))
-    ∙ digits (bit_at mask i) (bit_at other i) (bit_at-lt mask i) (bit_at-lt other i)
+-- one bit, shifted left
+pub has_bit-one : (k w i : ℕ) → k < w → has_bit (1 * 2 ^ k % 2 ^ w) i ≡ nat_eq i k
+has_bit-one k w i l = rw (one_shl k w l) (⊎_elim
+    (λ (e : i ≡ k). rw (e, bit_at-pow_same k, eq-eqb k k refl) refl)
+    (λ (ne : i ≢ k). rw (bit_at-pow_other k i ne, ne_eqb i k ne) refl)
+    (cases_eq i k))
+
+-- two places are the same if they are so many places higher
+pub eqb-shifted : (i k a b : ℕ) → a + k ≡ b → nat_eq i k ≡ nat_eq (a + i) b
+eqb-shifted i k a b is = grind (arith, nat_tests)
+
+-- ---- two numbers
+
+digits : (x y : ℕ) → x < 2 → y < 2 → (nat_eq (max x y) 1 ≡ (nat_eq x 1 || nat_eq y 1)) × (nat_eq (min x y) 1 ≡ (nat_eq x 1 && nat_eq y 1))
+digits x y lx ly = (grind (arith, nat_tests), grind (arith, nat_tests))
+
+-- the bits of either number, and of both
+pub has_bit-either : (a b i : ℕ) → has_bit (bit_or a b) i ≡ (has_bit a i || has_bit b i)
+has_bit-either a b i = ap (λ x. nat_eq x 1) (bit_at_or a b i) ∙ (digits (bit_at a i) (bit_at b i) (bit_at-lt a i) (bit_at-lt b i)).0
+
+pub has_bit-both : (a b i : ℕ) → has_bit (bit_and a b) i ≡ (has_bit a i && has_bit b i)
+has_bit-both a b i = ap (λ x. nat_eq x 1) (bit_at_and a b i) ∙ (digits (bit_at a i) (bit_at b i) (bit_at-lt a i) (bit_at-lt b i)).1
+
+-- the bits that a number doesn't have
+pub has_bit-not : (n i : ℕ) → n < 2 ^ 128 → i < 128 → has_bit (bit_not w128 n) i ≡ not (has_bit n i)
+has_bit-not n i fits l = ap (λ x. nat_eq x 1) (bit_at_not w128 n i fits l) ∙ other (bit_at n i) (bit_at-lt n i)
   where
-    digits : (x y : ℕ) → x < 2 → y < 2 → nat_eq (min x (1 - y)) 1 ≡ (nat_eq x 1 && not (nat_eq y 1))
-    digits zero zero lx ly = refl
-    digits zero (suc zero) lx ly = refl
-    digits (suc zero) zero lx ly = refl
-    digits (suc zero) (suc zero) lx ly = refl
-    digits (suc (suc x)) y lx ly = absurd (omega arith)
-    digits x (suc (suc y)) lx ly = absurd (omega arith)
+    other : (x : ℕ) → x < 2 → nat_eq (1 - x) 1 ≡ not (nat_eq x 1)
+    other x l = grind (arith, nat_tests)
 
--- the bits of a number of two halves are 0 where those of the halves are
-pub none_joined : (whole lower upper i : ℕ) → whole < 2 ^ 128 → ((i : ℕ) → i < 64 → bit_at whole i ≡ bit_at lower i)
-    → ((i : ℕ) → i < 64 → bit_at whole (64 + i) ≡ bit_at upper i) →
-    (i < 64 → bit_at lower i ≡ 0) → (64 ≤ i → i < 128 → bit_at upper (i - 64) ≡ 0) → bit_at whole i ≡ 0
-none_joined whole lower upper i fits below above low high =
-    ⊎_elim (λ (h : i < 64). below i h ∙ low h) (λ (h : 64 ≤ i).
-    ⊎_elim (λ (k : i < 128). let e : 64 + (i - 64) ≡ i = omega arith in rw e at (above (i - 64) (omega arith) ∙ high h k))
-    (λ (k : 128 ≤ i). bit_at_above whole 128 i fits k)
-    (cases_lt i 128)) (cases_lt i 64)
+-- the bits of a number that is made of two halves
+pub has_bit-halves : (p : ℕ → Bool) (whole lower upper : ℕ) → ((i : ℕ) → i < 64 → has_bit whole i ≡ has_bit lower i)
+    → ((i : ℕ) → has_bit whole (64 + i) ≡ has_bit upper i) → ((i : ℕ) → i < 64 → has_bit lower i ≡ p i)
+    → ((i : ℕ) → has_bit upper i ≡ p (64 + i)) → (i : ℕ) → has_bit whole i ≡ p i
+has_bit-halves p whole lower upper below above low high i =
+    ⊎_elim
+    (λ (h : i < 64). below i h ∙ low i h)
+    (λ (h : 64 ≤ i). let e : 64 + (i - 64) ≡ i = omega arith in rw e at (above (i - 64) ∙ high (i - 64)))
+    (cases_lt i 64)
 
--- one bit of a word
-pub one_here : (k : ℕ) → k < 64 → bit_at (1 * 2 ^ k % 2 ^ 64) k ≡ 1
-one_here k l = let z : k - k ≡ 0 = omega arith in bit_at-shl 1 k 64 k (omega arith) l ∙ ap (bit_at 1) z
-
-pub none_beside : (k i : ℕ) → k < 64 → i < 64 → i ≢ k → bit_at (1 * 2 ^ k % 2 ^ 64) i ≡ 0
-none_beside k i l h ne =
-    ⊎_elim (λ (b : i < k). bit_at-shl_below 1 k 64 i b h)
-    (λ (b : k ≤ i). bit_at-shl 1 k 64 i b h ∙ bit_at_above 1 1 (i - k) (omega arith) (omega arith))
-    (cases_lt i k)
-
--- the bits of two numbers
-pub has_bit-either : (mask other i : ℕ) → has_bit (bit_or mask other) i ≡ (has_bit mask i || has_bit other i)
-has_bit-either mask other i = ap (λ x. nat_eq x 1) (bit_at_or mask other i) ∙ digits (bit_at mask i) (bit_at other i) (bit_at-lt mask i) (bit_at-lt other i)
-  where
-    digits : (x y : ℕ) → x < 2 → y < 2 → nat_eq (max x y) 1 ≡ (nat_eq x 1 || nat_eq y 1)
-    digits zero zero lx ly = refl
-    digits zero (suc zero) lx ly = refl
-    digits (suc zero) zero lx ly = refl
-    digits (suc zero) (suc zero) lx ly = refl
-    digits (suc (suc x)) y lx ly = absurd (omega arith)
-    digits x (suc (suc y)) lx ly = absurd (omega arith)
-
-min_none : (x : ℕ) → min 0 x ≡ 0
-min_none x = omega arith
-
--- ---- all bits of a run
-
--- no bit of a run is left where all of them are taken out, and only there
-pub run_within : (run mask start end : ℕ) → mask < 2 ^ 128 → end < 128 →
-    ((i : ℕ) → start ≤ i → i ≤ end → bit_at run i ≡ 1) → ((i : ℕ) → i < start → bit_at run i ≡ 0)
-    → ((i : ℕ) → end < i → bit_at run i ≡ 0) →
-    (bit_and run (bit_not w128 mask) ≡ 0 → (i : ℕ) → start ≤ i → i ≤ end → bit_at mask i ≡ 1) ×
-    (((i : ℕ) → start ≤ i → i ≤ end → bit_at mask i ≡ 1) → bit_and run (bit_not w128 mask) ≡ 0)
-run_within run mask start end fits l inside below above = (
+-- no bit of a run is left where all bits of a number that has them are taken out, and only there
+pub run_within : (run mask start end : ℕ) → mask < 2 ^ 128 → end < 128 → ((i : ℕ) → has_bit run i ≡ (nat_le start i && nat_le i end))
+    → (bit_and run (bit_not w128 mask) ≡ 0) ↔ ((i : ℕ) → start ≤ i → i ≤ end → has_bit mask i ≡ true)
+run_within run mask start end fits l run_is = (
   (λ none i low high.
-      let left : min 1 (1 - bit_at mask i) ≡ 0 = sym (left_at i low high) ∙ ap (λ x. bit_at x i) none ∙ bit_at-zero i in
-      omega (arith, bit_at-lt mask i)),
-  (λ all. same_from_bits _ 0 (λ i. ⊎_elim
-      (λ (h : i < start). no_bit i (below i h))
-      (λ (h : start ≤ i). ⊎_elim
-      (λ (k : end < i). no_bit i (above i k))
-      (λ (k : i ≤ end). left_at i h k ∙ rw (all i h k) (sym (bit_at-zero i)))
-      (cases_lt end i))
-      (cases_lt i start))),
+      held (has_bit mask i) (rw (run_is i, le-leb start i low, le-leb i end high, has_bit-not mask i fits (omega arith)) at
+      (sym (has_bit-both run (bit_not w128 mask) i) ∙ ap (λ n. has_bit n i) none ∙ ap (λ x. nat_eq x 1) (bit_at-zero i)))),
+  (λ all. same_from_bits _ 0 (λ i. same_digit _ _ (bit_at-lt _ i) (bit_at-lt 0 i)
+      (has_bit-both run (bit_not w128 mask) i ∙ rw (run_is i, bit_at-zero i) (out all i)))),
 )
   where
-    left_at : (i : ℕ) → start ≤ i → i ≤ end → bit_at (bit_and run (bit_not w128 mask)) i ≡ min 1 (1 - bit_at mask i)
-    left_at i low high = bit_at_and run (bit_not w128 mask) i ∙ ap₂ min (inside i low high) (bit_at_not w128 mask i fits (omega arith))
+    held : (x : Bool) → not x ≡ false → x ≡ true
+    held true e = refl
+    held false e = sym e
 
-    no_bit : (i : ℕ) → bit_at run i ≡ 0 → bit_at (bit_and run (bit_not w128 mask)) i ≡ bit_at 0 i
-    no_bit i none = bit_at_and run (bit_not w128 mask) i ∙ rw none (min_none (bit_at (bit_not w128 mask) i) ∙ sym (bit_at-zero i))
-
--- a bit is kept if it is in the run
-pub run_kept : (mask run start end i : ℕ) → ((i : ℕ) → start ≤ i → i ≤ end → bit_at run i ≡ 1)
-    → ((i : ℕ) → i < start → bit_at run i ≡ 0)
-    → ((i : ℕ) → end < i → bit_at run i ≡ 0) →
-    has_bit (bit_and mask run) i ≡ (nat_le start i && nat_le i end && has_bit mask i)
-run_kept mask run start end i inside below above =
-    ap (λ x. nat_eq x 1) (bit_at_and mask run i) ∙ ⊎_elim
-    (λ (h : i < start). rw (below i h, lt-leb start i h) (none (bit_at mask i)))
-    (λ (h : start ≤ i). ⊎_elim
-    (λ (k : end < i). rw (above i k, lt-leb i end k) (none (bit_at mask i) ∙ sym (no_more (nat_le start i) (has_bit mask i))))
-    (λ (k : i ≤ end). rw (inside i h k, le-leb start i h, le-leb i end k) (ap (λ x. nat_eq x 1) (omega (arith, bit_at-lt mask i))))
-    (cases_lt end i))
-    (cases_lt i start)
-  where
-    none : (x : ℕ) → nat_eq (min x 0) 1 ≡ false
-    none x = let e : min x 0 ≡ 0 = omega arith in rw e refl
-
-    no_more : (x y : Bool) → (x && false && y) ≡ false
-    no_more true true = refl
-    no_more true false = refl
-    no_more false true = refl
-    no_more false false = refl
+    out : ((i : ℕ) → start ≤ i → i ≤ end → has_bit mask i ≡ true) → (i : ℕ) → (nat_le start i && nat_le i end && has_bit (bit_not w128 mask) i) ≡ false
+    out all i =
+        ⊎_elim
+        (λ (h : i < start). grind (arith, nat_tests))
+        (λ (h : start ≤ i). ⊎_elim
+        (λ (k : end < i). grind (arith, nat_tests))
+        (λ (k : i ≤ end). rw (has_bit-not mask i fits (omega arith), all i h k, le-leb start i h, le-leb i end k) refl)
+        (cases_lt end i))
+        (cases_lt i start)
 
 -- ---- how many bits are 1
 
@@ -137,6 +101,7 @@ ones_digit zero l = refl
 ones_digit (suc zero) l = refl
 ones_digit (suc (suc b)) l = absurd (omega arith)
 
+-- the bits below a place, as a count of the boundaries below a byte
 pub ones-class_of : (n k : ℕ) → ones (n % 2 ^ k) ≡ class_of (has_bit n) k
 ones-class_of n zero = let e : n % 1 ≡ 0 = omega arith in rw e (ones_digit 0 (omega arith)) ∙ sym (class_of_none (has_bit n))
 ones-class_of n (suc k) =
@@ -144,8 +109,7 @@ ones-class_of n (suc k) =
     let f : suc k ≡ k + 1 = omega arith in
     let split : n % 2 ^ (suc k) ≡ bit_at n k * 2 ^ k + n % 2 ^ k = rw e (mod-pow-add n 1 k) in
     ap ones split ∙ ones_cat k (bit_at n k) (n % 2 ^ k) (mod-lt n (pow_pos k))
-    ∙ ap₂ (λ x y. x + y) (ones_digit (bit_at n k) (bit_at-lt n k)) (ones-class_of n k)
-    ∙ swap (cond (has_bit n k) 1 0) (class_of (has_bit n) k)
+    ∙ ap₂ (λ x y. x + y) (ones_digit (bit_at n k) (bit_at-lt n k)) (ones-class_of n k) ∙ swap (cond (has_bit n k) 1 0) (class_of (has_bit n) k)
     ∙ sym (ap (class_of (has_bit n)) f ∙ class_of_more (has_bit n) k)
   where
     swap : (x y : ℕ) → x + y ≡ y + x

@@ -1,86 +1,56 @@
 -- The steps of the iterators of a class map.
-use Rattle.std.proofs.Common.{◌≡◌, ℕ, ◌+◌, ◌-◌, ◌<◌, ◌≤◌, Bool, true, false, not, List, [], ◌∷◌, ◌++◌, map, filter, refl, sym, ap, ap₂, ◌∙◌, arith, nat_eq, slice_index, Some, None}
-use Rattle.std.proofs.lemmas.Bool.{eq-eqb, ne_eqb}
-use Rattle.rsc_alphabet.specs.Bytes.{from_to, bytes}
-use Rattle.rsc_alphabet.specs.BytesLaws.{from_to_none, from_to_first, length-from_to, get_or-from_to, filter_same, filter_first, filter_none}
-use Rattle.rsc_alphabet.specs.Symbols.{Symbol, byte, end_of_input, byte_of}
-use Rattle.rsc_alphabet.specs.Iterators.{end_of, symbols, elements_of, representing, end_if_unbounded, representatives_of}
-use Rattle.std.proofs.Common.{◌^◌, length, append-nil, nat_le, ⊎_elim}
-use Rattle.std.proofs.Common.{set, below_more, get_or-set_same, get_or-set_other}
-use Rattle.std.proofs.Common.{zero, suc, ◌||◌, ◌&&◌, slice_get, length-append}
-use Rattle.std.specs.Option.{option_map}
+use Rattle.std.proofs.Common.{◌≡◌, ℕ, ◌+◌, ◌-◌, ◌<◌, ◌≤◌, Bool, true, false, not, List, [], ◌∷◌, ◌++◌, map, filter, refl, sym, ap, ap₂, ◌∙◌, arith, nat_eq, slice_index, Some, None, ◌^◌, length, append-nil, nat_le, ⊎_elim, set, below_more, get_or-set_same, get_or-set_other, zero, suc, ◌||◌, ◌&&◌, slice_get, length-append, option_map, pow_mono, nat_cmp}
+use Rattle.std.proofs.lemmas.Bool.{eq-eqb, ne_eqb, cases_lt, le-leb, lt-leb}
+use Rattle.rsc_alphabet.proofs.Words.{from_to, bytes, from_to_none, from_to_first, length-from_to, get_or-from_to, filter_same, filter_first, filter_none, filter_parts, Symbol, byte, end_of_input, byte_of, end_of, symbols, elements_of, representing, end_if_unbounded, representatives_of, has_bit, Numbers, members, symbols_left, elements_left}
 use Rattle.std.proofs.lemmas.Option.{slice_get-map, slice_get-get_or}
 use Rattle.std.specs.declared.ops.Bound.{Bound}
 use Rattle.std.specs.Range.Bound.{start_index, end_index}
-use Rattle.std.proofs.Math.Pow.{pow_mono}
-use Rattle.std.proofs.lemmas.Bool.{cases_lt, le-leb, lt-leb}
-use Rattle.std.proofs.lemmas.Bool.Decides.{nat_tests}
 use Rattle.std.proofs.lemmas.List.{ext_get_or, length-map}
 use Rattle.std.specs.FinSet as sets
 use Rattle.std.specs.FinSet.{contains-empty}
-use Rattle.std.specs.Ordering.{nat_cmp}
-use Rattle.rsc_primitives.specs.BitsLaws.{has_bit}
-use Rattle.rsc_alphabet.specs.ByteSets.{Numbers, members}
-use Rattle.rsc_alphabet.specs.IteratorLayout.{symbols_left, elements_left}
-use Rattle.rsc_alphabet.proofs.AscendingLemmas.{filter_parts}
 
 -- ---- the classes
 
+-- at first all symbols are left
 pub symbols_left_all : (classes : List ℕ) → symbols_left classes 0 ≡ symbols classes
 symbols_left_all classes = rw (le-leb 0 (slice_index classes 255 + 1) (omega arith)) refl
 
+-- a class comes next, then the end, then nothing
 pub symbols_left_more : (classes : List ℕ) (next : ℕ) → next < slice_index classes 255 + 1
     → symbols_left classes next ≡ byte next ∷ symbols_left classes (next + 1)
 symbols_left_more classes next l =
-    rw (
-      from_to_first next (slice_index classes 255 + 1) l,
-      le-leb next (slice_index classes 255 + 1) (omega arith),
-      le-leb (next + 1)
-          (slice_index classes 255 + 1) (omega arith),
-    ) refl
+    let n = slice_index classes 255 + 1 in
+    rw (from_to_first next n l, le-leb next n (omega arith), le-leb (next + 1) n (omega arith)) refl
 
 pub symbols_left_end : (classes : List ℕ) (next : ℕ) → next ≡ slice_index classes 255 + 1
     → symbols_left classes next ≡ end_of classes ∷ symbols_left classes (next + 1)
 symbols_left_end classes next e =
-    rw (
-      from_to_none next (slice_index classes 255 + 1) (omega arith),
-      from_to_none (next + 1) (slice_index classes 255 + 1) (omega arith),
-      le-leb next
-          (slice_index classes 255 + 1) (omega arith),
-      lt-leb next (slice_index classes 255 + 1) e,
-    ) refl
-  where
-    lt-leb : (a b : ℕ) → a ≡ b → nat_le (a + 1) b ≡ false
-    lt-leb a b e = grind (arith, nat_tests)
+    let n = slice_index classes 255 + 1 in
+    let none = from_to_none (next + 1) n (omega arith) in
+    rw (from_to_none next n (omega arith), none, le-leb next n (omega arith), lt-leb (next + 1) n (omega arith)) refl
 
 pub symbols_left_none : (classes : List ℕ) (next : ℕ) → slice_index classes 255 + 1 < next → symbols_left classes next ≡ []
 symbols_left_none classes next l =
-    rw (from_to_none next (slice_index classes 255 + 1) (omega arith), above next (slice_index classes 255 + 1) l) refl
-  where
-    above : (a b : ℕ) → b < a → nat_le a b ≡ false
-    above a b l = grind (arith, nat_tests)
+    let n = slice_index classes 255 + 1 in
+    rw (from_to_none next n (omega arith), lt-leb next n l) refl
 
 slice_get-append-left : (xs ys : List Symbol) (i : ℕ) → i < length xs → slice_get (xs ++ ys) i ≡ slice_get xs i
 slice_get-append-left [] ys i l = absurd (omega arith)
 slice_get-append-left (x ∷ xs) ys zero l = refl
 slice_get-append-left (x ∷ xs) ys (suc i) l = slice_get-append-left xs ys i (omega arith)
 
+-- a symbol for each class, and the end
 pub length-symbols : (classes : List ℕ) → length (symbols classes) ≡ slice_index classes 255 + 2
 length-symbols classes =
-    let low : length (from_to 0 (slice_index classes 255 + 1)) ≡ slice_index classes 255 + 1 = length-from_to 0 (slice_index classes 255 + 1)
-    ∙ omega arith in
-    rw (length-append, length-map) (omega (arith, low))
+    rw (length-append, length-map) (omega (arith, length-from_to 0 (slice_index classes 255 + 1)))
 
 -- each class is at the place of its number
 pub slice_get-symbols : (classes : List ℕ) (c : ℕ) → c ≤ slice_index classes 255 → slice_get (symbols classes) c ≡ Some (byte c)
 slice_get-symbols classes c l =
-    let low : c < length (map (λ k. byte k) (from_to 0 (slice_index classes 255 + 1))) =
-    rw (length-map, length-from_to 0 (slice_index classes 255 + 1)) (omega arith) in
-    slice_get-append-left (map (λ k. byte k) (from_to 0 (slice_index classes 255 + 1))) _ c low
-    ∙ slice_get-map (λ k. byte k) (from_to 0 (slice_index classes 255 + 1)) c
-    ∙ ap (λ o. option_map (λ k. byte k) o)
-    (slice_get-get_or (from_to 0 (slice_index classes 255 + 1)) c 0 (rw (length-from_to 0 (slice_index classes 255 + 1)) (omega arith))
-    ∙ ap Some (get_or-from_to 0 (slice_index classes 255 + 1) c 0 (omega arith) ∙ omega arith))
+    let all = from_to 0 (slice_index classes 255 + 1) in
+    let low : c < length all = rw (length-from_to 0 (slice_index classes 255 + 1)) (omega arith) in
+    slice_get-append-left (map (λ k. byte k) all) _ c (rw length-map low) ∙ slice_get-map (λ k. byte k) all c ∙ ap (λ o. option_map (λ k. byte k) o)
+    (slice_get-get_or all c 0 low ∙ ap Some (get_or-from_to 0 (slice_index classes 255 + 1) c 0 (omega arith) ∙ omega arith))
 
 -- ---- the elements of a class
 
@@ -102,21 +72,21 @@ elements_of-byte classes (end_of_input n) class s is same = cc
 -- ---- the representatives of a range
 
 -- a set whose members are the bytes from `low` up to, and without, `high` whose class isn't their predecessor's, and `low`
-representing_are : (classes : List ℕ) (s : Numbers) (low high : ℕ) → low ≤ high → high ≤ 256
-    → ((b : ℕ) → b < low → sets.contains s b ≡ false)
+representing_are : (classes : List ℕ) (s : Numbers) (low high : ℕ) → low ≤ high → high ≤ 256 → ((b : ℕ) → b < low → sets.contains s b ≡ false)
     → ((b : ℕ) → high ≤ b → b < 256 → sets.contains s b ≡ false) →
     ((b : ℕ) → low ≤ b → b < high → sets.contains s b ≡ (nat_eq b low || not (nat_eq (slice_index classes b) (slice_index classes (b - 1)))))
     → members s ≡ representing classes low high
 representing_are classes s low high l h before after inside =
     filter_parts (λ b. sets.contains s b) 0 low 256 (omega arith) (omega arith)
     ∙ ap₂ (λ x y. x ++ y) (filter_none (λ b. sets.contains s b) 0 low (λ b p q. before b q)) (filter_parts (λ b. sets.contains s b) low high 256 l h)
-    ∙ ap (λ x. filter (λ b. sets.contains s b) (from_to low high) ++ x) (filter_none (λ b. sets.contains s b) high 256 after)
-    ∙ append-nil _
+    ∙ ap (λ x. filter (λ b. sets.contains s b) (from_to low high) ++ x) (filter_none (λ b. sets.contains s b) high 256 after) ∙ append-nil _
     ∙ filter_same (λ b. sets.contains s b) (λ b. nat_eq b low || not (nat_eq (slice_index classes b) (slice_index classes (b - 1)))) low high inside
 
+-- an empty range has no representative
 pub representing_none : (classes : List ℕ) (low high : ℕ) → high ≤ low → representing classes low high ≡ []
 representing_none classes low high h = rw (from_to_none low high h) refl
 
+-- the members of the set that the code makes are the representatives
 pub representative_bytes_are : (classes : List ℕ) (changes part s : Numbers) (low high : ℕ) → low < high → high ≤ 256 →
     ((b : ℕ) → b < 256 → sets.contains changes b ≡ not (nat_eq (slice_index classes b) (slice_index classes (b - 1)))) →
     ((b : ℕ) → sets.contains part b ≡ (nat_le low b && nat_le b (high - 1) && sets.contains changes b)) →
@@ -133,8 +103,7 @@ pub members_none : members sets.empty ≡ []
 members_none = filter_none (λ b. sets.contains sets.empty b) 0 256 (λ b p q. contains-empty nat_cmp b)
 
 -- what a test says of each of the four words
-pub by_words : (s : Numbers) (p : ℕ → Bool) → ((i : ℕ) → i < 64 → sets.contains s i ≡ p i)
-    → ((i : ℕ) → i < 64 → sets.contains s (64 + i) ≡ p (64 + i)) →
+pub by_words : (s : Numbers) (p : ℕ → Bool) → ((i : ℕ) → i < 64 → sets.contains s i ≡ p i) → ((i : ℕ) → i < 64 → sets.contains s (64 + i) ≡ p (64 + i)) →
     ((i : ℕ) → i < 64 → sets.contains s (128 + i) ≡ p (128 + i)) → ((i : ℕ) → i < 64 → sets.contains s (192 + i) ≡ p (192 + i)) → (b : ℕ)
     → b < 256
     → sets.contains s b ≡ p b
@@ -179,17 +148,16 @@ least_exponent n r k enough below =
     (cases_lt r k)
 
 -- one more byte has its class
-pub class_more : (f : ℕ → ℕ) (classes : List ℕ) (b : ℕ) → length classes ≡ 256 → ((k : ℕ) → k < b → slice_index classes k ≡ f k)
-    → b < 256 →
+pub class_more : (f : ℕ → ℕ) (classes : List ℕ) (b : ℕ) → length classes ≡ 256 → ((k : ℕ) → k < b → slice_index classes k ≡ f k) → b < 256 →
     (k : ℕ) → k < b + 1 → slice_index (set classes b (f b)) k ≡ f k
 class_more f classes b long before h =
     below_more _ b (λ k l. get_or-set_other classes b k (f b) 0 (omega arith) ∙ before k l) (get_or-set_same classes b (f b) 0 (omega arith))
 
 -- ---- the first representative
 
-pub representatives_of-first : (classes : List ℕ) (from to : Bound ℕ) → start_index from < end_index to 256 →
+pub first_representative : (classes : List ℕ) (from to : Bound ℕ) → start_index from < end_index to 256 →
     (rest : List Symbol) × (representatives_of classes from to ≡ byte (start_index from) ∷ rest)
-representatives_of-first classes from to l = (
+first_representative classes from to l = (
   _,
   ap (λ t. map (λ b. byte b) t ++ end_if_unbounded classes to)
       (filter_first (λ b. nat_eq b (start_index from) || not (nat_eq (slice_index classes b) (slice_index classes (b - 1)))) (start_index from)

@@ -20,8 +20,7 @@ pub equal_bits : (xs : List ℕ) (first byte i : ℕ) → first + 64 ≤ length 
 equal_bits xs first byte i room l =
     let long : length (chunk first 64 xs) ≡ 64 = length-chunk first 64 xs room in
     ap (λ m. has_bit m i) (bitmask_splat w8 nat_eq (chunk first 64 xs) 64 byte long (omega arith))
-    ∙ bit_of_mask (map (λ x. nat_eq x byte) (chunk first 64 xs)) i
-    ∙ get_or-map (λ x. nat_eq x byte) (chunk first 64 xs) i 0 false (omega (arith, long, l))
+    ∙ bit_of_mask (map (λ x. nat_eq x byte) (chunk first 64 xs)) i ∙ get_or-map (λ x. nat_eq x byte) (chunk first 64 xs) i 0 false (omega (arith, long, l))
     ∙ ap (λ x. nat_eq x byte) (get_or-chunk first 64 xs i 0 l)
 
 -- the comparison of a load with that of the bytes before it
@@ -36,8 +35,6 @@ unlike_bits xs first i some room l =
     let long_before : length before ≡ 64 = length-chunk (first - 1) 64 xs (omega (arith, room)) in
     let all : length (zip2 t here before) ≡ 64 = length-zip2 t here before (long ∙ sym long_before) ∙ long in
     let e : first - 1 + i ≡ first + i - 1 = omega arith in
-    ap (λ ms. has_bit (mask_l ms % 2 ^ 64) i) (tops_compared w8 t here before)
-    ∙ ap (λ m. has_bit m i) (mask_l-mod (zip2 t here before) 64 (omega (arith, all)))
-    ∙ bit_of_mask (zip2 t here before) i
-    ∙ get_or-zip2 t here before i 0 0 false (omega (arith, long, l)) (omega (arith, long_before, l))
+    ap (λ ms. has_bit (mask_l ms % 2 ^ 64) i) (tops_compared w8 t here before) ∙ ap (λ m. has_bit m i) (mask_l-mod (zip2 t here before) 64 (omega (arith, all)))
+    ∙ bit_of_mask (zip2 t here before) i ∙ get_or-zip2 t here before i 0 0 false (omega (arith, long, l)) (omega (arith, long_before, l))
     ∙ (λ k. t (get_or-chunk first 64 xs i 0 l k) ((get_or-chunk (first - 1) 64 xs i 0 l ∙ ap (λ x. get_or xs x 0) e) k))

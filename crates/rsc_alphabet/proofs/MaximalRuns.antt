@@ -8,14 +8,13 @@ use Rattle.std.proofs.lemmas.Bool.Decides.{nat_tests}
 use Rattle.std.proofs.lemmas.List.Elements.{All-contains, All-weaker, filter_passes}
 use Rattle.std.proofs.lemmas.List.Kept.{IsStrictlyIncreasing-filter}
 use Rattle.std.proofs.lemmas.List.Sums.{AllPass-from_list_all}
-use Rattle.rsc_alphabet.specs.Bytes.{bytes}
-use Rattle.rsc_alphabet.specs.BytesLaws.{length-from_to, get_or-from_to}
-use Rattle.rsc_alphabet.specs.ByteSets.{Numbers, members, runs, ends_run, IsMaximalRun}
-use Rattle.rsc_alphabet.proofs.EdgesLemmas.{EndsAt, for_runs_from, is_ordered, ordered_runs}
-use Rattle.rsc_alphabet.proofs.RunsLemmas.{runs_from, parts_no_run, parts_no_run-after}
+use Rattle.rsc_alphabet.proofs.Words.{bytes, length-from_to, get_or-from_to, Numbers, members, runs, ends_run, IsMaximalRun}
+use Rattle.rsc_alphabet.proofs.EdgesLemmas.{for_runs_from, is_ordered, ordered_runs}
+use Rattle.rsc_alphabet.proofs.RunsLemmas.{EndsAt, runs_from, parts_no_run, parts_no_run-after}
 
 -- ---- lists
 
+-- what a list contains, by its first element
 pub Contains-first : {X : Type 0} (x : X) (xs : List X) → Contains (x ∷ xs) x
 Contains-first x xs = (0, omega arith, refl)
 
@@ -29,6 +28,7 @@ Contains-cases x xs q (suc k, l, e) = inr (k, omega (arith, l), e)
 pub Contains-none : {X : Type 0} (q : X) → Contains [] q → ⊥
 Contains-none q (k, l, e) = omega (arith, l)
 
+-- an element that passes a filter stays
 pub Contains-filter : {X : Type 0} (p : X → Bool) (xs : List X) (q : X) → p q ≡ true → Contains xs q → Contains (filter p xs) q
 Contains-filter p [] q is c = c
 Contains-filter {X} p (x ∷ xs) q is c =
@@ -43,6 +43,7 @@ Contains-filter {X} p (x ∷ xs) q is c =
 
 -- ---- members
 
+-- the list of members has members alone
 pub members_contained : (s : Numbers) → All (λ b. sets.contains s b ≡ true) (members s)
 members_contained s = filter_passes (λ b. sets.contains s b) bytes
 
@@ -67,28 +68,24 @@ members_ascending s =
 
 -- ---- runs
 
+-- the runs are ordered, maximal and apart
 pub runs_ordered : (s : Numbers) → All (λ r. r.0 ≤ r.1) (runs s)
 runs_ordered s = All-weaker (λ r. is_ordered r ≡ true) (λ r. r.0 ≤ r.1) (λ r h. leb-true r.0 r.1 h) (runs s)
     (AllPass-from_list_all is_ordered (runs s) (ordered_runs s))
 
-not_before : (s : Numbers) (low : ℕ) → parts_no_run s low ≡ true → sets.contains s low ≡ true → low < 256 → (b : ℕ) → b + 1 ≡ low
-    → sets.contains s b ≡ false
+not_before : (s : Numbers) (low : ℕ) → parts_no_run s low ≡ true → sets.contains s low ≡ true → low < 256 → (b : ℕ) → b + 1 ≡ low → sets.contains s b ≡ false
 not_before s low clean is l b e =
     let at : low - 1 ≡ b = omega (arith, e) in
     by_cases (sets.contains s low) (sets.contains s b) is (rw at at clean)
   where
     by_cases : (x y : Bool) → x ≡ true → (nat_eq low 0 || (nat_lt 255 low || (not y || not x))) ≡ true → y ≡ false
-    by_cases true true is clean = grind (arith, nat_tests)
-    by_cases true false is clean = refl
-    by_cases false y is clean = cc
+    by_cases x y is clean = grind (arith, nat_tests)
 
 not_after : (s : Numbers) (e : ℕ) → ends_run s e ≡ true → e < 255 → sets.contains s (e + 1) ≡ false
 not_after s e last l = by_cases (sets.contains s e) (sets.contains s (e + 1)) last
   where
     by_cases : (x y : Bool) → (x && (nat_eq e 255 || not y)) ≡ true → y ≡ false
-    by_cases true true is = grind (arith, nat_tests)
-    by_cases true false is = refl
-    by_cases false y is = cc
+    by_cases x y is = grind (arith, nat_tests)
 
 maximal : (s : Numbers) (low e : ℕ) → low < 256 → parts_no_run s low ≡ true → EndsAt s low e → IsMaximalRun s (low, e)
 maximal s low e l clean run = record {
@@ -162,14 +159,13 @@ apart_first r [] first rest k d l = absurd (omega (arith, l))
 apart_first r (q ∷ rs) first rest zero d l = first q (Contains-first q rs)
 apart_first r (q ∷ rs) first rest (suc k) d l = let e : suc k + 1 ≡ suc (k + 1) = omega arith in rw e (rest k d (omega (arith, l)))
 
-apart_from : (s : Numbers) (n low : ℕ) → 256 ≤ low + n → parts_no_run s low ≡ true
-    → AllAdjacentBelow Apart (runs_from s low) (length (runs_from s low))
+apart_from : (s : Numbers) (n low : ℕ) → 256 ≤ low + n → parts_no_run s low ≡ true → AllAdjacentBelow Apart (runs_from s low) (length (runs_from s low))
 apart_from s =
     for_runs_from s (λ low rs. AllAdjacentBelow Apart rs (length rs))
     (λ low h k d l. absurd (omega (arith, l)))
     (λ low e h clean run rest. apart_first (low, e) (runs_from s (e + 1))
     (λ q c.
-    let later = runs_are_maximal s 256 (e + 1) (omega arith) (parts_no_run-after s low e run.from run.fits run.within run.last) q c in
+    let later = runs_are_maximal s 256 (e + 1) (omega arith) (parts_no_run-after run) q c in
     let other : q.0 ≢ e + 1 = λ at. true≢false (sym (run.within e run.from (omega arith)) ∙ later.0.before e (sym at)) in
     omega (arith, other, later.1))
     rest)

@@ -1,14 +1,10 @@
 -- The boundaries of a range, and what they part.
-use Rattle.std.proofs.Common.{List, [], ◌∷◌, not, ◌≡◌, ◌↔◌, ℕ, ◌+◌, ◌-◌, ◌<◌, ◌≤◌, Bool, true, false, ◌&&◌, ◌||◌, nat_eq, nat_lt, refl, sym, ap, ◌∙◌, arith, ◌⊎◌, inl, inr, ⊎_elim}
+use Rattle.std.proofs.Common.{List, [], ◌∷◌, not, ◌≡◌, ◌↔◌, ℕ, ◌+◌, ◌-◌, ◌<◌, ◌≤◌, Bool, true, false, ◌&&◌, ◌||◌, nat_eq, nat_lt, refl, sym, ap, ◌∙◌, arith, ◌⊎◌, inl, inr, ⊎_elim, All, Contains}
 use Rattle.std.specs.FinSet as sets
 use Rattle.std.proofs.lemmas.Bool.{cases_lt, cases_eq, cases_Bool, eq-eqb}
 use Rattle.std.proofs.lemmas.Bool.Decides.{nat_tests}
-use Rattle.rsc_alphabet.specs.Partitions.{Together, edges_of}
-use Rattle.rsc_alphabet.specs.Ranges.{holds, treats_alike, are_alike, separates}
-use Rattle.rsc_alphabet.specs.SameMembers.{same_bools}
-use Rattle.std.specs.List.{All, Contains}
+use Rattle.rsc_alphabet.proofs.Words.{Together, edges_of, holds, treats_alike, are_alike, separates, same_bools, contains-edges_of, same_class-together}
 use Rattle.std.proofs.lemmas.List.Elements.{All-head, All-tail}
-use Rattle.rsc_alphabet.specs.PartitionsLaws.{contains-edges_of, same_class-together}
 use Rattle.rsc_alphabet.proofs.RangesLemmas.{are_alike_is, contains-edges_of_range}
 use Rattle.rsc_alphabet.proofs.MaximalRuns.{Contains-first, Contains-later}
 
@@ -22,14 +18,14 @@ is_edge : (a e k : ℕ) → k < 255 → (k + 1 ≡ a) ⊎ (k ≡ e) → ((nat_lt
 is_edge a e k l (inl q) = grind (arith, nat_tests)
 is_edge a e k l (inr q) = grind (arith, nat_tests)
 
+-- the boundaries of a range are before its first byte and after its last
 pub edges-boundary : (r : ℕ × ℕ) (k : ℕ) → k < 255 → (sets.contains (edges_of r) k ≡ true) ↔ ((k + 1 ≡ r.0) ⊎ (k ≡ r.1))
 edges-boundary r k l = (
   (λ m. edge_test r.0 r.1 k (sym (contains-edges_of r.0 r.1 k) ∙ m)),
   (λ q. contains-edges_of r.0 r.1 k ∙ is_edge r.0 r.1 k l q),
 )
 
-moves : (p : ℕ → Bool) (r : ℕ × ℕ) (b c : ℕ) → c < 256 → ((k : ℕ) → k < 255 → sets.contains (edges_of r) k ≡ true → p k ≡ true)
-    → Together p b c
+moves : (p : ℕ → Bool) (r : ℕ × ℕ) (b c : ℕ) → c < 256 → ((k : ℕ) → k < 255 → sets.contains (edges_of r) k ≡ true → p k ≡ true) → Together p b c
     → (r.0 ≤ b) × (b ≤ r.1) → b < 256 → (r.0 ≤ c) × (c ≤ r.1)
 moves p r b c small has together within here = (
   ⊎_elim
@@ -52,8 +48,8 @@ from_within r b w = grind (arith, nat_tests)
 Together-sym : (p : ℕ → Bool) (b c : ℕ) → Together p b c → Together p c b
 Together-sym p b c t k l u = t k (omega arith) (omega arith)
 
-pub edges-together : (p : ℕ → Bool) (r : ℕ × ℕ) (b c : ℕ) → b < 256 → c < 256
-    → ((k : ℕ) → k < 255 → sets.contains (edges_of r) k ≡ true → p k ≡ true)
+-- bytes that are together where a partition has these are both in the range or both outside
+pub edges-together : (p : ℕ → Bool) (r : ℕ × ℕ) (b c : ℕ) → b < 256 → c < 256 → ((k : ℕ) → k < 255 → sets.contains (edges_of r) k ≡ true → p k ≡ true)
     → Together p b c → holds r b ≡ holds r c
 edges-together p r b c l u has t =
     same_bools (holds r b) (holds r c)

@@ -7,11 +7,7 @@ use Rattle.std.proofs.lemmas.Bool.Decides.{nat_tests}
 use Rattle.std.proofs.lemmas.List.{take_more}
 use Rattle.std.proofs.lemmas.List.Folds.{list_all-append, list_any-append}
 use Rattle.std.proofs.Math.Bool.{and-true, or-false}
-use Rattle.rsc_alphabet.specs.Bytes.{from_to}
-use Rattle.rsc_alphabet.specs.BytesLaws.{from_to_none, from_to_last}
-use Rattle.rsc_alphabet.specs.Partitions.{class_of, class_map, edges_of}
-use Rattle.rsc_alphabet.specs.Ranges.{holds, treats_alike, are_alike, separates}
-use Rattle.rsc_alphabet.specs.PartitionsLaws.{class_of_more, class_of-rises, contains-edges_of, slice_index-class_map}
+use Rattle.rsc_alphabet.proofs.Words.{from_to, from_to_none, from_to_last, class_of, class_map, edges_of, holds, treats_alike, are_alike, separates, class_of_more, class_of-rises, contains-edges_of, slice_index-class_map}
 
 all_last : (h : ℕ → Bool) (low high : ℕ) → low ≤ high → list_all h (from_to low (high + 1)) ≡ (list_all h (from_to low high) && h high)
 all_last h low high l = ap (list_all h) (from_to_last low high l) ∙ list_all-append h (from_to low high) (high ∷ [])
@@ -33,34 +29,7 @@ treats_alike_down : (r : ℕ × ℕ) (b c : ℕ) → treats_alike r b c ≡ trea
 treats_alike_down r b c = let p : min b c ≡ min c b = omega arith in let q : max b c ≡ max c b = omega arith in rw (p, q)
 
 by_parts : (all any x y : Bool) → (((all && x) && y) || not ((any || x) || y)) ≡ (((all && x) || not (any || x)) && ((x && y) || not (x || y)))
-by_parts true true true true = refl
-by_parts true true true false = refl
-by_parts true true false true = refl
-by_parts true true false false = refl
-by_parts true false true true = refl
-by_parts true false true false = refl
-by_parts true false false true = refl
-by_parts true false false false = refl
-by_parts false true true true = refl
-by_parts false true true false = refl
-by_parts false true false true = refl
-by_parts false true false false = refl
-by_parts false false true true = refl
-by_parts false false true false = refl
-by_parts false false false true = refl
-by_parts false false false false = refl
-
-pair : (h : ℕ → Bool) (c : ℕ) → alike_up h c (c + 1) ≡ ((h c && h (c + 1)) || not (h c || h (c + 1)))
-unfolding alike_up
-pair h c =
-    rw (
-      all_last h c (c + 1) (omega arith),
-      any_last h c (c + 1) (omega arith),
-      all_last h c c (omega arith),
-      any_last h c c (omega arith),
-      from_to_none c c
-          (omega arith),
-    ) refl
+by_parts all any x y = grind (arith, nat_tests)
 
 opened : (h : ℕ → Bool) (b c : ℕ) → b ≤ c → alike_up h b (c + 1) ≡ (alike_up h b c && ((h c && h (c + 1)) || not (h c || h (c + 1))))
 unfolding alike_up
@@ -74,11 +43,11 @@ alike_up_same h b =
     rw (all_last h b b (omega arith), any_last h b b (omega arith), from_to_none b b (omega arith))
     (elim (h b) as (λ v. (v || not v) ≡ true) [ true ↦ refl | false ↦ refl ])
 
+pair : (h : ℕ → Bool) (c : ℕ) → alike_up h c (c + 1) ≡ ((h c && h (c + 1)) || not (h c || h (c + 1)))
+pair h c = opened h c c (omega arith) ∙ rw (alike_up_same h c) refl
+
 and_pairs : (a b x y : Bool) → ((a && b) && (x && y)) ≡ ((a && x) && (b && y))
-and_pairs true true x y = refl
-and_pairs true false true y = refl
-and_pairs true false false y = refl
-and_pairs false b x y = refl
+and_pairs a b x y = grind (arith, nat_tests)
 
 are_alike_more : (ranges : List (ℕ × ℕ)) (b c : ℕ) → b ≤ c → are_alike ranges b (c + 1) ≡ (are_alike ranges b c && are_alike ranges c (c + 1))
 are_alike_more [] b c l = refl
@@ -111,8 +80,7 @@ are_alike_up ranges b (suc n) =
     (class_of-rises (separates ranges) b n))
   where
     step : (x y : ℕ) (t : Bool) → y ≤ x → (nat_eq x y && t) ≡ nat_eq (x + cond (not t) 1 0) y
-    step x y true l = let e : x + 0 ≡ x = omega arith in rw e (and-true (nat_eq x y))
-    step x y false l = grind (arith, nat_tests)
+    step x y t l = grind (arith, nat_tests)
 
 -- bytes are alike if they have one class
 pub are_alike_is : (ranges : List (ℕ × ℕ)) (b c : ℕ) → are_alike ranges b c ≡ nat_eq (class_of (separates ranges) b) (class_of (separates ranges) c)
@@ -124,6 +92,7 @@ are_alike_is ranges b c =
     are_alike_down ranges b c ∙ (rw e at (are_alike_up ranges c (b - c))))
     (cases_lt b c)
 
+-- bytes have one class exactly if each range treats them alike
 pub same_class_is : (ranges : List (ℕ × ℕ)) (classes : List ℕ) (b c : ℕ) → classes ≡ class_map (separates ranges) → b < 256 → c < 256 →
     ((slice_index classes b ≡ slice_index classes c → are_alike ranges b c ≡ true) ×
     (are_alike ranges b c ≡ true → slice_index classes b ≡ slice_index classes c))
@@ -135,6 +104,7 @@ same_class_is ranges classes b c is lb lc =
 
 -- ---- the edges of one range
 
+-- a boundary of a range is where it treats neighbours differently
 pub contains-edges_of_range : (r : ℕ × ℕ) (k : ℕ) → r.0 ≤ r.1 → k < 255 → sets.contains (edges_of r) k ≡ not (treats_alike r k (k + 1))
 contains-edges_of_range (s, e) k order within =
     contains-edges_of s e k ∙ by_cases ∙ sym (ap not (treats_alike_up (s, e) k (k + 1) (omega arith) ∙ pair (holds (s, e)) k))
@@ -143,14 +113,12 @@ contains-edges_of_range (s, e) k order within =
         ((holds (s, e) k && holds (s, e) (k + 1)) || not (holds (s, e) k || holds (s, e) (k + 1)))
     by_cases = grind (arith, nat_tests)
 
+-- one range more
 pub separates_more : (ranges : List (ℕ × ℕ)) (i : ℕ) (d : ℕ × ℕ) (k : ℕ) → i < length ranges
     → separates (take (i + 1) ranges) k ≡ (separates (take i ranges) k || not (treats_alike (get_or ranges i d) k (k + 1)))
 separates_more ranges i d k l =
-    ap (λ rs. separates rs k) (take_more ranges i d l)
-    ∙ ap not (list_all-append (λ r. treats_alike r k (k + 1)) (take i ranges) (get_or ranges i d ∷ []))
+    ap (λ rs. separates rs k) (take_more ranges i d l) ∙ ap not (list_all-append (λ r. treats_alike r k (k + 1)) (take i ranges) (get_or ranges i d ∷ []))
     ∙ split (are_alike (take i ranges) k (k + 1)) (treats_alike (get_or ranges i d) k (k + 1))
   where
     split : (x y : Bool) → not (x && (y && true)) ≡ (not x || not y)
-    split true true = refl
-    split true false = refl
-    split false y = refl
+    split x y = grind (arith, nat_tests)

@@ -1,17 +1,12 @@
 -- The representatives of all bytes reach each class.
-use Rattle.std.proofs.Common.{◌≡◌, ◌⊎◌, inl, inr, ⊎_elim, ℕ, zero, suc, ◌+◌, ◌-◌, ◌<◌, ◌==◌, ◌||◌, not, true, false, List, [], ◌∷◌, ◌++◌, length, map, Some, refl, sym, subst, ap, ◌∙◌, arith, slice_index}
-use Rattle.std.specs.Prelude.{slice_get}
-use Rattle.std.specs.List.{All, Contains}
+use Rattle.std.proofs.Common.{◌≡◌, ◌⊎◌, inl, inr, ⊎_elim, ℕ, zero, suc, ◌+◌, ◌-◌, ◌<◌, ◌==◌, ◌||◌, not, true, false, List, [], ◌∷◌, ◌++◌, length, map, Some, refl, sym, subst, ap, ◌∙◌, arith, slice_index, slice_get, All, Contains}
 use Rattle.std.specs.declared.ops.Bound.TheVariants.{Unbounded}
 use Rattle.std.proofs.lemmas.Bool.Decides.{nat_tests}
 use Rattle.std.proofs.lemmas.List.{length-map}
-use Rattle.std.proofs.lemmas.List.Elements.{All-nil, All-cons, All-append, All-map, All-filter, All-weaker, All-contains, Contains-append_left, Contains-push}
-use Rattle.rsc_alphabet.specs.Bytes.{from_to}
-use Rattle.rsc_alphabet.specs.BytesLaws.{length-from_to, get_or-from_to}
-use Rattle.rsc_alphabet.specs.Symbols.{Symbol, byte}
-use Rattle.rsc_alphabet.specs.Iterators.{end_of, representing, representatives_of, symbols}
+use Rattle.std.proofs.lemmas.List.Elements.{All-filter, All-weaker, All-contains, Contains-append_left, Contains-push}
+use Rattle.rsc_alphabet.proofs.Words.{from_to, length-from_to, get_or-from_to, Symbol, byte, end_of, representing, representatives_of, symbols}
 use Rattle.rsc_alphabet.proofs.MaximalRuns.{Contains-first, Contains-later, Contains-cases, Contains-none, Contains-filter}
-use Rattle.rsc_alphabet.proofs.Within.{All-from_to}
+use Rattle.rsc_alphabet.proofs.Within.{All-from_to, All-bytes, All-one}
 
 Contains-map : {X Y : Type 0} (f : X → Y) (xs : List X) (q : X) → Contains xs q → Contains (map f xs) (f q)
 Contains-map f [] q c = absurd (Contains-none q c)
@@ -42,6 +37,7 @@ reached classes (suc b) l =
       | false ↦ λ e. (suc b, (l, given classes (suc b) l (rw (before, e) (grind (arith, nat_tests))), refl))
     ] refl
 
+-- each byte has a representative of its class
 pub class_represented : (classes : List ℕ) (b : ℕ) → b < 256
     → (r : ℕ) × ((r < 256) × Contains (representatives_of classes Unbounded Unbounded) (byte r) × (slice_index classes r ≡ slice_index classes b))
 class_represented classes b l =
@@ -55,19 +51,20 @@ class_represented classes b l =
       ),
     )
 
+-- the end is the last representative
 pub end_given : (classes : List ℕ) → Contains (representatives_of classes Unbounded Unbounded) (end_of classes)
 end_given classes = Contains-push (map (λ b. byte b) (representing classes 0 256)) (end_of classes)
 
+-- and no others are
 pub only_bytes_and_the_end : (classes : List ℕ) (u : Symbol) → Contains (representatives_of classes Unbounded Unbounded) u
     → ((b : ℕ) × ((b < 256) × (u ≡ byte b))) ⊎ (u ≡ end_of classes)
 only_bytes_and_the_end classes u c =
     let P : Symbol → Type 0 = λ s. ((b : ℕ) × ((b < 256) × (s ≡ byte b))) ⊎ (s ≡ end_of classes) in
     let xs = representing classes 0 256 in
     let all : All P (representatives_of classes Unbounded Unbounded) =
-    All-append P (map (λ b. byte b) xs) (end_of classes ∷ [])
-    (All-map P (λ b. byte b) xs (All-filter _ (λ b. P (byte b)) (from_to 0 256)
-    (All-weaker (λ b. b < 256) (λ b. P (byte b)) (λ b l. inl (b, (l, refl))) (from_to 0 256) (All-from_to 0 256))))
-    (All-cons P (end_of classes) [] (inr refl) (All-nil P))
+    All-bytes P xs (end_of classes ∷ []) (All-filter _ (λ b. P (byte b)) (from_to 0 256)
+    (All-weaker (λ b. b < 256) (λ b. P (byte b)) (λ b l. inl (b, (l, refl))) (from_to 0 256) (All-from_to 0 256)))
+    (All-one P (end_of classes) (inr refl))
     in All-contains P (representatives_of classes Unbounded Unbounded) u all c
 
 slice_get_last : (xs : List Symbol) (y : Symbol) → slice_get (xs ++ y ∷ []) (length xs) ≡ Some y

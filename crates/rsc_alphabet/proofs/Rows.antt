@@ -1,17 +1,11 @@
 -- The definitions computed on worked examples.
-use Rattle.std.proofs.Common.{◌≡◌, ℕ, Bool, true, false, List, [], ◌∷◌, map, refl}
-use Rattle.std.proofs.Common.{◌∙◌, ◌&&◌, ◌||◌, ◌+◌, ◌-◌, not, nat_eq, filter, ap₂}
+use Rattle.std.proofs.Common.{◌≡◌, ℕ, Bool, true, false, List, [], ◌∷◌, map, refl, ◌∙◌, ◌&&◌, ◌||◌, ◌+◌, ◌-◌, not, nat_eq, filter, ap₂}
 use Rattle.std.specs.List.{list_any, zip}
 use Rattle.std.specs.FinSet as sets
 use Rattle.std.specs.FinSet.{contains-from_list_nat}
 use Rattle.std.specs.declared.ops.Bound.TheVariants.{Included, Excluded, Unbounded}
 use Rattle.rsc_alphabet.specs.Bytes.{from_to, bytes}
-use Rattle.rsc_alphabet.specs.BytesLaws.{filter_same}
-use Rattle.rsc_alphabet.specs.ByteSets.{Numbers, members, begins_run, ends_run, runs}
-use Rattle.rsc_alphabet.specs.Partitions.{class_of, edges_of}
-use Rattle.rsc_alphabet.specs.Ranges.{are_alike, separates}
-use Rattle.rsc_alphabet.specs.Symbols.{byte, end_of_input}
-use Rattle.rsc_alphabet.specs.Iterators.{elements_of, symbols, representatives_of}
+use Rattle.rsc_alphabet.proofs.Words.{filter_same, Numbers, members, begins_run, ends_run, runs, class_of, edges_of, are_alike, separates, byte, end_of_input, elements_of, symbols, representatives_of}
 
 -- the range a-z, and the ranges 0-2 and 4-6
 letters : List (ℕ × ℕ)
@@ -79,8 +73,7 @@ unfolding begin_in_some end_in_some
 runs_of_some =
     ap₂ (λ t u. zip t u)
     (filter_same (begins_run some) begin_in_some 0 256 (λ k l h. rw (contains-some k, contains-some (k - 1)) refl))
-    (filter_same (ends_run some) end_in_some 0 256 (λ k l h. rw (contains-some k, contains-some (k + 1)) refl))
-    ∙ runs_computed
+    (filter_same (ends_run some) end_in_some 0 256 (λ k l h. rw (contains-some k, contains-some (k + 1)) refl)) ∙ runs_computed
 
 -- ---- the iterators of the map that gives 0 the class 7, and every other byte the class 0
 

@@ -1,13 +1,9 @@
 -- The maximal runs of a set of bytes, one after the other.
-use Rattle.std.proofs.Common.{◌≡◌, ℕ, ◌+◌, ◌-◌, ◌<◌, ◌≤◌, Bool, true, false, not, ◌&&◌, ◌||◌, List, [], ◌∷◌, ◌++◌, filter, refl, ap, ap₂, ◌∙◌, arith, nat_eq, nat_lt}
-use Rattle.std.specs.List.{zip}
+use Rattle.std.proofs.Common.{◌≡◌, ℕ, ◌+◌, ◌-◌, ◌<◌, ◌≤◌, Bool, true, false, not, ◌&&◌, ◌||◌, List, [], ◌∷◌, ◌++◌, filter, refl, ap, ap₂, ◌∙◌, arith, nat_eq, nat_lt, zip, ne_eqb}
 use Rattle.std.specs.FinSet as sets
-use Rattle.std.proofs.lemmas.Bool.{ne_eqb}
+use Rattle.std.proofs.Math.Bool.{and-false}
 use Rattle.std.proofs.lemmas.Bool.Decides.{nat_tests}
-use Rattle.std.proofs.lemmas.List.Elements.{filter-append}
-use Rattle.rsc_alphabet.specs.Bytes.{from_to}
-use Rattle.rsc_alphabet.specs.BytesLaws.{from_to_none, from_to_parts, filter_none, filter_first, filter_skip, filter_same}
-use Rattle.rsc_alphabet.specs.ByteSets.{Numbers, members, runs, begins_run, ends_run}
+use Rattle.rsc_alphabet.proofs.Words.{from_to, from_to_none, filter_none, filter_first, filter_skip, filter_same, filter_parts, filter_at, Numbers, members, runs, begins_run, ends_run}
 
 -- the maximal runs from `low` on
 abbrev pub runs_from : Numbers → ℕ → List (ℕ × ℕ)
@@ -21,50 +17,46 @@ begins : (s : Numbers) (b : ℕ) → b ≤ 255 → parts_no_run s b ≡ true →
 begins s b l clean is = by_cases (sets.contains s b) (sets.contains s (b - 1)) is clean
   where
     by_cases : (x y : Bool) → x ≡ true → (nat_eq b 0 || (nat_lt 255 b || (not y || not x))) ≡ true → (x && (nat_eq b 0 || not y)) ≡ true
-    by_cases true true is clean = grind (arith, nat_tests)
-    by_cases true false is clean = grind (arith, nat_tests)
-    by_cases false y is clean = cc
+    by_cases x y is clean = grind (arith, nat_tests)
 
 -- a byte after a member begins no run, and one before a member ends none
 begins_later : (s : Numbers) (b : ℕ) → 0 < b → sets.contains s (b - 1) ≡ true → begins_run s b ≡ false
-begins_later s b l before =
-    rw (before, ne_eqb b 0 (λ e. omega arith)) (elim (sets.contains s b) as (λ v. (v && false) ≡ false) [ true ↦ refl | false ↦ refl ])
+begins_later s b l before = rw (before, ne_eqb b 0 (λ e. omega arith)) (and-false (sets.contains s b))
 
 ends_earlier : (s : Numbers) (b : ℕ) → b < 255 → sets.contains s (b + 1) ≡ true → ends_run s b ≡ false
-ends_earlier s b l after =
-    rw (after, ne_eqb b 255 (λ e. omega arith)) (elim (sets.contains s b) as (λ v. (v && false) ≡ false) [ true ↦ refl | false ↦ refl ])
+ends_earlier s b l after = rw (after, ne_eqb b 255 (λ e. omega arith)) (and-false (sets.contains s b))
 
-module _ (s : Numbers) (b e : ℕ) (from : b ≤ e) (fits : e < 256) (within : (k : ℕ) → b ≤ k → k ≤ e → sets.contains s k ≡ true)
-    (last : ends_run s e ≡ true) where
+-- the last byte of the run that has b
+pub record EndsAt (s : Numbers) (b e : ℕ) : Type 0 where
+  pub from : b ≤ e
+  pub fits : e < 256
+  pub within : (k : ℕ) → b ≤ k → k ≤ e → sets.contains s k ≡ true
+  pub last : ends_run s e ≡ true
+
+module _ {s : Numbers} {b e : ℕ} (run : EndsAt s b e) where
   first_bytes : begins_run s b ≡ true → filter (begins_run s) (from_to b 256) ≡ b ∷ filter (begins_run s) (from_to (e + 1) 256)
   first_bytes starts =
       filter_first (begins_run s) b 256 (omega arith) starts
-      ∙ ap (λ t. b ∷ t) (
-      ap (filter (begins_run s)) (from_to_parts (b + 1) (e + 1) 256 (omega arith) (omega arith))
-      ∙ filter-append (begins_run s) (from_to (b + 1) (e + 1)) (from_to (e + 1) 256)
+      ∙ ap (λ t. b ∷ t) (filter_parts (begins_run s) (b + 1) (e + 1) 256 (omega arith) (omega arith)
       ∙ ap (λ t. t ++ filter (begins_run s) (from_to (e + 1) 256))
-      (filter_none (begins_run s) (b + 1) (e + 1) (λ k l h. begins_later s k (omega arith) (within (k - 1) (omega arith) (omega arith)))))
+      (filter_none (begins_run s) (b + 1) (e + 1) (λ k l h. begins_later s k (omega arith) (run.within (k - 1) (omega arith) (omega arith)))))
 
   last_bytes : filter (ends_run s) (from_to b 256) ≡ e ∷ filter (ends_run s) (from_to (e + 1) 256)
   last_bytes =
-      ap (filter (ends_run s)) (from_to_parts b e 256 from (omega arith))
-      ∙ filter-append (ends_run s) (from_to b e) (from_to e 256)
-      ∙ ap₂ (λ t u. t ++ u) (filter_none (ends_run s) b e (λ k l h. ends_earlier s k (omega arith) (within (k + 1) (omega arith) (omega arith))))
-      (filter_first (ends_run s) e 256 (omega arith) last)
+      filter_at (ends_run s) b e 256 run.from run.fits
+      (λ k l h. ends_earlier s k (omega arith) (run.within (k + 1) (omega arith) (omega arith))) run.last
 
+  -- what is left of the runs at a byte: a run, those after it, or nothing
   pub runs_from_first : parts_no_run s b ≡ true → runs_from s b ≡ (b, e) ∷ runs_from s (e + 1)
   runs_from_first clean =
-      ap₂ (λ t u. zip t u) (first_bytes (begins s b (omega arith) clean (within b (omega arith) from))) last_bytes
+      ap₂ (λ t u. zip t u) (first_bytes (begins s b (omega arith) clean (run.within b (omega arith) run.from))) last_bytes
 
   -- past a run, no run is parted
   pub parts_no_run-after : parts_no_run s (e + 1) ≡ true
-  parts_no_run-after = by_cases (sets.contains s e) (sets.contains s (e + 1)) (sets.contains s (e + 1 - 1)) last
+  parts_no_run-after = by_cases (sets.contains s e) (sets.contains s (e + 1)) (sets.contains s (e + 1 - 1)) run.last
     where
       by_cases : (x y z : Bool) → (x && (nat_eq e 255 || not y)) ≡ true → (nat_eq (e + 1) 0 || (nat_lt 255 (e + 1) || (not z || not y))) ≡ true
-      by_cases true true z is = grind (arith, nat_tests)
-      by_cases true false true is = grind (arith, nat_tests)
-      by_cases true false false is = grind (arith, nat_tests)
-      by_cases false y z is = cc
+      by_cases x y z is = grind (arith, nat_tests)
 
 pub runs_from_skip : (s : Numbers) (b : ℕ) → b ≤ 255 → sets.contains s b ≡ false → runs_from s b ≡ runs_from s (b + 1)
 runs_from_skip s b l none =
@@ -84,6 +76,7 @@ zip-runs s starts ends first last =
     ap₂ (λ t u. zip t u) (filter_same (λ b. sets.contains starts b) (begins_run s) 0 256 (λ k l h. first k))
     (filter_same (λ b. sets.contains ends b) (ends_run s) 0 256 (λ k l h. last k))
 
+-- nothing is paired with nothing
 pub zip_none : {A B : Type 0} (xs : List A) (ys : List B) → ys ≡ [] → zip xs ys ≡ []
 zip_none [] ys none = refl
 zip_none (x ∷ xs) ys none = ap (zip (x ∷ xs)) none

@@ -1,22 +1,14 @@
 -- What the iterators of a class map give stays within its alphabet; the length of a row.
-use Rattle.std.proofs.Common.{◌≡◌, ⊎_elim, ℕ, zero, suc, ◌+◌, ◌-◌, ◌<◌, ◌≤◌, ◌^◌, Bool, true, List, [], ◌∷◌, map, filter, get_or, length, not, ◌||◌, sym, ap, ◌∙◌, arith, nat_eq, nat_lt, slice_index}
-use Rattle.std.specs.Prelude.{IsSome}
-use Rattle.std.specs.List.{All}
+use Rattle.std.proofs.Common.{◌≡◌, ⊎_elim, ℕ, zero, suc, ◌+◌, ◌-◌, ◌<◌, ◌≤◌, ◌^◌, Bool, true, List, [], ◌∷◌, ◌++◌, map, filter, get_or, length, not, ◌||◌, ap, ◌∙◌, arith, nat_eq, nat_lt, slice_index, IsSome, All, pow_mono}
 use Rattle.std.specs.declared.ops.Bound.{Bound}
 use Rattle.std.specs.declared.ops.Bound.TheVariants.{Included, Excluded, Unbounded}
 use Rattle.std.specs.Range.Bound.{start_index, end_index}
-use Rattle.std.proofs.Math.Pow.{pow_mono}
 use Rattle.std.proofs.lemmas.Bool.{cases_lt, eqb-true}
 use Rattle.std.proofs.lemmas.Bool.Decides.{nat_tests}
 use Rattle.std.proofs.lemmas.List.{length-map, length-append}
 use Rattle.std.proofs.lemmas.List.Sums.{length-filter, count_by-le-length}
 use Rattle.std.proofs.lemmas.List.Elements.{All-nil, All-cons, All-append, All-map, All-filter, All-weaker, All-from_get_or, filter_passes}
-use Rattle.rsc_alphabet.specs.Bytes.{from_to, bytes}
-use Rattle.rsc_alphabet.specs.BytesLaws.{length-from_to, get_or-from_to}
-use Rattle.rsc_alphabet.specs.Partitions.{class_of}
-use Rattle.rsc_alphabet.specs.Symbols.{Symbol, byte, end_of_input, byte_of, number_of}
-use Rattle.rsc_alphabet.specs.Iterators.{class_at, end_of, symbols, elements_of, representing, end_if_unbounded, representatives_of, stride2_of}
-use Rattle.rsc_alphabet.specs.PartitionsLaws.{class_of_none, class_of_more, class_of-between}
+use Rattle.rsc_alphabet.proofs.Words.{from_to, bytes, length-from_to, get_or-from_to, class_of, Symbol, byte, end_of_input, byte_of, number_of, class_at, end_of, symbols, elements_of, representing, end_if_unbounded, representatives_of, class_of_none, class_of_more, class_of-between}
 
 -- each number of a range is below its end
 pub All-from_to : (low high : ℕ) → All (λ k. k < high) (from_to low high)
@@ -32,6 +24,7 @@ length-filter_range p low high =
     let all = from_to low high in
     omega (arith, length-filter p all, count_by-le-length p all, length-from_to low high)
 
+-- how many units the iterators give at most
 pub length-elements : (classes : List ℕ) (unit : Symbol) → length (elements_of classes unit) ≤ 256
 length-elements classes (byte c) =
     let p : ℕ → Bool = λ b. nat_eq (slice_index classes b) c in
@@ -57,40 +50,47 @@ length-representatives classes from to low =
     ends (Excluded n) = omega arith
     ends Unbounded = omega arith
 
+-- what holds for the bytes of a list and for what follows them, and for the end of the input alone
+pub All-bytes : (P : Symbol → Type 0) (xs : List ℕ) (rest : List Symbol) → All (λ b. P (byte b)) xs → All P rest → All P (map (λ b. byte b) xs ++ rest)
+All-bytes P xs rest all after = All-append P (map (λ b. byte b) xs) rest (All-map P (λ b. byte b) xs all) after
+
+-- a list of one unit
+pub All-one : (P : Symbol → Type 0) (u : Symbol) → P u → All P (u ∷ [])
+All-one P u is = All-cons P u [] is (All-nil P)
+
+-- the number of a symbol is below the number of symbols
 pub symbols_within : (classes : List ℕ) → All (λ u. number_of u < slice_index classes 255 + 2) (symbols classes)
 symbols_within classes =
     let end : ℕ = slice_index classes 255 + 1 in
-    All-append (λ u. number_of u < slice_index classes 255 + 2) (map (λ c. byte c) (from_to 0 end)) (end_of classes ∷ [])
-    (All-map (λ u. number_of u < slice_index classes 255 + 2) (λ c. byte c) (from_to 0 end)
-    (All-weaker (λ c. c < end) (λ c. c < slice_index classes 255 + 2) (λ c l. omega (arith, l)) (from_to 0 end) (All-from_to 0 end)))
-    (All-cons (λ u. number_of u < slice_index classes 255 + 2) (end_of classes) [] (omega arith) (All-nil (λ u. number_of u < slice_index classes 255 + 2)))
+    All-bytes (λ u. number_of u < slice_index classes 255 + 2) (from_to 0 end) (end_of classes ∷ [])
+    (All-weaker (λ c. c < end) (λ c. c < slice_index classes 255 + 2) (λ c l. omega (arith, l)) (from_to 0 end) (All-from_to 0 end))
+    (All-one (λ u. number_of u < slice_index classes 255 + 2) (end_of classes) (omega arith))
 
-pub elements_have_class : (classes : List ℕ) (unit : Symbol) → IsSome (byte_of unit)
-    → All (λ u. class_at classes u ≡ number_of unit) (elements_of classes unit)
+-- the elements of a class have that class
+pub elements_have_class : (classes : List ℕ) (unit : Symbol) → IsSome (byte_of unit) → All (λ u. class_at classes u ≡ number_of unit) (elements_of classes unit)
 elements_have_class classes (byte c) some =
     All-map (λ u. class_at classes u ≡ c) (λ b. byte b) (filter (λ b. nat_eq (slice_index classes b) c) bytes)
     (All-weaker (λ b. nat_eq (slice_index classes b) c ≡ true) (λ b. slice_index classes b ≡ c) (λ b h. eqb-true (slice_index classes b) c h)
     (filter (λ b. nat_eq (slice_index classes b) c) bytes) (filter_passes (λ b. nat_eq (slice_index classes b) c) bytes))
 elements_have_class classes (end_of_input n) some = cc
 
+-- representatives are bytes or the end
 pub representatives_within : (classes : List ℕ) (from to : Bound ℕ) → end_index to 256 ≤ 256
     → ((b : ℕ) → b < 256 → slice_index classes b ≤ slice_index classes 255) →
     All (λ u. class_at classes u < slice_index classes 255 + 2) (representatives_of classes from to)
 representatives_within classes from to low rises =
-    All-append (λ u. class_at classes u < slice_index classes 255 + 2) (map (λ b. byte b) (representing classes (start_index from) (end_index to 256)))
-    (end_if_unbounded classes to)
-    (All-map (λ u. class_at classes u < slice_index classes 255 + 2) (λ b. byte b) (representing classes (start_index from) (end_index to 256))
-    (All-filter _ (λ b. slice_index classes b < slice_index classes 255 + 2) (from_to (start_index from) (end_index to 256))
-    (All-weaker (λ b. b < end_index to 256) (λ b. slice_index classes b < slice_index classes 255 + 2)
-    (λ b l. let r = rises b (omega (arith, l, low)) in omega (arith, r))
-    (from_to (start_index from) (end_index to 256)) (All-from_to (start_index from) (end_index to 256)))))
-    (ends to)
+    let P : Symbol → Type 0 = λ u. class_at classes u < slice_index classes 255 + 2 in
+    let first = start_index from in
+    let end = end_index to 256 in
+    All-bytes P (representing classes first end) (end_if_unbounded classes to)
+    (All-filter _ (λ b. P (byte b)) (from_to first end) (All-weaker (λ b. b < end) (λ b. P (byte b))
+    (λ b l. let r = rises b (omega (arith, l, low)) in omega (arith, r)) (from_to first end) (All-from_to first end)))
+    (ends P (omega arith) to)
   where
-    ends : (bound : Bound ℕ) → All (λ u. class_at classes u < slice_index classes 255 + 2) (end_if_unbounded classes bound)
-    ends (Included n) = All-nil (λ u. class_at classes u < slice_index classes 255 + 2)
-    ends (Excluded n) = All-nil (λ u. class_at classes u < slice_index classes 255 + 2)
-    ends Unbounded = All-cons (λ u. class_at classes u < slice_index classes 255 + 2) (end_of classes) [] (omega arith)
-        (All-nil (λ u. class_at classes u < slice_index classes 255 + 2))
+    ends : (P : Symbol → Type 0) → P (end_of classes) → (bound : Bound ℕ) → All P (end_if_unbounded classes bound)
+    ends P is (Included n) = All-nil P
+    ends P is (Excluded n) = All-nil P
+    ends P is Unbounded = All-one P (end_of classes) is
 
 -- ---- the length of a row
 
@@ -100,12 +100,12 @@ counts_all p (suc n) each =
     let e : suc n ≡ n + 1 = omega arith in
     rw (e, class_of_more p n, each n (omega arith)) (ap (λ x. x + 1) (counts_all p n (λ k l. each k (omega (arith, l)))))
 
-exponent_counted : (n r : ℕ) → r ≤ 9 → n ≤ 2 ^ r → ((k : ℕ) → n ≤ 2 ^ k → r ≤ k) → class_of (λ k. nat_lt (2 ^ k) n) 9 ≡ r
+-- the least exponent with a power of two that is enough is the number of those that are too small
+pub exponent_counted : (n r : ℕ) → r ≤ 9 → n ≤ 2 ^ r → ((k : ℕ) → n ≤ 2 ^ k → r ≤ k) → class_of (λ k. nat_lt (2 ^ k) n) 9 ≡ r
 exponent_counted n r most enough least =
     let p : ℕ → Bool = λ k. nat_lt (2 ^ k) n in
     let e : r + (9 - r) ≡ 9 = omega (arith, most) in
-    (rw e at (class_of-between p r (9 - r) (λ k low high is. not_below k low is)))
-    ∙ counts_all p r (λ k l. below k l)
+    (rw e at (class_of-between p r (9 - r) (λ k low high is. not_below k low is))) ∙ counts_all p r (λ k l. below k l)
   where
     below : (k : ℕ) → k < r → nat_lt (2 ^ k) n ≡ true
     below k l = ⊎_elim (λ (h : 2 ^ k < n). grind (arith, nat_tests)) (λ (h : n ≤ 2 ^ k). let b = least k h in absurd (omega (arith, b, l)))
@@ -113,8 +113,3 @@ exponent_counted n r most enough least =
 
     not_below : (k : ℕ) → r ≤ k → ¬ (nat_lt (2 ^ k) n ≡ true)
     not_below k l is = let more : 2 ^ r ≤ 2 ^ k = pow_mono {i = r} {j = k} l in grind (arith, nat_tests)
-
-pub stride2_is : (classes : List ℕ) (r : ℕ) → r ≤ 9 → slice_index classes 255 + 2 ≤ 2 ^ r
-    → ((k : ℕ) → slice_index classes 255 + 2 ≤ 2 ^ k → r ≤ k)
-    → r ≡ stride2_of classes
-stride2_is classes r most enough least = sym (exponent_counted (slice_index classes 255 + 2) r most enough least)

@@ -1,5 +1,5 @@
 -- Boundaries, classes and ranges.
-use Rattle.std.proofs.Common.{◌≡◌, ◌↔◌, ◌⊎◌, inl, inr, ⊎_elim, min, max, ℕ, zero, suc, ◌+◌, ◌-◌, ◌<◌, ◌≤◌, Bool, true, false, not, ◌&&◌, ◌||◌, cond, List, [], ◌∷◌, ◌++◌, length, refl, sym, ap, ◌∙◌, arith, nat_eq, nat_lt, ap₂, count_by, slice_index}
+use Rattle.std.proofs.Common.{◌≡◌, ◌↔◌, ◌⊎◌, ⊎_elim, min, max, ℕ, zero, suc, ◌+◌, ◌-◌, ◌<◌, ◌≤◌, Bool, true, false, not, ◌&&◌, ◌||◌, cond, List, [], ◌∷◌, ◌++◌, length, refl, sym, ap, ◌∙◌, arith, nat_eq, nat_lt, ap₂, count_by, slice_index}
 use Rattle.std.specs.List.{list_any}
 use Rattle.std.specs.Ordering.{nat_cmp}
 use Rattle.std.specs.Cmp.{nat_cmp_total, unsigned_tied}
@@ -65,8 +65,7 @@ c-range old s e k = contains-joined old (edges_of (s, e)) k ∙ ap (λ b. sets.c
 
 pub class_of_more : (p : ℕ → Bool) (b : ℕ) → class_of p (b + 1) ≡ class_of p b + cond (p b) 1 0
 class_of_more p b =
-    ap (count_by p) (from_to_last 0 b (omega arith))
-    ∙ sum_by-append _ (from_to 0 b) (b ∷ []) ∙ ap (λ x. class_of p b + x) one
+    ap (count_by p) (from_to_last 0 b (omega arith)) ∙ sum_by-append _ (from_to 0 b) (b ∷ []) ∙ ap (λ x. class_of p b + x) one
   where
     one : count_by p (b ∷ []) ≡ cond (p b) 1 0
     one = elim (p b) as (λ v. 0 + cond v 1 0 ≡ cond v 1 0) [ true ↦ refl | false ↦ refl ]
@@ -85,8 +84,7 @@ class_of_same p q (suc b) same =
     rw e (class_of_more p b ∙ ap₂ (λ x t. x + cond t 1 0) (class_of_same p q b (λ k h. same k (omega arith))) (same b (omega arith))
     ∙ sym (class_of_more q b))
 
-pub class_map_is : (p : ℕ → Bool) (classes : List ℕ) → length classes ≡ 256 → ((k : ℕ) → k < 256 → slice_index classes k ≡ class_of p k)
-    → classes ≡ class_map p
+pub class_map_is : (p : ℕ → Bool) (classes : List ℕ) → length classes ≡ 256 → ((k : ℕ) → k < 256 → slice_index classes k ≡ class_of p k) → classes ≡ class_map p
 unfolding from_to
 class_map_is p classes long each = fill_by_all (class_of p) classes 256 0 long each
 
@@ -146,8 +144,7 @@ same_class-together p b c =
     (cases_lt b c)
 
 -- two bytes have one class of a class map exactly if they are together
-pub class_map-together : (p : ℕ → Bool) (b c : ℕ) → b < 256 → c < 256
-    → (slice_index (class_map p) b ≡ slice_index (class_map p) c) ↔ Together p b c
+pub class_map-together : (p : ℕ → Bool) (b c : ℕ) → b < 256 → c < 256 → (slice_index (class_map p) b ≡ slice_index (class_map p) c) ↔ Together p b c
 class_map-together p b c lb lc = rw (slice_index-class_map p b lb, slice_index-class_map p c lc) (same_class-together p b c)
 
 -- ---- classes start at 0 and rise by at most 1, so each number up to the last class is one
@@ -161,8 +158,7 @@ next_class p b l =
     rw (slice_index-class_map p b (omega arith), slice_index-class_map p (b + 1) (omega arith), class_of_more p b) (either (class_of p b) (p b))
   where
     either : (c : ℕ) (t : Bool) → (c + cond t 1 0 ≡ c) ⊎ (c + cond t 1 0 ≡ c + 1)
-    either c true = inr refl
-    either c false = inl (omega arith)
+    either c t = grind (arith, nat_tests)
 
 pub class_within : (p : ℕ → Bool) (b : ℕ) → b < 256 → slice_index (class_map p) b ≤ slice_index (class_map p) 255
 class_within p b l =
@@ -185,8 +181,7 @@ class_of_reached p (suc n) c l =
     (cases_lt (class_of p n) c)
   where
     at_most : (c : ℕ) (t : Bool) → c + cond t 1 0 ≤ c + 1
-    at_most c true = omega arith
-    at_most c false = omega arith
+    at_most c t = grind (arith, nat_tests)
 
 pub class_reached : (p : ℕ → Bool) (c : ℕ) → c ≤ slice_index (class_map p) 255 → (b : ℕ) × ((b < 256) × (slice_index (class_map p) b ≡ c))
 class_reached p c l =

@@ -1,5 +1,5 @@
 //! Sets of bytes, and the iterators over their members and their maximal runs.
-ghost use Rattle.std.specs.Prelude.{◌≡◌, ℕ, ◌+◌, ◌*◌, ◌%◌, ◌≤◌, ◌↔◌, ◌==◌, ◌&&◌, ◌||◌, not, nat_le, IsTrue, ◌<◌, true, false, length, All};
+ghost use Rattle.std.specs.Prelude.{◌≡◌, ℕ, ◌+◌, ◌-◌, ◌*◌, ◌%◌, ◌≤◌, ◌↔◌, ◌==◌, ◌&&◌, ◌||◌, not, nat_le, IsTrue, ◌<◌, true, false, length, All};
 ghost use Rattle.std.specs.FinSet as sets;
 ghost use Rattle.std.specs.Iterator.{YieldsFirst, item_count};
 ghost use Rattle.rsc_alphabet.specs.ByteSets.{members, runs, begins_run, ends_run};
@@ -260,15 +260,35 @@ impl ByteSet {
         }
     }
 
+    // The bytes whose predecessor is a member.
+    #[inline(always)]
+    fn successors(&self) -> ByteSet
+        ensures { (b : ℕ) → b < 256 → sets.contains result b ≡ (not (b == 0) && sets.contains self.now (b - 1)) }
+    {
+        ByteSet {
+            low: shifted_left(self.low, 0),
+            high: shifted_left(self.high, self.low),
+        }
+    }
+
+    // The members that aren't members of the other set.
+    #[inline(always)]
+    fn minus(&self, other: &ByteSet) -> ByteSet
+        ensures members { (b : ℕ) → sets.contains result b ≡ (sets.contains self.now b && not (sets.contains other.now b)) }
+        ensures bytes { (b : ℕ) → sets.contains self.now b ≡ true → b < 256 }
+    {
+        ByteSet {
+            low: difference(self.low, other.low),
+            high: difference(self.high, other.high),
+        }
+    }
+
     // The members that have no predecessor among the members.
     #[inline]
     pub(crate) fn run_starts(&self) -> ByteSet
         ensures { (b : ℕ) → sets.contains result b ≡ begins_run self.now b }
     {
-        ByteSet {
-            low: difference(self.low, shifted_left(self.low, 0)),
-            high: difference(self.high, shifted_left(self.high, self.low)),
-        }
+        self.minus(&self.successors())
     }
 
     // The members that have no successor among the members.
@@ -276,10 +296,7 @@ impl ByteSet {
     pub(crate) fn run_ends(&self) -> ByteSet
         ensures { (b : ℕ) → sets.contains result b ≡ ends_run self.now b }
     {
-        ByteSet {
-            low: difference(self.low, shifted_right(self.low, self.high)),
-            high: difference(self.high, shifted_right(self.high, 0)),
-        }
+        self.minus(&self.predecessors())
     }
 
     // The number that has a byte's bit.

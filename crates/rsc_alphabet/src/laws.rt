@@ -42,6 +42,7 @@ pub fn each_class_comes_once()
 {}
 
 /// The first byte of a range that isn't empty is always a representative, and comes first.
+#[tactic(auto, using(crate::proofs::IteratorsLemmas::first_representative))]
 pub fn first_byte_is_representative()
     ensures { (classes : List ℕ) (from to : Bound ℕ) → start_index from < end_index to 256 →
         (rest : List Symbol) × (representatives_of classes from to ≡ byte (start_index from) ∷ rest) }
@@ -58,11 +59,13 @@ pub fn each_class_is_represented()
 {}
 
 /// The boundaries of a set's maximal runs are where membership changes from one byte to the next.
+#[tactic(auto, using(crate::proofs::EdgesLemmas::changes_are_edges))]
 pub fn edges_of_runs_are_changes()
     ensures { (s : Numbers) (k : ℕ) → sets.contains (edges_of_each (runs s)) k ≡ changes_at s k }
 {}
 
 /// The members that [`crate::ByteSet::iter`] gives are all members below 256, ascending.
+#[tactic(auto, using(crate::proofs::MaximalRuns::members_exactly, crate::proofs::MaximalRuns::members_ascending))]
 pub fn members_are_exact()
     ensures exactly { (s : Numbers) (b : ℕ) → b < 256 → Contains (members s) b ↔ (sets.contains s b ≡ true) }
     ensures ascending { (s : Numbers) → IsStrictlyIncreasing (members s) }
@@ -119,6 +122,7 @@ pub fn order_of_units()
 {}
 
 /// The default of a set of bytes and of a partition is the empty one, and that of a class map has a class for each byte.
+#[tactic(auto, using(crate::proofs::IteratorsLemmas::bytes_own))]
 pub fn defaults()
     ensures byte_set { (s : Numbers) → ⟦<ByteSet as Default>⟧.is_default s → s ≡ sets.empty }
     ensures byte_class_set { (s : Numbers) → ⟦<ByteClassSet as Default>⟧.is_default s → s ≡ sets.empty }

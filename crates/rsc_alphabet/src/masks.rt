@@ -1,5 +1,5 @@
 //! The bits of the numbers that hold a set of bytes.
-ghost use Rattle.std.specs.Prelude.{◌≡◌, ◌≢◌, ◌==◌, ◌&&◌, ◌||◌, ◌↔◌, ℕ, ◌+◌, ◌-◌, ◌%◌, ◌<◌, ◌≤◌, nat_le, false, not, IsTrue};
+ghost use Rattle.std.specs.Prelude.{◌≡◌, ◌==◌, ◌&&◌, ◌||◌, ◌↔◌, ℕ, ◌+◌, ◌-◌, ◌%◌, ◌<◌, ◌≤◌, nat_le, true, false, not, IsTrue};
 ghost use Rattle.std.specs.Int.{bit_at};
 ghost use Rattle.rsc_primitives.specs.BitsLaws.{has_bit};
 ghost use Rattle.rsc_alphabet.specs.Partitions.{class_of};
@@ -13,11 +13,10 @@ pub(crate) fn has_bit(mask: u128, bit: u8) -> bool
     (word_with_bit(mask, bit) >> (bit % 64)) & 1 == 1
 }
 
-// The half of the bits that has a bit.
 #[inline(always)]
 fn word_with_bit(mask: u128, bit: u8) -> u64
     requires { bit < 128 }
-    ensures { bit_at result (bit % 64) ≡ bit_at mask bit }
+    ensures { has_bit result (bit % 64) ≡ has_bit mask bit }
 {
     if bit < 64 {
         lower_word(mask)
@@ -26,22 +25,19 @@ fn word_with_bit(mask: u128, bit: u8) -> u64
     }
 }
 
-// The same number but for a bit that is 1.
 #[inline(always)]
 pub(crate) fn with_bit(mask: u128, bit: u8) -> u128
     requires { bit < 128 }
-    ensures here { bit_at result bit ≡ 1 }
-    ensures others { (i : ℕ) → i ≢ bit → bit_at result i ≡ bit_at mask i }
+    ensures { (i : ℕ) → has_bit result i ≡ (i == bit || has_bit mask i) }
 {
-    mask | one_bit(bit)
+    one_bit(bit) | mask
 }
 
 // The number of which this bit alone is 1. One word is shifted, which takes less time than two.
 #[inline(always)]
 fn one_bit(bit: u8) -> u128
     requires { bit < 128 }
-    ensures here { bit_at result bit ≡ 1 }
-    ensures others { (i : ℕ) → i ≢ bit → bit_at result i ≡ 0 }
+    ensures { (i : ℕ) → has_bit result i ≡ (i == bit) }
 {
     let word = 1 << (bit % 64);
     if bit < 64 {
@@ -51,46 +47,38 @@ fn one_bit(bit: u8) -> u128
     }
 }
 
-// The same number but for a bit that is 0.
 #[inline(always)]
 pub(crate) fn without_bit(mask: u128, bit: u8) -> u128
     requires { bit < 128 }
-    ensures here { bit_at result bit ≡ 0 }
-    ensures others { (i : ℕ) → i < 128 → i ≢ bit → bit_at result i ≡ bit_at mask i }
+    ensures { (i : ℕ) → i < 128 → has_bit result i ≡ (not (i == bit) && has_bit mask i) }
 {
-    mask & !(1 << bit)
+    !(1 << bit) & mask
 }
 
-// Whether all bits from `start` to `end` are 1, both included.
 #[inline(always)]
 pub(crate) fn has_bits(mask: u128, start: u8, end: u8) -> bool
     requires { (start ≤ end) × (end < 128) }
-    ensures { IsTrue result ↔ ((i : ℕ) → start ≤ i → i ≤ end → bit_at mask i ≡ 1) }
+    ensures { IsTrue result ↔ ((i : ℕ) → start ≤ i → i ≤ end → has_bit mask i ≡ true) }
 {
     run_of_bits(start, end) & !mask == 0
 }
 
-// The number whose bits from `start` to `end` are 1, both included, and no others.
 #[inline(always)]
 fn run_of_bits(start: u8, end: u8) -> u128
     requires { (start ≤ end) × (end < 128) }
-    ensures inside { (i : ℕ) → start ≤ i → i ≤ end → bit_at result i ≡ 1 }
-    ensures below { (i : ℕ) → i < start → bit_at result i ≡ 0 }
-    ensures above { (i : ℕ) → end < i → bit_at result i ≡ 0 }
+    ensures { (i : ℕ) → has_bit result i ≡ (nat_le start i && nat_le i end) }
 {
     (u128::MAX >> (127 - end)) & (u128::MAX << start)
 }
 
-// The bits from `start` to `end`, both included.
 #[inline(always)]
 pub(crate) fn within(mask: u128, start: u8, end: u8) -> u128
     requires { (start ≤ end) × (end < 128) }
     ensures { (i : ℕ) → has_bit result i ≡ (nat_le start i && nat_le i end && has_bit mask i) }
 {
-    mask & run_of_bits(start, end)
+    run_of_bits(start, end) & mask
 }
 
-// The bits of a number that aren't bits of another one.
 #[inline(always)]
 pub(crate) fn difference(mask: u128, other: u128) -> u128
     ensures { (i : ℕ) → i < 128 → has_bit result i ≡ (has_bit mask i && not (has_bit other i)) }
@@ -98,7 +86,6 @@ pub(crate) fn difference(mask: u128, other: u128) -> u128
     mask & !other
 }
 
-// The bits of two numbers.
 #[inline(always)]
 pub(crate) fn either(mask: u128, other: u128) -> u128
     ensures { (i : ℕ) → has_bit result i ≡ (has_bit mask i || has_bit other i) }
@@ -124,27 +111,24 @@ pub(crate) fn shifted_right(mask: u128, above: u128) -> u128
     (mask >> 1) | (above << 127)
 }
 
-// The lower half of the bits.
 #[inline(always)]
 pub(crate) fn lower_word(mask: u128) -> u64
-    ensures { (i : ℕ) → i < 64 → bit_at result i ≡ bit_at mask i }
+    ensures { (i : ℕ) → i < 64 → has_bit result i ≡ has_bit mask i }
 {
     (mask & 0xFFFF_FFFF_FFFF_FFFF) as u64
 }
 
-// The upper half of the bits.
 #[inline(always)]
 pub(crate) fn upper_word(mask: u128) -> u64
-    ensures { (i : ℕ) → i < 64 → bit_at result i ≡ bit_at mask (64 + i) }
+    ensures { (i : ℕ) → i < 64 → has_bit result i ≡ has_bit mask (64 + i) }
 {
     (mask >> 64) as u64
 }
 
-// The number of these two halves.
 #[inline(always)]
 pub(crate) fn joined(lower: u64, upper: u64) -> u128
-    ensures below { (i : ℕ) → i < 64 → bit_at result i ≡ bit_at lower i }
-    ensures above { (i : ℕ) → i < 64 → bit_at result (64 + i) ≡ bit_at upper i }
+    ensures below { (i : ℕ) → i < 64 → has_bit result i ≡ has_bit lower i }
+    ensures above { (i : ℕ) → has_bit result (64 + i) ≡ has_bit upper i }
 {
     (u128::from(upper) << 64) | u128::from(lower)
 }
@@ -188,7 +172,6 @@ pub(crate) fn ones_below(word: u64, bit: u8) -> u32
     (word & ((1 << bit) - 1)).count_ones()
 }
 
-// How many bits are 1.
 #[inline(always)]
 pub(crate) fn ones(word: u64) -> u32
     ensures count { result ≡ class_of (has_bit word) 64 }

@@ -1,10 +1,7 @@
-use Rattle.std.proofs.Common.{◌≡◌, ℕ, List, ◌≤◌, ◌<◌, sym, ap, ap₂, ◌∙◌, ◌||◌, take, length, take_all}
+use Rattle.std.proofs.Common.{◌≡◌, ℕ, List, ◌≤◌, ◌<◌, sym, ap, ap₂, ◌∙◌, ◌||◌, take, length, take_all, nat_cmp}
 use Rattle.std.specs.FinSet as sets
 use Rattle.std.specs.FinSet.{contains-empty}
-use Rattle.std.specs.Ordering.{nat_cmp}
-use Rattle.rsc_alphabet.specs.Ranges.{separates}
-use Rattle.rsc_alphabet.specs.Partitions.{class_map}
-use Rattle.rsc_alphabet.specs.PartitionsLaws.{contains-joined, class_map_same}
+use Rattle.rsc_alphabet.proofs.Words.{separates, class_map, contains-joined, class_map_same}
 use Rattle.rsc_alphabet.proofs.RangesLemmas.{contains-edges_of_range, separates_more, same_class_is}
 use Rattle.rsc_alphabet.proofs.byte_class_set.classes_of_ranges.Goals as goal
 

@@ -1,6 +1,5 @@
 use Rattle.std.proofs.Common.{◌≡◌, ◌+◌, ◌*◌, ◌<◌, ℕ, length, slice_index}
-use Rattle.rsc_primitives.specs.BitsLaws.{has_bit}
-use Rattle.rsc_alphabet.specs.Partitions.{class_of}
+use Rattle.rsc_alphabet.proofs.Words.{has_bit, class_of}
 use Rattle.rsc_alphabet.proofs.byte_class_set.set_classes.Given as goal
 
 -- the word's bytes so far have their classes, and those before it have what they had

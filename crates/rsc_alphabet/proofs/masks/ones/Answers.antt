@@ -1,8 +1,6 @@
-use Rattle.std.proofs.Common.{sym, ap, ◌∙◌, arith}
+use Rattle.std.proofs.Common.{sym, ap, ◌∙◌, arith, mod-eq_of_lt}
 use Rattle.std.specs.Int.Count.{ones}
-use Rattle.std.proofs.Math.Nat.{mod-eq_of_lt}
-use Rattle.rsc_primitives.specs.BitsLaws.{has_bit}
-use Rattle.rsc_alphabet.specs.PartitionsLaws.{class_of-le}
+use Rattle.rsc_alphabet.proofs.Words.{has_bit, class_of-le}
 use Rattle.rsc_alphabet.proofs.BitsLemmas.{ones-class_of}
 use Rattle.rsc_alphabet.proofs.masks.ones.Goals as goal
 

@@ -1,7 +1,6 @@
 use Rattle.std.proofs.Common.{arith}
 use Rattle.std.proofs.lemmas.Nat.{one_shl, and_mask}
-use Rattle.rsc_primitives.specs.BitsLaws.{has_bit}
-use Rattle.rsc_alphabet.specs.PartitionsLaws.{class_of-le}
+use Rattle.rsc_alphabet.proofs.Words.{has_bit, class_of-le}
 use Rattle.rsc_alphabet.proofs.BitsLemmas.{ones-class_of}
 use Rattle.rsc_alphabet.proofs.masks.ones_below.Goals as goal
 

@@ -1,8 +1,7 @@
 use Rattle.std.proofs.Common.{◌≡◌, ℕ, ◌+◌, ◌-◌, ◌*◌, ◌<◌, sym, ap, ◌∙◌, subst, arith, slice_index, inl, inr}
 use Rattle.std.specs.FinSet as sets
 use Rattle.std.proofs.lemmas.Bool.{cases_lt}
-use Rattle.rsc_alphabet.specs.Partitions.{ClassesRise, class_of}
-use Rattle.rsc_alphabet.specs.PartitionsLaws.{class_map-rises, class_of-le, class_of_none}
+use Rattle.rsc_alphabet.proofs.Words.{ClassesRise, class_of, class_map-rises, class_of-le, class_of_none}
 use Rattle.rsc_alphabet.proofs.PartitionsLemmas.{boundary_below, classes_of_word, map_of_counts}
 use Rattle.rsc_alphabet.proofs.byte_class_set.ByteClassSet.byte_classes.Goals as goal
 

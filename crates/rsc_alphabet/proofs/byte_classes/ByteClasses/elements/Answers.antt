@@ -1,9 +1,5 @@
-use Rattle.std.proofs.Common.{◌≡◌, ◌∙◌, true, sym, ap, subst}
-use Rattle.std.specs.List.{All}
-use Rattle.rsc_alphabet.specs.ByteSets.{members}
-use Rattle.rsc_alphabet.specs.IteratorLayout.{elements_left}
-use Rattle.rsc_alphabet.specs.Symbols.{number_of}
-use Rattle.rsc_alphabet.specs.Iterators.{class_at}
+use Rattle.std.proofs.Common.{◌≡◌, ◌∙◌, true, sym, ap, subst, All}
+use Rattle.rsc_alphabet.proofs.Words.{members, elements_left, number_of, class_at}
 use Rattle.rsc_alphabet.proofs.IteratorsLemmas.{elements_of-byte, elements_of-end, members_none}
 use Rattle.rsc_alphabet.proofs.Within.{elements_have_class, length-elements}
 use Rattle.rsc_alphabet.proofs.byte_classes.ByteClasses.elements.Goals as goal
@@ -23,8 +19,7 @@ pub returns-in-None : goal.returns-in-None
 returns-in-None c =
     let map = c.args.self.now in
     let none = ap members c.empty.ensures.set ∙ members_none in
-    let list = c.new-in-None.ensures ∙ ap (λ bytes. elements_left bytes true) none
-    ∙ elements_of-end map c.args.class (sym c.as_u8.ensures ∙ c.in-None.is) in
+    let list = c.new-in-None.ensures ∙ ap (λ bytes. elements_left bytes true) none ∙ elements_of-end map c.args.class (sym c.as_u8.ensures ∙ c.in-None.is) in
     record {
       list = list;
       class = λ some. subst (All (λ u. class_at map u ≡ number_of c.args.class)) (sym list) (elements_have_class map c.args.class some);

@@ -1,5 +1,4 @@
-use Rattle.std.proofs.Common.{arith, ◌<◌, ◌+◌, slice_index, sym, subst}
-use Rattle.std.specs.List.{All}
+use Rattle.std.proofs.Common.{arith, ◌<◌, ◌+◌, slice_index, sym, subst, All}
 use Rattle.rsc_alphabet.specs.Symbols.{number_of}
 use Rattle.rsc_alphabet.proofs.IteratorsLemmas.{symbols_left_all, length-symbols}
 use Rattle.rsc_alphabet.proofs.Within.{symbols_within}

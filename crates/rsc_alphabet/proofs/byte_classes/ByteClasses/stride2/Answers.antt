@@ -1,7 +1,7 @@
-use Rattle.std.proofs.Common.{ℕ, ◌+◌, ◌-◌, ◌≤◌, ◌^◌, slice_index, ◌≡◌, ◌∙◌, ◌*◌, suc, ap, arith}
+use Rattle.std.proofs.Common.{ℕ, ◌+◌, ◌-◌, ◌≤◌, ◌^◌, slice_index, ◌≡◌, sym, ◌∙◌, ◌*◌, suc, ap, arith}
 use Rattle.std.proofs.Math.Nat.{pow-succ'}
 use Rattle.rsc_alphabet.proofs.IteratorsLemmas.{least_exponent}
-use Rattle.rsc_alphabet.proofs.Within.{stride2_is}
+use Rattle.rsc_alphabet.proofs.Within.{exponent_counted}
 use Rattle.rsc_alphabet.proofs.byte_classes.ByteClasses.stride2.Goals as goal
 
 pub returns-clause-least : goal.returns-clause-least
@@ -20,4 +20,5 @@ returns-clause-value c =
     let more : r + 1 ≡ suc r = omega arith in
     let double : 2 ^ (r + 1) ≡ 2 * 2 ^ r = ap (λ e. 2 ^ e) more ∙ pow-succ' 2 r in
     let below = c.ilog2.ensures.next_power_gt in
-    stride2_is classes (r + 1) (least 9 (omega (arith, c.alphabet_len.ensures.most, len))) (omega (arith, len, below, double)) least
+    sym (exponent_counted (slice_index classes 255 + 2) (r + 1) (least 9 (omega (arith, c.alphabet_len.ensures.most, len)))
+    (omega (arith, len, below, double)) least)

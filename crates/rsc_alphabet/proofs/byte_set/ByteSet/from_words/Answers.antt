@@ -1,21 +1,15 @@
-use Rattle.std.proofs.Common.{◌+◌, nat_eq, ap, ◌∙◌, arith}
-use Rattle.rsc_alphabet.proofs.MaskedLemmas.{contains-low, contains-at, contains-fourth}
+use Rattle.std.proofs.Common.{◌<◌, ◌^◌, ◌+◌, refl, ◌∙◌, arith}
+use Rattle.rsc_alphabet.proofs.MaskedLemmas.{contains-low, contains-high}
 use Rattle.rsc_alphabet.proofs.byte_set.ByteSet.from_words.Goals as goal
 
-pub returns-clause-first : goal.returns-clause-first
-returns-clause-first c =
-    λ i l. contains-low c.joined.result c.joined-2.result i (omega (arith, c.joined-2.type_inv)) (omega arith)
-    ∙ ap (λ x. nat_eq x 1) (c.joined.ensures.below i l)
-
-pub returns-clause-second : goal.returns-clause-second
-returns-clause-second c =
-    λ i l. contains-low c.joined.result c.joined-2.result (64 + i) (omega (arith, c.joined-2.type_inv)) (omega arith)
-    ∙ ap (λ x. nat_eq x 1) (c.joined.ensures.above i l)
-
-pub returns-clause-third : goal.returns-clause-third
-returns-clause-third c =
-    λ i l. contains-at c.joined.result c.joined-2.result i (omega (arith, c.joined-2.type_inv)) ∙ ap (λ x. nat_eq x 1) (c.joined-2.ensures.below i l)
-
-pub returns-clause-fourth : goal.returns-clause-fourth
-returns-clause-fourth c =
-    λ i l. contains-fourth c.joined.result c.joined-2.result i (omega (arith, c.joined-2.type_inv)) ∙ ap (λ x. nat_eq x 1) (c.joined-2.ensures.above i l)
+pub returns : goal.returns
+returns c =
+    let low = c.joined in
+    let high = c.joined-2 in
+    let fits : (low.result < 2 ^ 128) × (high.result < 2 ^ 128) = (omega (arith, low.type_inv), omega (arith, high.type_inv)) in
+    record {
+      first = λ i l. contains-low fits i (omega arith) ∙ low.ensures.below i l;
+      second = λ i l. contains-low fits (64 + i) (omega arith) ∙ low.ensures.above i;
+      third = λ i l. contains-high fits (128 + i) i refl ∙ high.ensures.below i l;
+      fourth = λ i l. contains-high fits (192 + i) (64 + i) (omega arith) ∙ high.ensures.above i;
+    }

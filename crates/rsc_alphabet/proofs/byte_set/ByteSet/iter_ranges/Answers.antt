@@ -1,5 +1,4 @@
-use Rattle.std.proofs.Common.{ap₂, ◌∙◌}
-use Rattle.std.specs.List.{zip}
+use Rattle.std.proofs.Common.{ap₂, ◌∙◌, zip}
 use Rattle.rsc_alphabet.proofs.MaximalRuns.{runs_ordered}
 use Rattle.rsc_alphabet.proofs.RunsLemmas.{zip-runs}
 use Rattle.rsc_alphabet.proofs.byte_set.ByteSet.iter_ranges.Goals as goal

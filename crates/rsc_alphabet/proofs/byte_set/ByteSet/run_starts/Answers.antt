@@ -1,11 +1,14 @@
-use Rattle.std.proofs.Common.{arith}
-use Rattle.rsc_alphabet.proofs.MaskedLemmas.{starts_are}
+use Rattle.std.proofs.Common.{◌≡◌, Bool, true, false, inl, inr, not, ◌&&◌, ◌||◌, refl, ◌∙◌}
+use Rattle.std.specs.FinSet as sets
+use Rattle.std.proofs.lemmas.Bool.{cases_Bool}
 use Rattle.rsc_alphabet.proofs.byte_set.ByteSet.run_starts.Goals as goal
 
 pub returns : goal.returns
-returns c =
-    let low = c.shifted_left.ensures in
-    let high = c.shifted_left-2.ensures in
-    rw (← c.self.view_is) (starts_are c.self.inside.low c.self.inside.high c.shifted_left.result c.shifted_left-2.result c.difference.result
-    c.difference-2.result
-    c.self.invariant.1 (omega (arith, c.difference-2.type_inv)) low.first low.others c.difference.ensures high.first high.others c.difference-2.ensures)
+returns c = λ b. c.minus.ensures.members b ∙ elim (cases_Bool (sets.contains c.args.self.now b)) [
+  | inl is ↦ rw (c.successors.ensures b (c.minus.ensures.bytes b is)) (by_cases _ _ _)
+  | inr out ↦ rw out refl
+]
+  where
+    by_cases : (x y z : Bool) → (x && not (not y && z)) ≡ (x && (y || not z))
+    by_cases x true z = refl
+    by_cases x false z = refl

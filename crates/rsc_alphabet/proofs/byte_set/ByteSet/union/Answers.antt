@@ -1,12 +1,16 @@
-use Rattle.std.proofs.Common.{arith}
-use Rattle.rsc_alphabet.proofs.MaskedLemmas.{union_is, masked_below}
+use Rattle.std.proofs.Common.{◌<◌, ◌^◌, ◌+◌, refl, arith, ◌∙◌}
+use Rattle.rsc_alphabet.proofs.MaskedLemmas.{contains-low, contains-high, none_past, masked_below, masked_from}
 use Rattle.rsc_alphabet.proofs.byte_set.ByteSet.union.Goals as goal
 
-pub returns-clause-members : goal.returns-clause-members
-returns-clause-members c =
-    rw (← c.self.view_is, ← c.other.view_is) (union_is c.self.inside.low c.self.inside.high c.other.inside.low c.other.inside.high c.either.result
-    c.either-2.result
-    c.self.invariant.1 c.other.invariant.1 (omega (arith, c.either-2.type_inv)) c.either.ensures c.either-2.ensures)
-
-pub returns-clause-bytes : goal.returns-clause-bytes
-returns-clause-bytes c = masked_below c.either.result c.either-2.result (omega (arith, c.either-2.type_inv))
+pub returns : goal.returns
+returns c =
+    let one = c.self.invariant in
+    let other = c.other.invariant in
+    let fits : (c.either.result < 2 ^ 128) × (c.either-2.result < 2 ^ 128) = (omega (arith, c.either.type_inv), omega (arith, c.either-2.type_inv)) in
+    rw (← c.self.view_is, ← c.other.view_is) (record {
+      members = masked_from fits _
+          (λ b l. c.either.ensures b ∙ rw (contains-low one b l, contains-low other b l) refl)
+          (λ i l. c.either-2.ensures i ∙ rw (contains-high one (128 + i) i refl, contains-high other (128 + i) i refl) refl)
+          (λ b l. rw (none_past one b l, none_past other b l) refl);
+      bytes = masked_below fits;
+    })

@@ -1,6 +1,5 @@
 use Rattle.std.proofs.Common.{List, ◌≡◌, ◌+◌, ◌-◌, [], ◌∷◌, sym, ◌∙◌, arith, rules, ℕ, slice_index}
-use Rattle.rsc_alphabet.specs.Symbols.{end_of_input}
-use Rattle.rsc_alphabet.specs.IteratorLayout.{symbols_left}
+use Rattle.rsc_alphabet.proofs.Words.{end_of_input, symbols_left}
 use Rattle.rsc_alphabet.proofs.IteratorsLemmas.{symbols_left_more, symbols_left_end, symbols_left_none}
 use Rattle.rsc_alphabet.proofs.byte_classes.iter.ByteClassIterIterator.next.Goals as goal
 
@@ -11,7 +10,7 @@ returns-then-self-end-clause-steps c =
 pub returns-then-self-end-clause-goes : goal.returns-then-self-end-clause-goes
 returns-then-self-end-clause-goes c =
     let steps : c.args.self.now ≡ c.u8.result ∷ symbols_left c.self.inside.classes.now (c.self.inside.next_class + 1) =
-    rw (← c.self.view_is, c.u8.ensures) (symbols_left_more c.self.inside.classes.now c.self.inside.next_class (omega arith)) in
+    returns-then-self-end-clause-steps c in
     search rules
 
 end_is : (classes : List ℕ) (next len end : ℕ) → len ≡ slice_index classes 255 + 2 → end ≡ len - 1 → next ≡ end
@@ -29,8 +28,7 @@ returns-then-self-end-2-clause-steps c =
 pub returns-then-self-end-2-clause-goes : goal.returns-then-self-end-2-clause-goes
 returns-then-self-end-2-clause-goes c =
     let steps : c.args.self.now ≡ c.eoi.result ∷ symbols_left c.self.inside.classes.now (c.self.inside.next_class + 1) =
-    rw (← c.self.view_is, c.eoi.ensures) (end_is c.self.inside.classes.now c.self.inside.next_class c.alphabet_len-end.result (c.alphabet_len-end.result - 1)
-    c.alphabet_len-end.ensures.value (omega arith) (omega arith)) in
+    returns-then-self-end-2-clause-steps c in
     search rules
 
 pub returns-clause-steps : goal.returns-clause-steps
