@@ -1,14 +1,14 @@
 -- The character that begins a list, and the one that ends it, by the bytes at either end.
-use Rattle.std.proofs.Common.{◌≡◌, ℕ, zero, suc, ◌+◌, ◌-◌, ◌<◌, ◌≤◌, ◌⊎◌, List, [], ◌∷◌, ◌++◌, length, get_or, take, drop, reverse, sym, ap, ◌∙◌, subst, arith, length-append, length-drop, inl, inr, refl, Some}
+use Rattle.std.proofs.Common.{◌≡◌, ℕ, zero, suc, ◌+◌, ◌-◌, ◌<◌, ◌≤◌, ◌⊎◌, List, [], ◌∷◌, ◌++◌, length, get_or, take, drop, reverse, sym, ap, ◌∙◌, subst, arith, length-append, length-drop, inl, inr, refl, Some, slice_get, slice_range}
 use Rattle.std.proofs.lemmas.Option.{slice_get_within, get_or_from_slice_get}
 use Rattle.std.proofs.lemmas.List.{drop_at, reverse-append, reverse-reverse, take_all, take-append-drop}
-use Rattle.std.specs.Prelude.{slice_get, slice_range}
 use Rattle.rsc_primitives.specs.Utf8.{Encodes, BeginsAt, EndsAt}
 use Rattle.rsc_primitives.specs.Utf8Layout.{from_back, EndsLongNumber, BeginsLong, EndsLong}
 use Rattle.rsc_primitives.specs.Utf8Laws.{slice_from_start, slice_one}
 
 -- ---- the front of a list
 
+-- a character at the front is ASCII or of two to four bytes
 pub first_of : (h : List ℕ) (c : ℕ) → BeginsAt h 0 c → (get_or h 0 0 ≤ 0x7F) ⊎ BeginsLong h c
 first_of h c p = forms h p.0 c p.1.within (subst (λ (x : List ℕ). Encodes x c) (slice_from_start h p.0) p.1.encoded)
   where
@@ -24,6 +24,7 @@ first_of h c p = forms h p.0 c p.1.within (subst (λ (x : List ℕ). Encodes x c
 front : (h : List ℕ) (j c : ℕ) → j ≤ length h → Encodes (take j h) c → BeginsAt h 0 c
 front h j c l e = (j, record { ordered = omega arith; within = l; encoded = subst (λ (x : List ℕ). Encodes x c) (sym (slice_from_start h j)) e })
 
+-- and such bytes are a character
 pub begins_long : (h : List ℕ) (c : ℕ) → BeginsLong h c → BeginsAt h 0 c
 begins_long [] c (inl s) = absurd (omega (arith, s.0))
 begins_long (a ∷ []) c (inl s) = absurd (omega (arith, s.1))
@@ -50,6 +51,7 @@ last_forms (b ∷ x ∷ d ∷ []) rest c e = inr (inr (inl (e.0, e.1, e.2)))
 last_forms (a ∷ b ∷ x ∷ d ∷ []) rest c e = inr (inr (inr (e.0, e.1, e.2, e.3)))
 last_forms (a ∷ b ∷ x ∷ d ∷ z ∷ r) rest c e = absurd e
 
+-- the same at the back
 pub last_of : (h : List ℕ) (c : ℕ) → EndsAt h (length h) c → (from_back h 0 ≤ 0x7F) ⊎ EndsLong h c
 last_of h c p =
     let rest : slice_range h p.0 (length h) ≡ drop p.0 h = take_all (length h - p.0) (drop p.0 h) (simp length-drop (omega arith)) in
@@ -69,8 +71,7 @@ back before e c p =
 back_of : (last rest : List ℕ) (c : ℕ) → Encodes (reverse last) c → EndsAt (reverse (last ++ rest)) (length (reverse (last ++ rest))) c
 back_of last rest c p = rw (reverse-append last rest) (back (reverse rest) (reverse last) c p)
 
-long_back : (r : List ℕ) (c : ℕ) → EndsLongNumber (get_or r 3 0) (get_or r 2 0) (get_or r 1 0) (get_or r 0 0) c
-    → EndsAt (reverse r) (length (reverse r)) c
+long_back : (r : List ℕ) (c : ℕ) → EndsLongNumber (get_or r 3 0) (get_or r 2 0) (get_or r 1 0) (get_or r 0 0) c → EndsAt (reverse r) (length (reverse r)) c
 long_back [] c (inl s) = absurd (omega (arith, s.0))
 long_back (d ∷ []) c (inl s) = absurd (omega (arith, s.0))
 long_back (d ∷ x ∷ r) c (inl s) = back_of (d ∷ x ∷ []) r c s

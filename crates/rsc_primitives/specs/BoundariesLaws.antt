@@ -35,8 +35,7 @@ boundary_behind e t k b =
     let at : get_or (e ++ t) (length e + k) 0 ≡ get_or t k 0 = get_or-append-add e t k 0 in
     ⊎_elim (λ (q : length e + k ≡ length (e ++ t)). inl (omega arith)) (λ q. let w = q.0 in inr (omega arith, rw at at q.1)) b
 
-first_encoded : (e t : List ℕ) (c i : ℕ) → Encodes e c → ((k : ℕ) → IsBoundary t k → BeginsOrEnds t k) → IsBoundary (e ++ t) i
-    → BeginsOrEnds (e ++ t) i
+first_encoded : (e t : List ℕ) (c i : ℕ) → Encodes e c → ((k : ℕ) → IsBoundary t k → BeginsOrEnds t k) → IsBoundary (e ++ t) i → BeginsOrEnds (e ++ t) i
 first_encoded e t c i p later b =
     ⊎_elim (λ (z : i ≡ 0). inl (c, (length e, subst (λ n. EncodedFrom (e ++ t) n (length e) c) (sym z) (with_suffix e t c p))))
     (⊎_elim (λ (q : (0 < i) × (i < length e)). absurd (inside q.0 q.1))

@@ -25,12 +25,10 @@ BeginsAt-drop h s j c e =
     )
 
 -- what an answer says, for a reader that takes it apart
-pub DecodesTo-ok : (h : List ℕ) (r : Option (Result ℕ ℕ)) (f : Result ℕ ℕ) (c : ℕ) → DecodesTo h r → r ≡ Some f → f ≡ Ok c
-    → BeginsAt h 0 c
+pub DecodesTo-ok : (h : List ℕ) (r : Option (Result ℕ ℕ)) (f : Result ℕ ℕ) (c : ℕ) → DecodesTo h r → r ≡ Some f → f ≡ Ok c → BeginsAt h 0 c
 DecodesTo-ok h r f c p e q = rw (e, q) at p
 
-pub DecodesTo-err : (h : List ℕ) (r : Option (Result ℕ ℕ)) (f : Result ℕ ℕ) (b : ℕ) → DecodesTo h r → r ≡ Some f → f ≡ Err b → (c : ℕ)
-    → BeginsAt h 0 c → ⊥
+pub DecodesTo-err : (h : List ℕ) (r : Option (Result ℕ ℕ)) (f : Result ℕ ℕ) (b : ℕ) → DecodesTo h r → r ≡ Some f → f ≡ Err b → (c : ℕ) → BeginsAt h 0 c → ⊥
 DecodesTo-err h r f b p e q = (rw (e, q) at p).1
 
 -- ---- a part of a list has the characters of the whole
@@ -72,28 +70,24 @@ EndsAt-from_take h s c l e =
     (f.0, record { ordered = p.ordered; within = l; encoded = subst (λ (x : List ℕ). Encodes x c) (front_slice h s f.0 p.ordered l) p.encoded })
 
 -- what the readers of a part say of the whole
-pub DecodesLastTo-err : (h : List ℕ) (s b : ℕ) → s ≤ length h → DecodesLastTo (take s h) (Some (Err b)) → (0 < s)
-    × ((c : ℕ) → EndsAt h s c → ⊥)
+pub DecodesLastTo-err : (h : List ℕ) (s b : ℕ) → s ≤ length h → DecodesLastTo (take s h) (Some (Err b)) → (0 < s) × ((c : ℕ) → EndsAt h s c → ⊥)
 DecodesLastTo-err h s b l e = (
   let p = e.0 in let n : length (take s h) ≡ s = simp length-take (omega arith) in
       omega arith,
   λ c q. e.2 c (EndsAt-take h s c l q),
 )
 
-pub DecodesTo-err_at : (h : List ℕ) (s b : ℕ) → s ≤ length h → DecodesTo (drop s h) (Some (Err b)) → (s < length h)
-    × ((c : ℕ) → BeginsAt h s c → ⊥)
+pub DecodesTo-err_at : (h : List ℕ) (s b : ℕ) → s ≤ length h → DecodesTo (drop s h) (Some (Err b)) → (s < length h) × ((c : ℕ) → BeginsAt h s c → ⊥)
 DecodesTo-err_at h s b l e = (
   let w = slice_get_within (drop s h) 0 b e.0 in let m : 0 < length h - s = simp length-drop at w in
       omega arith,
   λ c q. e.1 c (BeginsAt-drop h s q.0 c q.1),
 )
 
-pub DecodesLastTo-ok : (h : List ℕ) (r : Option (Result ℕ ℕ)) (f : Result ℕ ℕ) (c : ℕ) → DecodesLastTo h r → r ≡ Some f → f ≡ Ok c
-    → EndsAt h (length h) c
+pub DecodesLastTo-ok : (h : List ℕ) (r : Option (Result ℕ ℕ)) (f : Result ℕ ℕ) (c : ℕ) → DecodesLastTo h r → r ≡ Some f → f ≡ Ok c → EndsAt h (length h) c
 DecodesLastTo-ok h r f c p e q = rw (e, q) at p
 
-pub DecodesTo-at_err : (h : List ℕ) (r : Option (Result ℕ ℕ)) (f : Result ℕ ℕ) (b : ℕ) → DecodesTo h r → r ≡ Some f → f ≡ Err b
-    → DecodesTo h (Some (Err b))
+pub DecodesTo-at_err : (h : List ℕ) (r : Option (Result ℕ ℕ)) (f : Result ℕ ℕ) (b : ℕ) → DecodesTo h r → r ≡ Some f → f ≡ Err b → DecodesTo h (Some (Err b))
 DecodesTo-at_err h r f b p e q = rw (e, q) at p
 
 -- a character that begins the bytes is no longer than they are

@@ -65,8 +65,7 @@ Encodes-same (a ∷ b ∷ c ∷ d ∷ []) n m h k = h.3 ∙ sym k.3
 Encodes-same (a ∷ b ∷ c ∷ d ∷ x ∷ r) n m h k = absurd h
 
 -- a character below 128 is its one byte, and the bytes of any other are 128 and more
-pub Encodes-size : (e : List ℕ) (n : ℕ) → Encodes e n → ((length e ≡ 1) × (get_or e 0 0 ≡ n) × (n < 128))
-    ⊎ ((128 ≤ n) × (128 ≤ get_or e 0 0))
+pub Encodes-size : (e : List ℕ) (n : ℕ) → Encodes e n → ((length e ≡ 1) × (get_or e 0 0 ≡ n) × (n < 128)) ⊎ ((128 ≤ n) × (128 ≤ get_or e 0 0))
 Encodes-size [] n h = absurd h
 Encodes-size (a ∷ []) n h = grind arith
 Encodes-size (a ∷ b ∷ []) n h = grind arith
@@ -172,8 +171,7 @@ slice_one k i j one w =
 one_byte : (k : List ℕ) (i j : ℕ) → j ≡ i + 1 → i < length k → get_or k i 0 < 128 → Encodes (slice_range k i j) (get_or k i 0)
 one_byte k i j one w low = subst (λ (x : List ℕ). Encodes x (get_or k i 0)) (sym (slice_one k i j one w)) (omega arith, refl)
 
-same_slice : (h k : List ℕ) (i j : ℕ) → AgreePastAscii h k → Placed h i j → length (slice_range h i j) ≡ j - i
-    → length (slice_range k i j) ≡ j - i
+same_slice : (h k : List ℕ) (i j : ℕ) → AgreePastAscii h k → Placed h i j → length (slice_range h i j) ≡ j - i → length (slice_range k i j) ≡ j - i
     → 128 ≤ get_or h i 0 → slice_range h i j ≡ slice_range k i j
 same_slice h k i j s p l lk big =
     ext_get_or 0 (slice_range h i j) (slice_range k i j) (l ∙ sym lk)

@@ -1,4 +1,4 @@
--- The character past ASCII that begins a list of bytes, and the one that ends it, by the four bytes at that end: for the readers that look at them.
+-- The character past ASCII that begins a list of bytes, and the one that ends it, by the four bytes at that end. Readers of bytes use it.
 use Rattle.std.specs.Prelude.{◌≡◌, ℕ, ◌+◌, ◌-◌, ◌*◌, ◌⊎◌, List, reverse, slice_index}
 use Rattle.std.specs.Int.{IsInRange}
 use Rattle.rsc_primitives.specs.Utf8.{IsTail, OpensThree, OpensFour}

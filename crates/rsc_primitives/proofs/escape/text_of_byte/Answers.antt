@@ -17,7 +17,5 @@ returns c =
     let b = c.args.byte in
     let l : c.from-2.result ≡ get_or BYTE_LENGTHS b 0 = c.from-2.ensures ∙ ap (λ i. get_or BYTE_LENGTHS i 0) c.from.ensures in
     let width : 4 * c.from-at.result + c.from-2.result - 4 * c.from-at.result ≡ c.from-2.result = omega arith in
-    c.range.ensures.value
-    ∙ ap (λ m. take m (drop (4 * c.from-at.result) c.byte_texts.result.now)) (width ∙ l)
-    ∙ ap (λ a. take (get_or BYTE_LENGTHS b 0) (drop (4 * a) c.byte_texts.result.now)) c.from-at.ensures
-    ∙ c.byte_texts.ensures.texts b (omega arith)
+    c.range.ensures.value ∙ ap (λ m. take m (drop (4 * c.from-at.result) c.byte_texts.result.now)) (width ∙ l)
+    ∙ ap (λ a. take (get_or BYTE_LENGTHS b 0) (drop (4 * a) c.byte_texts.result.now)) c.from-at.ensures ∙ c.byte_texts.ensures.texts b (omega arith)

@@ -16,8 +16,7 @@ masks_are = refl
 
 read : (b : ℕ) → b < 256 → masked b ≡ is_word_byte b
 read b h =
-    sym (get_or-map-range_with_len masked 0 256 b b false h (omega arith))
-    ∙ ap (λ t. get_or t b false) masks_are
+    sym (get_or-map-range_with_len masked 0 256 b b false h (omega arith)) ∙ ap (λ t. get_or t b false) masks_are
     ∙ get_or-map-range_with_len is_word_byte 0 256 b b false h (omega arith)
 
 pub returns : goal.returns
