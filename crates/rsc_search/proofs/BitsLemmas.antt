@@ -1,14 +1,13 @@
 -- The bits of a word: its lowest and its highest set bit, and the word without either.
-use Rattle.std.proofs.Common.{◌≡◌, ◌≢◌, ℕ, zero, suc, ◌+◌, ◌-◌, ◌*◌, ◌/◌, ◌%◌, ◌^◌, ◌<◌, ◌≤◌, ◌⊎◌, inl, inr, min, true, false, not, ◌&&◌, ◌||◌, refl, ap, sym, ◌∙◌, arith, w64, bit_and, eqb}
+use Rattle.std.proofs.Common.{◌≡◌, ◌≢◌, ℕ, zero, suc, ◌+◌, ◌-◌, ◌*◌, ◌/◌, ◌%◌, ◌^◌, ◌<◌, ◌≤◌, ◌⊎◌, inl, inr, min, true, false, not, ◌&&◌, ◌||◌, refl, ap, sym, ◌∙◌, arith, w64, bit_and, eqb, bit_or, pow-suc}
 use Rattle.std.specs.Int.{bit_at, leading_zeros, trailing_zeros}
 use Rattle.std.specs.Int.Bits.{bit_xor, xor_add_and}
 use Rattle.std.specs.Int.Count.{leading_of_zero, trailing_of_zero}
-use Rattle.std.specs.Int.RustNames.{bit_or}
 use Rattle.std.proofs.Math.Bool.{and-false}
-use Rattle.std.proofs.Math.Nat.{pow-suc}
-use Rattle.std.proofs.lemmas.Bool.{true≢false, cases_Bool, cases_eq, cases_lt, cases_order, eq-eqb, eqb-true, eqb-false, ne_eqb}
+use Rattle.std.proofs.lemmas.Bool.{true≢false, cases_eq, cases_lt, cases_order, eq-eqb, eqb-true, ne_eqb}
 use Rattle.std.proofs.lemmas.Nat.Bits.{bit_at_above, bit_at_lowest, bit_at-suc, bit_at-zero, bit_at_and, bit_at_xor, bit_at-pow_same, bit_at-pow_other, bit_at-trailing_zeros, bit_at_set_same, bit_at_set_other, bit_at-lt, same_from_bits_below}
 use Rattle.std.proofs.lemmas.Nat.{and_mask, div_below, le-div, leading_length, leading_top, one_shl, pow_pos, or_lt}
+use Rattle.rsc_primitives.specs.BitsLaws.{same_digit}
 use Rattle.rsc_search.specs.WordLayout.{has_bit, bit_length, highest_place, IsWithout}
 
 -- one less has no bit at the lowest set one, and the same above it
@@ -81,25 +80,13 @@ bit_set n k within j = elim (cases_eq j k) [
 -- numbers of 64 bits are the same if the same bits are set
 pub same_from_set : (m n : ℕ) → m < 2 ^ 64 → n < 2 ^ 64 → ((i : ℕ) → i < 64 → has_bit m i ≡ has_bit n i) → m ≡ n
 same_from_set m n m_fits n_fits alike =
-    same_from_bits_below 64 m n m_fits n_fits (λ i below. one_bit (bit_at m i) (bit_at n i) (bit_at-lt m i) (bit_at-lt n i) (alike i below)
-    (cases_Bool (has_bit n i)))
-  where
-    one_bit : (a b : ℕ) → a < 2 → b < 2 → eqb a 1 ≡ eqb b 1 → (eqb b 1 ≡ true) ⊎ (eqb b 1 ≡ false) → a ≡ b
-    one_bit a b a_lt b_lt e (inl is) = eqb-true a 1 (e ∙ is) ∙ sym (eqb-true b 1 is)
-    one_bit a b a_lt b_lt e (inr off) =
-        let a_no : a ≢ 1 = eqb-false a 1 (e ∙ off) in
-        let b_no : b ≢ 1 = eqb-false b 1 off in
-        omega (arith, a_no, b_no)
+    same_from_bits_below 64 m n m_fits n_fits (λ i below. same_digit _ _ (bit_at-lt m i) (bit_at-lt n i) (alike i below))
 
 -- a word with one more bit is the same word exactly if it had the bit
 pub bit_stays : (n k : ℕ) → n < 2 ^ 64 → k < 64 → has_bit n k ≡ true → bit_or n (1 * 2 ^ k % 2 ^ 64) ≡ n
 bit_stays n k fits within one =
     same_from_set (bit_or n (1 * 2 ^ k % 2 ^ 64)) n (or_lt 64 n (1 * 2 ^ k % 2 ^ 64) fits (omega arith)) fits
-    (λ j below. bit_set n k within j ∙ had j (cases_eq j k))
-  where
-    had : (j : ℕ) → (j ≡ k) ⊎ (j ≡ k → ⊥) → (eqb j k || has_bit n j) ≡ has_bit n j
-    had j (inl here) = rw (here, eq-eqb k k refl) (sym one)
-    had j (inr other) = rw (ne_eqb j k other) refl
+    (λ j below. bit_set n k within j ∙ elim (cases_eq j k) [ inl e ↦ rw (e, eq-eqb k k refl) (sym one) | inr ne ↦ rw (ne_eqb j k ne) refl ])
 
 -- ---- the lowest set bit, and the highest
 -- no bit is set below the lowest set one, and none of zero
@@ -122,6 +109,7 @@ none_above n i fits le =
 pub length_some : (n : ℕ) → 0 < n → n < 2 ^ 64 → bit_length n ≡ highest_place n + 1
 length_some n some fits = let found = leading_top 64 n some fits in omega (arith, found.1)
 
+-- the highest place has a set bit
 pub highest_set : (n : ℕ) → n < 2 ^ 64 → 0 < bit_length n → has_bit n (highest_place n) ≡ true
 highest_set zero fits some = let none : leading_zeros w64 0 ≡ 64 = leading_of_zero 64 in absurd (omega (arith, none, some))
 highest_set (suc n) fits some =
@@ -142,6 +130,7 @@ place_by_xor zeros within =
 
 -- ---- a word and the rest of it, which isn't set at one place
 module _ {word place rest : ℕ} (without : IsWithout word place rest) where
+  -- the other bits stay
   pub kept : (i : ℕ) → (i ≡ place → ⊥) → has_bit rest i ≡ has_bit word i
   kept i other = without.bits_are i ∙ rw (ne_eqb i place other) refl
 
@@ -165,8 +154,8 @@ begins_later {word} {rest} fits rest_fits some without = elim (cases_lt (trailin
       absurd (true≢false (sym set.0 ∙ none_under word (trailing_zeros w64 rest) fits (omega (arith, early, before))))
 ]
 
-pub ends_earlier : {word rest : ℕ} → word < 2 ^ 64 → rest < 2 ^ 64 → 0 < word → IsWithout word (highest_place word) rest
-    → bit_length rest ≤ highest_place word
+-- without its highest bit a word ends earlier
+pub ends_earlier : {word rest : ℕ} → word < 2 ^ 64 → rest < 2 ^ 64 → 0 < word → IsWithout word (highest_place word) rest → bit_length rest ≤ highest_place word
 ends_earlier {word} {rest} fits rest_fits some without = elim (cases_lt (highest_place word) (bit_length rest)) [
   | inl late ↦
       let set = of_rest without (highest_place rest) (highest_set rest rest_fits (omega (arith, late))) in

@@ -27,6 +27,7 @@ module _ {words : List ℕ} {front_index front back_index back left : ℕ}
   ]
 
   module _ {index word : ℕ} (found : IsWordFrom words front_index front index word) where
+    -- a step from the front: its number, what is left, and the state after it
     pub front_some : 0 < word
     front_some = elim (cases_lt 0 word) [
       | inl some_bit ↦ some_bit
@@ -52,19 +53,15 @@ module _ {words : List ℕ} {front_index front back_index back left : ℕ}
       clear_between : (q : ℕ) → rest_start index word + 1 ≤ q → q < rest_start index rest → is_set words q ≡ false
       clear_between q from below =
           let in_word : q < 64 * index + 64 = omega (arith, trailing_le 64 rest, below) in
-          at_number words index q (omega arith) in_word
-          ∙ sym (found.is_rest.bits_are (q - 64 * index) (omega arith) (omega (arith, in_word, from)))
-          ∙ sym (kept without (q - 64 * index) (λ e. omega (arith, e, from)))
-          ∙ none_under rest (q - 64 * index) rest_fits (omega arith)
+          at_number words index q (omega arith) in_word ∙ sym (found.is_rest.bits_are (q - 64 * index) (omega arith) (omega (arith, in_word, from)))
+          ∙ sym (kept without (q - 64 * index) (λ e. omega (arith, e, from))) ∙ none_under rest (q - 64 * index) rest_fits (omega arith)
 
       pub front_step : left_between words front_index front back_index back ≡ rest_start index word ∷ left_between words index rest back_index back
       front_step =
           let begins : left_between words front_index front back_index back ≡ left_between words index word back_index back =
           skip_front (is_set words) (rest_start front_index front) (rest_start index word) (rest_end back_index back) found.order found.clear in
-          begins
-          ∙ first_passes (is_set words) (rest_start index word) (rest_end back_index back)
-          (none_between (rest_start index word) (rest_end back_index back) begins) front_set
-          ∙ ap (λ (ps : List ℕ). rest_start index word ∷ ps)
+          begins ∙ first_passes (is_set words) (rest_start index word) (rest_end back_index back)
+          (none_between (rest_start index word) (rest_end back_index back) begins) front_set ∙ ap (λ (ps : List ℕ). rest_start index word ∷ ps)
           (skip_front (is_set words) (rest_start index word + 1) (rest_start index rest) (rest_end back_index back) (omega (arith, later)) clear_between)
 
       pub front_between : IsBetween words index rest back_index back (left - 1)
@@ -79,6 +76,7 @@ module _ {words : List ℕ} {front_index front back_index back left : ℕ}
       }
 
   module _ {index word : ℕ} (found : IsWordTo words back_index back index word) where
+    -- the same from the back
     pub back_some : 0 < word
     back_some = elim (cases_lt 0 word) [
       | inl some_bit ↦ some_bit
@@ -91,8 +89,7 @@ module _ {words : List ℕ} {front_index front back_index back left : ℕ}
 
     back_set : is_set words (64 * index + highest_place word) ≡ true
     back_set =
-        at_word words index (highest_place word) (omega arith)
-        ∙ sym (found.is_rest.bits_are (highest_place word) (omega (arith, ends_at)))
+        at_word words index (highest_place word) (omega arith) ∙ sym (found.is_rest.bits_are (highest_place word) (omega (arith, ends_at)))
         ∙ highest_set word found.fits (omega (arith, ends_at))
 
     -- the number that is given is a member, so it is an index
@@ -105,10 +102,8 @@ module _ {words : List ℕ} {front_index front back_index back left : ℕ}
 
       clear_after_rest : (q : ℕ) → rest_end index rest ≤ q → q < 64 * index + highest_place word → is_set words q ≡ false
       clear_after_rest q from below =
-          at_number words index q (omega arith) (omega arith)
-          ∙ sym (found.is_rest.bits_are (q - 64 * index) (omega (arith, ends_at, below)))
-          ∙ sym (kept without (q - 64 * index) (λ e. omega (arith, e, below)))
-          ∙ none_above rest (q - 64 * index) rest_fits (omega arith)
+          at_number words index q (omega arith) (omega arith) ∙ sym (found.is_rest.bits_are (q - 64 * index) (omega (arith, ends_at, below)))
+          ∙ sym (kept without (q - 64 * index) (λ e. omega (arith, e, below))) ∙ none_above rest (q - 64 * index) rest_fits (omega arith)
 
       pub back_step : left_between words front_index front back_index back ≡ left_between words front_index front index rest ++
           (64 * index + highest_place word) ∷ []
@@ -120,9 +115,7 @@ module _ {words : List ℕ} {front_index front back_index back left : ℕ}
           ∙ ap (set_between words (rest_start front_index front)) next in
           let last : rest_start front_index front < (64 * index + highest_place word) + 1 =
           none_between (rest_start front_index front) ((64 * index + highest_place word) + 1) ends in
-          ends
-          ∙ last_passes (is_set words) (rest_start front_index front) (64 * index + highest_place word) (omega (arith, last)) back_set
-          ∙ ap
+          ends ∙ last_passes (is_set words) (rest_start front_index front) (64 * index + highest_place word) (omega (arith, last)) back_set ∙ ap
           (λ (ps : List ℕ). ps ++ (64 * index + highest_place word) ∷ [])
           (skip_back (is_set words) (rest_start front_index front) (rest_end index rest) (64 * index + highest_place word)
           (omega (arith, earlier)) clear_after_rest)
@@ -148,6 +141,7 @@ module _ {words : List ℕ} {front_index front back_index back left : ℕ}
 module _ {capacity count : ℕ} {items : List ℕ} (packed : IsPacked capacity items count) {words : List ℕ} (words_are : words ≡ items)
     {last : ℕ} (last_is : last ≡ length words - 1) {front : ℕ} (front_fits : front < 2 ^ 64) (front_is : front ≡ word_of words 0)
     {back : ℕ} (back_fits : back < 2 ^ 64) (back_is : back ≡ word_of words last) where
+  -- at first all members are left
   pub left_members : left_between words 0 front last back ≡ numbers_below capacity (is_set items)
   left_members =
       let spare : (p : ℕ) → capacity ≤ p → is_set words p ≡ false = rw words_are packed.spare_clear in

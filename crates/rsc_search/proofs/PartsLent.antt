@@ -56,6 +56,7 @@ module _ {M : Type 1} {𝓤 : Ura M} (𝓛 : Logic 𝓤) (ℓ : Lifetime) (κ : 
       use2 𝓛 (‵ (cells (mem R) (around ws) b o)) (join_app 𝓛 (mem R) front (ws ++ back) b o) $
       feq_i ! ℕ (length (around ws)) (length xs) (omega arith) $ fjoin ! $ done !)
 
+  -- the part that is lent, and what the lender has in the end
   pub lends_part : Room R (length mid) → (vs : List Val)
       → ent 𝓤 (sep 𝓤 (sem 𝓛 ((MutSlice ℓ κ R).own_val (record { ref_ptr = (b, o); ghost_name = γ; now = xs }) vs)) (A.lft κ q))
       (H.⇛ (ex 𝓤 PartLent))

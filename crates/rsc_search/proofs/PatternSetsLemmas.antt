@@ -1,31 +1,27 @@
 -- The members of a set, by its words.
-use Rattle.std.proofs.Common.{◌≡◌, ◌≢◌, ℕ, zero, suc, replicate, ◌+◌, ◌/◌, ◌%◌, inl, inr, cond, get_or, ◌<◌, ◌≤◌, ◌↔◌, Bool, true, false, ◌||◌, List, [], ◌++◌, length, take, drop, set, refl, sym, ap, ◌∙◌, arith, eqb, ltb, get_or-set_other, get_or-set_same}
+use Rattle.std.proofs.Common.{◌≡◌, ◌≢◌, ℕ, zero, suc, replicate, ◌+◌, ◌/◌, ◌%◌, inl, inr, get_or, ◌<◌, ◌≤◌, ◌↔◌, Bool, true, false, ◌||◌, List, [], ◌++◌, length, take, drop, set, refl, sym, ap, ◌∙◌, arith, eqb, get_or-set_other, get_or-set_same, All, bytes_eq}
 use Rattle.std.proofs.Math.Seq.{take-append_seam}
 use Rattle.std.proofs.lemmas.List.{get_or_default, length-replicate, length-set}
 use Rattle.std.proofs.lemmas.List.Elements.{All-filter}
 use Rattle.std.proofs.lemmas.List.FromFn.{length-range_with_len, get_or-range_with_len}
 use Rattle.std.proofs.lemmas.List.Kept.{IsStrictlyIncreasing-filter}
-use Rattle.std.specs.Prelude.{All}
 use Rattle.std.specs.List.{range_with_len}
 use Rattle.std.specs.List.Sorted.{IsStrictlyIncreasing}
-use Rattle.std.proofs.lemmas.Grind.{common_steps}
-use Rattle.std.proofs.lemmas.Bool.{and_parts, cases_Bool, cases_eq, eq-eqb, ne_eqb}
+use Rattle.std.proofs.lemmas.Bool.{and_parts, cases_Bool, cases_eq, cases_lt, eq-eqb, ne_eqb}
 use Rattle.std.proofs.lemmas.Nat.Bits.{bit_at-zero}
 use Rattle.std.proofs.lemmas.Slice.Eq.{bytes_eq-Decides}
 use Rattle.std.specs.Cmp.{both_ways}
-use Rattle.std.specs.Str.{bytes_eq}
 use mathlib.Core.Bool.{true≢false}
 use Rattle.rsc_search.specs.PatternSetsLaws.{same_patterns_equiv}
 use Rattle.rsc_search.specs.PatternSets.{Patterns, IsSet, has_member, numbers_below, with_member, same_patterns}
 use Rattle.rsc_search.specs.PatternSetLayout.{patterns_of, IsPacked}
 use Rattle.rsc_search.specs.WordLayout.{has_bit, word_of, is_set, SameBits}
-use Rattle.rsc_search.proofs.NumbersLemmas.{member_in, member_out, filter_none, filter_alike, length_one_more, length_filter_le}
+use Rattle.rsc_search.proofs.NumbersLemmas.{member_is, member_in, filter_none, filter_alike, length_one_more, length_filter_le}
 
--- a word of the list replaced by the same with another bit at one place
-pub changed_bit : (words : List ℕ) (p word : ℕ) (b : Bool) → p / 64 < length words
-    → ((j : ℕ) → has_bit word j ≡ cond (eqb j (p % 64)) b (has_bit (word_of words (p / 64)) j))
-    → (q : ℕ) → is_set (set words (p / 64) word) q ≡ cond (eqb q p) b (is_set words q)
-changed_bit words p word b lt bits q = elim (cases_eq (q / 64) (p / 64)) [
+-- a word of the list replaced by the same with one more bit
+pub changed_bit : (words : List ℕ) (p word : ℕ) → p / 64 < length words → ((j : ℕ) → has_bit word j ≡ (eqb j (p % 64) || has_bit (word_of words (p / 64)) j))
+    → (q : ℕ) → is_set (set words (p / 64) word) q ≡ (eqb q p || is_set words q)
+changed_bit words p word lt bits q = elim (cases_eq (q / 64) (p / 64)) [
   | inl here ↦
       let whole : eqb (q % 64) (p % 64) ≡ eqb q p = elim (cases_eq q p) [
         | inl eq ↦ rw (eq, eq-eqb p p refl, eq-eqb (p % 64) (p % 64) refl) refl
@@ -46,6 +42,7 @@ none_of_zeros n p =
     zeros (suc n) zero = refl
     zeros (suc n) (suc i) = zeros n i
 
+-- words of zeros have no member
 pub no_members : (capacity n : ℕ) → numbers_below capacity (is_set (replicate n 0)) ≡ []
 no_members capacity n = filter_none (is_set (replicate n 0)) 0 capacity (λ q from below. none_of_zeros n q)
 
@@ -56,39 +53,31 @@ all_zeros words lent n n_is zeros =
     let whole : n ≡ length lent = n_is ∙ sym (ap length zeros ∙ length-replicate (length words) 0) in
     rw whole (take-append_seam lent (drop (length lent) words)) ∙ zeros
 
+-- there are at most as many members as the capacity
 pub members_within : (capacity : ℕ) (words : List ℕ) → length (numbers_below capacity (is_set words)) ≤ capacity
 members_within capacity words = length_filter_le (is_set words) 0 capacity
 
 module _ (capacity : ℕ) (words : List ℕ) (spare_clear : (p : ℕ) → capacity ≤ p → is_set words p ≡ false) where
   -- a number is a member exactly if its bit is set
   pub has_member-set : (p : ℕ) → has_member (patterns_of capacity words).members p ≡ is_set words p
-  has_member-set p =
-      elim (ltb p capacity) as (λ b. ltb p capacity ≡ b → has_member (patterns_of capacity words).members p ≡ is_set words p) [
-        | true ↦ λ e. let lt : p < capacity = grind (arith, common_steps) in member_in (is_set words) 0 capacity p (omega arith) (omega arith)
-        | false ↦ λ e. let le : capacity ≤ p = grind (arith, common_steps) in
-            member_out (is_set words) 0 capacity p (λ from below. omega (arith, below, le)) ∙ sym (spare_clear p le)
-      ] refl
+  has_member-set p = elim (cases_lt p capacity) [
+    | inl lt ↦ member_in (is_set words) 0 capacity p (omega arith) (omega arith)
+    | inr le ↦ member_is (is_set words) 0 capacity p ∙ rw (spare_clear p le) refl
+  ]
 
   -- a number whose bit is set is below the capacity
   pub set_below : (p : ℕ) → is_set words p ≡ true → p < capacity
-  set_below p is =
-      elim (ltb p capacity) as (λ b. ltb p capacity ≡ b → p < capacity) [
-        | true ↦ λ e. grind (arith, common_steps)
-        | false ↦ λ e. let le : capacity ≤ p = grind (arith, common_steps) in absurd (true≢false (sym is ∙ spare_clear p le))
-      ] refl
+  set_below p is = elim (cases_lt p capacity) [ inl lt ↦ lt | inr le ↦ absurd (true≢false (sym is ∙ spare_clear p le)) ]
 
   -- words with the bits of one more number are the set with it as a member
-  module _ (others : List ℕ) (p : ℕ) (at : (q : ℕ) → is_set others q ≡ cond (eqb q p) true (is_set words q)) where
+  module _ (others : List ℕ) (p : ℕ) (at : (q : ℕ) → is_set others q ≡ (eqb q p || is_set words q)) where
+    -- a set with one bit more has one member more
     pub with_one_more : patterns_of capacity others ≡ with_member (patterns_of capacity words) p
     with_one_more =
         let members : numbers_below capacity (is_set others) ≡ numbers_below capacity (λ q. eqb q p || has_member (patterns_of capacity words).members q) =
         filter_alike (is_set others) (λ q. eqb q p || has_member (patterns_of capacity words).members q) 0 capacity
-        (λ q from below. at q ∙ rw (has_member-set q) (as_or (eqb q p) (is_set words q))) in
+        (λ q from below. at q ∙ rw (has_member-set q) refl) in
         ap (λ (ms : List ℕ). let s : Patterns = record { capacity = capacity; members = ms } in s) members
-      where
-        as_or : (a b : Bool) → cond a true b ≡ (a || b)
-        as_or true b = refl
-        as_or false b = refl
 
     -- the bits at and above the capacity stay clear
     pub spare_stays : p < capacity → (q : ℕ) → capacity ≤ q → is_set others q ≡ false
@@ -102,8 +91,8 @@ module _ (capacity : ℕ) (words : List ℕ) (spare_clear : (p : ℕ) → capaci
         (λ q ne. sym (at q ∙ rw (ne_eqb q p ne) refl))
 
 -- a number below the capacity is a member after an insertion exactly if it was one or is the new one
-pub has_member-with_member : (s : Patterns) (p q : ℕ) → q < s.capacity → has_member (with_member s p).members q ≡ (eqb q p || has_member s.members q)
-has_member-with_member s p q lt = member_in (λ r. eqb r p || has_member s.members r) 0 s.capacity q (omega arith) (omega arith)
+pub member_if_inserted : (s : Patterns) (p q : ℕ) → q < s.capacity → has_member (with_member s p).members q ≡ (eqb q p || has_member s.members q)
+member_if_inserted s p q lt = member_in (λ r. eqb r p || has_member s.members r) 0 s.capacity q (omega arith) (omega arith)
 
 -- sets of the same capacity are equal exactly if the same bits are set
 module _ (capacity : ℕ) (xs ys : List ℕ) (lengths : length xs ≡ length ys) (xs_spare : (p : ℕ) → capacity ≤ p → is_set xs p ≡ false)
@@ -124,6 +113,7 @@ module _ (capacity : ℕ) (xs ys : List ℕ) (lengths : length xs ≡ length ys)
         bits_are = λ p. sym (has_member-set capacity xs xs_spare p) ∙ ap (λ ms. has_member ms p) members ∙ has_member-set capacity ys ys_spare p;
       }
 
+  -- sets are equal exactly if their bits are
   pub same_by_bits : (b : Bool) → (b ≡ true) ↔ SameBits xs ys → b ≡ same_patterns (patterns_of capacity xs) (patterns_of capacity ys)
   same_by_bits b decides = both_ways b (same_patterns (patterns_of capacity xs) (patterns_of capacity ys)) (λ e. same_if_bits (decides.0 e))
       (λ e. decides.1 (bits_if_same e))
@@ -145,6 +135,7 @@ members_below t n = All-filter t (λ p. p < n) (range_with_len 0 n) (λ k d with
     let here : get_or (range_with_len 0 n) k d ≡ 0 + k = get_or-range_with_len 0 n k d (omega arith) in
     omega arith)
 
+-- the members ascend, and lie below the capacity
 pub is_set_below : (capacity : ℕ) (words : List ℕ) → IsSet (patterns_of capacity words)
 is_set_below capacity words = record {
   ascending = members_ascend (is_set words) capacity;
@@ -162,25 +153,22 @@ module _ {capacity count : ℕ} {words : List ℕ} (packed : IsPacked capacity w
   is_word : word ≡ word_of words (p / 64)
   is_word = rw n_is at word_is ∙ get_or_default words (p / 64) d 0 has_word
 
+  -- the bit was set: nothing changes
   pub member_before : more ≡ word → is_set words p ≡ true
   member_before stays = ap (λ w. has_bit w (p % 64)) (sym (stays ∙ is_word)) ∙ rw n_is at (bits (p % 64)) ∙ rw (eq-eqb (p % 64) (p % 64) refl) refl
 
-  pub same_at : is_set words p ≡ true → (q : ℕ) → is_set words q ≡ cond (eqb q p) true (is_set words q)
+  pub same_at : is_set words p ≡ true → (q : ℕ) → is_set words q ≡ (eqb q p || is_set words q)
   same_at is q = elim (cases_eq q p) [ inl eq ↦ rw (eq, eq-eqb p p refl) is | inr ne ↦ rw (ne_eqb q p ne) refl ]
 
+  -- the bit wasn't set: the words with it
   pub new_member : (has_bit word (n % 64) ≡ true → more ≡ word) → more ≢ word → is_set words p ≡ false
   new_member stays other = elim (cases_Bool (is_set words p)) [
     | inl is ↦ absurd (other (stays (rw (n_is, is_word) is)))
     | inr out ↦ out
   ]
 
-  pub more_at : (q : ℕ) → is_set (set words (n / 64) more) q ≡ cond (eqb q p) true (is_set words q)
-  more_at = rw n_is (changed_bit words p more true has_word (λ j. rw (n_is, is_word) at (bits j)
-      ∙ as_cond (eqb j (p % 64)) (has_bit (word_of words (p / 64)) j)))
-    where
-      as_cond : (a b : Bool) → (a || b) ≡ cond a true b
-      as_cond true b = refl
-      as_cond false b = refl
+  pub more_at : (q : ℕ) → is_set (set words (n / 64) more) q ≡ (eqb q p || is_set words q)
+  more_at = rw n_is (changed_bit words p more has_word (λ j. rw (n_is, is_word) at (bits j)))
 
   pub more_packed : is_set words p ≡ false → IsPacked capacity (set words (n / 64) more) (count + 1)
   more_packed out = record {

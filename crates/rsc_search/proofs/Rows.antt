@@ -1,6 +1,5 @@
 -- The definitions, computed at worked values.
-use Rattle.std.proofs.Common.{◌≡◌, [], ◌∷◌, true, false, Some, None, refl}
-use Rattle.std.specs.Prelude.{codes}
+use Rattle.std.proofs.Common.{◌≡◌, [], ◌∷◌, true, false, Some, None, refl, codes}
 use Rattle.std.specs.Fmt.{digits}
 use Rattle.std.specs.declared.ops.Bound.TheVariants.{Included, Excluded, Unbounded}
 use Rattle.rsc_search.specs.declared.anchored.Anchored.TheVariants.{Pattern}

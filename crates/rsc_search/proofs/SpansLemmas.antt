@@ -1,11 +1,11 @@
 -- What a span cuts out of a haystack, case by case.
-use Rattle.std.proofs.Common.{◌≡◌, ℕ, ◌+◌, ◌-◌, ◌<◌, ◌≤◌, List, ◌++◌, length, take, drop, Some, None, sym, ap, ◌∙◌, arith}
+use Rattle.std.proofs.Common.{◌≡◌, ℕ, ◌+◌, ◌-◌, ◌<◌, ◌≤◌, List, ◌++◌, length, take, drop, Some, None, sym, ap, ◌∙◌, arith, drop-drop}
 use Rattle.std.proofs.lemmas.Grind.{common_steps}
-use Rattle.std.proofs.lemmas.List.{drop-drop}
 use lib.ListN.{take-append-drop}
 use Rattle.rsc_search.specs.declared.span.Span.{Span}
 use Rattle.rsc_search.specs.Spans.{cut}
 
+-- nothing is cut by an end before the start, or past the haystack
 pub cut_reversed : (haystack : List ℕ) (s : Span) → s.end < s.start → cut haystack s ≡ None
 cut_reversed haystack s lt = grind (arith, common_steps)
 

@@ -1,10 +1,8 @@
 -- Words in a list: what is left of one, and the next that isn't zero, from either end.
-use Rattle.std.proofs.Common.{◌≡◌, ℕ, ◌+◌, ◌-◌, ◌*◌, ◌/◌, ◌%◌, ◌^◌, ◌<◌, ◌≤◌, ◌↔◌, inl, inr, Bool, true, false, List, get_or, refl, ap, sym, ◌∙◌, arith, w64}
+use Rattle.std.proofs.Common.{◌≡◌, ℕ, ◌+◌, ◌-◌, ◌*◌, ◌/◌, ◌%◌, ◌^◌, ◌<◌, ◌≤◌, ◌↔◌, inl, inr, Bool, true, false, List, get_or, refl, ap, sym, ◌∙◌, arith, w64, bytes_eq, ext_get_or}
 use Rattle.std.specs.Int.{leading_zeros, trailing_zeros, div_ceil}
-use Rattle.std.specs.Str.{bytes_eq}
 use Rattle.std.specs.Int.Count.{leading_of_zero, trailing_of_zero}
 use Rattle.std.proofs.lemmas.Bool.{cases_lt}
-use Rattle.std.proofs.lemmas.List.{ext_get_or}
 use Rattle.std.proofs.lemmas.Nat.{trailing_le}
 use Rattle.std.proofs.lemmas.Slice.Eq.{bytes_eq-Decides}
 use Rattle.rsc_search.specs.WordLayout.{bit_length, has_bit, word_of, is_set, SameBits, rest_start, rest_end, IsRestFrom, IsRestTo}
@@ -59,9 +57,8 @@ module _ (words : List ℕ) (index rest found next : ℕ) (fits : next < 2 ^ 64)
   pub order_to : 0 < found → rest_end found 0 ≤ rest_end index rest → rest_end (found - 1) next ≤ rest_end index rest
   order_to some order = let none : bit_length 0 ≡ 0 = length_of_zero in omega arith
 
-  pub clear_to : 0 < found → next ≡ word_of words (found - 1)
-      → ((q : ℕ) → rest_end found 0 ≤ q → q < rest_end index rest → is_set words q ≡ false)
-      → (q : ℕ) → rest_end (found - 1) next ≤ q → q < rest_end index rest → is_set words q ≡ false
+  pub clear_to : 0 < found → next ≡ word_of words (found - 1) → ((q : ℕ) → rest_end found 0 ≤ q → q < rest_end index rest → is_set words q ≡ false) → (q : ℕ)
+      → rest_end (found - 1) next ≤ q → q < rest_end index rest → is_set words q ≡ false
   clear_to some is clear q from below = elim (cases_lt q (rest_end found 0)) [
     | inl before ↦ let none : bit_length 0 ≡ 0 = length_of_zero in clear_after words (found - 1) next fits is q from (omega (arith, none, before))
     | inr past ↦ clear q past below

@@ -1,7 +1,6 @@
 -- `get_mut` meets its contract: a walk of its MIR by hand, since no generated proof follows a part of a slice that is returned.
 -- A walk is a list of steps over a context, the things that are owned, which comments show as [first; second; ..].
-use Rattle.std.proofs.Common.{◌≡◌, ℕ, ◌+◌, ◌-◌, ◌*◌, ◌^◌, ◌<◌, ◌≤◌, List, [], ◌∷◌, ◌++◌, length, take, Some, None, sym, refl, ap, ◌∙◌, arith, lit<, w64, MutBor, Bor}
-use Rattle.std.proofs.Common.{drop as drop_list}
+use Rattle.std.proofs.Common.{◌≡◌, ℕ, ◌+◌, ◌-◌, ◌*◌, ◌^◌, ◌<◌, ◌≤◌, List, [], ◌∷◌, ◌++◌, length, take, Some, None, sym, refl, ap, ◌∙◌, arith, lit<, w64, MutBor, Bor, drop as drop_list}
 use Rattle.std.proofs.Math.Facts.{ltb_yes, ltb_no}
 use lib.ListN.{length-drop}
 use seplogic.Ra.Ura.{Ura}
@@ -110,8 +109,7 @@ module _ {M : Type 1} {𝓤 : Ura M} (𝓛 : Logic 𝓤) (at_mem : Memory → SP
         suffices ! _ (ends_at 𝓛 f.ended stayed clauses bound (live 0 (of_list [])) None (tt, (tt, tt)) (tt, (tt, tt))) $
         nothing ! $ nothing ! $ fjoin ! $ nothing ! $ fjoin ! $ join ! $ move ! (1 ∷ 2 ∷ []) $ join ! $ join ! $ frame ! $ says ! (sym nothing_cut) $ done !
 
-    walk : Room u8 (length xs)
-        → ent 𝓤 (on_entry 𝓛 f.signature (κ, (κ', tt)) (q, (q', tt)) (self, (hay, tt)) words)
+    walk : Room u8 (length xs) → ent 𝓤 (on_entry 𝓛 f.signature (κ, (κ', tt)) (q, (q', tt)) (self, (hay, tt)) words)
         (WpFn 𝓤 H C Λ code.function (shr_vals self ++ (slice_val (b, o) (length xs) ∷ [])) Post)
     unfolding follows_by
     walk room =
