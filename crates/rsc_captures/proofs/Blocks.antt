@@ -1,19 +1,13 @@
 -- A table of the groups of a block in the order of their names, and which groups have the name of a lesser one.
-use Rattle.std.proofs.Common.{◌≡◌, ℕ, true≢false, ◌+◌, ◌-◌, ◌<◌, ◌≤◌, ◌≢◌, ⊎_elim, true, List, length, take, drop, get_or, Some, None, Less, Equal, Greater, refl, ap, sym, ◌∙◌, arith}
-use Rattle.std.specs.Cmp.Lexicographic.{bytes_decides}
-use Rattle.std.specs.List.Sorted.{IsPartitionPoint, IsNonDecreasingBy}
+use Rattle.std.proofs.Common.{◌≡◌, ℕ, true≢false, ◌+◌, ◌-◌, ◌<◌, ◌≤◌, ◌≢◌, ⊎_elim, true, List, length, take, drop, get_or, Bor, option_copied, Some, None, Err, Less, Equal, Greater, ap, sym, ◌∙◌, arith}
+use Rattle.std.specs.List.Sorted.{IsBinarySearchResult, IsPartitionPoint, IsNonDecreasingBy}
 use Rattle.std.specs.Ordering.{ordering_index}
 use Rattle.std.proofs.lemmas.Bool.{cases_lt, cases_eq, false_from_ne_true}
-use Rattle.std.specs.List.{drop-map}
-use Rattle.std.specs.Option.{option_copied}
 use Rattle.rsc_captures.proofs.Places.{Handed}
-use Rattle.std.proofs.lemmas.List.{take-map, get_or-take, get_or-drop, length-take-le, length-drop}
-use Rattle.std.proofs.lemmas.List.Folds.{list_any_at}
+use Rattle.std.proofs.lemmas.List.{get_or-take, get_or-drop, length-map, length-take-le, length-drop}
 use Rattle.std.proofs.lemmas.List.Sorted.{searchable_from_sorted}
-use Rattle.rsc_captures.specs.Groups.{Groups, groups_in, has_name}
-use Rattle.rsc_captures.specs.OrderLayout.{name_at, name_cmp, IsOrder}
-use Rattle.rsc_captures.specs.RepeatsLayout.{is_repeat, AreDistinctBelow, IsFirstRepeat, AreApart, IsRepeatOf}
-use Rattle.rsc_captures.proofs.Ordered.{name_total, name_exact, repeat_pair, none_at_split, names_sorted}
+use Rattle.rsc_captures.proofs.Words.{Groups, groups_in, name_at, name_cmp, IsOrder, is_repeat, AreDistinctBelow, IsFirstRepeat, AreApart, IsRepeatOf}
+use Rattle.rsc_captures.proofs.Ordered.{name_total, name_exact, name_at_in, repeat_pair, repeat_of_pair, none_at_split, names_sorted}
 use Rattle.rsc_captures.proofs.Indexed.{get_or_past}
 
 module _ {block : Groups} (order : List ℕ) (is_order : IsOrder order block) where
@@ -29,92 +23,101 @@ module _ {block : Groups} (order : List ℕ) (is_order : IsOrder order block) wh
 
 -- one more group whose name none before it in the block has
 pub apart_more : (groups : Groups) (block n : ℕ) → AreApart groups block n
-    → ((g : ℕ) (name : List ℕ) → g < block → g < n → name_at groups g ≡ Some name → name_at groups n ≡ Some name → ⊥)
-    → AreApart groups block (n + 1)
+    → ((g : ℕ) (name : List ℕ) → g < block → g < n → name_at groups g ≡ Some name → name_at groups n ≡ Some name → ⊥) → AreApart groups block (n + 1)
 apart_more groups block n apart last g h name lt before below one other =
     ⊎_elim (λ (e : h ≡ n). last g name lt (rw e at before) one (rw e at other)) (λ (ne : h ≢ n). apart g h name lt before (omega arith) one other)
     (cases_eq h n)
 
--- the group after a lesser one with its name
-pub repeat_of_pair : (groups : Groups) (g h : ℕ) (name : List ℕ) → g < h → h < length groups → name_at groups g ≡ Some name
-    → name_at groups h ≡ Some name
-    → is_repeat groups h ≡ true
-repeat_of_pair groups g h name lt in_groups one other =
-    let in_take : g < length (take h groups) = let le : length (take h groups) ≡ h = length-take-le h groups (omega arith) in omega arith in
-    let at_g : get_or (take h groups) g None ≡ Some name = get_or-take h groups g None lt ∙ one in
-    rw other (list_any_at (has_name name) (take h groups) g None in_take (rw at_g ((bytes_decides name name).1 refl)))
+-- the first n groups, as they are handed in, among which a group has a lesser one's name, or none below an end has
+module _ (groups : Handed) (n : ℕ) (within : n ≤ length groups) where
+  count : length (groups_in (take n groups)) ≡ n
+  count = length-map (take n groups) option_copied ∙ length-take-le n groups within
 
-pub block_in : (groups : Handed) (n : ℕ) → groups_in (take n groups) ≡ take n (groups_in groups)
-block_in groups n = sym (take-map option_copied n groups)
+  in_block : (g : ℕ) → g < n → name_at (groups_in (take n groups)) g ≡ name_at (groups_in groups) g
+  in_block g lt = name_at_in (take n groups) g ∙ ap option_copied (get_or-take n groups g None lt) ∙ sym (name_at_in groups g)
 
--- the first n groups, among which a group has a lesser one's name, or none below an end has
-module _ (groups : Groups) (n : ℕ) (within : n ≤ length groups) where
-  pub in_block : (g : ℕ) → g < n → name_at (take n groups) g ≡ name_at groups g
-  in_block g lt = get_or-take n groups g None lt
-
-  count : length (take n groups) ≡ n
-  count = length-take-le n groups within
-
-  pub apart_from_distinct : (end : ℕ) → end ≤ n → AreDistinctBelow (take n groups) end → AreApart groups n end
+  -- distinct names in a block, as the lists are handed in
+  pub apart_from_distinct : (end : ℕ) → end ≤ length (take n groups) → AreDistinctBelow (groups_in (take n groups)) end → AreApart (groups_in groups) n end
   apart_from_distinct end le distinct g h name lt before below one other =
-      let repeats : is_repeat (take n groups) h ≡ true = repeat_of_pair (take n groups) g h name before (omega (arith, count)) (in_block g lt ∙ one)
-      (in_block h (omega arith) ∙ other) in
+      let in_n : h < n = omega (arith, length-take-le n groups within) in
+      let repeats = repeat_of_pair (groups_in (take n groups)) g h name before (in_block g lt ∙ one) (in_block h in_n ∙ other) in
       true≢false (sym repeats ∙ distinct h below)
 
-  pub repeat_in_block : (h : ℕ) → IsFirstRepeat (take n groups) h → IsRepeatOf groups n h
+  -- a repeated name in the first block
+  pub repeat_in_block : (h : ℕ) → IsFirstRepeat (groups_in (take n groups)) h → IsRepeatOf (groups_in groups) n h
   repeat_in_block h first =
+      let pair = repeat_pair (groups_in (take n groups)) h first.repeats in
       let lt : h < n = omega (arith, count, first.group) in
-      let pair = repeat_pair (take n groups) h first.group first.repeats in
+      let lesser : pair.g < n = omega (arith, pair.lesser) in
       record {
         g = pair.g;
         name = pair.name;
-        group = omega arith;
-        first = omega (arith, pair.lesser);
+        group = rw length-map (omega arith);
+        first = lesser;
         lesser = pair.lesser;
-        one = sym (in_block pair.g (omega (arith, pair.lesser))) ∙ pair.one;
+        one = sym (in_block pair.g lesser) ∙ pair.one;
         other = sym (in_block h lt) ∙ pair.other;
-        apart = apart_from_distinct h (omega arith) first.distinct;
+        apart = apart_from_distinct h (omega (arith, lt, length-take-le n groups within)) first.distinct;
       }
 
-  -- a group after the block whose name a search finds there
-  pub repeat_found : (h g : ℕ) (name : List ℕ) → n ≤ h → h < length groups → name_cmp (name_at (take n groups) g) (Some name) ≡ Equal
-      → name_at groups h ≡ Some name → AreApart groups n h → IsRepeatOf groups n h
-  repeat_found h g name after lt equal named apart =
-      let at_g : name_at (take n groups) g ≡ Some name = name_exact _ _ equal in
-      let first : g < n = let past = get_or_past (take n groups) g name at_g in omega (arith, past, count) in
-      record {
-        g = g;
-        name = name;
-        group = lt;
-        first = first;
-        lesser = omega (arith, first);
-        one = sym (in_block g first) ∙ at_g;
-        other = named;
-        apart = apart;
-      }
+  -- a group after the block without a name
+  pub apart_unnamed : (h : ℕ) → get_or groups h None ≡ None → AreApart (groups_in groups) n h → AreApart (groups_in groups) n (h + 1)
+  apart_unnamed h none apart = apart_more (groups_in groups) n h apart (λ g name lt before one other.
+      let e : None ≡ Some name = sym (name_at_in groups h ∙ ap option_copied none) ∙ other in cc)
+
+  module _ (h : ℕ) (name : Bor (List ℕ)) (named : get_or groups h None ≡ Some name) (apart : AreApart (groups_in groups) n h) where
+    other_named : name_at (groups_in groups) h ≡ Some name.now
+    other_named = name_at_in groups h ∙ ap option_copied named
+
+    -- a group after the block whose name a search finds there
+    pub repeat_found : (g : ℕ) → length (take n groups) ≤ h → h < length groups
+        → name_cmp (name_at (groups_in (take n groups)) g) (Some name.now) ≡ Equal → IsRepeatOf (groups_in groups) n h
+    repeat_found g after lt equal =
+        let at_g : name_at (groups_in (take n groups)) g ≡ Some name.now = name_exact _ _ equal in
+        let first : g < n = omega (arith, get_or_past (groups_in (take n groups)) g name.now at_g, count) in
+        record {
+          g = g;
+          name = name.now;
+          group = rw length-map lt;
+          first = first;
+          lesser = omega (arith, first, length-take-le n groups within);
+          one = sym (in_block g first) ∙ at_g;
+          other = other_named;
+          apart = apart;
+        }
+
+    -- a group after the block whose name a search doesn't find there
+    pub apart_absent : {order : List ℕ} → IsOrder order (groups_in (take n groups)) → (i : ℕ)
+        → IsBinarySearchResult (λ g. name_cmp (name_at (groups_in (take n groups)) g) (Some name.now)) order (Err i) → AreApart (groups_in groups) n (h + 1)
+    apart_absent {order} is_order i splits = apart_more (groups_in groups) n h apart (λ g other lt before one two.
+        let e : Some name.now ≡ Some other = sym other_named ∙ two in
+        let same : name.now ≡ other = cc in
+        absent order is_order name.now i splits g (rw count lt) (rw same (in_block g lt ∙ one)))
 
 -- names are distinct where no group has the name of any lesser one
-pub distinct_from_apart : (groups : Groups) (n end : ℕ) → end ≤ n → end ≤ length groups → AreApart groups n end → AreDistinctBelow groups end
-distinct_from_apart groups n end all within apart g lt = false_from_ne_true (is_repeat groups g) (λ repeats.
-    let pair = repeat_pair groups g (omega arith) repeats in apart pair.g g pair.name (omega (arith, pair.lesser)) pair.lesser lt pair.one pair.other)
+pub distinct_from_apart : (groups : Groups) (n end : ℕ) → end ≤ n → AreApart groups n end → AreDistinctBelow groups end
+distinct_from_apart groups n end all apart g lt = false_from_ne_true (is_repeat groups g) (λ repeats.
+    let pair = repeat_pair groups g repeats in apart pair.g g pair.name (omega (arith, pair.lesser)) pair.lesser lt pair.one pair.other)
 
--- a block that begins at `from`, and the blocks before it
-module _ (groups : Groups) (from end : ℕ) where
-  abbrev pub rest : Groups
-  rest = take (end - from) (drop from groups)
+-- a block that begins at `from`, as it is handed in, and the blocks before it
+module _ (groups : Handed) (from end : ℕ) (within : end ≤ length groups) where
+  abbrev rest : Groups
+  rest = groups_in (take (end - from) (drop from groups))
 
-  name_in_rest : (g : ℕ) → from ≤ g → g < end → name_at rest (g - from) ≡ name_at groups g
+  name_in_rest : (g : ℕ) → from ≤ g → g < end → name_at rest (g - from) ≡ name_at (groups_in groups) g
   name_in_rest g ge lt =
       let same : from + (g - from) ≡ g = omega arith in
-      get_or-take (end - from) (drop from groups) (g - from) None (omega arith) ∙ get_or-drop from groups (g - from) None ∙ ap (name_at groups) same
+      name_at_in (take (end - from) (drop from groups)) (g - from)
+      ∙ ap option_copied (get_or-take (end - from) (drop from groups) (g - from) None (omega arith) ∙ get_or-drop from groups (g - from) None)
+      ∙ sym (name_at_in groups (from + (g - from))) ∙ ap (name_at (groups_in groups)) same
 
-  name_of_rest : (g : ℕ) → g < end - from → name_at groups (from + g) ≡ name_at rest g
-  name_of_rest g lt = sym (get_or-take (end - from) (drop from groups) g None lt ∙ get_or-drop from groups g None)
+  pub length_rest : length (take (end - from) (drop from groups)) ≡ end - from
+  length_rest = length-take-le (end - from) (drop from groups) (rw length-drop (omega arith))
 
   -- no group of the block has the name of a later one among the first s, nor has one of the blocks before
-  pub apart_blocks : (block to s : ℕ) → to ≤ from + block → from + s ≤ end → AreApart groups from end → AreApart rest block s
-      → AreApart groups to (from + s)
-  apart_blocks block to s within le earlier here g h name lt before below one other =
+  pub apart_blocks : (block s to : ℕ) → to ≤ from + s → AreApart (groups_in groups) from end → AreApart rest block s → to ≤ end
+      → AreApart (groups_in groups) (from + block) to
+  apart_blocks block s to le earlier here in_end g h name lt before below one other =
       ⊎_elim
       (λ (early : g < from). earlier g h name early before (omega arith) one other)
       (λ (late : from ≤ g). here (g - from) (h - from) name (omega arith) (omega arith) (omega arith) (name_in_rest g late (omega arith) ∙ one)
@@ -122,15 +125,12 @@ module _ (groups : Groups) (from end : ℕ) where
       (cases_lt g from)
 
   -- the first that a block gives
-  pub repeat_of_rest : (block h : ℕ) → end ≤ length groups → from + h < end → IsRepeatOf rest block h → is_repeat groups (from + h) ≡ true
-  repeat_of_rest block h within lt found =
-      let before : found.g < h = found.lesser in
-      repeat_of_pair groups (from + found.g) (from + h) found.name (omega arith) (omega arith) (name_of_rest found.g (omega arith) ∙ found.one)
-      (name_of_rest h (omega arith) ∙ found.other)
-
--- the groups of the block and after it, as they are handed in
-pub rest_in : (groups : Handed) (from end : ℕ) → groups_in (take (end - from) (drop from groups)) ≡ rest (groups_in groups) from end
-rest_in groups from end = sym (ap (take (end - from)) (drop-map option_copied from groups) ∙ take-map option_copied (end - from) (drop from groups))
-
-pub length_rest : {X : Type 0} (xs : List X) (from end : ℕ) → end ≤ length xs → length (take (end - from) (drop from xs)) ≡ end - from
-length_rest xs from end le = length-take-le (end - from) (drop from xs) (rw length-drop (omega arith))
+  pub repeat_of_rest : (block h : ℕ) → IsRepeatOf rest block h → (from + h < end) × (is_repeat (groups_in groups) (from + h) ≡ true)
+  repeat_of_rest block h found =
+      let lt : h < end - from = omega (arith, found.group, length_rest, length-map (take (end - from) (drop from groups)) option_copied) in
+      let name_of_rest : (g : ℕ) → g ≤ h → name_at (groups_in groups) (from + g) ≡ name_at rest g = λ g le.
+      let same : (from + g) - from ≡ g = omega arith in sym (rw same at (name_in_rest (from + g) (omega arith) (omega arith))) in (
+        omega arith,
+        repeat_of_pair (groups_in groups) (from + found.g) (from + h) found.name (omega (arith, found.lesser))
+            (name_of_rest found.g (omega (arith, found.lesser)) ∙ found.one) (name_of_rest h (omega arith) ∙ found.other),
+      )

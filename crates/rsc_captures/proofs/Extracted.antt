@@ -1,33 +1,45 @@
--- What `extract` and `extract_bytes` pass on for `H` and return, over the haystack's type as a field F, and that their result is lawful.
--- `Result-lawful` assumes `Logic`.
-use mathlib.Core.Path.{refl, sym, subst}
-use mathlib.Core.List.{List, [], ◌∷◌, ◌++◌, append-nil}
-use Prim.Native.Nat.{ℕ}
-use mir.Syntax.{named, ty_struct, ty_ptr, ty_int, tcons, tnil, w64, Ty}
+-- What `extract` and `extract_bytes` pass on for `H` and return, over the haystack's type as a field F. Their result is lawful, where
+-- `Result-lawful` assumes `Logic`. The names that both proofs cite are passed on from here.
+pub use Rattle.std.proofs.Common.{ℕ, List, ◌++◌, append-nil, [], ◌∷◌, sym, subst, refl}
+pub use mir.Syntax.{named, a_number, ty_struct, ty_ptr, ty_int, tcons, tnil, w64, Ty}
+pub use mir.MapTy.{inst_fn}
+pub use base.Logic.{id⊢, SProp, ent, sep, emp, via, emp∗, mono_l}
+pub use types.Kit.{‵, raw, ◌⊛◌, some, later, ◌$◌, ◌∵◌, !, qed, done, move, drop, use1, use2, split, join, pick, await, suffices, group}
+pub use types.Run.{enter, no_more, and_then, returns}
+pub use types.ByLocal.{alloc_all, pass_all, free_all, look_at, get, lands_as}
+pub use contract.BorrowLft.{◌⊑◌, ⊑_refl}
+pub use contract.Running.{tables}
+pub use denote.Exit.{yes, no}
+pub use denote.Laws.{shows, Lawful}
+pub use denote.Param.{number, layouts, Types, arg, ArrayAt, param}
+pub use denote.Param.Laws.{arg_laws, arg_copy, Laws, IsCopy, of_field, of_copyable, number_array_laws}
+pub use denote.RattleType.{RattleType}
+pub use denote.Ref.{shr_vals, shr_Tells, NamedLft}
+pub use denote.Signature.{Slot, plain}
+pub use denote.Slice.{shr_slice_vals}
+pub use denote.Steps.{nothing, peeks, heard}
+pub use denote.Struct.Field.{Field, u8-field, shr_slice_field}
+pub use denote.Triple.Call.{calls_at}
+pub use denote.Triple.Clauses.{Ended, lasts, at_exit}
+pub use denote.Triple.Entry.{on_entry, alive}
+pub use denote.Triple.Spec.{triple_of}
+pub use denote.Triple.Table.{framed}
+pub use denote.Triple.Walked.{Stays, says, stay_dropped, Goes-dropped, ends_at}
+pub use Rattle.std.proofs.raw_atomic.Walks.{proved}
 use seplogic.Ra.Ura.{Ura}
-use base.Logic.{SProp, ent, sep, emp, via, emp∗, mono_l}
 use types.Logic.{Logic}
-use contract.BorrowLft.{◌⊑◌, ⊑_refl}
 use contract.Lifetimes.{Lfts}
 use contract.Monad.{fact, fact_i}
 use denote.Builtin.{u8, RefOf}
 use denote.Enum.Loose.{loose_lawful}
-use denote.Exit.{no}
-use denote.Laws.{Lawful}
-use denote.Param.{number, arg, ArrayAt, param}
-use denote.Param.Laws.{Laws, IsCopy, of_field, of_copyable, number_array_laws}
 use denote.Param.Shared.{copy_shared}
-use denote.RattleType.{RattleType}
-use denote.Ref.{NamedLft}
-use denote.Signature.{Slot, plain}
-use denote.Struct.Field.{Field, u8-field, shr_slice_field}
 use denote.Struct.Laws.{FLaws, Copyable, u8-laws, u8-copy, shr_slice_laws, shr_slice_copy}
 use denote.Struct.Tuple.{Tuple, tuple_laws}
 use Rattle.std.proofs.option.Option.TheLaws.{the_loose}
-use Rattle.std.specs.contracts.option.Option as option
-use Rattle.std.specs.contracts.alloc.Global as global
 use Rattle.std.specs.contracts.impls.GlobalAllocator.TheImpl.{ghosts}
 use Rattle.rsc_captures.specs.contracts.captures.Captures.{the_row}
+use Rattle.std.specs.contracts.option.Option as option
+use Rattle.std.specs.contracts.alloc.Global as global
 
 -- captures over the usual allocator
 abbrev pub captures_row : RattleType

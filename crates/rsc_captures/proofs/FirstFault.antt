@@ -1,19 +1,14 @@
 -- The first fault of a list, from the first other fault and the first repeated name before it.
-use Rattle.std.proofs.Common.{◌≡◌, ◌⊎◌, ⊎_elim, ℕ, zero, suc, ◌+◌, ◌*◌, ◌<◌, ◌≤◌, true, false, List, length, ltb, Option, Some, None, MatchOption, refl, sym, ◌∙◌, inl, inr, arith}
+use Rattle.std.proofs.Common.{◌≡◌, ◌⊎◌, ⊎_elim, ℕ, zero, suc, ◌+◌, ◌*◌, ◌<◌, ◌≤◌, true, false, List, length, ltb, Option, Some, None, MatchOption, refl, sym, ◌∙◌, inl, inr, arith, unwrap_or, le-ltb, lt-ltb}
 use Rattle.std.specs.Prelude.{⊤}
-use Rattle.std.specs.Option.{unwrap_or}
 use mathlib.Core.Bool.{true≢false}
 use borrow.Author.Count.{below_more}
-use Rattle.std.proofs.lemmas.Bool.{le-ltb, lt-ltb}
 use Rattle.rsc_captures.specs.declared.faults.Fault as declared
-use Rattle.rsc_captures.specs.Groups.{Groups, GroupLists, groups_of, group_count, name_of, explicit_groups, explicit_before}
-use Rattle.rsc_captures.specs.Faults.{Fault, TooManyGroups, Duplicate, ComesBefore, IsPlace, pattern_fault, name_fault, place_fault, slots_end, IsFirstFault, IsFaultless, FirstIsDuplicate, RefusesFor}
-use Rattle.rsc_captures.specs.FaultsLayout.{fault_found, IsDuplicate, HasNoOtherBefore, HasNoOtherFault, IsFirstOther}
-use Rattle.rsc_captures.specs.RepeatsLayout.{is_repeat, AreDistinctBelow, IsFirstRepeat, HasNoRepeatBefore, IsFirstRepeatBefore}
+use Rattle.rsc_captures.proofs.Words.{Groups, GroupLists, groups_of, group_count, name_of, explicit_groups, explicit_before, Fault, TooManyGroups, Duplicate, ComesBefore, IsPlace, pattern_fault, name_fault, place_fault, slots_end, IsFirstFault, IsFaultless, FirstIsDuplicate, RefusesFor, fault_found, IsDuplicate, HasNoOtherBefore, HasNoOtherFault, IsFirstOther, is_repeat, AreDistinctBelow, IsFirstRepeat, HasNoRepeatBefore, IsFirstRepeatBefore}
 use Rattle.rsc_captures.proofs.Clear.{before_more, explicit_place, group_clear, name_fault_clear, name_fault_repeat, name_fault_none, no_repeat_at_zero}
 use Rattle.rsc_captures.proofs.Lists.{sum_rises}
 use Rattle.rsc_captures.proofs.Owners.{pattern_in}
-use Rattle.rsc_captures.proofs.RepeatsFound.{repeat_name, repeat_of_pattern, none_more, none_at_first}
+use Rattle.rsc_captures.proofs.RepeatsFound.{repeat_name, repeat_of_pattern, none_before, none_more}
 
 -- a list without a fault repeats no name
 pub clear_distinct : {limit : ℕ} {lists : GroupLists} → IsFaultless limit lists → (p : ℕ) → p < length lists
@@ -58,8 +53,7 @@ module _ {limit : ℕ} {lists : GroupLists} {p g : ℕ} (before : HasNoOtherBefo
       let group : suc h < group_count lists q = omega (arith, place.1) in
       place_before q (suc h) (omega arith) group earlier ∙ name_fault_clear (groups_of lists q) q (suc h) (name_of lists q (suc h)) (distinct group)
 
-  repeat_at : (q h : ℕ) (name : List ℕ) → h < group_count lists q → ComesBefore q h p g → is_repeat (groups_of lists q) h ≡ true
-      → name_of lists q h ≡ Some name
+  repeat_at : (q h : ℕ) (name : List ℕ) → h < group_count lists q → ComesBefore q h p g → is_repeat (groups_of lists q) h ≡ true → name_of lists q h ≡ Some name
       → place_fault limit lists q h ≡ Some (Duplicate q name)
   repeat_at q zero name group earlier repeats named = absurd (true≢false (sym repeats ∙ no_repeat_at_zero (groups_of lists q)))
   repeat_at q (suc h) name group earlier repeats named =
@@ -87,8 +81,7 @@ module _ {limit : ℕ} {lists : GroupLists} {p g : ℕ} (before : HasNoOtherBefo
 
 -- more groups than the limit has room for
 pub too_many : {limit : ℕ} {lists : GroupLists} (p room : ℕ) → HasNoOtherBefore limit lists p 0 → pattern_fault lists p ≡ None → p < length lists
-    → room + 1 < group_count lists p
-    → 2 * (explicit_before lists p + room) ≤ limit → limit < 2 * (explicit_before lists p + (room + 1))
+    → room + 1 < group_count lists p → 2 * (explicit_before lists p + room) ≤ limit → limit < 2 * (explicit_before lists p + (room + 1))
     → IsFirstOther limit lists p (room + 1) (TooManyGroups p (room + 1))
 too_many {limit = limit} {lists = lists} p room earlier clear pattern more within past =
     let limited : ltb limit (2 * (explicit_before lists p + (room + 1))) ≡ true = lt-ltb limit (2 * (explicit_before lists p + (room + 1))) past in
@@ -97,10 +90,8 @@ too_many {limit = limit} {lists = lists} p room earlier clear pattern more withi
     (explicit_place limit lists p (room + 1) (omega arith) ∙ rw limited refl)
 
 -- the limit on the slots of all groups
-pub past_limit : {limit : ℕ} {lists : GroupLists} (n p : ℕ) → length lists ≡ n → HasNoOtherBefore limit lists n 0 → p < n
-    → limit < slots_end lists p
-    → ((q : ℕ) → q < p → slots_end lists q ≤ limit)
-    → IsFirstOther limit lists n 0 (TooManyGroups p (group_count lists p))
+pub past_limit : {limit : ℕ} {lists : GroupLists} (n p : ℕ) → length lists ≡ n → HasNoOtherBefore limit lists n 0 → p < n → limit < slots_end lists p
+    → ((q : ℕ) → q < p → slots_end lists q ≤ limit) → IsFirstOther limit lists n 0 (TooManyGroups p (group_count lists p))
 past_limit n p all before pattern past least = record {
   before = before;
   first = λ none. inr (record {
@@ -116,8 +107,7 @@ past_limit n p all before pattern past least = record {
 
 -- the first of both
 pub first_fault : {limit : ℕ} {lists : GroupLists} {p g : ℕ} (other : declared.Fault) (o : Option declared.Fault)
-    → IsFirstOther limit lists p g (fault_found other)
-    → MatchOption o (HasNoRepeatBefore lists p g) (λ f. IsFirstRepeatBefore lists p g (fault_found f))
+    → IsFirstOther limit lists p g (fault_found other) → MatchOption o (HasNoRepeatBefore lists p g) (λ f. IsFirstRepeatBefore lists p g (fault_found f))
     → IsFirstFault limit lists (fault_found (unwrap_or o other))
 first_fault other None is none = is.first none
 first_fault other (Some f) is found = repeat_first is.before (fault_found f) found
@@ -136,12 +126,13 @@ first_repeat groups (suc n) le =
     ]
 
 module _ {limit : ℕ} {lists : GroupLists} (no_other : HasNoOtherFault limit lists) where
+  -- lists without another fault and without a repeated name are faultless
   pub faultless_from : HasNoRepeatBefore lists (length lists) 0 → IsFaultless limit lists
   faultless_from none = record { clear = λ p g place. clear_before no_other.places none p g place (inl place.0); within = no_other.slots }
 
   -- no name is repeated in the first n patterns, or a repeated name is the first fault
   first_of : (n : ℕ) → n ≤ length lists → HasNoRepeatBefore lists n 0 ⊎ FirstIsDuplicate limit lists
-  first_of zero le = inl (none_at_first lists)
+  first_of zero le = inl (none_before lists 0 0 0 (omega arith) (λ q h lt. absurd (omega arith)))
   first_of (suc n) le =
       elim (first_of n (omega arith)) as (λ _. HasNoRepeatBefore lists (suc n) 0 ⊎ FirstIsDuplicate limit lists) [
         | inl none ↦
@@ -153,8 +144,7 @@ module _ {limit : ℕ} {lists : GroupLists} (no_other : HasNoOtherFault limit li
                   inr (
                     n,
                     named.0,
-                    repeat_first no_other.places (Duplicate n named.0)
-                        (repeat_of_pattern lists n found.0 (length lists) 0 named.0 none found.1 named.1 (inl (omega arith))),
+                    repeat_first no_other.places (Duplicate n named.0) (repeat_of_pattern lists n _ _ _ _ none found.1 named.1 (inl (omega arith))),
                   )
             ]
         | inr found ↦ inr found
@@ -169,8 +159,7 @@ module _ {limit : ℕ} {lists : GroupLists} (no_other : HasNoOtherFault limit li
   refuses_from n all (Some f) m = repeat_first no_other.places f (rw all m)
 
 -- what holds of a fault, if there is one
-pub MatchOption-some_weaker : {X : Type 0} (o : Option X) (R : Type 0) (P Q : X → Type 0) → ((x : X) → P x → Q x) → MatchOption o R P
-    → MatchOption o ⊤ Q
+pub MatchOption-some_weaker : {X : Type 0} (o : Option X) (R : Type 0) (P Q : X → Type 0) → ((x : X) → P x → Q x) → MatchOption o R P → MatchOption o ⊤ Q
 MatchOption-some_weaker None R P Q weaker m = tt
 MatchOption-some_weaker (Some x) R P Q weaker m = weaker x m
 

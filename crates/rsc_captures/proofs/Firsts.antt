@@ -1,15 +1,13 @@
 -- Where the names of the patterns begin, as one more is pushed.
-use Rattle.std.proofs.Common.{◌≡◌, ℕ, zero, suc, ◌+◌, ◌<◌, ◌≤◌, List, [], ◌∷◌, ◌++◌, length, get_or, refl, ap, sym, ◌∙◌, arith, add-one}
-use Rattle.std.specs.Prelude.{sum_by}
+use Rattle.std.proofs.Common.{◌≡◌, ℕ, zero, suc, ◌+◌, ◌<◌, ◌≤◌, List, [], ◌∷◌, ◌++◌, length, get_or, refl, ap, sym, ◌∙◌, arith, add-one, sum_by}
 use borrow.Author.Count.{below_more}
 use Rattle.std.proofs.lemmas.List.{length_push, get_or_append_left}
 use Rattle.std.proofs.Math.Seq.{get_or-append_seam, take-length}
 use Rattle.std.proofs.lemmas.List.Sums.{sum_by_more}
-use Rattle.rsc_captures.specs.Groups.{GroupLists, group_count, explicit_before, all_groups}
-use Rattle.rsc_captures.specs.Faults.{LIMIT_OF_IDS, IsFaultless}
+use Rattle.rsc_captures.proofs.Words.{GroupLists, group_count, explicit_before, all_groups, LIMIT_OF_IDS, IsFaultless, groups_before, AreFirsts}
 use Rattle.rsc_captures.proofs.Clear.{some_group, before_more}
-use Rattle.rsc_captures.specs.Layout.{groups_before, AreFirsts}
 
+-- one pattern more
 pub firsts_push : (firsts : List ℕ) (lists : GroupLists) (n first : ℕ) → AreFirsts firsts lists n → first ≡ groups_before lists (n + 1)
     → AreFirsts (firsts ++ first ∷ []) lists (n + 1)
 firsts_push firsts lists n first are is = record {
@@ -43,6 +41,7 @@ groups_so_far lists (suc n) le nonempty =
 pub all_before : (lists : GroupLists) → groups_before lists (length lists) ≡ all_groups lists
 all_before lists = ap (sum_by length) (take-length lists)
 
+-- all groups are the first of each pattern and the explicit ones
 pub all_groups_are : (lists : GroupLists) → IsFaultless LIMIT_OF_IDS lists → all_groups lists ≡ length lists + explicit_before lists (length lists)
 all_groups_are lists faultless = sym (all_before lists)
     ∙ groups_so_far lists (length lists) (omega arith) (λ p lt. some_group LIMIT_OF_IDS lists faultless p lt)

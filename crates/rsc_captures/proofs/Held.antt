@@ -1,18 +1,12 @@
 -- Names in one text, as one more is added.
-use Rattle.std.proofs.Common.{◌≡◌, ◌≢◌, ℕ, ◌+◌, ◌-◌, ◌<◌, ◌≤◌, true, false, cond, eqb, ⊎_elim, List, [], ◌∷◌, ◌++◌, length, take, drop, get_or, Option, Some, None, refl, ap, ap₂, ◌∙◌, arith}
-use Rattle.std.specs.Option.{unwrap_or}
-use Rattle.std.specs.Str.{IsUtf8, IsCharBoundary}
-use Rattle.std.specs.List.{slice_range}
+use Rattle.std.proofs.Common.{◌≡◌, ◌≢◌, ℕ, ◌+◌, ◌-◌, ◌<◌, ◌≤◌, true, false, cond, eqb, ⊎_elim, List, [], ◌∷◌, ◌++◌, length, take, drop, get_or, Option, Some, None, refl, ap, ap₂, ◌∙◌, arith, unwrap_or, IsUtf8, IsCharBoundary, slice_range}
 use Rattle.std.proofs.lemmas.Bool.{cases_lt, eqb-false}
 use Rattle.std.proofs.lemmas.Grind.{common_steps}
 use Rattle.std.proofs.lemmas.List.{drop-append-le, take-append-le, get_or_append_left, length-append, map-append, length-drop}
 use Rattle.std.proofs.lemmas.List.Elements.{All-push, All-tail}
 use Rattle.std.proofs.Math.Seq.{drop-append_seam, take-length}
 use Rattle.std.proofs.lemmas.Str.{IsCharBoundary-at_seam, IsCharBoundary-end}
-use Rattle.rsc_captures.specs.declared.names.Place.{Place}
-use Rattle.rsc_captures.specs.declared.names.TheConstants.{NO_NAME}
-use Rattle.rsc_captures.specs.Groups.{Groups}
-use Rattle.rsc_captures.specs.NamesLayout.{name_held, names_held, place_held, IsCut, AreCut, AreHeld}
+use Rattle.rsc_captures.proofs.Words.{Place, NO_NAME, Groups, name_held, names_held, place_held, IsCut, AreCut, AreHeld}
 
 module _ (text more : List ℕ) where
   -- a place where the text may be cut is one of the longer text

@@ -1,9 +1,7 @@
 -- How many groups an iterator over all of them gives.
-use Rattle.std.proofs.Common.{◌≡◌, ℕ, ◌+◌, [], ◌∷◌, length, refl, sym, ap₂, ◌∙◌, arith}
-use Rattle.std.proofs.lemmas.List.{length-append}
+use Rattle.std.proofs.Common.{◌≡◌, ℕ, ◌+◌, [], ◌∷◌, length, refl, sym, ap₂, ◌∙◌, arith, length-append}
 use Rattle.std.proofs.lemmas.List.Sums.{sum_by-cons}
-use Rattle.rsc_captures.specs.Groups.{Groups, GroupLists, all_groups}
-use Rattle.rsc_captures.specs.NameIterators.{groups_from, patterns_from, all_names_of}
+use Rattle.rsc_captures.proofs.Words.{Groups, GroupLists, all_groups, groups_from, patterns_from, all_names_of}
 
 length-groups_from : (p g : ℕ) (groups : Groups) → length (groups_from p g groups) ≡ length groups
 length-groups_from p g [] = refl
@@ -14,8 +12,8 @@ length-patterns_from : (p : ℕ) (lists : GroupLists) → length (patterns_from 
 length-patterns_from p [] = refl
 length-patterns_from p (groups ∷ lists) =
     length-append (groups_from p 0 groups) (patterns_from (p + 1) lists)
-    ∙ ap₂ (λ m n. m + n) (length-groups_from p 0 groups) (length-patterns_from (p + 1) lists)
-    ∙ sym (sum_by-cons length groups lists)
+    ∙ ap₂ (λ m n. m + n) (length-groups_from p 0 groups) (length-patterns_from (p + 1) lists) ∙ sym (sum_by-cons length groups lists)
 
+-- as many names as groups
 pub length-all_names_of : (lists : GroupLists) → length (all_names_of lists) ≡ all_groups lists
 length-all_names_of lists = length-patterns_from 0 lists

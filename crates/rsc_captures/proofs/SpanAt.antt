@@ -1,9 +1,7 @@
 -- A span needs both slots.
-use Rattle.std.proofs.Common.{◌≡◌, ℕ, ◌+◌, ◌≤◌, List, length, get_or, Option, Some, None, refl}
-use Rattle.std.specs.Prelude.{option_and_then}
+use Rattle.std.proofs.Common.{◌≡◌, ℕ, ◌+◌, ◌≤◌, List, length, get_or, Option, Some, None, refl, option_and_then}
 use Rattle.std.proofs.lemmas.List.{get_or_past}
-use Rattle.rsc_search.specs.declared.span.Span.{Span}
-use Rattle.rsc_captures.specs.Captured.{span_at}
+use Rattle.rsc_captures.proofs.Words.{Span, span_at}
 
 no_span : (offset : Option ℕ) (none : ℕ → Option Span) → ((from : ℕ) → none from ≡ None) → option_and_then none offset ≡ None
 no_span None none is = refl

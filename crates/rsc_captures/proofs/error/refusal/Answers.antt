@@ -1,6 +1,5 @@
 use Rattle.std.proofs.Common.{refl}
-use Rattle.rsc_captures.specs.Faults.{Duplicate}
-use Rattle.rsc_captures.specs.FaultsLayout.{IsDuplicate}
+use Rattle.rsc_captures.proofs.Words.{Duplicate, IsDuplicate}
 use Rattle.rsc_captures.proofs.error.refusal.Goals as goal
 
 pub returns-in-Err : goal.returns-in-Err

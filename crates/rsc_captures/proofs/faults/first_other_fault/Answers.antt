@@ -1,10 +1,7 @@
-use Rattle.std.proofs.Common.{◌≡◌, ◌<◌, ◌-◌, ◌/◌, [], Bor, length, arith}
+use Rattle.std.proofs.Common.{◌≡◌, ◌<◌, ◌-◌, ◌/◌, length, arith}
 use Rattle.rsc_captures.proofs.FirstFault.{other_at, too_many, past_limit}
-use Rattle.rsc_captures.proofs.Places.{Handed, length-lists_in, group_count_in}
+use Rattle.rsc_captures.proofs.Places.{length-lists_in, group_count_in}
 use Rattle.rsc_captures.proofs.faults.first_other_fault.Goals as goal
-
-abbrev none : Bor Handed
-none = record { ref_ptr = (0, 0); now = [] }
 
 pub returns-in-Err : goal.returns-in-Err
 returns-in-Err c = other_at c.loop-p.invariant.places _ (rw length-lists_in (omega arith), omega arith) c.in-Err.ensures.err
@@ -14,7 +11,7 @@ returns-then-explicit-room c =
     let lt : c.loop-p.p < length c.args.lists.now = omega arith in
     let so_far = c.loop-p.invariant in
     rw c.in-Ok.ensures.ok.0 (too_many c.loop-p.p (c.args.limit / 2 - c.loop-p.before) so_far.places c.in-Ok.ensures.ok.1 (rw length-lists_in lt)
-    (omega (arith, c.if-explicit-room.true, group_count_in c.args.lists.now c.loop-p.p none lt)) (omega (arith, so_far.before, so_far.places.within))
+    (omega (arith, c.if-explicit-room.true, group_count_in _ _ lt)) (omega (arith, so_far.before, so_far.places.within))
     (omega (arith, so_far.before)))
 
 pub returns : goal.returns
@@ -22,6 +19,6 @@ returns c =
     let so_far = c.loop-p.invariant in
     let at_end : c.loop-p.p ≡ length c.args.lists.now = omega arith in
     let lt : c.loop-p.within < length c.args.lists.now = omega (arith, so_far.count, c.if-within-lists.false) in
-    rw (c.must.ensures, ← group_count_in c.args.lists.now c.loop-p.within none lt)
+    rw (c.must.ensures, ← group_count_in _ _ lt)
     (past_limit (length c.args.lists.now) c.loop-p.within (length-lists_in c.args.lists.now) (rw at_end at so_far.places) lt
     (so_far.past (omega (arith, lt))) so_far.least)

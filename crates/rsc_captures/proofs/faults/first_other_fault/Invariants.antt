@@ -1,7 +1,5 @@
 use Rattle.std.proofs.Common.{◌≡◌, ℕ, ◌<◌, ◌≤◌}
-use Rattle.rsc_captures.specs.Groups.{lists_in, explicit_before}
-use Rattle.rsc_captures.specs.Faults.{slots_end}
-use Rattle.rsc_captures.specs.FaultsLayout.{HasNoOtherBefore}
+use Rattle.rsc_captures.proofs.Words.{lists_in, explicit_before, slots_end, HasNoOtherBefore}
 use Rattle.rsc_captures.proofs.faults.first_other_fault.Given as goal
 
 -- there is no other fault before the pattern, and `within` is the first whose slots pass the limit, if there is one

@@ -1,17 +1,12 @@
-use Rattle.std.proofs.Common.{length, ◌∙◌}
-use Rattle.rsc_captures.specs.Groups.{lists_in}
+use Rattle.std.proofs.Common.{◌∙◌}
 use Rattle.rsc_captures.proofs.Places.{length-lists_in}
 use Rattle.rsc_captures.proofs.Parts.{held_are, layout_is}
 use Rattle.rsc_captures.proofs.group_info.build.Goals as goal
 
 pub invariant_of-inner : goal.invariant_of-inner
 invariant_of-inner g c =
-    layout_is c.in_ok-firsts.firsts.items c.in_ok-order.order.items c.in_ok-names.names (lists_in c.args.lists.now) (length c.args.lists.now)
-    (length-lists_in c.args.lists.now)
-    c.in_ok-firsts.ensures c.in_ok-names.ensures c.requires c.in_ok-order.ensures.distinct c.in_ok-order.ensures.ok
+    layout_is c.in_ok-firsts.ensures c.in_ok-names.ensures (length-lists_in c.args.lists.now) c.requires c.in_ok-order.ensures.distinct
+    c.in_ok-order.ensures.ok
 
 pub returns-clause-ok : goal.returns-clause-ok
-returns-clause-ok g c =
-    c.in_ok-new.ensures.ok ∙ held_are c.in_ok-firsts.firsts.items c.in_ok-order.order.items c.in_ok-names.names (lists_in c.args.lists.now)
-    (length c.args.lists.now)
-    (length-lists_in c.args.lists.now) c.in_ok-firsts.ensures c.in_ok-names.ensures
+returns-clause-ok g c = c.in_ok-new.ensures.ok ∙ held_are c.in_ok-firsts.ensures c.in_ok-names.ensures (length-lists_in c.args.lists.now)

@@ -1,24 +1,17 @@
-use Rattle.std.proofs.Common.{◌≡◌, ◌<◌, ◌≤◌, [], Bor, length, inl, arith}
-use Rattle.rsc_captures.specs.Groups.{lists_in}
-use Rattle.rsc_captures.specs.Faults.{Fault, slots_end}
-use Rattle.rsc_captures.specs.FaultsLayout.{fault_found}
-use Rattle.rsc_captures.specs.RepeatsLayout.{IsFirstRepeatBefore}
+use Rattle.std.proofs.Common.{◌≡◌, ◌<◌, ◌≤◌, length, inl, arith}
+use Rattle.rsc_captures.proofs.Words.{lists_in, Fault, slots_end, fault_found, IsFirstRepeatBefore}
 use Rattle.rsc_captures.proofs.Clear.{pattern_clear, before_more}
 use Rattle.rsc_captures.proofs.FirstFault.{MatchOption-some_weaker}
-use Rattle.rsc_captures.proofs.Places.{Handed, length-lists_in, groups_of_in, group_count_in}
+use Rattle.rsc_captures.proofs.Places.{length-lists_in, in_lists, groups_of_in, group_count_in}
 use Rattle.rsc_captures.proofs.Parts.{ordered_more}
 use Rattle.rsc_captures.proofs.RepeatsFound.{repeat_of_pattern, none_more}
 use Rattle.rsc_captures.proofs.group_info.order_of.Goals as goal
 
-abbrev none : Bor Handed
-none = record { ref_ptr = (0, 0); now = [] }
-
 pub add_order-requires : goal.add_order-requires
 add_order-requires g c =
     let lt : c.loop-p.p < length c.args.lists.now = omega arith in
-    let in_lists : c.loop-p.p < length (lists_in c.args.lists.now) = rw length-lists_in lt in
-    let within : slots_end (lists_in c.args.lists.now) c.loop-p.p ≤ 2147483646 = c.requires.slots c.loop-p.p in_lists in
-    omega (arith, within, before_more (lists_in c.args.lists.now) c.loop-p.p in_lists, group_count_in c.args.lists.now c.loop-p.p none lt, in_lists)
+    let within : slots_end (lists_in c.args.lists.now) c.loop-p.p ≤ 2147483646 = c.requires.slots c.loop-p.p (in_lists _ _ lt) in
+    omega (arith, within, before_more (lists_in c.args.lists.now) c.loop-p.p (in_lists _ _ lt), group_count_in _ _ lt, in_lists _ _ lt)
 
 pub repeated-requires-clause-number : goal.repeated-requires-clause-number
 repeated-requires-clause-number g c =
@@ -27,22 +20,18 @@ repeated-requires-clause-number g c =
 pub returns-in-Some-clause-err : goal.returns-in-Some-clause-err
 returns-in-Some-clause-err g c =
     let lt : c.loop-p.p < length c.args.lists.now = omega arith in
-    let first = rw (← groups_of_in c.args.lists.now c.loop-p.p none lt) at c.in-Some.ensures in
-    let found = repeat_of_pattern (lists_in c.args.lists.now) c.loop-p.p c.in-Some.g
-    (length c.args.lists.now) 0 c.repeated.ensures.0 c.loop-p.invariant.none first c.repeated.ensures.1 (inl lt) in
+    let first = rw (← groups_of_in _ _ lt) at c.in-Some.ensures in
+    let found = repeat_of_pattern _ _ _ (length c.args.lists.now) 0 _ c.loop-p.invariant.none first c.repeated.ensures.1 (inl lt) in
     MatchOption-some_weaker c.refusal.result _ _ (IsFirstRepeatBefore (lists_in c.args.lists.now) (length c.args.lists.now) 0)
     (λ (f : Fault) (same : f ≡ fault_found c.repeated.result). rw (same, c.repeated.ensures.2) found) c.refusal.ensures
 
 pub loop-p-preserved : goal.loop-p-preserved
 loop-p-preserved g c =
     let lt : c.loop-p.p < length c.args.lists.now = omega arith in
-    let of = groups_of_in c.args.lists.now c.loop-p.p none lt in
-    let count = group_count_in c.args.lists.now c.loop-p.p none lt in
     record {
-      ordered = ordered_more c.loop-p.order.items c.add_order.new.order.items (lists_in c.args.lists.now) c.loop-p.p
-          (rw length-lists_in lt) c.loop-p.invariant.ordered c.in_ok-add_order.ensures.kept
-          (rw count c.in_ok-add_order.ensures.len) (rw of c.in_ok-add_order.ensures.order);
-      none = none_more (lists_in c.args.lists.now) c.loop-p.p c.loop-p.invariant.none (rw (count, of) c.in_default.ensures);
+      ordered = ordered_more _ c.loop-p.invariant.ordered (in_lists _ _ lt) c.in_ok-add_order.ensures.kept
+          (rw (group_count_in _ _ lt) c.in_ok-add_order.ensures.len) (rw (groups_of_in _ _ lt) c.in_ok-add_order.ensures.order);
+      none = none_more _ _ c.loop-p.invariant.none (rw (group_count_in _ _ lt, groups_of_in _ _ lt) c.in_default.ensures);
     }
 
 pub returns-clause-ok : goal.returns-clause-ok

@@ -1,9 +1,5 @@
-use Rattle.std.proofs.Common.{◌<◌, ◌∷◌, [], length, take, get_or, None, arith}
-use Rattle.std.specs.Option.{option_copied}
-use Rattle.std.specs.String.{string_bytes}
-use Rattle.std.proofs.lemmas.List.{append_assoc}
-use Rattle.rsc_captures.specs.Groups.{groups_in}
-use Rattle.rsc_captures.specs.NamesLayout.{names_held}
+use Rattle.std.proofs.Common.{◌<◌, ◌∷◌, [], length, take, get_or, None, arith, option_copied, string_bytes, append_assoc}
+use Rattle.rsc_captures.proofs.Words.{groups_in, names_held}
 use Rattle.rsc_captures.proofs.Places.{take_groups_more}
 use Rattle.rsc_captures.proofs.Held.{held_more}
 use Rattle.rsc_captures.proofs.names.hold_names.Goals as goal

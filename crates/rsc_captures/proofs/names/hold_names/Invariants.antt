@@ -1,7 +1,5 @@
-use Rattle.std.proofs.Common.{◌++◌, take}
-use Rattle.std.specs.String.{string_bytes}
-use Rattle.rsc_captures.specs.Groups.{groups_in}
-use Rattle.rsc_captures.specs.NamesLayout.{names_held, AreHeld}
+use Rattle.std.proofs.Common.{◌++◌, take, string_bytes}
+use Rattle.rsc_captures.proofs.Words.{groups_in, names_held, AreHeld}
 use Rattle.rsc_captures.proofs.names.hold_names.Given as goal
 
 -- the names so far are held

@@ -1,31 +1,9 @@
-use mathlib.Core.Path.{refl}
-use mathlib.Core.List.{[], ◌∷◌}
-use mir.Syntax.{named, a_number, ty_int, w8}
-use mir.MapTy.{inst_fn}
-use base.Logic.{id⊢}
-use types.Kit.{‵, raw, ◌⊛◌, some, later, ◌$◌, ◌∵◌, !, qed, done, move, drop, use1, use2, split, join, pick, await, suffices, group}
-use types.Run.{enter, no_more, and_then, returns}
-use types.ByLocal.{alloc_all, pass_all, free_all, look_at, get, lands_as}
-use contract.BorrowLft.{◌⊑◌, ⊑_static}
-use contract.Running.{tables}
+use Rattle.rsc_captures.proofs.Extracted.{captures_row, self_slot, second, fat_pointer, passed, Result, Result-lawful, lives_so, beside, u8_laws, bytes-field, bytes-laws, bytes_laws, bytes_copy, refl, [], ◌∷◌, named, a_number, inst_fn, id⊢, ‵, raw, ◌⊛◌, some, later, ◌$◌, ◌∵◌, !, qed, done, move, drop, use1, use2, split, join, pick, await, suffices, group, enter, no_more, and_then, returns, alloc_all, pass_all, free_all, look_at, get, lands_as, ◌⊑◌, tables, yes, no, shows, number, layouts, Types, arg_laws, arg_copy, RattleType, shr_vals, shr_Tells, Slot, shr_slice_vals, nothing, peeks, heard, Field, calls_at, Ended, lasts, at_exit, on_entry, alive, triple_of, framed, Stays, says, stay_dropped, Goes-dropped, ends_at, proved}
+use mir.Syntax.{ty_int, w8}
+use contract.BorrowLft.{⊑_static}
 use denote.Builtin.{u8, SliceRefOf}
-use denote.Exit.{yes, no}
-use denote.Laws.{shows}
-use denote.Param.{number, layouts, arg, Types}
-use denote.Param.Laws.{arg_laws, arg_copy}
-use denote.RattleType.{RattleType}
-use denote.Ref.{shr_vals, shr_Tells}
-use denote.Signature.{Slot, plain}
-use denote.Slice.{shr_slice_vals}
-use denote.Steps.{nothing, peeks, heard}
-use denote.Struct.Field.{Field}
-use denote.Triple.Call.{calls_at}
-use denote.Triple.Clauses.{Ended, lasts, at_exit}
-use denote.Triple.Entry.{on_entry, alive}
-use denote.Triple.Spec.{triple_of}
-use denote.Triple.Table.{framed}
-use denote.Triple.Walked.{Stays, says, stay_dropped, Goes-dropped, ends_at}
-use Rattle.std.proofs.raw_atomic.Walks.{proved}
+use denote.Param.{arg}
+use denote.Signature.{plain}
 use Rattle.std.specs.contracts.prelude.RefSliceClone.TheImpl as clone
 use Rattle.std.proofs.prelude.RefSliceClone.TheImpl.Met as clone_met
 use Rattle.rsc_captures.specs.contracts.extract.RefSliceU8Haystack.TheImpl as haystack
@@ -35,7 +13,6 @@ use Rattle.rsc_captures.proofs.extract.Captures.extract_bytes.Statement.{stateme
 use Rattle.rsc_captures.proofs.extract.Captures.extract_bytes.Code as code
 use Rattle.rsc_captures.specs.contracts.extract.Captures.extract_parts as g
 use Rattle.rsc_captures.proofs.extract.Captures.extract_parts.Met.{met}
-use Rattle.rsc_captures.proofs.Extracted.{captures_row, self_slot, second, fat_pointer, passed, Result, Result-lawful, lives_so, beside, u8_laws, bytes-field, bytes-laws, bytes_laws, bytes_copy}
 
 abbrev haystack_slot : Slot 3
 haystack_slot = SliceRefOf (1 ∷ []) tt (plain (λ κs. u8)) (λ κs. tt)

@@ -1,6 +1,5 @@
 use Rattle.std.proofs.Common.{◌≡◌, ◌+◌, length, ap, ◌∙◌, arith}
-use Rattle.rsc_captures.specs.Groups.{all_groups, explicit_before}
-use Rattle.rsc_captures.specs.Faults.{LIMIT_OF_IDS, IsFaultless}
+use Rattle.rsc_captures.proofs.Words.{all_groups, explicit_before, LIMIT_OF_IDS, IsFaultless}
 use Rattle.rsc_captures.proofs.Firsts.{all_groups_are}
 use Rattle.rsc_captures.proofs.group_info.GroupInfo.implicit_slot_len.Goals as goal
 

@@ -1,6 +1,5 @@
 use Rattle.std.proofs.Common.{◌≡◌, ◌*◌, ap, ◌∙◌, arith}
-use Rattle.rsc_captures.specs.Groups.{all_groups}
-use Rattle.rsc_captures.specs.Faults.{LIMIT_OF_IDS, IsFaultless}
+use Rattle.rsc_captures.proofs.Words.{all_groups, LIMIT_OF_IDS, IsFaultless}
 use Rattle.rsc_captures.proofs.Owners.{each_owned, one_owner}
 use Rattle.rsc_captures.proofs.SlotsWithin.{slots_within_limit}
 use Rattle.rsc_captures.proofs.group_info.GroupInfo.slot_len.Goals as goal

@@ -1,6 +1,5 @@
 use Rattle.std.proofs.Common.{◌≡◌}
-use Rattle.rsc_captures.specs.Groups.{groups_of}
-use Rattle.rsc_captures.specs.Faults.{LIMIT_OF_IDS, IsFaultless}
+use Rattle.rsc_captures.proofs.Words.{groups_of, LIMIT_OF_IDS, IsFaultless}
 use Rattle.rsc_captures.proofs.Indexed.{index_of-is, index_of-within}
 use Rattle.rsc_captures.proofs.Parts.{distinct_in}
 use Rattle.rsc_captures.proofs.group_info.GroupInfo.to_index.Goals as goal

@@ -1,31 +1,29 @@
 use Rattle.std.proofs.Common.{sym, rules, Some, Ok, Err}
 use Rattle.std.proofs.lemmas.Fn.{always_returns_same}
-use Rattle.rsc_captures.specs.Groups.{groups_of, name_of}
-use Rattle.rsc_captures.specs.OrderLayout.{name_cmp}
+use Rattle.rsc_captures.proofs.Words.{groups_of, name_of, name_cmp}
 use Rattle.rsc_captures.proofs.Ordered.{index_from_search}
 use Rattle.rsc_captures.proofs.Parts.{distinct_in, part_ordered}
 use Rattle.rsc_captures.proofs.layout.SharedLists.find_by_order.Goals as goal
 
 pub slice_bounds-order-end : goal.slice_bounds-order-end
 slice_bounds-order-end g c =
-    (part_ordered c.self.inside.order.items c.deref.result.now c.args.self.now c.args.p c.first-first.result c.group_len.result
-    (rw c.self.view_is at c.self.invariant.ordered) c.requires c.deref.ensures.value c.first-first.ensures.value c.group_len.ensures.value).0
+    (part_ordered _ _ _ _ c.self.view_is c.self.invariant _ _ _ _ c.requires c.deref.ensures.value c.first-first.ensures.value c.group_len.ensures.value).0
 
 -- the closure answers how a group's name compares with the name
 pub returns-in-Ok : goal.returns-in-Ok
 returns-in-Ok g c =
-    let part = part_ordered c.self.inside.order.items c.deref.result.now c.args.self.now c.args.p c.first-first.result c.group_len.result
-    (rw c.self.view_is at c.self.invariant.ordered) c.requires c.deref.ensures.value c.first-first.ensures.value c.group_len.ensures.value in
+    let part = part_ordered _ _ _ _ c.self.view_is c.self.invariant _ _ _ _ c.requires c.deref.ensures.value c.first-first.ensures.value
+    c.group_len.ensures.value in
     let found = c.in-Ok.ensures.position (λ h. name_cmp (name_of c.args.self.now c.args.p h) (Some c.args.name.now))
     (always_returns_same _ _ _ (λ a r f' k. search rules)) in
-    sym (index_from_search (groups_of c.args.self.now c.args.p) _ part.1 (distinct_in c.args.self.now c.group_len.ensures.faultless c.args.p) c.args.name.now
-    (Ok c.in-Ok.place) found)
+    sym (index_from_search (groups_of c.args.self.now c.args.p) _ part.1 (distinct_in c.args.self.now c.group_len.ensures.faultless c.args.p)
+    c.args.name.now (Ok c.in-Ok.place) found)
 
 pub returns-in-Err : goal.returns-in-Err
 returns-in-Err g c =
-    let part = part_ordered c.self.inside.order.items c.deref.result.now c.args.self.now c.args.p c.first-first.result c.group_len.result
-    (rw c.self.view_is at c.self.invariant.ordered) c.requires c.deref.ensures.value c.first-first.ensures.value c.group_len.ensures.value in
+    let part = part_ordered _ _ _ _ c.self.view_is c.self.invariant _ _ _ _ c.requires c.deref.ensures.value c.first-first.ensures.value
+    c.group_len.ensures.value in
     let split = c.in-Err.ensures.position (λ h. name_cmp (name_of c.args.self.now c.args.p h) (Some c.args.name.now))
     (always_returns_same _ _ _ (λ a r f' k. search rules)) in
-    sym (index_from_search (groups_of c.args.self.now c.args.p) _ part.1 (distinct_in c.args.self.now c.group_len.ensures.faultless c.args.p) c.args.name.now
-    (Err c.in-Err.field-0) split)
+    sym (index_from_search (groups_of c.args.self.now c.args.p) _ part.1 (distinct_in c.args.self.now c.group_len.ensures.faultless c.args.p)
+    c.args.name.now (Err c.in-Err.field-0) split)

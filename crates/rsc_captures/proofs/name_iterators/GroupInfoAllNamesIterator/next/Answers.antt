@@ -1,7 +1,6 @@
-use Rattle.std.proofs.Common.{◌≡◌, refl, sym, ◌∙◌, arith, rules}
-use Rattle.std.specs.Option.{option_copied}
+use Rattle.std.proofs.Common.{◌≡◌, refl, sym, ◌∙◌, arith, rules, option_copied}
 use Rattle.rsc_captures.specs.Groups.{name_of}
-use Rattle.rsc_captures.proofs.Parts.{within_names, named_at}
+use Rattle.rsc_captures.proofs.Parts.{within_names, name_in}
 use Rattle.rsc_captures.proofs.NamesLeft.{IsNext, next_stays, next_enters, left_more}
 use Rattle.rsc_captures.proofs.name_iterators.GroupInfoAllNamesIterator.next.Goals as goal
 use Rattle.rsc_captures.proofs.name_iterators.GroupInfoAllNamesIterator.next.Goals.{then-self+else-self-count, else-self}
@@ -25,9 +24,7 @@ same_lists g c = elim c.if-self.branch [ then-self+else-self-count w ↦ rw w.se
 pub get-name-requires : goal.get-name-requires
 get-name-requires g c =
     let is = next_is g c in
-    let within = within_names c.lists.inside.firsts.items c.lists.inside.names c.self.inside.lists.now c.lists.view_is
-    (rw c.lists.view_is at c.lists.invariant.laid_out) c.if-self.self-inside.pattern c.if-self.self-inside.group _ refl is.group in
-    omega (arith, within, is.at.at)
+    omega (arith, within_names _ _ _ _ c.lists.view_is c.lists.invariant _ _ _ refl is.group, is.at.at)
 
 pub invariant_of-self : goal.invariant_of-self
 invariant_of-self g c =
@@ -39,9 +36,7 @@ pub returns-clause-steps : goal.returns-clause-steps
 returns-clause-steps g c =
     let is = next_is g c.before.before.before.before in
     let name : option_copied c.get-name.result ≡ name_of c.self.inside.lists.now c.if-self.self-inside.pattern c.if-self.self-inside.group =
-    named_at c.lists.inside.firsts.items c.lists.inside.names c.self.inside.lists.now c.lists.view_is
-    (rw c.lists.view_is at c.lists.invariant.laid_out) c.if-self.self-inside.pattern c.if-self.self-inside.group _
-    (option_copied c.get-name.result) refl is.group (rw is.at.at at c.get-name.ensures) in
+    (rw is.at.at at c.get-name.ensures) ∙ name_in _ _ _ _ c.lists.view_is c.lists.invariant _ _ _ refl is.group in
     rw (same_lists g c.before.before.before.before, c.must.ensures, name) (sym c.self.view_is ∙ is.left
     ∙ left_more c.self.inside.lists.now c.if-self.self-inside.pattern c.if-self.self-inside.group is.group)
 

@@ -4,9 +4,7 @@ use Rattle.rsc_captures.proofs.name_iterators.GroupInfoPatternNames.new.Goals as
 
 pub invariant_of-result-2 : goal.invariant_of-result-2
 invariant_of-result-2 g c =
-    (range_is c.lists.inside.firsts.items c.lists.inside.names c.args.lists.now c.lists.view_is (rw c.lists.view_is at c.lists.invariant.laid_out) c.args.p
-    c.first.result c.first-2.result (omega arith) c.first.ensures.value c.first-2.ensures.value).0
+    (range_is _ _ _ _ c.lists.view_is c.lists.invariant c.args.p _ _ (omega arith) c.first.ensures.value c.first-2.ensures.value).0
 
 pub returns : goal.returns
-returns g c = (range_is c.lists.inside.firsts.items c.lists.inside.names c.args.lists.now c.lists.view_is (rw c.lists.view_is at c.lists.invariant.laid_out)
-    c.args.p c.first.result c.first-2.result (omega arith) c.first.ensures.value c.first-2.ensures.value).1
+returns g c = (range_is _ _ _ _ c.lists.view_is c.lists.invariant c.args.p _ _ (omega arith) c.first.ensures.value c.first-2.ensures.value).1

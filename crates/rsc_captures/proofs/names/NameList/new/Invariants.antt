@@ -1,8 +1,5 @@
-use Rattle.std.proofs.Common.{take}
-use Rattle.std.specs.List.{flat_map}
-use Rattle.std.specs.String.{string_bytes}
-use Rattle.rsc_captures.specs.Groups.{lists_in}
-use Rattle.rsc_captures.specs.NamesLayout.{AreHeld}
+use Rattle.std.proofs.Common.{take, flat_map, string_bytes}
+use Rattle.rsc_captures.proofs.Words.{lists_in, AreHeld}
 use Rattle.rsc_captures.proofs.names.NameList.new.Given as goal
 
 -- the names of the patterns so far are held

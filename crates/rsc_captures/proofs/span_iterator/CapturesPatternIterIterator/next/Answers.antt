@@ -1,6 +1,5 @@
 use Rattle.std.proofs.Common.{◌≡◌, ◌<◌, ◌+◌, ◌∷◌, arith, rules}
-use Rattle.rsc_captures.specs.Captured.{matched_groups}
-use Rattle.rsc_captures.specs.CapturedLayout.{spans_from}
+use Rattle.rsc_captures.proofs.Words.{matched_groups, spans_from}
 use Rattle.rsc_captures.proofs.Spans.{spans_from_first}
 use Rattle.rsc_captures.proofs.span_iterator.CapturesPatternIterIterator.next.Goals as goal
 
