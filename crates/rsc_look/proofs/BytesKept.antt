@@ -1,15 +1,9 @@
 -- The twelve assertions on bytes are kept by a partition that has their boundaries.
-use Rattle.std.proofs.Common.{◌≡◌, ℕ, zero, suc, ◌-◌, ◌<◌, ◌≤◌, Bool, true, not, ◌&&◌, ◌||◌, eqb, leb, List, length, Option, Some, None, refl, sym, ◌∙◌, arith, is_none, ⊎_elim}
-use Rattle.std.specs.Prelude.{slice_get}
+use Rattle.std.proofs.Common.{◌≡◌, ℕ, zero, suc, ◌-◌, ◌<◌, ◌≤◌, Bool, true, not, ◌&&◌, ◌||◌, eqb, leb, List, length, Option, Some, None, refl, sym, ◌∙◌, arith, is_none, ⊎_elim, slice_get}
 use Rattle.std.proofs.lemmas.Bool.Decides.{nat_tests}
 use Rattle.std.proofs.lemmas.Option.{slice_get-get_or, slice_get_past}
 use Rattle.std.proofs.lemmas.Bool.{or_left, or_right, cases_lt}
-use Rattle.rsc_primitives.specs.Utf8.{is_word_byte}
-use Rattle.rsc_look.specs.declared.assertion.Look.{Look}
-use Rattle.rsc_look.specs.declared.assertion.Look.TheVariants.{Start, End, StartLF, EndLF, StartCRLF, EndCRLF, WordAscii, WordAsciiNegate, WordStartAscii, WordEndAscii, WordStartHalfAscii, WordEndHalfAscii}
-use Rattle.rsc_look.specs.Holds.{byte_before, is_byte, is_word_neighbor, holds_at_bytes}
-use Rattle.rsc_alphabet.specs.Partitions.{Together}
-use Rattle.rsc_look.specs.Keeping.{AreInterchanged}
+use Rattle.rsc_look.proofs.Words.{is_word_byte, Look, Start, End, StartLF, EndLF, StartCRLF, EndCRLF, WordAscii, WordAsciiNegate, WordStartAscii, WordEndAscii, WordStartHalfAscii, WordEndHalfAscii, byte_before, is_byte, is_word_neighbor, holds_at_bytes, Together, AreInterchanged}
 use Rattle.rsc_look.proofs.Marks.{is_edge, is_word_mark, is_mark}
 
 -- the partition has these boundaries
@@ -24,8 +18,7 @@ Together-leb p a b x t h =
 Together-leb-mark : (p m : ℕ → Bool) (a b x : ℕ) → HasMarks p m → Together p a b → x < 255 → m x ≡ true → leb a x ≡ leb b x
 Together-leb-mark p m a b x s t l h = Together-leb p a b x t (s x l h)
 
-same_eqb : (a b t : ℕ) → a < 256 → b < 256 → (t < 255 → leb a t ≡ leb b t) → (0 < t → t < 256 → leb a (t - 1) ≡ leb b (t - 1))
-    → eqb a t ≡ eqb b t
+same_eqb : (a b t : ℕ) → a < 256 → b < 256 → (t < 255 → leb a t ≡ leb b t) → (0 < t → t < 256 → leb a (t - 1) ≡ leb b (t - 1)) → eqb a t ≡ eqb b t
 same_eqb a b t la lb f g = grind (arith, nat_tests)
 
 pub Together-eqb : (p : ℕ → Bool) (a b t : ℕ) → a < 256 → b < 256 → HasMarks p (is_edge t) → Together p a b → eqb a t ≡ eqb b t
@@ -52,6 +45,7 @@ is_word_byte-between a =
     let e4 = at_low_line a in
     rw (e1, e2, e3, e4)
 
+-- bytes that are together are both word bytes, or neither is
 pub Together-is_word_byte : (p : ℕ → Bool) (a b : ℕ) → HasMarks p is_word_mark → Together p a b → is_word_byte a ≡ is_word_byte b
 Together-is_word_byte p a b s h =
     let go : (x : ℕ) → x < 255 → is_word_mark x ≡ true → leb a x ≡ leb b x = λ x l m. Together-leb-mark p is_word_mark a b x s h l m in
@@ -71,6 +65,7 @@ TogetherAt p None None = Unit {0}
 TogetherAt p (Some a) (Some b) = (a < 256) × (b < 256) × Together p a b
 TogetherAt p _ _ = ⊥
 
+-- interchanged haystacks have neighbours that are together: the byte after a position
 pub TogetherAt-slice_get : (p : ℕ → Bool) (h k : List ℕ) (i : ℕ) → AreInterchanged p h k → TogetherAt p (slice_get h i) (slice_get k i)
 TogetherAt-slice_get p h k i s =
     ⊎_elim
@@ -85,6 +80,7 @@ TogetherAt-slice_get p h k i s =
     rw (a, b) tt)
     (cases_lt i (length h))
 
+-- and the byte before it
 pub TogetherAt-before : (p : ℕ → Bool) (h k : List ℕ) (i : ℕ) → AreInterchanged p h k → TogetherAt p (byte_before h i) (byte_before k i)
 TogetherAt-before p h k zero s = tt
 TogetherAt-before p h k (suc i) s = TogetherAt-slice_get p h k i s
@@ -114,8 +110,7 @@ crlf_lf : (p : ℕ → Bool) → HasMarks p (λ b. is_edge 13 b || is_edge 10 b)
 crlf_lf p s b l e = s b l (or_right (is_edge 13 b) (is_edge 10 b) e)
 
 -- the table gives the same at neighbours that are together
-pub holds_at_bytes-same : (p : ℕ → Bool) (l : Look) (t : ℕ) → HasMarks p (is_mark l t) → (a b x y : Option ℕ) → TogetherAt p a b
-    → TogetherAt p x y
+pub holds_at_bytes-same : (p : ℕ → Bool) (l : Look) (t : ℕ) → HasMarks p (is_mark l t) → (a b x y : Option ℕ) → TogetherAt p a b → TogetherAt p x y
     → holds_at_bytes l t a x ≡ holds_at_bytes l t b y
 holds_at_bytes-same p Start t s a b x y h k = same_none p a b h
 holds_at_bytes-same p End t s a b x y h k = same_none p x y k

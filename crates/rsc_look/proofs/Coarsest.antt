@@ -1,18 +1,9 @@
 -- The boundaries of a list's members make the coarsest partition that keeps them.
-use Rattle.std.proofs.Common.{[], ◌≡◌, ◌↔◌, ℕ, zero, suc, ◌+◌, ◌<◌, Bool, true, false, List, ◌∷◌, refl, sym, ap, ◌∙◌, subst, arith, true≢false}
-use Rattle.std.specs.Prelude.{slice_index, length}
-use Rattle.std.specs.List.{Contains, Any}
+use Rattle.std.proofs.Common.{[], ◌≡◌, ◌↔◌, ℕ, zero, suc, ◌+◌, ◌<◌, Bool, true, false, List, ◌∷◌, refl, sym, ap, ◌∙◌, subst, arith, true≢false, slice_index, length, Contains, Any}
 use Rattle.std.specs.FinSet as sets
 use Rattle.std.proofs.lemmas.List.Folds.{list_any_at, Any-from_list_any}
 use Rattle.std.proofs.lemmas.Bool.{true_from_ne_false}
-use Rattle.rsc_alphabet.specs.Partitions.{Together, class_map}
-use Rattle.rsc_look.specs.declared.assertion.Look.{Look}
-use Rattle.rsc_look.specs.declared.assertion.Look.TheVariants.{Start, End, StartLF, EndLF, StartCRLF, EndCRLF}
-use Rattle.rsc_look.specs.Looks.{is_unicode}
-use Rattle.rsc_look.specs.Holds.{byte_before, byte_after, holds_at_bytes, Holds}
-use Rattle.rsc_look.specs.Boundaries.{boundaries_of_each}
-use Rattle.rsc_look.specs.Keeping.{IsHaystack, AreInterchanged, DifferInAscii, Keeps, IsCoarsest, AgreesWithAscii, AgreesWhereAsked, Tells, IsNeeded, IsCoarsestMap}
-use Rattle.rsc_look.specs.KeepingLaws.{alike_alone, not_told}
+use Rattle.rsc_look.proofs.Words.{Together, class_map, Look, Start, End, StartLF, EndLF, StartCRLF, EndCRLF, is_unicode, byte_before, byte_after, holds_at_bytes, Holds, boundaries_of_each, IsHaystack, AreInterchanged, DifferInAscii, Keeps, IsCoarsest, AgreesWithAscii, AgreesWhereAsked, Tells, IsNeeded, IsCoarsestMap, alike_alone, not_told}
 use Rattle.rsc_look.proofs.Marks.{is_word_mark, is_mark, marks_of, contains-boundaries_of_each}
 use Rattle.rsc_look.proofs.BytesKept.{HasMarks, TogetherAt-slice_get, TogetherAt-before, holds_at_bytes-same}
 use Rattle.rsc_look.proofs.Sides.{Holds-bytes, Holds-sides, HoldsAtSides-moves, Interchange, Interchange-from, Interchange-sym}
@@ -30,8 +21,8 @@ is_mark-unicode _ t b e = refl
 
 -- ---- one assertion is kept by every partition that has its boundaries
 
-pub kept_at_bytes : (p : ℕ → Bool) (l : Look) (t : ℕ) (W : ℕ → Bool) → HasMarks p (is_mark l t) → is_unicode l ≡ false → (h k : List ℕ)
-    → AreInterchanged p h k
+-- the twelve assertions on bytes are kept
+pub kept_at_bytes : (p : ℕ → Bool) (l : Look) (t : ℕ) (W : ℕ → Bool) → HasMarks p (is_mark l t) → is_unicode l ≡ false → (h k : List ℕ) → AreInterchanged p h k
     → (i : ℕ) → Holds l t W h i ↔ Holds l t W k i
 kept_at_bytes p l t W m e h k s i =
     let same : holds_at_bytes l t (byte_before h i) (byte_after h i) ≡ holds_at_bytes l t (byte_before k i) (byte_after k i) =
@@ -41,9 +32,9 @@ kept_at_bytes p l t W m e h k s i =
     let b = Holds-bytes l t W k i e in
     ((λ x. b.1 (sym same ∙ a.0 x)), (λ x. a.1 (same ∙ b.0 x)))
 
-pub kept_at_characters : (p : ℕ → Bool) (l : Look) (t : ℕ) (W : ℕ → Bool) → AgreesWithAscii W → HasMarks p (is_mark l t) → is_unicode l ≡ true
-    → (h k : List ℕ) → AreInterchanged p h k → DifferInAscii h k
-    → (i : ℕ) → Holds l t W h i ↔ Holds l t W k i
+-- the six assertions on characters are kept
+pub kept_at_characters : (p : ℕ → Bool) (l : Look) (t : ℕ) (W : ℕ → Bool) → AgreesWithAscii W → HasMarks p (is_mark l t) → is_unicode l ≡ true → (h k : List ℕ)
+    → AreInterchanged p h k → DifferInAscii h k → (i : ℕ) → Holds l t W h i ↔ Holds l t W k i
 kept_at_characters p l t W ascii m e h k s d i =
     let words : HasMarks p is_word_mark = λ b q x. m b q (is_mark-unicode l t b e ∙ x) in
     let w : Interchange W h k = Interchange-from p W h k ascii words s d in
@@ -55,8 +46,7 @@ kept_at_characters p l t W ascii m e h k s d i =
 members_marks : (p : ℕ → Bool) (looks : List Look) (l : Look) (t : ℕ) → HasMarks p (marks_of looks t) → Contains looks l → HasMarks p (is_mark l t)
 members_marks p looks l t has c b lt m = has b lt (list_any_at (λ x. is_mark x t b) looks c.0 l c.1 (ap (λ x. is_mark x t b) c.2 ∙ m))
 
-pub Keeps-from : (p : ℕ → Bool) (looks : List Look) (t : ℕ) (W : ℕ → Bool) → HasMarks p (marks_of looks t) → AgreesWhereAsked W looks
-    → Keeps p looks t W
+pub Keeps-from : (p : ℕ → Bool) (looks : List Look) (t : ℕ) (W : ℕ → Bool) → HasMarks p (marks_of looks t) → AgreesWhereAsked W looks → Keeps p looks t W
 Keeps-from p looks t W has a = record {
   at_bytes = λ l c e h k s i r. kept_at_bytes p l t W (members_marks p looks l t has c) e h k s i;
   at_characters = λ l c e h k s d i r. kept_at_characters p l t W (a l c e) (members_marks p looks l t has c) e h k s d i;
@@ -96,8 +86,7 @@ boundaries-IsCoarsest looks t W a = record {
       mark_is_needed q looks y.1 t W b (a y.1 c) keeps c lt y.4;
 }
 
-boundaries-IsNeeded : (looks : List Look) (t : ℕ) (W : ℕ → Bool) (b : ℕ) → AgreesWhereAsked W looks
-    → sets.contains (boundaries_of_each looks t) b ≡ true
+boundaries-IsNeeded : (looks : List Look) (t : ℕ) (W : ℕ → Bool) (b : ℕ) → AgreesWhereAsked W looks → sets.contains (boundaries_of_each looks t) b ≡ true
     → IsNeeded b looks t W
 boundaries-IsNeeded looks t W b a m =
     let y : Any (λ l. is_mark l t b ≡ true) looks = member_with looks t b m in

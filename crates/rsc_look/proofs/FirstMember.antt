@@ -1,6 +1,5 @@
 -- The first member of a set by its bits, and the set without it: what an iterator takes.
-use Rattle.std.proofs.Common.{◌≡◌, ◌≢◌, ◌↔◌, ℕ, ◌+◌, ◌*◌, ◌^◌, ◌%◌, ◌<◌, ◌≤◌, Bool, true, false, not, ◌&&◌, cond, List, [], ◌∷◌, ◌++◌, map, filter, Option, Some, refl, sym, ap, ◌∙◌, subst, arith, nat_eq, w32, ⊎_elim}
-use Rattle.std.specs.Prelude.{MatchOption}
+use Rattle.std.proofs.Common.{◌≡◌, ◌≢◌, ◌↔◌, ℕ, ◌+◌, ◌*◌, ◌^◌, ◌%◌, ◌<◌, ◌≤◌, Bool, true, false, not, ◌&&◌, cond, List, [], ◌∷◌, ◌++◌, map, filter, Option, Some, refl, sym, ap, ◌∙◌, subst, arith, nat_eq, w32, ⊎_elim, MatchOption}
 use Rattle.std.specs.Int.{bit_at, trailing_zeros}
 use Rattle.std.specs.FinSet as sets
 use Rattle.std.specs.FinSet.{contains-empty, contains-remove}
@@ -8,13 +7,7 @@ use Rattle.std.proofs.lemmas.Bool.{cases_eq, cases_lt, eq-eqb, ne_eqb}
 use Rattle.std.proofs.lemmas.List.Elements.{filter-append}
 use Rattle.std.proofs.lemmas.Nat.Bits.{bit_at_above, bit_at-trailing_zeros}
 use Rattle.std.proofs.Math.Bool.{and-false}
-use Rattle.rsc_alphabet.specs.Bytes.{from_to}
-use Rattle.rsc_alphabet.specs.BytesLaws.{from_to_parts, filter_none, filter_first, filter_same}
-use Rattle.rsc_look.specs.declared.assertion.Look.{Look}
-use Rattle.rsc_look.specs.Looks.{repr_of}
-use Rattle.rsc_look.specs.LookSets.{look_cmp, Looks, members}
-use Rattle.rsc_look.specs.LookSetLayout.{place_of, looks_of, look_at}
-use Rattle.rsc_look.specs.LookSetLaws.{look_cmp_total, repr_of-injective, repr_of-look_at, place_of-look_at, every_look-is, contains-looks_of, tied}
+use Rattle.rsc_look.proofs.Words.{from_to, from_to_parts, filter_none, filter_first, filter_same, Look, repr_of, look_cmp, Looks, members, place_of, looks_of, look_at, look_cmp_total, repr_of-injective, repr_of-look_at, place_of-look_at, every_look-is, contains-looks_of, tied}
 use Rattle.rsc_look.proofs.LookSetLemmas.{looks_of-none, repr_of-lt}
 
 filter-map : (p : Look → Bool) (ks : List ℕ) → filter p (map look_at ks) ≡ map look_at (filter (λ k. p (look_at k)) ks)
@@ -90,6 +83,7 @@ first_by_bits n pos h k e =
 abbrev pub IsFirstMember : Looks → Option Look → Type 0
 IsFirstMember s r = MatchOption r (members s ≡ []) (λ l. members s ≡ l ∷ members (sets.remove s l))
 
+-- no bit is set: the iterator ends
 pub first_none : (n : ℕ) → n ≡ 0 → members (looks_of n) ≡ []
 first_none n e = no_member (looks_of n) (ap looks_of e ∙ looks_of-none)
 
@@ -99,8 +93,8 @@ shifted k l =
     let small : 2 ^ k < 2 ^ 32 = subst (λ x. x < 2 ^ 32) (repr_of-look_at k l) (let m = repr_of-lt (look_at k) in omega arith) in
     rw one (omega (arith, small))
 
-pub first_some : (n : ℕ) (r : Option Look) → (n ≡ 0 → ⊥) → n < 2 ^ 18
-    → ((l : Look) → (r ≡ Some l) ↔ (repr_of l ≡ 1 * 2 ^ trailing_zeros w32 n % 2 ^ 32))
+-- the lowest bit gives the first member
+pub first_some : (n : ℕ) (r : Option Look) → (n ≡ 0 → ⊥) → n < 2 ^ 18 → ((l : Look) → (r ≡ Some l) ↔ (repr_of l ≡ 1 * 2 ^ trailing_zeros w32 n % 2 ^ 32))
     → IsFirstMember (looks_of n) r
 first_some n r some h is =
     let k = trailing_zeros w32 n in

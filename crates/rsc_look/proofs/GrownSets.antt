@@ -4,10 +4,7 @@ use Rattle.std.specs.FinSet as sets
 use Rattle.std.specs.FinSet.{contains-insert, contains-remove}
 use Rattle.std.specs.Ordering.{eq_by_cmp}
 use Rattle.std.proofs.lemmas.Bool.{cases_eq, eq-eqb, ne_eqb}
-use Rattle.rsc_look.specs.declared.assertion.Look.{Look}
-use Rattle.rsc_look.specs.Looks.{repr_of}
-use Rattle.rsc_look.specs.LookSets.{look_cmp, Looks}
-use Rattle.rsc_look.specs.LookSetLaws.{look_cmp_total, repr_of-injective, tied}
+use Rattle.rsc_look.proofs.Words.{Look, repr_of, look_cmp, Looks, look_cmp_total, repr_of-injective, tied}
 
 itself : (l : Look) → eq_by_cmp look_cmp l l ≡ true
 itself l = tied l l ∙ eq-eqb (repr_of l) (repr_of l) refl
@@ -15,6 +12,7 @@ itself l = tied l l ∙ eq-eqb (repr_of l) (repr_of l) refl
 apart : (l m : Look) → l ≢ m → eq_by_cmp look_cmp l m ≡ false
 apart l m ne = tied l m ∙ ne_eqb (repr_of l) (repr_of m) (λ e. ne (repr_of-injective l m e))
 
+-- membership after an insertion and after a removal: of the member itself, and of the others
 pub grown_by : (s : Looks) (l : Look) → sets.contains (sets.insert s l) l ≡ true
 grown_by s l = contains-insert look_cmp_total s l l ∙ ap (λ b. b || sets.contains s l) (itself l)
 

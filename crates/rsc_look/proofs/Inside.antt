@@ -1,15 +1,7 @@
 -- No assertion on characters holds inside an encoded character.
-use Rattle.std.proofs.Common.{◌≡◌, ◌↔◌, ℕ, Bool, true, false, List, refl, sym, ◌∙◌, arith, true≢false}
+use Rattle.std.proofs.Common.{◌≡◌, ◌↔◌, ℕ, Bool, true, false, List, refl, sym, ◌∙◌, arith, true≢false, IsTrue}
 use Rattle.std.proofs.lemmas.Bool.{false_from_ne_true}
-use Rattle.std.specs.Prelude.{IsTrue}
-use Rattle.rsc_primitives.specs.Utf8.{IsInside}
-use Rattle.rsc_primitives.specs.Utf8Laws.{IsInside-begins, IsInside-ends}
-use Rattle.rsc_look.specs.declared.assertion.Look.{Look}
-use Rattle.rsc_look.specs.declared.assertion.Look.TheVariants.{WordUnicode}
-use Rattle.rsc_look.specs.declared.side.Side.{Side}
-use Rattle.rsc_look.specs.declared.side.Side.TheVariants.{Absent, Invalid, Word, Other}
-use Rattle.rsc_look.specs.Holds.{IsBefore, IsAfter, holds_at_sides, Holds}
-use Rattle.rsc_look.specs.Looks.{is_unicode}
+use Rattle.rsc_look.proofs.Words.{IsInside, IsInside-begins, IsInside-ends, Look, WordUnicode, Side, Absent, Invalid, Word, Other, IsBefore, IsAfter, holds_at_sides, Holds, is_unicode}
 use Rattle.rsc_look.proofs.Sides.{Holds-sides}
 
 bad_before : (W : ℕ → Bool) (h : List ℕ) (i : ℕ) (a : Side) → IsInside h i → IsBefore W h i a → a ≡ Invalid
@@ -36,6 +28,7 @@ Holds-inside l t W h i u s p =
     let e : holds_at_sides l Invalid Invalid ≡ true = rw (a, b) at q.holds in
     true≢false (sym e ∙ neither l)
 
+-- `matches` answers false inside a character
 pub matches_inside : (l : Look) (t : ℕ) (W : ℕ → Bool) (h : List ℕ) (i : ℕ) (r : Bool) → IsTrue r ↔ Holds l t W h i → is_unicode l ≡ true
     → IsInside h i → r ≡ false
 matches_inside l t W h i r e u s = false_from_ne_true r (λ x. Holds-inside l t W h i u s (e.0 x))

@@ -13,3 +13,4 @@ pub mod Sides  -- the sides of a place: each place has one on either hand, and b
 pub mod Single  -- one assertion and its boundaries
 pub mod UnicodeWords  -- the class `\w` of the tables, and the word characters from 128 on
 pub mod WordMarks  -- the boundaries of the word bytes are where two neighbouring bytes differ: computed for all 255 of them
+pub mod Words  -- the words of `specs/` that most proofs cite, passed on from one place

@@ -1,6 +1,5 @@
 -- What the operations on eighteen bits do to the set that they stand for.
-use Rattle.std.proofs.Common.{◌≡◌, ◌≢◌, ◌↔◌, ℕ, zero, suc, ◌-◌, ◌*◌, ◌^◌, ◌<◌, ◌≤◌, Bool, true, false, not, ◌&&◌, ◌||◌, cond, List, length, get_or, map, filter, Some, None, min, max, refl, sym, ap, ap₂, ◌∙◌, arith, nat_eq, bit_and, bit_or, w32, ⊎_elim}
-use Rattle.std.specs.Prelude.{count_ones, IsTrue}
+use Rattle.std.proofs.Common.{◌≡◌, ◌≢◌, ◌↔◌, ℕ, zero, suc, ◌-◌, ◌*◌, ◌^◌, ◌<◌, ◌≤◌, Bool, true, false, not, ◌&&◌, ◌||◌, cond, List, length, get_or, map, filter, Some, None, min, max, refl, sym, ap, ap₂, ◌∙◌, arith, nat_eq, bit_and, bit_or, w32, ⊎_elim, count_ones, IsTrue}
 use Rattle.std.specs.List.{list_any}
 use Rattle.std.specs.Int.{bit_at}
 use Rattle.std.specs.FinSet as sets
@@ -15,13 +14,9 @@ use Rattle.std.proofs.lemmas.Simd.{mask_l-lt, bit_mask_l, ones-mask_l}
 use Rattle.std.proofs.Math.Bool.{or_comm, and_comm}
 use Rattle.std.proofs.lemmas.Option.{same_Some, none-some}
 use lib.Lanes.{mask_l}
-use Rattle.rsc_look.specs.declared.assertion.Look.{Look}
-use Rattle.rsc_look.specs.declared.assertion.Look.TheVariants.{Start}
+use Rattle.rsc_look.proofs.Words.{Look, Start, look_cmp, Looks, members, bits_of, look_cmp_total, look_cmp-IsAntisymmetric, same_looks, repr_of-injective, repr_of-pow, place_of-look_at, place_of-lt, contains-looks_of, bits_of-looks_of, looks_of-bits_of, bits_of-lt, every_look_has, tied, same_members, same_bools, same_from, same_to}
 use Rattle.rsc_look.specs.Looks.{repr_of, every_look}
-use Rattle.rsc_look.specs.LookSets.{look_cmp, Looks, members, bits_of}
 use Rattle.rsc_look.specs.LookSetLayout.{place_of, has_bit, looks_of, look_at, look_at-place_of}
-use Rattle.rsc_look.specs.LookSetLaws.{look_cmp_total, look_cmp-IsAntisymmetric, same_looks, repr_of-injective, repr_of-pow, place_of-look_at, place_of-lt, contains-looks_of, bits_of-looks_of, looks_of-bits_of, bits_of-lt, every_look_has, tied}
-use Rattle.rsc_alphabet.specs.SameMembers.{same_members, same_bools, same_from, same_to}
 
 -- ---- single assertions
 
@@ -41,6 +36,7 @@ single_bit l m = ⊎_elim
     ∙ sym (ne_eqb (repr_of m) (repr_of l) (λ e. ne (ap place_of (repr_of-injective m l e)))))
     (cases_eq (place_of m) (place_of l))
 
+-- an assertion's bit is one of the lowest eighteen
 pub repr_of-lt : (l : Look) → repr_of l < 2 ^ 18
 repr_of-lt Start = omega arith
 repr_of-lt _ = omega arith
@@ -68,11 +64,11 @@ has_bit-and a b l = ap (λ n. nat_eq n 1) (bit_at_and a b (place_of l)) ∙ min_
 
 has_bit-not : (b : ℕ) (l : Look) → b < 2 ^ 32 → has_bit (4294967295 - b) l ≡ not (has_bit b l)
 has_bit-not b l h =
-    ap (λ n. nat_eq n 1) (bit_at_not w32 b (place_of l) h (let p = place_of-lt l in omega arith))
-    ∙ minus_is (bit_at b (place_of l)) (bit_at-lt b (place_of l))
+    ap (λ n. nat_eq n 1) (bit_at_not w32 b (place_of l) h (let p = place_of-lt l in omega arith)) ∙ minus_is (bit_at b (place_of l)) (bit_at-lt b (place_of l))
 
 -- ---- the operations
 
+-- 0 is the empty set, and eighteen ones are the full one
 pub looks_of-none : looks_of 0 ≡ sets.empty
 looks_of-none = same_looks (looks_of 0) sets.empty (λ l. contains-looks_of 0 l ∙ ap (λ n. nat_eq n 1) (bit_at-zero (place_of l))
     ∙ sym (contains-empty look_cmp l))
@@ -89,6 +85,7 @@ looks_of-all = same_looks (looks_of 262143) (sets.from_list every_look) (λ l.
     contains-looks_of 262143 l ∙ all_bits l
     ∙ sym (contains-from_list look_cmp_total every_look l ∙ ap (λ (t : Look → Bool). list_any t every_look) (λ i m. tied l m i) ∙ every_look_has l))
 
+-- each operation on bits is that operation on sets
 pub looks_of-insert : (n : ℕ) (l : Look) → looks_of (bit_or n (repr_of l)) ≡ sets.insert (looks_of n) l
 looks_of-insert n l = same_looks (looks_of (bit_or n (repr_of l))) (sets.insert (looks_of n) l) (λ m.
     contains-looks_of (bit_or n (repr_of l)) m ∙ has_bit-or n (repr_of l) m ∙ or_comm (has_bit n m) (has_bit (repr_of l) m)
@@ -122,6 +119,7 @@ looks_of-difference a b h = same_looks (looks_of (bit_and a (4294967295 - b))) (
 
 -- ---- the questions
 
+-- each question on bits is that question on sets
 pub contains_by_and : (n : ℕ) (l : Look) → not (nat_eq (bit_and n (repr_of l)) 0) ≡ sets.contains (looks_of n) l
 contains_by_and n l =
     ap (λ r. not (nat_eq (bit_and n r) 0)) (repr_of-pow l) ∙ ap (λ x. not (nat_eq x 0)) (and_pow n (place_of l))
@@ -171,6 +169,7 @@ as_mask n h = same_from_bits_below 18 n (mask_l (map (has_bit n) every_look)) h 
 members-looks_of : (n : ℕ) → members (looks_of n) ≡ filter (has_bit n) every_look
 members-looks_of n = ap (λ (p : Look → Bool). filter p every_look) (λ i l. contains-looks_of n l i)
 
+-- the number of ones is the number of members
 pub count_by_bits : (n : ℕ) → n < 2 ^ 18 → count_ones n ≡ length (members (looks_of n))
 count_by_bits n h =
     ap count_ones (as_mask n h) ∙ ones-mask_l (has_bit n) every_look ∙ sym (length-filter (has_bit n) every_look)
@@ -178,6 +177,7 @@ count_by_bits n h =
 
 -- ---- a set from its bits
 
+-- `try_from` gives the set with these bits, and none for more than eighteen
 pub some_exact : (n : ℕ) (s : Looks) → n < 2 ^ 18 → (Some (looks_of n) ≡ Some s) ↔ (bits_of s ≡ n)
 some_exact n s h = (
   (λ e. ap bits_of (sym (same_Some (looks_of n) s e)) ∙ bits_of-looks_of n h),

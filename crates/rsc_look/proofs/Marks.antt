@@ -1,29 +1,26 @@
 -- The boundaries of an assertion as tests that compute.
-use Rattle.std.proofs.Common.{◌≡◌, ℕ, ◌-◌, Bool, false, ◌&&◌, ◌||◌, List, [], ◌∷◌, nat_eq, nat_lt, ◌+◌, ◌<◌, ◌≤◌, length, take, get_or, sym, ap, ap₂, ◌∙◌}
+use Rattle.std.proofs.Common.{◌≡◌, ℕ, ◌-◌, Bool, false, ◌&&◌, ◌||◌, List, [], ◌∷◌, nat_eq, nat_lt, ◌+◌, ◌<◌, ◌≤◌, length, take, get_or, sym, ap, ap₂, ◌∙◌, nat_cmp}
 use Rattle.std.specs.List.{list_any}
-use Rattle.std.specs.Ordering.{nat_cmp}
 use Rattle.std.specs.FinSet as sets
 use Rattle.std.specs.FinSet.{contains-empty, contains-from_list_nat}
 use Rattle.std.proofs.lemmas.List.{take_all, take_more}
 use Rattle.std.proofs.lemmas.List.Folds.{list_any-append}
 use Rattle.std.proofs.Math.Bool.{or-false}
-use Rattle.rsc_alphabet.specs.ByteSets.{Numbers}
-use Rattle.rsc_alphabet.specs.Partitions.{edges_of, class_map}
-use Rattle.rsc_alphabet.specs.PartitionsLaws.{contains-joined, contains-edges_of, class_map_same}
-use Rattle.rsc_look.specs.declared.assertion.Look.{Look}
-use Rattle.rsc_look.specs.declared.assertion.Look.TheVariants.{Start, End, StartLF, EndLF, StartCRLF, EndCRLF}
+use Rattle.rsc_look.proofs.Words.{Numbers, edges_of, class_map, contains-joined, contains-edges_of, class_map_same, Look, Start, End, StartLF, EndLF, StartCRLF, EndCRLF}
 use Rattle.rsc_look.specs.Boundaries.{word_boundaries, boundaries_of, boundaries_of_each}
 
 -- a boundary of the byte t alone
 abbrev pub is_edge : ℕ → ℕ → Bool
 is_edge t b = (nat_lt 0 t && nat_eq (t - 1) b) || (nat_lt t 255 && nat_eq t b)
 
+-- the boundaries of the word bytes
 abbrev pub word_marks : List ℕ
 word_marks = 0x2F ∷ 0x39 ∷ 0x40 ∷ 0x5A ∷ 0x5E ∷ 0x5F ∷ 0x60 ∷ 0x7A ∷ []
 
 abbrev pub is_word_mark : ℕ → Bool
 is_word_mark b = list_any (λ x. nat_eq x b) word_marks
 
+-- the boundaries of an assertion, and of a list of assertions
 abbrev pub is_mark : Look → ℕ → ℕ → Bool
 is_mark Start t b = false
 is_mark End t b = false
@@ -36,6 +33,7 @@ is_mark _ t b = is_word_mark b
 abbrev pub marks_of : List Look → ℕ → ℕ → Bool
 marks_of looks t b = list_any (λ l. is_mark l t b) looks
 
+-- the tests agree with the sets that the definitions name
 pub contains-word_boundaries : (b : ℕ) → sets.contains word_boundaries b ≡ is_word_mark b
 unfolding word_boundaries
 contains-word_boundaries b = contains-from_list_nat word_marks b
@@ -60,9 +58,11 @@ contains-boundaries_of_each (l ∷ rest) t b =
 
 -- ---- a loop over a list, for a set that has the boundaries of its members so far
 
+-- a set has the boundaries of these assertions
 abbrev pub HasBoundaries : Numbers → List Look → ℕ → Type 0
 HasBoundaries s looks t = (b : ℕ) → sets.contains s b ≡ marks_of looks t b
 
+-- before the loop, and after one assertion more
 pub HasBoundaries-none : (looks : List Look) (t : ℕ) (s : Numbers) → s ≡ sets.empty → HasBoundaries s [] t
 HasBoundaries-none looks t s e b = ap (λ u. sets.contains u b) e ∙ contains-empty nat_cmp b
 

@@ -1,25 +1,15 @@
 -- An assertion at a place is the reversed one at the same place of the mirror.
-use Rattle.std.proofs.Common.{◌≡◌, ◌↔◌, ℕ, zero, suc, ◌+◌, ◌-◌, ◌<◌, ◌≤◌, Bool, true, false, not, ◌&&◌, cond, List, [], ◌∷◌, length, take, get_or, map, reverse, Option, Some, None, is_none, refl, sym, ap, ◌∙◌, arith, ⊎_elim, true≢false}
-use Rattle.std.specs.Prelude.{slice_get, IsTrue}
+use Rattle.std.proofs.Common.{◌≡◌, ◌↔◌, ℕ, zero, suc, ◌+◌, ◌-◌, ◌<◌, ◌≤◌, Bool, true, false, not, ◌&&◌, cond, List, [], ◌∷◌, length, take, get_or, map, reverse, Option, Some, None, is_none, refl, sym, ap, ◌∙◌, arith, ⊎_elim, true≢false, slice_get, IsTrue, option_map}
 use mathlib.Core.List.{reverse_aux}
 use lib.Utf8.{scalar}
-use Rattle.std.specs.Option.{option_map}
 use Rattle.std.specs.Str.{encode_utf8_all, all_scalars}
 use Rattle.std.proofs.lemmas.Bool.Decides.{nat_tests}
 use Rattle.std.proofs.lemmas.List.{get_or-reverse, length-reverse, take_all}
 use Rattle.std.proofs.lemmas.Option.{slice_get-get_or, slice_get_past, slice_get-map}
 use Rattle.std.proofs.Math.Bool.{and_comm}
 use Rattle.std.proofs.lemmas.Bool.{and_parts, cases_lt}
-use Rattle.rsc_primitives.specs.EncodingsLaws.{EncodesAll-std}
-use Rattle.rsc_primitives.specs.TextsLaws.{place, BeginsAt-place, EndsAt-place}
-use Rattle.rsc_look.specs.declared.assertion.Look.{Look}
-use Rattle.rsc_look.specs.declared.assertion.Look.TheVariants.{Start, StartCRLF, EndCRLF, WordAscii, WordAsciiNegate, WordUnicode, WordUnicodeNegate}
-use Rattle.rsc_look.specs.declared.side.Side.{Side}
-use Rattle.rsc_look.specs.declared.side.Side.TheVariants.{Absent, Word, Other}
-use Rattle.rsc_look.specs.Holds.{byte_before, byte_after, is_byte, is_word_neighbor, exactly_one, holds_at_bytes, holds_at_sides, is_invalid, is_word_side, IsBefore, IsAfter, Holds}
-use Rattle.rsc_look.specs.Looks.{is_unicode, reversed}
-use Rattle.rsc_look.specs.Mirrors.{is_crlf, exchanged, mirror, EndsFirst, IsTextMirrored}
-use Rattle.rsc_look.proofs.Sides.{Holds-bytes, Holds-sides, HoldsAtSides-is, HoldsAtSides-from}
+use Rattle.rsc_look.proofs.Words.{EncodesAll-std, place, BeginsAt-place, EndsAt-place, Look, Start, StartCRLF, EndCRLF, WordAscii, WordAsciiNegate, WordUnicode, WordUnicodeNegate, Side, Absent, Word, Other, byte_before, byte_after, is_byte, is_word_neighbor, exactly_one, holds_at_bytes, holds_at_sides, is_invalid, is_word_side, IsBefore, IsAfter, Holds, is_unicode, reversed, is_crlf, exchanged, mirror, EndsFirst, IsTextMirrored}
+use Rattle.rsc_look.proofs.Sides.{Holds-bytes, Holds-sides, at_sides}
 
 -- ---- neighbours in a list read from the other end
 
@@ -102,8 +92,7 @@ bytes_mirrored l t h i o = go (is_crlf l) refl
     e : (length h - i) + i ≡ length h
     e = omega arith
 
-    go : (x : Bool) → is_crlf l ≡ x
-        → holds_at_bytes l t (byte_before h i) (byte_after h i) ≡ holds_at_bytes (reversed l) t
+    go : (x : Bool) → is_crlf l ≡ x → holds_at_bytes l t (byte_before h i) (byte_after h i) ≡ holds_at_bytes (reversed l) t
         (byte_before (cond x (map exchanged (reverse h)) (reverse h)) (length h - i))
         (byte_after (cond x (map exchanged (reverse h)) (reverse h)) (length h - i))
     go true c =
@@ -153,24 +142,19 @@ Holds-place : (l : Look) (t : ℕ) (W : ℕ → Bool) (cs : List ℕ) (k : ℕ) 
     → Holds l t W (encode_utf8_all cs) (place cs k) ↔ IsTrue (holds_at_sides l (side_by W (byte_before cs k)) (side_by W (byte_after cs k)))
 Holds-place l t W cs k u s o =
     let h = Holds-sides l t W (encode_utf8_all cs) (place cs k) u in
-    let p = before_place W cs k s o in
-    let q = after_place W cs k s o in (
-      (λ x. HoldsAtSides-is l W (encode_utf8_all cs) (place cs k) _ _ p q (h.0 x)),
-      (λ x. h.1 (HoldsAtSides-from l W (encode_utf8_all cs) (place cs k) _ _ p q x)),
-    )
+    let a = at_sides l W (encode_utf8_all cs) (place cs k) _ _ (before_place W cs k s o) (after_place W cs k s o) in
+    ((λ x. a.1 (h.0 x)), (λ x. h.1 (a.0 x)))
 
 scalars_reversed : (xs ys : List ℕ) → all_scalars xs ≡ true → all_scalars ys ≡ true → all_scalars (reverse_aux xs ys) ≡ true
 scalars_reversed [] ys p q = q
 scalars_reversed (x ∷ xs) ys p q = let b = and_parts (scalar x) (all_scalars xs) p in let e = b.0 in scalars_reversed xs (x ∷ ys) b.1 (rw (e, q))
 
 -- the answer of `matches`, and the mirrors
-pub matches_mirror : (l : Look) (t : ℕ) (W : ℕ → Bool) (h : List ℕ) (i : ℕ) (r : Bool) → i ≤ length h → IsTrue r ↔ Holds l t W h i
-    → is_unicode l ≡ false
+pub matches_mirror : (l : Look) (t : ℕ) (W : ℕ → Bool) (h : List ℕ) (i : ℕ) (r : Bool) → i ≤ length h → IsTrue r ↔ Holds l t W h i → is_unicode l ≡ false
     → IsTrue r ↔ Holds (reversed l) t W (mirror l h) (length h - i)
 matches_mirror l t W h i r o e u = let m = Holds-mirror l t W h i u o in ((λ x. m.0 (e.0 x)), (λ x. e.1 (m.1 x)))
 
-pub Holds-text_mirror : (l : Look) (t : ℕ) (W : ℕ → Bool) (cs : List ℕ) (k : ℕ) → is_unicode l ≡ true → all_scalars cs ≡ true
-    → k ≤ length cs
+pub Holds-text_mirror : (l : Look) (t : ℕ) (W : ℕ → Bool) (cs : List ℕ) (k : ℕ) → is_unicode l ≡ true → all_scalars cs ≡ true → k ≤ length cs
     → Holds l t W (encode_utf8_all cs) (place cs k) ↔ Holds (reversed l) t W (encode_utf8_all (reverse cs)) (place (reverse cs) (length cs - k))
 Holds-text_mirror l t W cs k u s o =
     let r = scalars_reversed cs [] s refl in
@@ -183,13 +167,13 @@ Holds-text_mirror l t W cs k u s o =
     same_tests _ _ _ _ (Holds-place l t W cs k u s o) m (rw (p, q) (sym (sides_reversed l (side_by W (byte_before cs k)) (side_by W (byte_after cs k)))))
 
 -- in the words of the encodings
-ends_first : (h : List ℕ) (i : ℕ) (cs : List ℕ) (k : ℕ) → EndsFirst h i cs k → (all_scalars cs ≡ true) × (h ≡ encode_utf8_all cs)
-    × (i ≡ place cs k)
+ends_first : (h : List ℕ) (i : ℕ) (cs : List ℕ) (k : ℕ) → EndsFirst h i cs k → (all_scalars cs ≡ true) × (h ≡ encode_utf8_all cs) × (i ≡ place cs k)
 ends_first h i cs k e =
     let whole = (EncodesAll-std h cs).0 e.text in
     let front = (EncodesAll-std e.front (take k cs)).0 e.front_text in
     (whole.0, whole.1, e.front_length ∙ ap (λ (x : List ℕ). length x) front.1)
 
+-- the answer of `matches` in the mirrored text
 pub matches_text_mirror : (l : Look) (t : ℕ) (W : ℕ → Bool) (h : List ℕ) (i : ℕ) (r : Bool) → IsTrue r ↔ Holds l t W h i → is_unicode l ≡ true
     → IsTextMirrored l t W h i (IsTrue r)
 matches_text_mirror l t W h i r e u cs k m j s o =

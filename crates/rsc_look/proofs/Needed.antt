@@ -1,18 +1,10 @@
 -- Each boundary of an assertion is needed: at one end of a haystack of one byte the assertion tells that byte from the next.
 use Rattle.std.proofs.Common.{◌≡◌, ℕ, zero, suc, ◌+◌, ◌<◌, ◌≤◌, Bool, true, false, ◌&&◌, ◌||◌, eqb, nat_eq, nat_lt, cond, List, [], ◌∷◌, refl, sym, ap, ◌∙◌, arith, ◌⊎◌, inl, inr, true≢false}
-use Rattle.std.specs.Prelude.{IsTrue}
 use Rattle.std.specs.List.{list_any, list_all}
 use Rattle.std.proofs.lemmas.Bool.Decides.{nat_tests}
-use Rattle.rsc_primitives.specs.Utf8.{is_word_byte, EncodedFrom}
-use Rattle.rsc_look.specs.declared.assertion.Look.{Look}
-use Rattle.rsc_look.specs.declared.assertion.Look.TheVariants.{Start, End, StartLF, EndLF, StartCRLF, EndCRLF, WordAscii, WordAsciiNegate, WordUnicode, WordUnicodeNegate, WordStartAscii, WordEndAscii, WordStartUnicode, WordEndUnicode, WordStartHalfAscii, WordEndHalfAscii, WordStartHalfUnicode, WordEndHalfUnicode}
-use Rattle.rsc_look.specs.declared.side.Side.{Side}
-use Rattle.rsc_look.specs.declared.side.Side.TheVariants.{Absent, Word, Other}
-use Rattle.rsc_look.specs.Holds.{exactly_one, byte_before, byte_after, holds_at_bytes, IsBefore, IsAfter, HoldsAtSides, holds_at_sides}
-use Rattle.rsc_look.specs.Looks.{is_unicode}
-use Rattle.rsc_look.specs.Keeping.{AgreesWithAscii, Tells}
+use Rattle.rsc_look.proofs.Words.{is_word_byte, EncodedFrom, Look, Start, End, StartLF, EndLF, StartCRLF, EndCRLF, WordAscii, WordAsciiNegate, WordUnicode, WordUnicodeNegate, WordStartAscii, WordEndAscii, WordStartUnicode, WordEndUnicode, WordStartHalfAscii, WordEndHalfAscii, WordStartHalfUnicode, WordEndHalfUnicode, Side, Absent, Word, Other, exactly_one, byte_before, byte_after, holds_at_bytes, IsBefore, IsAfter, holds_at_sides, is_unicode, AgreesWithAscii, Tells}
 use Rattle.rsc_look.proofs.Marks.{is_edge, word_marks, is_word_mark, is_mark}
-use Rattle.rsc_look.proofs.Sides.{HoldsAtSides-is, HoldsAtSides-from}
+use Rattle.rsc_look.proofs.Sides.{at_sides}
 
 -- the end of a haystack of one byte at which the assertion looks at that byte
 abbrev pub place_of : Look → ℕ
@@ -67,45 +59,39 @@ after_alone W b l w = go (is_word_byte b) w
     go true e = (b, (1, encoded_alone b l), e)
     go false e = (b, (1, encoded_alone b l), e)
 
-sides_alone : (W : ℕ → Bool) (b i : ℕ) → b < 128 → W b ≡ is_word_byte b → i ≤ 1 → IsBefore W (b ∷ []) i (sides_at i b).0
-    × IsAfter W (b ∷ []) i (sides_at i b).1
+sides_alone : (W : ℕ → Bool) (b i : ℕ) → b < 128 → W b ≡ is_word_byte b → i ≤ 1 → IsBefore W (b ∷ []) i (sides_at i b).0 × IsAfter W (b ∷ []) i (sides_at i b).1
 sides_alone W b zero l w h = (refl, after_alone W b l w)
 sides_alone W b (suc zero) l w h = (before_alone W b l w, refl)
 sides_alone W b (suc (suc i)) l w h = absurd (omega arith)
 
 -- ---- from tests to facts
 
-Tells-from : (A B : Type 0) (x y : Bool) → (A → x ≡ true) → (x ≡ true → A) → (B → y ≡ true) → (y ≡ true → B)
-    → exactly_one x y ≡ true → (A × (B → ⊥))
-    ⊎ ((A → ⊥) × B)
+Tells-from : (A B : Type 0) (x y : Bool) → (A → x ≡ true) → (x ≡ true → A) → (B → y ≡ true) → (y ≡ true → B) → exactly_one x y ≡ true
+    → (A × (B → ⊥)) ⊎ ((A → ⊥) × B)
 Tells-from A B true true f g m n e = absurd (true≢false (sym e))
 Tells-from A B true false f g m n e = inl (g refl, λ b. true≢false (sym (m b)))
 Tells-from A B false true f g m n e = inr ((λ a. true≢false (sym (f a))), n refl)
 Tells-from A B false false f g m n e = absurd (true≢false (sym e))
 
-tells_bytes : (l : Look) (t : ℕ) (W : ℕ → Bool) (b : ℕ) → is_unicode l ≡ false
-    → exactly_one (alone_at_bytes l t b) (alone_at_bytes l t (b + 1)) ≡ true
+tells_bytes : (l : Look) (t : ℕ) (W : ℕ → Bool) (b : ℕ) → is_unicode l ≡ false → exactly_one (alone_at_bytes l t b) (alone_at_bytes l t (b + 1)) ≡ true
     → Tells l t W (b ∷ []) ((b + 1) ∷ []) (place_of l)
 tells_bytes l t W b e x =
-    rw e (Tells-from (IsTrue (alone_at_bytes l t b)) (IsTrue (alone_at_bytes l t (b + 1))) (alone_at_bytes l t b) (alone_at_bytes l t (b + 1)) (λ q. q)
-    (λ q. q) (λ q. q) (λ q. q) x)
+    rw e (Tells-from _ _ (alone_at_bytes l t b) (alone_at_bytes l t (b + 1)) (λ q. q) (λ q. q) (λ q. q) (λ q. q) x)
 
 tells_sides : (l : Look) (t : ℕ) (W : ℕ → Bool) (b : ℕ) → is_unicode l ≡ true → AgreesWithAscii W → b + 1 < 128
-    → exactly_one (alone_at_sides l b) (alone_at_sides l (b + 1)) ≡ true
-    → Tells l t W (b ∷ []) ((b + 1) ∷ []) (place_of l)
+    → exactly_one (alone_at_sides l b) (alone_at_sides l (b + 1)) ≡ true → Tells l t W (b ∷ []) ((b + 1) ∷ []) (place_of l)
 tells_sides l t W b e a lt x =
     let here : b < 128 = omega arith in
     let s = sides_alone W b (place_of l) here (a b here) (place_of_le l) in
     let u = sides_alone W (b + 1) (place_of l) lt (a (b + 1) lt) (place_of_le l) in
-    rw e (Tells-from (HoldsAtSides l W (b ∷ []) (place_of l)) (HoldsAtSides l W ((b + 1) ∷ []) (place_of l)) (alone_at_sides l b) (alone_at_sides l (b + 1))
-    (HoldsAtSides-is l W (b ∷ []) (place_of l) _ _ s.0 s.1) (HoldsAtSides-from l W (b ∷ []) (place_of l) _ _ s.0 s.1)
-    (HoldsAtSides-is l W ((b + 1) ∷ []) (place_of l) _ _ u.0 u.1) (HoldsAtSides-from l W ((b + 1) ∷ []) (place_of l) _ _ u.0 u.1) x)
+    let p = at_sides l W (b ∷ []) (place_of l) _ _ s.0 s.1 in
+    let q = at_sides l W ((b + 1) ∷ []) (place_of l) _ _ u.0 u.1 in
+    rw e (Tells-from _ _ (alone_at_sides l b) (alone_at_sides l (b + 1)) p.1 p.0 q.1 q.0 x)
 
 -- ---- the boundaries, one by one
 
 -- a test that each number of a list passes
-each_passes_step : (test : ℕ → Bool) (x b : ℕ) (m h u v : Bool) → nat_eq x b ≡ u → test x ≡ v → (m ≡ true → h ≡ true → test b ≡ true)
-    → (u || m) ≡ true
+each_passes_step : (test : ℕ → Bool) (x b : ℕ) (m h u v : Bool) → nat_eq x b ≡ u → test x ≡ v → (m ≡ true → h ≡ true → test b ≡ true) → (u || m) ≡ true
     → (v && h) ≡ true → test b ≡ true
 each_passes_step test x b m h true true e f r p q = let s : b ≡ x = grind (arith, nat_tests) in ap test s ∙ f
 each_passes_step test x b m h false true e f r p q = r p q
@@ -116,6 +102,7 @@ each_passes test [] b m h = absurd (true≢false (sym m))
 each_passes test (x ∷ xs) b m h = each_passes_step test x b (list_any (λ x. nat_eq x b) xs) (list_all test xs) (nat_eq x b) (test x) refl refl
     (each_passes test xs b) m h
 
+-- a boundary of the word bytes lies below 127
 pub below_127 : (b : ℕ) → is_word_mark b ≡ true → b + 1 < 128
 below_127 b m = let e = each_passes (λ x. nat_lt (x + 1) 128) word_marks b m refl in grind (arith, nat_tests)
 

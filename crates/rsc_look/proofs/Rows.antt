@@ -1,15 +1,7 @@
 -- Worked rows of the definitions.
 use Rattle.std.proofs.Common.{◌≡◌, ℕ, Bool, true, false, List, [], ◌∷◌, refl, sym, ap, ◌∙◌, arith}
 use Rattle.std.specs.FinSet as sets
-use Rattle.rsc_look.specs.declared.assertion.Look.{Look}
-use Rattle.rsc_look.specs.declared.assertion.Look.TheVariants.{StartLF, EndLF, StartCRLF, EndCRLF, WordAscii, WordUnicode, WordUnicodeNegate, WordStartHalfUnicode}
-use Rattle.rsc_look.specs.declared.side.Side.TheVariants.{Invalid, Word, Other}
-use Rattle.rsc_look.specs.Looks.{every_look}
-use Rattle.rsc_look.specs.LookSets.{bits_of}
-use Rattle.rsc_look.specs.LookSetLaws.{bits_of-looks_of}
-use Rattle.rsc_look.specs.Holds.{byte_before, byte_after, holds_at_bytes, holds_at_sides}
-use Rattle.rsc_look.specs.Boundaries.{boundaries_of}
-use Rattle.rsc_look.specs.Mirrors.{mirror}
+use Rattle.rsc_look.proofs.Words.{Look, StartLF, EndLF, StartCRLF, EndCRLF, WordAscii, WordUnicode, WordUnicodeNegate, WordStartHalfUnicode, Invalid, Word, Other, every_look, bits_of, bits_of-looks_of, byte_before, byte_after, holds_at_bytes, holds_at_sides, boundaries_of, mirror}
 use Rattle.rsc_look.proofs.Marks.{contains-boundaries_of}
 use Rattle.rsc_look.proofs.LookSetLemmas.{looks_of-all}
 

@@ -1,19 +1,8 @@
 -- The sides of a place: each place has one on either hand, and bytes below 128 may replace one another.
 use Rattle.std.specs.Bool.{beq}
-use Rattle.std.proofs.Common.{not, ◌&&◌, ap₂, ◌≡◌, ◌↔◌, ℕ, ◌-◌, ◌<◌, ◌≤◌, Bool, true, false, List, length, get_or, refl, sym, ap, ◌∙◌, subst, arith, inl, inr, ⊎_elim, true≢false}
-use Rattle.std.specs.Prelude.{IsTrue}
+use Rattle.std.proofs.Common.{not, ◌&&◌, ap₂, ◌≡◌, ◌↔◌, ℕ, ◌-◌, ◌<◌, ◌≤◌, Bool, true, false, List, length, get_or, refl, sym, ap, ◌∙◌, subst, arith, inl, inr, ⊎_elim, true≢false, IsTrue}
 use Rattle.std.proofs.lemmas.Bool.{cases_eq, cases_Bool}
-use Rattle.rsc_primitives.specs.Utf8.{is_word_byte, BeginsAt, EndsAt, EncodedFrom}
-use Rattle.rsc_primitives.specs.Utf8Laws.{AgreePastAscii, EncodedFrom-agree, BeginsAt-same, EndsAt-same}
-use Rattle.rsc_look.specs.declared.assertion.Look.{Look}
-use Rattle.rsc_look.specs.declared.side.Side.{Side}
-use Rattle.rsc_look.specs.declared.side.Side.TheVariants.{Absent, Invalid, Word, Other}
-use Rattle.rsc_look.specs.Holds.{IsBefore, IsAfter, HoldsAtSides, holds_at_sides, exactly_one, is_invalid, is_word_side, is_edge_or_non_word, Holds}
-use Rattle.rsc_look.specs.declared.assertion.Look.TheVariants.{WordUnicode, WordUnicodeNegate, WordStartUnicode, WordEndUnicode, WordStartHalfUnicode, WordEndHalfUnicode}
-use Rattle.rsc_primitives.specs.DecidedLaws.{BeginsAt-decided, EndsAt-decided}
-use Rattle.rsc_look.specs.SideLayout.{IsSideOf}
-use Rattle.rsc_look.specs.Looks.{is_unicode}
-use Rattle.rsc_look.specs.Keeping.{AreInterchanged, DifferInAscii, AgreesWithAscii}
+use Rattle.rsc_look.proofs.Words.{is_word_byte, BeginsAt, EndsAt, EncodedFrom, AgreePastAscii, EncodedFrom-agree, BeginsAt-same, EndsAt-same, Look, Side, Absent, Invalid, Word, Other, IsBefore, IsAfter, HoldsAtSides, holds_at_sides, exactly_one, is_invalid, is_word_side, is_edge_or_non_word, Holds, WordUnicode, WordUnicodeNegate, WordStartUnicode, WordEndUnicode, WordStartHalfUnicode, WordEndHalfUnicode, BeginsAt-decided, EndsAt-decided, IsSideOf, is_unicode, AreInterchanged, DifferInAscii, AgreesWithAscii}
 use Rattle.rsc_look.proofs.Marks.{is_word_mark}
 use Rattle.rsc_look.proofs.BytesKept.{HasMarks, Together-is_word_byte}
 
@@ -67,24 +56,19 @@ IsAfter-same W h i Other Word p q = absurd (not_both W q.0 p.0 (BeginsAt-same h 
 IsAfter-same W h i Other Other p q = refl
 
 -- at known sides the assertion is its entry in the table
-pub HoldsAtSides-is : (l : Look) (W : ℕ → Bool) (h : List ℕ) (i : ℕ) (a b : Side) → IsBefore W h i a → IsAfter W h i b → HoldsAtSides l W h i
-    → holds_at_sides l a b ≡ true
-HoldsAtSides-is l W h i a b p q s =
-    let e : a ≡ s.before = IsBefore-same W h i a s.before p s.is_before in
-    let f : b ≡ s.after = IsAfter-same W h i b s.after q s.is_after in
-    rw (e, f) s.holds
-
-pub HoldsAtSides-from : (l : Look) (W : ℕ → Bool) (h : List ℕ) (i : ℕ) (a b : Side) → IsBefore W h i a → IsAfter W h i b
-    → holds_at_sides l a b ≡ true
-    → HoldsAtSides l W h i
-HoldsAtSides-from l W h i a b p q s = record { before = a; after = b; is_before = p; is_after = q; holds = s }
+pub at_sides : (l : Look) (W : ℕ → Bool) (h : List ℕ) (i : ℕ) (a b : Side) → IsBefore W h i a → IsAfter W h i b
+    → (holds_at_sides l a b ≡ true) ↔ HoldsAtSides l W h i
+at_sides l W h i a b p q = (
+  (λ x. record { before = a; after = b; is_before = p; is_after = q; holds = x }),
+  (λ s. rw (IsBefore-same W h i a s.before p s.is_before, IsAfter-same W h i b s.after q s.is_after) s.holds),
+)
 
 -- `Holds` by the kind of the assertion
-pub Holds-bytes : (l : Look) (t : ℕ) (W : ℕ → Bool) (h : List ℕ) (i : ℕ) → is_unicode l ≡ false
-    → Holds l t W h i ↔ IsTrue
+pub Holds-bytes : (l : Look) (t : ℕ) (W : ℕ → Bool) (h : List ℕ) (i : ℕ) → is_unicode l ≡ false → Holds l t W h i ↔ IsTrue
     (Rattle.rsc_look.specs.Holds.holds_at_bytes l t (Rattle.rsc_look.specs.Holds.byte_before h i) (Rattle.rsc_look.specs.Holds.byte_after h i))
 Holds-bytes l t W h i e = rw e ((λ x. x), (λ x. x))
 
+-- and by its sides
 pub Holds-sides : (l : Look) (t : ℕ) (W : ℕ → Bool) (h : List ℕ) (i : ℕ) → is_unicode l ≡ true → Holds l t W h i ↔ HoldsAtSides l W h i
 Holds-sides l t W h i e = rw e ((λ x. x), (λ x. x))
 
@@ -102,12 +86,12 @@ pub record Interchange (W : ℕ → Bool) (h k : List ℕ) : Type 0 where
   pub ascii : AgreesWithAscii W
   pub words : (i : ℕ) → i < length h → is_word_byte (get_or h i 0) ≡ is_word_byte (get_or k i 0)
 
+-- each of the two has it in common with the other
 pub Interchange-sym : (W : ℕ → Bool) (h k : List ℕ) → Interchange W h k → Interchange W k h
 Interchange-sym W h k s = let e = s.agree.same_length in
     record { agree = AgreePastAscii-sym h k s.agree; ascii = s.ascii; words = λ i l. sym (s.words i (omega arith)) }
 
-encoded_moves : (W : ℕ → Bool) (h k : List ℕ) (i j c : ℕ) → Interchange W h k → EncodedFrom h i j c → (d : ℕ) × EncodedFrom k i j d
-    × (W d ≡ W c)
+encoded_moves : (W : ℕ → Bool) (h k : List ℕ) (i j c : ℕ) → Interchange W h k → EncodedFrom h i j c → (d : ℕ) × EncodedFrom k i j d × (W d ≡ W c)
 encoded_moves W h k i j c s e =
     ⊎_elim
     (λ q. (c, q.0, refl))
@@ -136,6 +120,7 @@ IsAfter-moves W h k i Invalid s p = let e = s.agree.same_length in
 IsAfter-moves W h k i Word s p = let m = begins_moves W h k i p.0 s p.1 in (m.0, m.1, m.2 ∙ p.2)
 IsAfter-moves W h k i Other s p = let m = begins_moves W h k i p.0 s p.1 in (m.0, m.1, m.2 ∙ p.2)
 
+-- an assertion on characters holds in both haystacks or in neither
 pub HoldsAtSides-moves : (l : Look) (W : ℕ → Bool) (h k : List ℕ) (i : ℕ) → Interchange W h k → HoldsAtSides l W h i → HoldsAtSides l W k i
 HoldsAtSides-moves l W h k i s p =
     record {
@@ -147,6 +132,7 @@ HoldsAtSides-moves l W h k i s p =
       holds = p.holds;
     }
 
+-- interchanged haystacks have it in common
 pub Interchange-from : (p : ℕ → Bool) (W : ℕ → Bool) (h k : List ℕ) → AgreesWithAscii W → HasMarks p is_word_mark → AreInterchanged p h k
     → DifferInAscii h k → Interchange W h k
 Interchange-from p W h k a m s d =
@@ -159,6 +145,7 @@ Interchange-from p W h k a m s d =
 
 -- ---- for the readers of the two sides: a part of a haystack has the places of the whole
 
+-- a character that ends or begins here is the side there
 pub IsBefore-from_char : (W : ℕ → Bool) (h : List ℕ) (i c : ℕ) (a : Side) → EndsAt h i c → IsSideOf W c a → IsBefore W h i a
 IsBefore-from_char W h i c Absent e s = absurd s
 IsBefore-from_char W h i c Invalid e s = absurd s
@@ -170,16 +157,6 @@ IsAfter-from_char W h i c Absent e s = absurd s
 IsAfter-from_char W h i c Invalid e s = absurd s
 IsAfter-from_char W h i c Word e s = (c, e, s)
 IsAfter-from_char W h i c Other e s = (c, e, s)
-
-pub sides_decide : (l : Look) (W : ℕ → Bool) (h : List ℕ) (i : ℕ) (a b : Side) (r : Bool) → IsBefore W h i a → IsAfter W h i b
-    → r ≡ holds_at_sides l a b
-    → IsTrue r ↔ HoldsAtSides l W h i
-sides_decide l W h i a b r p q e = ((λ t. HoldsAtSides-from l W h i a b p q (sym e ∙ t)), (λ s. e ∙ HoldsAtSides-is l W h i a b p q s))
-
-pub Holds-decided : (l : Look) (t : ℕ) (W : ℕ → Bool) (h : List ℕ) (i : ℕ) (a b : Side) (r : Bool) → is_unicode l ≡ true → IsBefore W h i a
-    → IsAfter W h i b → r ≡ holds_at_sides l a b → IsTrue r ↔ Holds l t W h i
-Holds-decided l t W h i a b r u p q e =
-    let s = sides_decide l W h i a b r p q e in let k = Holds-sides l t W h i u in ((λ x. k.1 (s.0 x)), (λ x. s.1 (k.0 x)))
 
 -- ---- each place has a side before it and one after it
 
@@ -199,29 +176,6 @@ has_after W h i o =
     (BeginsAt-decided h i))
     (cases_eq i (length h))
 
-pub half_before : (t : ℕ) (W : ℕ → Bool) (h : List ℕ) (i : ℕ) (a : Side) (r : Bool) → i ≤ length h → IsBefore W h i a
-    → r ≡ is_edge_or_non_word a → IsTrue r
-    ↔ Holds WordStartHalfUnicode t W h i
-half_before t W h i a r o p e = let q = has_after W h i o in sides_decide WordStartHalfUnicode W h i a q.0 r p q.1 e
-
-pub half_after : (t : ℕ) (W : ℕ → Bool) (h : List ℕ) (i : ℕ) (b : Side) (r : Bool) → IsAfter W h i b → r ≡ is_edge_or_non_word b → IsTrue r
-    ↔ Holds WordEndHalfUnicode t W h i
-half_after t W h i b r p e = let q = has_before W h i in sides_decide WordEndHalfUnicode W h i q.0 b r q.1 p e
-
--- what a call may answer when it has looked at the side before alone
-Holds-before : (l : Look) (t : ℕ) (W : ℕ → Bool) (h : List ℕ) (i : ℕ) (a : Side) (r : Bool) → i ≤ length h → is_unicode l ≡ true
-    → IsBefore W h i a
-    → ((b : Side) → r ≡ holds_at_sides l a b) → IsTrue r ↔ Holds l t W h i
-Holds-before l t W h i a r o u p e = let q = has_after W h i o in Holds-decided l t W h i a q.0 r u p q.1 (e q.0)
-
-pub starts : (t : ℕ) (W : ℕ → Bool) (h : List ℕ) (i : ℕ) (a b : Side) (x y : Bool) → IsBefore W h i a → IsAfter W h i b → x ≡ is_word_side a
-    → y ≡ is_word_side b → IsTrue (y && not x) ↔ Holds WordStartUnicode t W h i
-starts t W h i a b x y p q e f = Holds-decided WordStartUnicode t W h i a b (y && not x) refl p q (rw (e, f) refl)
-
-pub ends : (t : ℕ) (W : ℕ → Bool) (h : List ℕ) (i : ℕ) (a b : Side) (x y : Bool) → IsBefore W h i a → IsAfter W h i b → x ≡ is_word_side a
-    → y ≡ is_word_side b → IsTrue (x && not y) ↔ Holds WordEndUnicode t W h i
-ends t W h i a b x y p q e f = Holds-decided WordEndUnicode t W h i a b (x && not y) refl p q (rw (e, f) refl)
-
 -- `==` of the program on two tests, as `exactly_one`
 not_exactly_one : (x y : Bool) → beq x y ≡ not (exactly_one x y)
 not_exactly_one true true = refl
@@ -233,20 +187,39 @@ exactly_one-ne true false = refl
 exactly_one-ne false true = refl
 exactly_one-ne false false = refl
 
-pub differs : (t : ℕ) (W : ℕ → Bool) (h : List ℕ) (i : ℕ) (a b : Side) (x y : Bool) → IsBefore W h i a → IsAfter W h i b → x ≡ is_word_side a
-    → y ≡ is_word_side b → IsTrue (not (beq x y)) ↔ Holds WordUnicode t W h i
-differs t W h i a b x y p q e f = Holds-decided WordUnicode t W h i a b (not (beq x y)) refl p q (exactly_one-ne x y ∙ ap₂ exactly_one e f)
+-- ---- for the calls: what they compute from one side or from both
 
-pub bad_is_none : (t : ℕ) (W : ℕ → Bool) (h : List ℕ) (i : ℕ) (a : Side) (w : Bool) → i ≤ length h → IsBefore W h i a → w ≡ is_invalid a
-    → w ≡ true
-    → IsTrue false ↔ Holds WordUnicodeNegate t W h i
-bad_is_none t W h i a w o p e f = Holds-before WordUnicodeNegate t W h i a false o refl p (λ b. let z : is_invalid a ≡ true = sym e ∙ f in rw z)
+module _ (W : ℕ → Bool) (h : List ℕ) (i : ℕ) (a b : Side) where
+  by_sides : (l : Look) (r : Bool) → IsBefore W h i a → IsAfter W h i b → r ≡ holds_at_sides l a b → IsTrue r ↔ HoldsAtSides l W h i
+  by_sides l r p q e = let s = at_sides l W h i a b p q in ((λ x. s.0 (sym e ∙ x)), (λ x. e ∙ s.1 x))
 
-pub agrees : (t : ℕ) (W : ℕ → Bool) (h : List ℕ) (i : ℕ) (a b : Side) (w v x y : Bool) → IsBefore W h i a → IsAfter W h i b → w ≡ is_invalid a
-    → w ≡ false
-    → v ≡ is_invalid b → x ≡ is_word_side a → y ≡ is_word_side b
-    → IsTrue (not v && beq x y) ↔ Holds WordUnicodeNegate t W h i
-agrees t W h i a b w v x y p q e f g k m =
-    let z : is_invalid a ≡ false = sym e ∙ f in
-    Holds-decided WordUnicodeNegate t W h i a b (not v && beq x y) refl p q
-    (rw (z, g, k, m) (ap (λ n. not (is_invalid b) && n) (not_exactly_one (is_word_side a) (is_word_side b))))
+  -- the assertions of both sides, from whether each is a word character
+  module _ (x y : Bool) (p : IsBefore W h i a) (q : IsAfter W h i b) (e : x ≡ is_word_side a) (f : y ≡ is_word_side b) where
+    pub starts : IsTrue (y && not x) ↔ HoldsAtSides WordStartUnicode W h i
+    starts = by_sides WordStartUnicode _ p q (rw (e, f) refl)
+
+    pub ends : IsTrue (x && not y) ↔ HoldsAtSides WordEndUnicode W h i
+    ends = by_sides WordEndUnicode _ p q (rw (e, f) refl)
+
+    pub differs : IsTrue (not (beq x y)) ↔ HoldsAtSides WordUnicode W h i
+    differs = by_sides WordUnicode _ p q (exactly_one-ne x y ∙ ap₂ exactly_one e f)
+
+    pub agrees : (w v : Bool) → w ≡ is_invalid a → w ≡ false → v ≡ is_invalid b → IsTrue (not v && beq x y) ↔ HoldsAtSides WordUnicodeNegate W h i
+    agrees w v g z k =
+        let n : is_invalid a ≡ false = sym g ∙ z in
+        by_sides WordUnicodeNegate _ p q (rw (n, k, e, f) (ap (λ z. not (is_invalid b) && z) (not_exactly_one (is_word_side a) (is_word_side b))))
+
+module _ (W : ℕ → Bool) (h : List ℕ) (i : ℕ) (a : Side) where
+  by_before : (l : Look) (r : Bool) → i ≤ length h → IsBefore W h i a → ((b : Side) → r ≡ holds_at_sides l a b) → IsTrue r ↔ HoldsAtSides l W h i
+  by_before l r o p e = let q = has_after W h i o in by_sides W h i a q.0 l r p q.1 (e q.0)
+
+  -- the half assertions look at one side alone
+  pub half_before : (r : Bool) → i ≤ length h → IsBefore W h i a → r ≡ is_edge_or_non_word a → IsTrue r ↔ HoldsAtSides WordStartHalfUnicode W h i
+  half_before r o p e = by_before WordStartHalfUnicode r o p (λ b. e)
+
+  pub half_after : (r : Bool) → IsAfter W h i a → r ≡ is_edge_or_non_word a → IsTrue r ↔ HoldsAtSides WordEndHalfUnicode W h i
+  half_after r q e = let p = has_before W h i in by_sides W h i p.0 a WordEndHalfUnicode r p.1 q e
+
+  -- `\B` doesn't hold after an invalid sequence
+  pub invalid_before : (w : Bool) → i ≤ length h → IsBefore W h i a → w ≡ is_invalid a → w ≡ true → IsTrue false ↔ HoldsAtSides WordUnicodeNegate W h i
+  invalid_before w o p e f = by_before WordUnicodeNegate false o p (λ b. let z : is_invalid a ≡ true = sym e ∙ f in rw z)

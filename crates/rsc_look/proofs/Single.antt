@@ -1,21 +1,13 @@
 -- One assertion and its boundaries.
-use Rattle.std.proofs.Common.{◌≡◌, ◌↔◌, ℕ, Bool, true, false, ◌||◌, [], ◌∷◌, sym, ap, ◌∙◌, subst}
+use Rattle.std.proofs.Common.{◌≡◌, ◌↔◌, ℕ, Bool, true, false, ◌||◌, [], ◌∷◌, sym, ap, ◌∙◌, subst, nat_cmp}
 use Rattle.std.proofs.lemmas.Bool.{or_right}
-use Rattle.rsc_look.specs.declared.assertion.Look.{Look}
-use Rattle.rsc_look.specs.Holds.{Holds}
-use Rattle.rsc_look.specs.Looks.{is_unicode}
-use Rattle.rsc_look.specs.Keeping.{IsExactFor, AgreesWithAscii}
+use Rattle.rsc_look.proofs.Words.{Look, Holds, is_unicode, IsExactFor, AgreesWithAscii, Numbers, contains-joined, boundaries_of, only, first}
 use Rattle.rsc_look.proofs.Marks.{is_mark, contains-boundaries_of}
 use Rattle.std.specs.FinSet as sets
 use Rattle.std.specs.FinSet.{contains-empty, same_set, nat_cmp-IsAntisymmetric}
-use Rattle.std.specs.Ordering.{nat_cmp}
 use Rattle.std.specs.Cmp.{nat_cmp_total}
-use Rattle.rsc_alphabet.specs.ByteSets.{Numbers}
-use Rattle.rsc_alphabet.specs.PartitionsLaws.{contains-joined}
-use Rattle.rsc_look.specs.Boundaries.{boundaries_of}
 use Rattle.rsc_look.proofs.BytesKept.{HasMarks}
 use Rattle.rsc_look.proofs.Needed.{place_of, place_of_le, Tells-mark}
-use Rattle.rsc_look.specs.KeepingLaws.{only, first}
 use Rattle.rsc_look.proofs.Coarsest.{kept_at_bytes, kept_at_characters, mark_is_needed}
 
 -- a set that got the boundaries of an assertion has them
@@ -24,6 +16,7 @@ has_marks old new l t e b lt m =
     ap (λ s. sets.contains s b) e ∙ contains-joined old (boundaries_of l t) b
     ∙ or_right (sets.contains old b) (sets.contains (boundaries_of l t) b) (contains-boundaries_of l t b ∙ m)
 
+-- a set with the boundaries of one more assertion is exact for it
 pub IsExactFor-from : (old new : Numbers) (l : Look) (t : ℕ) (W : ℕ → Bool) → new ≡ sets.union old (boundaries_of l t)
     → (is_unicode l ≡ true → AgreesWithAscii W) → IsExactFor (sets.contains new) l t W
 IsExactFor-from old new l t W e a = record {
@@ -48,8 +41,7 @@ IsExactFor-from old new l t W e a = record {
 }
 
 -- the same of the assertion's own boundaries alone
-pub IsExactFor-own : (l : Look) (t : ℕ) (W : ℕ → Bool) → (is_unicode l ≡ true → AgreesWithAscii W)
-    → IsExactFor (sets.contains (boundaries_of l t)) l t W
+pub IsExactFor-own : (l : Look) (t : ℕ) (W : ℕ → Bool) → (is_unicode l ≡ true → AgreesWithAscii W) → IsExactFor (sets.contains (boundaries_of l t)) l t W
 IsExactFor-own l t W =
     IsExactFor-from sets.empty (boundaries_of l t) l t W (same_set nat_cmp_total nat_cmp-IsAntisymmetric _ _ (λ b.
     sym (contains-joined sets.empty (boundaries_of l t) b ∙ ap (λ x. x || sets.contains (boundaries_of l t) b) (contains-empty nat_cmp b))))

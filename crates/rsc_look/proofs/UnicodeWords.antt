@@ -1,7 +1,6 @@
 -- The class `\w` of the tables, and the word characters from 128 on.
-use Rattle.std.proofs.Common.{◌≡◌, ℕ, ◌≤◌, Bool, false, ◌&&◌, ◌||◌, nat_eq, nat_le, [], ◌∷◌, refl, ap₂, ◌∙◌, arith}
+use Rattle.std.proofs.Common.{◌≡◌, ℕ, ◌≤◌, Bool, false, ◌&&◌, ◌||◌, nat_eq, nat_le, [], ◌∷◌, refl, ap₂, ◌∙◌, arith, le-ltb}
 use Rattle.std.proofs.lemmas.Bool.Decides.{nat_tests}
-use Rattle.std.proofs.lemmas.Bool.{le-ltb}
 use Rattle.std.specs.Bool.{beq}
 use Rattle.unicode.specs.Rows.{in_ranges}
 use Rattle.unicode.specs.Perl as perl
@@ -41,6 +40,7 @@ is_join_control-is : (c : ℕ) → is_join_control c ≡ (nat_eq c 0x200C || nat
 unfolding in_ranges
 is_join_control-is c = is_join_control-joiners c ∙ one_range c
 
+-- past ASCII the table of word characters is Unicode's
 pub is_word_char-is_unicode_word : (c : ℕ) → 128 ≤ c → is_word_char c ≡ is_unicode_word c
 unfolding is_word_char
 is_word_char-is_unicode_word c h =

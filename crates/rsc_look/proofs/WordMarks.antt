@@ -2,15 +2,10 @@
 use Rattle.std.proofs.Common.{◌≡◌, ℕ, ◌+◌, Bool, true, false, not, ◌&&◌, ◌||◌, ltb, refl, sym, ap, ◌∙◌, arith}
 use Rattle.std.proofs.lemmas.Bool.Decides.{nat_tests}
 use Rattle.std.proofs.lemmas.Bool.{agree_below_at}
-use Rattle.rsc_primitives.specs.Utf8.{is_word_byte}
+use Rattle.rsc_look.proofs.Words.{is_word_byte, Numbers, changes_at, contains-joined, exactly_one, word_boundaries}
 use Rattle.std.specs.Cmp.{nat_cmp_total}
 use Rattle.std.specs.FinSet as sets
 use Rattle.std.specs.FinSet.{same_set, nat_cmp-IsAntisymmetric}
-use Rattle.rsc_alphabet.specs.ByteSets.{Numbers}
-use Rattle.rsc_alphabet.specs.Partitions.{changes_at}
-use Rattle.rsc_alphabet.specs.PartitionsLaws.{contains-joined}
-use Rattle.rsc_look.specs.Holds.{exactly_one}
-use Rattle.rsc_look.specs.Boundaries.{word_boundaries}
 use Rattle.rsc_look.proofs.Marks.{is_word_mark, contains-word_boundaries}
 use Rattle.rsc_look.proofs.Needed.{below_127}
 

@@ -82,8 +82,7 @@ pub contains-filtered : (p : Look → Bool) (l : Look) → sets.contains (sets.f
 contains-filtered p l =
     contains-from_list look_cmp_total (filter p every_look) l
     ∙ any-filter_same (eq_by_cmp look_cmp l) p (p l) (λ m same. ap p (sym (repr_of-injective l m (eqb-true _ _ (sym (tied l m) ∙ same))))) every_look
-    ∙ ap (λ (t : Look → Bool). p l && list_any t every_look) (λ i m. tied l m i)
-    ∙ ap (λ b. p l && b) (every_look_has l) ∙ and-true (p l)
+    ∙ ap (λ (t : Look → Bool). p l && list_any t every_look) (λ i m. tied l m i) ∙ ap (λ b. p l && b) (every_look_has l) ∙ and-true (p l)
 
 pub contains-looks_of : (n : ℕ) (l : Look) → sets.contains (looks_of n) l ≡ has_bit n l
 contains-looks_of n l = contains-filtered (has_bit n) l

@@ -1,8 +1,6 @@
 use Rattle.std.proofs.Common.{sym, ap, ◌∙◌, ⊎_elim}
-use Rattle.rsc_look.specs.Boundaries.{boundaries_of}
+use Rattle.rsc_look.proofs.Words.{boundaries_of, edges_of, union_none, union_assoc}
 use Rattle.std.specs.FinSet as sets
-use Rattle.rsc_alphabet.specs.Partitions.{edges_of}
-use Rattle.rsc_alphabet.specs.PartitionsLaws.{union_none, union_assoc}
 use Rattle.rsc_look.proofs.boundaries.add_boundaries.Goals as goal
 
 pub returns-in-Start : goal.returns-in-Start

@@ -1,5 +1,4 @@
-use Rattle.std.proofs.Common.{◌≡◌, ℕ, ◌<◌}
-use Rattle.std.specs.Prelude.{None}
+use Rattle.std.proofs.Common.{◌≡◌, ℕ, ◌<◌, None}
 use Rattle.rsc_nfa.specs.Faults.{fault_at}
 use Rattle.rsc_nfa.proofs.nfa.check.Given as goal
 
