@@ -1,3 +1,3 @@
-pub mod Trails
-pub mod Visits
-pub mod Records
+pub mod Trails  -- a trail grows by a place, and goes back to one
+pub mod Visits  -- a place more that was visited leaves one less
+pub mod Records  -- what a run records, from its end on

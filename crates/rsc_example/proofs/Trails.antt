@@ -1,6 +1,5 @@
 -- A trail grows by a place, and goes back to one.
-use Rattle.std.proofs.Common.{◌≡◌, ℕ, zero, suc, ◌+◌, ◌-◌, ◌<◌, ◌≤◌, ⊎_elim, true, List, [], ◌∷◌, ◌++◌, length, take, get_or, set, refl, sym, ap, ◌∙◌, arith, length-append}
-use Rattle.std.specs.Prelude.{slice_get, Option, Some, None, MatchOption}
+use Rattle.std.proofs.Common.{◌≡◌, ℕ, zero, suc, ◌+◌, ◌-◌, ◌<◌, ◌≤◌, ⊎_elim, true, List, [], ◌∷◌, ◌++◌, length, take, get_or, set, refl, sym, ap, ◌∙◌, arith, length-append, slice_get, Option, Some, None, MatchOption}
 use Rattle.std.proofs.lemmas.Bool.{cases_lt, cases_eq}
 use Rattle.std.proofs.lemmas.Grind.{get_or-set_at}
 use Rattle.std.proofs.lemmas.List.{get_or_append_left, get_or-append_right, get_or-take, get_or-set_other, length-set, length-take-le}
@@ -25,8 +24,7 @@ place-after run p k e =
 
 -- ---- a place more
 
-run_more : (e : Scene) (from : ℕ × ℕ) (run : List (ℕ × ℕ)) (p : ℕ × ℕ) → IsRun e.states e.terminator e.words e.haystack e.start e.end run
-    → IsNext e from run p
+run_more : (e : Scene) (from : ℕ × ℕ) (run : List (ℕ × ℕ)) (p : ℕ × ℕ) → IsRun e.states e.terminator e.words e.haystack e.start e.end run → IsNext e from run p
     → IsRun e.states e.terminator e.words e.haystack e.start e.end (run ++ p ∷ [])
 run_more e from run p r n = record {
   places = λ k l. ⊎_elim
@@ -42,10 +40,8 @@ run_more e from run p r n = record {
       (cases_lt (k + 1) (length run));
 }
 
-pub IsTrail-more : (e : Scene) (from : ℕ × ℕ) (run : List (ℕ × ℕ)) (others : List (Option ℕ)) (p : ℕ × ℕ) (other : Option ℕ)
-    → IsTrail e from run others → IsNext e from run p
-    → ((b : ℕ) → other ≡ Some b → (b < length e.states) × Leads e p (b, p.1))
-    → IsTrail e from (run ++ p ∷ []) (others ++ other ∷ [])
+pub IsTrail-more : (e : Scene) (from : ℕ × ℕ) (run : List (ℕ × ℕ)) (others : List (Option ℕ)) (p : ℕ × ℕ) (other : Option ℕ) → IsTrail e from run others
+    → IsNext e from run p → ((b : ℕ) → other ≡ Some b → (b < length e.states) × Leads e p (b, p.1)) → IsTrail e from (run ++ p ∷ []) (others ++ other ∷ [])
 IsTrail-more e from run others p other t n way = record {
   as_many = omega (arith, length-append run (p ∷ []), length-append others (other ∷ []), t.as_many);
   is_run = run_more e from run p t.is_run n;
@@ -68,8 +64,7 @@ IsTrail-more e from run others p other t n way = record {
         get_or-append_right others (other ∷ []) (length others) k None refl (omega (arith, e)) ∙ ap (λ (i : ℕ). get_or (other ∷ []) i None) none
 
 -- what goes on from the last place
-pub IsNext-more : (e : Scene) (from : ℕ × ℕ) (run : List (ℕ × ℕ)) (p q : ℕ × ℕ) → IsPlace e q → Leads e p q
-    → IsNext e from (run ++ p ∷ []) q
+pub IsNext-more : (e : Scene) (from : ℕ × ℕ) (run : List (ℕ × ℕ)) (p q : ℕ × ℕ) → IsPlace e q → Leads e p q → IsNext e from (run ++ p ∷ []) q
 IsNext-more e from run p q there leads = record {
   there = there;
   first = λ none. absurd (omega (arith, none, length-append run (p ∷ [])));
@@ -77,8 +72,7 @@ IsNext-more e from run p q there leads = record {
 }
 
 -- the run to a place that accepts
-pub IsMatchRun-more : (e : Scene) (from : ℕ × ℕ) (run : List (ℕ × ℕ)) (others : List (Option ℕ)) (p : ℕ × ℕ) → IsTrail e from run others
-    → IsNext e from run p
+pub IsMatchRun-more : (e : Scene) (from : ℕ × ℕ) (run : List (ℕ × ℕ)) (others : List (Option ℕ)) (p : ℕ × ℕ) → IsTrail e from run others → IsNext e from run p
     → accepts e p ≡ true → IsMatchRun e from (run ++ p ∷ [])
 IsMatchRun-more e from run others p t n accepted = record {
   is_run = run_more e from run p t.is_run n;
@@ -93,8 +87,7 @@ IsMatchRun-more e from run others p t n accepted = record {
 -- ---- back to a place
 
 -- the last place is dropped
-pub IsTrail-less : (e : Scene) (from : ℕ × ℕ) (run : List (ℕ × ℕ)) (others : List (Option ℕ)) (n m : ℕ) → IsTrail e from run others
-    → n < length run → n ≡ m
+pub IsTrail-less : (e : Scene) (from : ℕ × ℕ) (run : List (ℕ × ℕ)) (others : List (Option ℕ)) (n m : ℕ) → IsTrail e from run others → n < length run → n ≡ m
     → IsTrail e from (take n run) (take m others)
 IsTrail-less e from run others n m t l same = record {
   as_many = omega (arith, length-take-le n run (omega arith), length-take-le m others (omega (arith, t.as_many)));
@@ -137,8 +130,7 @@ IsTrail-none e from run others i t = record {
         (cases_eq k i)
 
 -- and the trail goes on with it
-pub IsNext-back : (e : Scene) (from : ℕ × ℕ) (run : List (ℕ × ℕ)) (others : List (Option ℕ)) (k b : ℕ) → IsTrail e from run others
-    → k + 1 ≡ length run
+pub IsNext-back : (e : Scene) (from : ℕ × ℕ) (run : List (ℕ × ℕ)) (others : List (Option ℕ)) (k b : ℕ) → IsTrail e from run others → k + 1 ≡ length run
     → get_or others k None ≡ Some b → IsNext e from run (b, (place run k).1)
 IsNext-back e from run others k b t last at = record {
   there = ((t.ways k b (omega (arith, last, t.as_many)) at).0, (t.is_run.places k (omega (arith, last))).1, (t.is_run.places k (omega (arith, last))).2);
@@ -148,10 +140,9 @@ IsNext-back e from run others k b t last at = record {
 
 -- ---- a visit
 
-pub IsAfter-more : (e : Scene) (from : ℕ × ℕ) (run : List (ℕ × ℕ)) (others : List (Option ℕ)) (p : ℕ × ℕ) (step : Move)
-    → IsTrail e from run others
-    → IsNext e from run p
-    → IsMove e p step → IsAfter e from p (run ++ p ∷ []) (others ++ other_of step ∷ []) step
+-- what a step makes of a trail: one place more, or the whole run of a match
+pub IsAfter-more : (e : Scene) (from : ℕ × ℕ) (run : List (ℕ × ℕ)) (others : List (Option ℕ)) (p : ℕ × ℕ) (step : Move) → IsTrail e from run others
+    → IsNext e from run p → IsMove e p step → IsAfter e from p (run ++ p ∷ []) (others ++ other_of step ∷ []) step
 IsAfter-more e from run others p Fails t n m = IsTrail-more e from run others p None t n (λ b h. absurd (none_is_none b h))
 IsAfter-more e from run others p (Goes s i) t n m = (
   IsTrail-more e from run others p None t n (λ b h. absurd (none_is_none b h)),
@@ -176,6 +167,7 @@ leads-rises e p q l = go (slice_get e.states p.0) l
     go (Some (Capture slot next)) x = omega (arith, x.1)
     go (Some (Accept pattern)) x = absurd x
 
+-- the positions of a run never fall
 pub run-rises : (e : Scene) (run : List (ℕ × ℕ)) (k : ℕ) → IsRun e.states e.terminator e.words e.haystack e.start e.end run → k < length run
     → (place run 0).1 ≤ (place run k).1
 run-rises e run zero r l = omega arith

@@ -1,6 +1,5 @@
 -- A place more that was visited leaves one less.
-use Rattle.std.proofs.Common.{◌≡◌, ℕ, zero, suc, ◌+◌, ◌<◌, ◌≤◌, ⊎_elim, Bool, true, false, not, ◌||◌, ◌==◌, cond, List, [], ◌∷◌, ◌++◌, refl, sym, ap, ◌∙◌, arith, true≢false}
-use Rattle.std.specs.Prelude.{count_by, Option, Some, None, is_some}
+use Rattle.std.proofs.Common.{◌≡◌, ℕ, zero, suc, ◌+◌, ◌<◌, ◌≤◌, ⊎_elim, Bool, true, false, not, ◌||◌, ◌==◌, cond, List, [], ◌∷◌, ◌++◌, refl, sym, ap, ◌∙◌, arith, true≢false, count_by, Option, Some, None, is_some}
 use Rattle.std.specs.List.{range_with_len}
 use Rattle.std.proofs.lemmas.Bool.{cases_eq}
 use Rattle.std.proofs.lemmas.Bool.Decides.{nat_tests}
@@ -39,8 +38,7 @@ count_le f g a (suc n) h =
           (h a (omega arith) (omega arith)) rest,
     )
 
-pub count_lt : (f g : ℕ → Bool) (p a n : ℕ) → ((q : ℕ) → a ≤ q → q < a + n → f q ≡ true → g q ≡ true) → a ≤ p → p < a + n
-    → f p ≡ false → g p ≡ true
+pub count_lt : (f g : ℕ → Bool) (p a n : ℕ) → ((q : ℕ) → a ≤ q → q < a + n → f q ≡ true → g q ≡ true) → a ≤ p → p < a + n → f p ≡ false → g p ≡ true
     → count_by f (range_with_len a n) < count_by g (range_with_len a n)
 count_lt f g p a zero h low high out inside = absurd (omega (arith, low, high))
 count_lt f g p a (suc n) h low high out inside =
@@ -88,14 +86,14 @@ unvisited-less s p adds l none =
     itself : (p : ℕ) (b : Bool) → (p == p || b) ≡ true
     itself p b = grind (arith, nat_tests)
 
+-- a visit adds no unvisited place
 pub unvisited-no_more : (s : Patterns) (p : ℕ) → AddsOne → unvisited (with_member s p) ≤ unvisited s
 unvisited-no_more s p adds =
     count_le (λ q. not (has_member (with_member s p).members q)) (λ q. not (has_member s.members q)) 0 s.capacity
     (λ q low high n. fewer (has_member (with_member s p).members q) (has_member s.members q) q p (adds s p q (omega (arith, high))) n)
 
 -- so there is less to do, whatever way is left at the place
-pub IsLess-more : (v : Patterns) (p : ℕ) (others : List (Option ℕ)) (other : Option ℕ) (step : Move) → AddsOne → p < v.capacity
-    → has_member v.members p ≡ false
+pub IsLess-more : (v : Patterns) (p : ℕ) (others : List (Option ℕ)) (other : Option ℕ) (step : Move) → AddsOne → p < v.capacity → has_member v.members p ≡ false
     → IsLess (work (with_member v p) (others ++ other ∷ [])) (work v others) step
 IsLess-more v p others other step adds l none = go step
   where

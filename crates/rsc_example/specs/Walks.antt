@@ -22,8 +22,7 @@ pub record IsTrail (e : Scene) (from : ℕ × ℕ) (run : List (ℕ × ℕ)) (ot
   pub as_many : length others ≡ length run
   pub is_run : IsRun e.states e.terminator e.words e.haystack e.start e.end run
   pub begins : 0 < length run → place run 0 ≡ from
-  pub ways : (k b : ℕ) → k < length others → slice_index_or others k None ≡ Some b → (b < length e.states)
-      × Leads e (place run k) (b, (place run k).1)
+  pub ways : (k b : ℕ) → k < length others → slice_index_or others k None ≡ Some b → (b < length e.states) × Leads e (place run k) (b, (place run k).1)
 
 -- the trail goes on at the place
 pub record IsNext (e : Scene) (from : ℕ × ℕ) (run : List (ℕ × ℕ)) (p : ℕ × ℕ) : Type 0 where

@@ -9,6 +9,7 @@ pub record Reads (ds : List ℕ) (i n : ℕ) : Type 0 where
   pub value : digits_value_after 10 n (drop i ds) ≡ digits_value 10 ds
   pub digits : AllDigits 10 (drop i ds) ↔ AllDigits 10 ds
 
+-- nothing is read yet
 pub Reads-none : (ds : List ℕ) → Reads ds 0 0
 Reads-none ds = record { value = refl; digits = ((λ h. h), (λ h. h)) }
 
@@ -23,6 +24,7 @@ value_of_rest : (ds : List ℕ) (i n : ℕ) → i < length ds → Reads ds i n
     → digits_value_after 10 (n * 10 + digit_value (get_or ds i 0)) (drop (i + 1) ds) ≡ digits_value 10 ds
 value_of_rest ds i n l r = ap (digits_value_after 10 n) (sym (next ds i l)) ∙ r.value
 
+-- one digit more is read
 pub Reads-one : (ds : List ℕ) (i n : ℕ) → i < length ds → Reads ds i n → digit_value (get_or ds i 0) < 10
     → Reads ds (i + 1) (n * 10 + digit_value (get_or ds i 0))
 Reads-one ds i n l r d = record {
@@ -33,14 +35,17 @@ Reads-one ds i n l r d = record {
   );
 }
 
+-- all digits are read
 pub all_read : (ds : List ℕ) (n : ℕ) → Reads ds (length ds) n → (n ≡ digits_value 10 ds) × AllDigits 10 ds
 all_read ds n r =
     let none : drop (length ds) ds ≡ [] = drop-length ds in
     (ap (digits_value_after 10 n) (sym none) ∙ r.value, r.digits.0 (subst (AllDigits 10) (sym none) tt))
 
+-- a character that isn't a digit stands there
 pub no_digit : (ds : List ℕ) (i n : ℕ) → i < length ds → Reads ds i n → (digit_value (get_or ds i 0) < 10 → ⊥) → AllDigits 10 ds → ⊥
 no_digit ds i n l r other h = other (subst (AllDigits 10) (next ds i l) (r.digits.1 h)).0
 
+-- more digits make no smaller number
 pub too_great : (ds : List ℕ) (i n k : ℕ) → i < length ds → Reads ds i n → k ≤ n * 10 + digit_value (get_or ds i 0) → k ≤ digits_value 10 ds
 too_great ds i n k l r h =
     let more = no_less (n * 10 + digit_value (get_or ds i 0)) (drop (i + 1) ds) in

@@ -8,6 +8,7 @@ pub eighteen : length every_look ≡ 18
 unfolding every_look
 eighteen = refl
 
+-- the list has each assertion
 pub is_listed : (l : Look) → (k : ℕ) × (k < 18) × (get_or every_look k Start ≡ l)
 unfolding every_look
 is_listed Start = (0, omega arith, refl)

@@ -13,6 +13,7 @@ pair (a ∷ b ∷ c ∷ s) e = absurd (omega (arith, e))
 two : (s : List ℕ) (byte : ℕ) → decode_of s ≡ Ok (byte ∷ []) → length s ≡ 2
 two s byte e = (decode_of-ok s (byte ∷ []) e).2
 
+-- a range is written in five characters, with a dash in the middle
 pub written : (text : List ℕ) (first last : ℕ) → IsRangeText text first last → (length text ≡ 5) × (slice_index_or text 2 0 ≡ 45)
     × (decode_of (slice_index_or text 0 0 ∷ slice_index_or text 1 0 ∷ []) ≡ Ok (first ∷ []))
     × (decode_of (slice_index_or text 3 0 ∷ slice_index_or text 4 0 ∷ []) ≡ Ok (last ∷ []))

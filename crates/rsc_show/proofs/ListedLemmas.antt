@@ -19,6 +19,7 @@ pub listed_push : (looks : List Look) (l : Look) (a : List ℕ) (rest : List (Li
 listed_push looks l a rest e = append_assoc looks (l ∷ []) (listed false rest)
     ∙ ap (λ ls. looks ++ ls) (sym (ap (λ x. listed false (x ∷ rest)) e ∙ (behind_name l rest).0))
 
+-- the haystack comes after the name of an assertion
 pub haystack_behind_name : (l : Look) (a : List ℕ) (rest : List (List ℕ)) → a ≡ look_name l
     → haystack_arguments false (a ∷ rest) ≡ haystack_arguments false rest
 haystack_behind_name l a rest e = ap (λ x. haystack_arguments false (x ∷ rest)) e ∙ (behind_name l rest).1

@@ -1,6 +1,5 @@
 -- Partitions that keep assertions and part ranges: what one more range adds, and why no coarser one does.
-use Rattle.std.proofs.Common.{◌≡◌, ◌↔◌, ◌<◌, ◌≤◌, ◌∷◌, ◌++◌, ◌||◌, [], ℕ, Bool, true, List, refl, sym, subst, ◌∙◌, arith, ◌⊎◌, inl, inr, ⊎_elim}
-use Rattle.std.specs.List.{Contains}
+use Rattle.std.proofs.Common.{◌≡◌, ◌↔◌, ◌<◌, ◌≤◌, ◌∷◌, ◌++◌, ◌||◌, [], ℕ, Bool, true, List, refl, sym, subst, ◌∙◌, arith, ◌⊎◌, inl, inr, ⊎_elim, Contains}
 use Rattle.std.specs.FinSet as sets
 use Rattle.std.proofs.lemmas.Bool.{or_cases, or_left, or_right}
 use Rattle.std.proofs.lemmas.List.Elements.{Contains-append_left, Contains-push, Contains-push_cases}
@@ -105,8 +104,7 @@ edges_added p q edges ranges r joined edge fills before = (
 )
 
 -- and as it is, with one more range that holds none
-pub edges_as_they_are : (p : ℕ → Bool) (ranges : List (ℕ × ℕ)) (r : ℕ × ℕ) → ¬ (r.0 ≤ r.1) → HasEdgesOf p ranges
-    → HasEdgesOf p (ranges ++ r ∷ [])
+pub edges_as_they_are : (p : ℕ → Bool) (ranges : List (ℕ × ℕ)) (r : ℕ × ℕ) → ¬ (r.0 ≤ r.1) → HasEdgesOf p ranges → HasEdgesOf p (ranges ++ r ∷ [])
 edges_as_they_are p ranges r empty before = (
   parts_more p p ranges r (λ b e. e) (λ fills. absurd (empty fills)) before.0,
   λ b lt e. edge_kept b ranges r (before.1 b lt e),

@@ -1,6 +1,5 @@
 -- The group that a text reaches with one more byte.
-use Rattle.std.proofs.Common.{◌≡◌, ◌≤◌, ◌+◌, ◌==◌, ℕ, Bool, true, false, List, [], ◌∷◌, ◌++◌, refl, arith}
-use Rattle.std.specs.Prelude.{if◌then◌else◌}
+use Rattle.std.proofs.Common.{◌≡◌, ◌≤◌, ◌+◌, ◌==◌, ℕ, Bool, true, false, List, [], ◌∷◌, ◌++◌, refl, arith, if◌then◌else◌}
 use Rattle.rsc_show.specs.Pointers.{place_after, reached}
 
 -- one more byte
@@ -14,5 +13,6 @@ one_more at n true y le = omega (arith, le)
 one_more at n false true le = omega (arith, le)
 one_more at n false false le = omega (arith, le)
 
+-- a byte makes one pattern or one group more at most
 pub at_most_one_more : (at : ℕ × ℕ) (b n : ℕ) → at.0 + at.1 ≤ n → (place_after at b).0 + (place_after at b).1 ≤ n + 1
 at_most_one_more at b n le = one_more at n (b == 59) (b == 44) le

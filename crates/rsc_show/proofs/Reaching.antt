@@ -1,8 +1,6 @@
 -- Characters that begin before a position and end after it.
-use Rattle.std.proofs.Common.{◌≡◌, ◌↔◌, ◌<◌, ◌≤◌, ◌-◌, ℕ, Bool, false, true≢false, List, length, sym, ap, ◌∙◌, arith}
-use Rattle.std.specs.Prelude.{IsTrue, nat_lt, slice_range}
+use Rattle.std.proofs.Common.{◌≡◌, ◌↔◌, ◌<◌, ◌≤◌, ◌-◌, ℕ, Bool, false, true≢false, List, length, sym, ap, ◌∙◌, arith, IsTrue, nat_lt, slice_range, lt-ltb, ltb-true}
 use Rattle.std.specs.Char.{IsScalar, encode_utf8, len_utf8}
-use Rattle.std.proofs.lemmas.Bool.{lt-ltb, ltb-true}
 use Rattle.std.proofs.lemmas.Str.{length-encode, len_utf8_bounds}
 use Rattle.rsc_primitives.specs.Utf8.{BeginsAt, EncodedFrom, Encodes, IsInside}
 use Rattle.rsc_primitives.specs.Utf8Laws.{BeginsAt-same, length-slice}
@@ -30,6 +28,7 @@ reaches_by_width law h s i c lt le b =
           lt-ltb (i - s) (len_utf8 c) (omega (arith, v, p, q, lt)),
     )
 
+-- where no character begins, none reaches further
 pub not_without_character : (h : List ℕ) (s i : ℕ) → ((c : ℕ) → ¬ (BeginsAt h s c)) → ¬ (ReachesPast h s i)
 not_without_character h s i none r = none r.char (r.to, r.encoded)
 

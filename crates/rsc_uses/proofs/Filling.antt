@@ -1,10 +1,7 @@
 -- Tables that are filled unit by unit.
-use Rattle.std.proofs.Common.{◌≡◌, ◌⊎◌, inl, inr, ⊎_elim, ℕ, zero, suc, ◌+◌, ◌<◌, ◌≤◌, Some, List, [], ◌∷◌, length, slice_index, slice_set, refl, sym, subst, ap, ◌∙◌, arith}
-use Rattle.std.specs.Prelude.{slice_get}
-use Rattle.std.specs.List.{Contains}
+use Rattle.std.proofs.Common.{◌≡◌, ◌⊎◌, inl, inr, ⊎_elim, ℕ, zero, suc, ◌+◌, ◌<◌, ◌≤◌, Some, List, [], ◌∷◌, length, slice_index, slice_set, refl, sym, subst, ap, ◌∙◌, arith, slice_get, Contains, get_or-set_same, get_or-set_other}
 use Rattle.std.proofs.lemmas.Bool.{cases_eq, cases_lt}
 use Rattle.std.proofs.lemmas.Option.{slice_get_within, get_or_from_slice_get}
-use Rattle.std.proofs.lemmas.List.{get_or-set_same, get_or-set_other}
 use Rattle.rsc_alphabet.specs.Symbols.{Symbol, byte, number_of}
 use Rattle.rsc_uses.specs.Leads.{lead_of}
 use Rattle.rsc_alphabet.specs.Iterators.{class_at, end_of, symbols}
@@ -21,30 +18,35 @@ cases : (x : Symbol) (xs : List Symbol) (q : Symbol) → Contains (x ∷ xs) q �
 cases x xs q (zero, l, e) = inl e
 cases x xs q (suc k, l, e) = inr (k, omega (arith, l), e)
 
-pub next_is_among : (place value : Symbol → ℕ) (row : List ℕ) (left rest all : List Symbol) (u : Symbol) → left ≡ u ∷ rest
-    → Awaits place value row left all → Contains all u
-next_is_among place value row left rest all u e a = a.among u (subst (λ xs. Contains xs u) (sym e) (0, omega arith, refl))
+module _ {place value : Symbol → ℕ} {row : List ℕ} {left all : List Symbol} (a : Awaits place value row left all) where
+  -- the unit that comes next is one of all
+  pub next_is_among : {u : Symbol} {rest : List Symbol} → left ≡ u ∷ rest → Contains all u
+  next_is_among {u} e = a.among u (subst (λ xs. Contains xs u) (sym e) (0, omega arith, refl))
 
--- units with one place have one value, so an entry that is filled stays right
-pub one_filled : (place value : Symbol → ℕ) (row : List ℕ) (left rest all : List Symbol) (u : Symbol) (at n : ℕ) → left ≡ u ∷ rest
-    → at ≡ place u → n ≡ value u
-    → at < length row → ((v w : Symbol) → Contains all v → Contains all w → place v ≡ place w → value v ≡ value w)
-    → Awaits place value row left all → Awaits place value (slice_set row at n) rest all
-one_filled place value row left rest all u at n e is_place is_value within one a = record {
-  among = λ v c. a.among v (subst (λ xs. Contains xs v) (sym e) (later u rest v c));
-  filled = λ v c.
-      let among = next_is_among place value row left rest all u e a in
-      ⊎_elim
-      (λ (same : place v ≡ at). inr (rw same (get_or-set_same row at n 0 within ∙ is_value ∙ sym (one v u c among (same ∙ is_place)))))
-      (λ (differs : ¬ (place v ≡ at)). ⊎_elim
-      (λ (coming : Contains left v). ⊎_elim
-      (λ (now : u ≡ v). absurd (differs (ap place (sym now) ∙ sym is_place)))
-      (λ (c : Contains rest v). inl c)
-      (cases u rest v (subst (λ xs. Contains xs v) e coming)))
-      (λ (held : slice_index row (place v) ≡ value v). inr (get_or-set_other row at (place v) n 0 differs ∙ held))
-      (a.filled v c))
-      (cases_eq (place v) at);
-}
+  -- units with one place have one value, so an entry that is filled stays right
+  pub one_filled : {u : Symbol} {rest : List Symbol} {at n : ℕ} → left ≡ u ∷ rest → at ≡ place u → n ≡ value u → at < length row
+      → ((v w : Symbol) → Contains all v → Contains all w → place v ≡ place w → value v ≡ value w) → Awaits place value (slice_set row at n) rest all
+  one_filled {u} {rest} {at} {n} e is_place is_value within one = record {
+    among = λ v c. a.among v (subst (λ xs. Contains xs v) (sym e) (later u rest v c));
+    filled = λ v c.
+        ⊎_elim
+        (λ (same : place v ≡ at).
+        inr (rw same (get_or-set_same row at n 0 within ∙ is_value ∙ sym (one v u c (next_is_among e) (same ∙ is_place)))))
+        (λ (differs : ¬ (place v ≡ at)). ⊎_elim
+        (λ (coming : Contains left v). ⊎_elim
+        (λ (now : u ≡ v). absurd (differs (ap place (sym now) ∙ sym is_place)))
+        (λ (c : Contains rest v). inl c)
+        (cases u rest v (subst (λ xs. Contains xs v) e coming)))
+        (λ (held : slice_index row (place v) ≡ value v). inr (get_or-set_other row at (place v) n 0 differs ∙ held))
+        (a.filled v c))
+        (cases_eq (place v) at);
+  }
+
+  -- in the end each entry has its value
+  pub all_filled : left ≡ [] → {u : Symbol} → Contains all u → slice_index row (place u) ≡ value u
+  all_filled e {u} c =
+      ⊎_elim (λ (coming : Contains left u). absurd (let none = subst (λ xs. Contains xs u) e coming in omega (arith, none.1)))
+      (λ (held : slice_index row (place u) ≡ value u). held) (a.filled u c)
 
 Contains-from_get : (xs : List Symbol) (i : ℕ) (u : Symbol) → slice_get xs i ≡ Some u → Contains xs u
 Contains-from_get xs i u e = (i, slice_get_within xs i u e, get_or_from_slice_get xs i u u e)
@@ -61,12 +63,6 @@ unit_of_number classes k places last small =
       (Contains-from_get (symbols classes) (slice_index classes 255 + 1) (end_of classes) last, omega (arith, small, high)),
     ))
     (cases_lt k (slice_index classes 255 + 1))
-
-pub all_filled : (place value : Symbol → ℕ) (row : List ℕ) (left all : List Symbol) → left ≡ [] → Awaits place value row left all
-    → (u : Symbol) → Contains all u → slice_index row (place u) ≡ value u
-all_filled place value row left all e a u c =
-    ⊎_elim (λ (coming : Contains left u). absurd (let none = subst (λ xs. Contains xs u) e coming in omega (arith, none.1)))
-    (λ (held : slice_index row (place u) ≡ value u). held) (a.filled u c)
 
 -- where a unit leads depends on its class alone
 pub one_way : (classes leads : List ℕ) (end : ℕ) (all : List Symbol)

@@ -1,9 +1,6 @@
 -- Spans that are replaced by what they have already.
-use Rattle.std.proofs.Common.{◌≡◌, ◌≤◌, ◌+◌, ◌-◌, ◌++◌, ◌∷◌, [], ℕ, List, length, drop, true, false, nat_le, refl, sym, ap, ◌∙◌, arith}
-use Rattle.std.specs.Prelude.{slice_range}
-use Rattle.std.specs.List.{All}
+use Rattle.std.proofs.Common.{◌≡◌, ◌≤◌, ◌+◌, ◌-◌, ◌++◌, ◌∷◌, [], ℕ, List, length, drop, true, false, nat_le, refl, sym, ap, ◌∙◌, arith, slice_range, All, drop-drop, take-append-drop}
 use Rattle.std.proofs.lemmas.Bool.Decides.{nat_tests}
-use Rattle.std.proofs.lemmas.List.{drop-drop, take-append-drop}
 use Rattle.std.proofs.lemmas.List.Elements.{All-tail}
 use Rattle.rsc_search.specs.declared.span.Span.{Span}
 use Rattle.rsc_uses.specs.Replaced.{replaced}

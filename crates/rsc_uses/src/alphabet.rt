@@ -3,7 +3,8 @@ ghost use Rattle.std.specs.Prelude.{◌≡◌, ◌↔◌, ◌+◌, ◌*◌, ◌^
 ghost use Rattle.std.specs.FinSet as sets;
 ghost use Rattle.rsc_alphabet.specs.ByteSets.{members, runs};
 ghost use Rattle.rsc_alphabet.specs.Partitions.{ClassesRise, Together, class_map, edges_of_each};
-ghost use Rattle.rsc_alphabet.specs.Iterators.{stride2_of, symbol_count};
+ghost use Rattle.std.specs.declared.ops.Bound.TheVariants.{Unbounded};
+ghost use Rattle.rsc_alphabet.specs.Iterators.{stride2_of, symbol_count, symbols, elements_of, representatives_of};
 ghost use Rattle.rsc_uses.specs.Leads.{lead_of};
 
 use rsc_alphabet::{ByteClassSet, ByteClasses, ByteSet, Unit, classes_of_ranges, laws};
@@ -158,7 +159,11 @@ pub fn each_is_member(set: &ByteSet) -> bool
 }
 
 /// How many units the iterators of a map give: all symbols, the elements of one, and the representatives of all bytes. Their counts fit.
-pub fn counts(map: &ByteClasses, class: Unit) -> (usize, usize, usize) {
+pub fn counts(map: &ByteClasses, class: Unit) -> (usize, usize, usize)
+    ensures symbols { result.0 ≡ length (symbols map.now) }
+    ensures elements { result.1 ≡ length (elements_of map.now class) }
+    ensures representatives { result.2 ≡ length (representatives_of map.now Unbounded Unbounded) }
+{
     let representatives = map.representatives(Bound::Unbounded, Bound::Unbounded);
     (
         map.iter().count(),

@@ -1,6 +1,9 @@
 //! Inputs that move on, and sets of patterns.
-ghost use Rattle.std.specs.Prelude.{◌≡◌, ◌↔◌, ◌+◌, ◌<◌, ◌≤◌, ◌++◌, ℕ, All, IsTrue, IfOk, IfSome, is_none, slice_index, slice_range, length, reverse, sum_by, true, ◌%◌, ◌^◌};
+ghost use Rattle.std.specs.Prelude.{◌≡◌, ◌↔◌, ◌+◌, ◌<◌, ◌≤◌, ◌++◌, ℕ, All, IsTrue, IfOk, IfSome, is_none, slice_index, slice_range, length, reverse, sum_by, true, ◌%◌, ◌^◌, ◌-◌, ◌⊎◌};
 ghost use Rattle.std.specs.Option.{option_copied};
+ghost use Rattle.std.specs.List.{range_with_len};
+ghost use Rattle.rsc_look.specs.Holds.{Holds};
+ghost use Rattle.rsc_look.specs.Words.{is_unicode_word};
 ghost use Rattle.rsc_search.specs.Inputs.{whole};
 ghost use Rattle.rsc_search.specs.PatternSets.{has_member};
 ghost use Rattle.rsc_search.specs.Spans.{cut};
@@ -87,7 +90,10 @@ pub fn width(found: &Match) -> usize
 }
 
 /// The sum of the bytes that are searched, modulo 2^64, by a loop over the input's range.
-pub fn sum_of_bytes(input: &Input<'_>) -> u64 {
+pub fn sum_of_bytes(input: &Input<'_>) -> u64
+    ensures { result ≡ sum_by (slice_index input.now.haystack)
+        (range_with_len input.now.span.start (input.now.span.end - input.now.span.start)) % 2 ^ 64 }
+{
     let haystack = input.haystack();
     let mut sum = 0u64;
     for at in input.get_range() {
@@ -106,7 +112,10 @@ pub fn has_byte(input: &Input<'_>, at: usize, byte: u8) -> bool
 }
 
 /// Whether the search is done, or an assertion holds where it begins.
-pub fn is_done_or_holds(input: &Input<'_>, look: Look) -> bool {
+pub fn is_done_or_holds(input: &Input<'_>, look: Look) -> bool
+    ensures { IsTrue result ↔ ((input.now.span.end < input.now.span.start)
+        ⊎ Holds look 10 is_unicode_word input.now.haystack input.now.span.start) }
+{
     input.is_done() || LookMatcher::new(UnicodeWord).matches(look, input.haystack(), input.start())
 }
 

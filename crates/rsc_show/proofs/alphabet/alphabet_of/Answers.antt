@@ -6,8 +6,7 @@ use Rattle.rsc_look.specs.declared.assertion.Look.TheVariants.{Start}
 use Rattle.rsc_look.specs.Boundaries.{boundaries_of}
 use Rattle.rsc_look.specs.Keeping.{Keeps}
 use Rattle.rsc_show.specs.Chosen.{chosen_words}
-use Rattle.std.proofs.lemmas.Bool.{or_cases}
-use Rattle.std.proofs.lemmas.Bool.{or_left}
+use Rattle.std.proofs.lemmas.Bool.{or_cases, or_left}
 use Rattle.rsc_show.proofs.alphabet.alphabet_of.Goals as goal
 
 pub loop-look-preserved : goal.loop-look-preserved

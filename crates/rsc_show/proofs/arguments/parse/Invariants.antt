@@ -1,6 +1,4 @@
-use Rattle.std.proofs.Common.{◌≡◌, ◌≤◌, ◌++◌, false, drop, map}
-use Rattle.std.specs.List.{All}
-use Rattle.std.specs.String.{string_bytes}
+use Rattle.std.proofs.Common.{◌≡◌, ◌≤◌, ◌++◌, false, drop, map, All, string_bytes}
 use Rattle.rsc_show.specs.Listed.{haystack_arguments, listed}
 use Rattle.rsc_show.specs.ListedLayout.{left_of, SoFar}
 use Rattle.rsc_show.proofs.arguments.parse.Given as goal

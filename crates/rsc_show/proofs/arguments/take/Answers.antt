@@ -1,5 +1,4 @@
-use Rattle.std.proofs.Common.{◌∷◌, ◌∙◌, [], ap, inl, inr, refl, subst, sym}
-use Rattle.std.specs.Prelude.{codes}
+use Rattle.std.proofs.Common.{◌∷◌, ◌∙◌, [], ap, inl, inr, refl, subst, sym, codes}
 use Rattle.rsc_show.specs.ListedLayout.{SoFar}
 use Rattle.rsc_show.proofs.arguments.take.Goals as goal
 

@@ -1,7 +1,6 @@
-use Rattle.std.proofs.Common.{◌≡◌, ◌∙◌, ◌<◌, arith, false, subst, sym, ⊎_elim, slice_index_or, None}
+use Rattle.std.proofs.Common.{◌≡◌, ◌∙◌, ◌<◌, arith, false, subst, sym, ⊎_elim, slice_index_or, None, option_copied}
 use Rattle.std.proofs.lemmas.Bool.{cases_lt}
 use Rattle.std.proofs.lemmas.List.{get_or-map}
-use Rattle.std.specs.Option.{option_copied}
 use Rattle.rsc_captures.specs.Groups.{groups_in, has_name}
 use Rattle.rsc_show.proofs.groups.named_from.Goals as goal
 

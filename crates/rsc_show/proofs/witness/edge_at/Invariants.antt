@@ -1,5 +1,4 @@
-use Rattle.std.proofs.Common.{ℕ, take}
-use Rattle.std.specs.List.{Contains}
+use Rattle.std.proofs.Common.{ℕ, take, Contains}
 use Rattle.rsc_show.specs.Ranges.{IsEdge}
 use Rattle.rsc_show.proofs.witness.edge_at.Given as goal
 

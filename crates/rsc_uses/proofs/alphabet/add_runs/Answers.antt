@@ -19,12 +19,10 @@ loop-start-preserved c =
       tt,
       ap (λ s. sets.union s (edges_of_each c.next.new.self)) c.set_range.ensures.set
           ∙ union_assoc c.loop-start.partition first (edges_of_each c.next.new.self)
-          ∙ sym (ap (λ rs. sets.union c.loop-start.partition (edges_of_each rs)) c.in-Some.ensures.steps)
-          ∙ c.loop-start.invariant.2,
+          ∙ sym (ap (λ rs. sets.union c.loop-start.partition (edges_of_each rs)) c.in-Some.ensures.steps) ∙ c.loop-start.invariant.2,
     )
 
 pub returns : goal.returns
 returns c =
-    sym (union_none c.loop-start.partition)
-    ∙ sym (ap (λ rs. sets.union c.loop-start.partition (edges_of_each rs)) c.in-None.ensures.steps.0)
+    sym (union_none c.loop-start.partition) ∙ sym (ap (λ rs. sets.union c.loop-start.partition (edges_of_each rs)) c.in-None.ensures.steps.0)
     ∙ c.loop-start.invariant.2

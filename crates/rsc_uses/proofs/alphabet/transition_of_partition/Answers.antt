@@ -1,6 +1,5 @@
-use Rattle.std.proofs.Common.{◌+◌, ◌*◌, ◌^◌, ◌/◌, ◌<◌, ◌≤◌, ◌≡◌, ◌∙◌, ap, subst, length, arith, rules}
+use Rattle.std.proofs.Common.{◌+◌, ◌*◌, ◌^◌, ◌/◌, ◌<◌, ◌≤◌, ◌≡◌, ◌∙◌, ap, subst, length, arith, rules, le-div_iff_mul-le}
 use Rattle.std.specs.FinSet as sets
-use Rattle.std.proofs.Math.Nat.{le-div_iff_mul-le}
 use Rattle.rsc_alphabet.specs.Partitions.{class_map}
 use Rattle.rsc_alphabet.specs.Iterators.{stride2_of}
 use Rattle.rsc_uses.proofs.alphabet.transition_of_partition.Goals as goal

@@ -6,18 +6,15 @@ pub loop-pid-init : goal.loop-pid-init
 loop-pid-init c = (
   tt,
   tt,
-  all_left c.args.table.now c.into_iter-pid-iterator.result (2 ^ 64)
-      (c.into_iter-pid-iterator.ensures.into_iter_gives ∙ c.iter-pid-items.ensures.list),
+  all_left c.args.table.now (2 ^ 64) (c.into_iter-pid-iterator.ensures.into_iter_gives ∙ c.iter-pid-items.ensures.list),
 )
 
 pub loop-pid-preserved : goal.loop-pid-preserved
 loop-pid-preserved c = (
   tt,
   tt,
-  one_more c.args.table.now c.loop-pid.pid-iterator c.next.new.self c.loop-pid.sum c.in-Some.pid c.as_usize.result (2 ^ 64) c.as_usize.ensures.value
-      c.in-Some.ensures.steps ∙ c.loop-pid.invariant.2,
+  one_more c.args.table.now c.loop-pid.sum (2 ^ 64) c.as_usize.ensures.value c.in-Some.ensures.steps ∙ c.loop-pid.invariant.2,
 )
 
 pub returns : goal.returns
-returns c = none_left c.args.table.now c.loop-pid.pid-iterator c.loop-pid.sum (2 ^ 64) _ c.in-None.ensures.steps.0 (omega (arith, c.loop-pid.auto.sum-fits))
-    c.loop-pid.invariant.2
+returns c = none_left c.args.table.now (2 ^ 64) c.in-None.ensures.steps.0 (omega (arith, c.loop-pid.auto.sum-fits)) c.loop-pid.invariant.2

@@ -1,5 +1,4 @@
-use Rattle.std.proofs.Common.{◌≡◌, ◌≤◌, length}
-use Rattle.std.specs.Prelude.{count_by, is_some}
+use Rattle.std.proofs.Common.{◌≡◌, ◌≤◌, length, count_by, is_some}
 use Rattle.rsc_example.specs.Programs.{scene_of}
 use Rattle.rsc_example.specs.Walks.{IsTrail}
 use Rattle.rsc_example.proofs.backtrack.Walk.turn_back.Given as goal
