@@ -9,6 +9,7 @@
   crates/rsc_example. README.md also gets the line counts of the definitions to believe.
 - The examples of doc comments: what is in a test of crates/rsc_uses/src/examples below the comment that names the item.
 - The table of docs/WRONG_BODIES.md: for each edit that it names, the function and the goal that refuse it.
+- The comments of each Lib.antt: the first sentence of each module's head.
 
 It compares the numbers that the code decides, and asks that docs/DEFINITIONS.md has each definition that a public contract cites, in backquotes, alone or after its module, as `Holds` or
 `Holds.Holds`. A definition is a name of a crate's specs/ that a `ghost use` line brings into a file.
@@ -62,7 +63,7 @@ LAWS = """## Laws, and what else can be cited
 A law is a public function of `{crate}::laws` that does nothing, and whose contract is the law. A function whose proof needs it calls it at its beginning, as
 `laws::{law}();`: from there on the law is among the facts that the checker searches.
 
-A contract or a proof of yours may name all of `Rattle.{crate}.specs`: a word `{module}.{word}` of the table below by
+A contract or a proof of yours may use all of `Rattle.{crate}.specs`: a name `{module}.{word}` of the table below by
 `ghost use Rattle.{crate}.specs.{module}.{{{word}}};`, and a struct or an enum `TYPE` of `src/FILE.rt` by
 `ghost use Rattle.{crate}.specs.declared.FILE.TYPE.{{TYPE}};`. A proof may also cite the lemmas of `specs/..Laws`, which are about definitions
 alone. `Rattle.{crate}.proofs` and `specs/..Layout` are private: the gate refuses an import of them by another crate.
@@ -83,7 +84,7 @@ def shortened(owner, signature):
 
 
 def contracts(crate):
-    parts = ["## Contracts", "", f"Quoted from `crates/{crate}/src`; `specs/` defines the words, and the `ghost use` lines of the quoted file say where.", ""]
+    parts = ["## Contracts", "", f"Quoted from `crates/{crate}/src`; `specs/` defines the names, and the `ghost use` lines of the quoted file say where.", ""]
     for path, text in sources(crate):
         shown = [shortened(owner, it) for owner, is_public, it in functions(text) if is_public]
         if shown:
@@ -112,9 +113,9 @@ def words(crate):
                 comment = ""
             elif not line.strip():
                 comment = ""
-    parts = ["## Words of `specs/`", "", "| Word | What it says |", "|---|---|", *believed, ""]
+    parts = ["## Names of `specs/`", "", "| Name | What it says |", "|---|---|", *believed, ""]
     if others:
-        parts += ["These serve proofs and the layout, and need no belief:", "", "| Word | What it says |", "|---|---|", *others, ""]
+        parts += ["These serve proofs and the layout, and need no trust:", "", "| Name | What it says |", "|---|---|", *others, ""]
     return "\n".join(parts)
 
 
@@ -169,7 +170,7 @@ def callers(path, names):
     files = f"Their proof files are in `{folder}`: {', '.join(proved)}; the others need none." if proved else "None needs a proof file."
     used = imports(path, quoted)
     own = " To copy one, copy what it names of `Rattle.rsc_uses` too." if "Rattle.rsc_uses." in used else ""
-    head = f"From `crates/rsc_uses/src/{path}`, proved by the contracts below alone. {files}{own}"
+    head = f"From `crates/rsc_uses/src/{path}`, proved from the contracts below alone. {files}{own}"
     return f"## Callers\n\n{head}\n\n```rust\n{used}\n\n{quoted}\n```\n"
 
 
@@ -263,6 +264,19 @@ def documented(text, quoted, missing):
     return "\n".join(made)
 
 
+def module_list(path):
+    """Returns a Lib.antt in which each module has the first sentence of its head as its comment."""
+    made = []
+    for line in path.read_text(encoding="utf-8").splitlines():
+        module = re.match(r"(?:pub )?mod (\w+)", line)
+        text = (path.parent / f"{module[1]}.antt").read_text(encoding="utf-8")
+        head = " ".join(it[3:] for it in itertools.takewhile(lambda it: it.startswith("-- "), text.splitlines()))
+        sentence = re.match(r".*?(?=\.(?: |$)|$)", head)[0]
+        is_word = sentence[1:2].islower() or sentence[1:2] == " "
+        made.append(f"{module[0]}  -- {sentence[0].lower() + sentence[1:] if is_word else sentence}")
+    return "\n".join(made) + "\n"
+
+
 def pages():
     """Yields each page with what it should be."""
     for crate in LIBRARIES:
@@ -277,6 +291,8 @@ def pages():
         file = ROOT / "crates" / crate / "README.md"
         example = ROOT / "crates/rsc_uses/src/readmes" / f"{crate.removeprefix('rsc_')}.rt"
         yield file, readme(example.read_text(encoding="utf-8"), file.read_text(encoding="utf-8"))
+    for file in sorted((ROOT / "crates").glob("*/*/Lib.antt")):
+        yield file, module_list(file)
     file = ROOT / "README.md"
     yield file, believed(readme(engine_example(), file.read_text(encoding="utf-8")))
 

@@ -4,7 +4,7 @@
     gate/unused-lemmas.py [CRATE ..]      # all crates without a name; prints FILE:LINE: NAME, and exits with 1 if there is any
 
 A lemma counts as used where another declaration that is used names it, in its own file or in one that imports it. A tactic may use what is imported
-into a source without naming it, so such an import counts as a use. Whether a lemma can go is for a check from nothing to say.
+into a source without naming it, so such an import counts as a use. A file that passes names on (`pub use`) doesn't use them. Whether a lemma can go is for a check from nothing to say.
 """
 import glob
 import os
@@ -80,9 +80,10 @@ def is_law_file(file):
 
 def main():
     files = [it for kind in ("antt", "rt") for it in glob.glob(f"{ROOT}/crates/*/**/*.{kind}", recursive=True) if "/out/" not in it]
-    named, places, pending = {}, {}, []
+    named, places, pending, passed = {}, {}, [], {}
     for file in files:
         imports, modules, lines = read(file)
+        passed.update({(file, here): there for here, there in imports.items()})
 
         def targets(words, own):
             for word in words:
@@ -109,6 +110,8 @@ def main():
     used = set()
     while pending:
         it = pending.pop()
+        while it in passed and it not in named:
+            it = passed[it]
         if it in named and it not in used:
             used.add(it)
             pending += named[it]
