@@ -10,6 +10,9 @@ use Rattle.std.proofs.lemmas.Nat.{and_mask, div_below, le-div, leading_length, l
 use Rattle.rsc_primitives.specs.BitsLaws.{same_digit}
 use Rattle.rsc_search.specs.WordLayout.{has_bit, bit_length, highest_place, IsWithout}
 
+half_of_even : (n : ℕ) → n % 2 ≡ 0 → (n - 1) / 2 ≡ n / 2 - 1
+half_of_even n even = omega (arith, even)
+
 -- one less has no bit at the lowest set one, and the same above it
 pred_lowest : (j n : ℕ) → 0 < n → bit_at n j ≡ 1 → ((i : ℕ) → i < j → bit_at n i ≡ 0) → bit_at (n - 1) j ≡ 0
 pred_lowest zero n some one none =
@@ -18,9 +21,8 @@ pred_lowest zero n some one none =
     bit_at_lowest (n - 1) ∙ even
 pred_lowest (suc j) n some one none =
     let even : n % 2 ≡ 0 = sym (bit_at_lowest n) ∙ none 0 (omega arith) in
-    let half : (n - 1) / 2 ≡ n / 2 - 1 = omega (arith, even) in
     let some_half : 0 < n / 2 = omega (arith, even) in
-    bit_at-suc (n - 1) j ∙ rw half (pred_lowest j (n / 2) some_half (sym (bit_at-suc n j) ∙ one)
+    bit_at-suc (n - 1) j ∙ rw (half_of_even n even) (pred_lowest j (n / 2) some_half (sym (bit_at-suc n j) ∙ one)
     (λ i lt. sym (bit_at-suc n i) ∙ none (suc i) (omega arith)))
 
 pred_odd : (j n : ℕ) → n % 2 ≡ 1 → bit_at (n - 1) (suc j) ≡ bit_at n (suc j)
@@ -33,9 +35,7 @@ pred_above i zero n lt one = absurd (omega arith)
 pred_above zero (suc j) n lt one = pred_odd j n (sym (bit_at_lowest n) ∙ one)
 pred_above (suc i) (suc j) n lt one =
     elim (cases_lt (n % 2) 1) [
-      | inl even ↦
-          let half : (n - 1) / 2 ≡ n / 2 - 1 = omega (arith, even) in
-          bit_at-suc (n - 1) j ∙ rw half (pred_above i j (n / 2) (omega arith) (sym (bit_at-suc n i) ∙ one)) ∙ sym (bit_at-suc n j)
+      | inl even ↦ bit_at-suc (n - 1) j ∙ rw (half_of_even n (omega (arith, even))) (pred_above i j (n / 2) (omega arith) (sym (bit_at-suc n i) ∙ one)) ∙ sym (bit_at-suc n j)
       | inr odd ↦ pred_odd j n (omega (arith, odd))
     ]
 

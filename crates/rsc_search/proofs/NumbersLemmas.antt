@@ -45,6 +45,12 @@ module _ (t : ℕ → Bool) where
           let there : a + suc m ≡ (a + 1) + m = omega arith in
           rw (more, there) (ap (λ (ps : List ℕ). a ∷ ps) (parts (a + 1) m))
 
+  cut_at : (a c b : ℕ) → a ≤ c → c ≤ b → filter t (range_with_len a (b - a)) ≡ filter t (range_with_len a (c - a)) ++ filter t (range_with_len c (b - c))
+  cut_at a c b from to =
+      let parts : b - a ≡ (c - a) + (b - c) = omega arith in
+      let there : a + (c - a) ≡ c = omega arith in
+      rw parts (filter_parts a (c - a) (b - c) ∙ rw there refl)
+
   -- from a on and below b: nothing between a and c passes, so it may begin at c
   pub skip_front : (a c b : ℕ) → a ≤ c → ((q : ℕ) → a ≤ q → q < c → t q ≡ false) → filter t (range_with_len a (b - a)) ≡ filter t (range_with_len c (b - c))
   skip_front a c b order fails =
@@ -52,10 +58,7 @@ module _ (t : ℕ → Bool) where
         | inl short ↦
             let none : b - c ≡ 0 = omega arith in
             rw none (filter_none a (b - a) (λ q from below. fails q from (omega arith)))
-        | inr long ↦
-            let parts : b - a ≡ (c - a) + (b - c) = omega arith in
-            let there : a + (c - a) ≡ c = omega arith in
-            rw parts (filter_parts a (c - a) (b - c) ∙ rw (there, filter_none a (c - a) (λ q from below. fails q from (omega arith))) refl)
+        | inr long ↦ cut_at a c b order long ∙ rw (filter_none a (c - a) (λ q from below. fails q from (omega arith))) refl
       ]
 
   -- nothing between c and b passes, so it may end at c
@@ -65,10 +68,7 @@ module _ (t : ℕ → Bool) where
         | inl short ↦
             let none : c - a ≡ 0 = omega arith in
             rw none (filter_none a (b - a) (λ q from below. fails q (omega arith) (omega arith)))
-        | inr long ↦
-            let parts : b - a ≡ (c - a) + (b - c) = omega arith in
-            let rest = filter_none (a + (c - a)) (b - c) (λ q from below. fails q (omega arith) (omega arith)) in
-            rw parts (filter_parts a (c - a) (b - c) ∙ rw (rest, append-nil) refl)
+        | inr long ↦ cut_at a c b long order ∙ rw (filter_none c (b - c) (λ q from below. fails q from (omega arith)), append-nil) refl
       ]
 
   -- the first and the last of the numbers that pass
@@ -77,10 +77,7 @@ module _ (t : ℕ → Bool) where
 
   -- the last number of a range passes
   pub last_passes : (a p : ℕ) → a ≤ p → t p ≡ true → filter t (range_with_len a ((p + 1) - a)) ≡ filter t (range_with_len a (p - a)) ++ p ∷ []
-  last_passes a p le is =
-      let more : (p + 1) - a ≡ (p - a) + 1 = omega arith in
-      let there : a + (p - a) ≡ p = omega arith in
-      rw more (filter_parts a (p - a) 1 ∙ rw (there, is) refl)
+  last_passes a p le is = let one : (p + 1) - p ≡ 1 = omega arith in cut_at a p (p + 1) le (omega arith) ∙ rw (one, is) refl
 
 module _ (t u : ℕ → Bool) where
   -- tests that agree on a range list the same
@@ -98,9 +95,7 @@ module _ (t u : ℕ → Bool) where
   length_one_more a (suc n) p from below out in_set others =
       elim (cases_eq a p) [
         | inl here ↦
-            let rest : filter t (range_with_len (a + 1) n) ≡ filter u (range_with_len (a + 1) n) =
-            filter_alike (a + 1) n (λ q from below. others q (λ e. absurd (omega arith))) in
-            rw (ap t here ∙ out, ap u here ∙ in_set, rest) (omega arith)
+            rw (ap t here ∙ out, ap u here ∙ in_set, filter_alike (a + 1) n (λ q from below. others q (λ e. absurd (omega arith)))) (omega arith)
         | inr other ↦
             let rest : length (filter u (range_with_len (a + 1) n)) ≡ length (filter t (range_with_len (a + 1) n)) + 1 =
             length_one_more (a + 1) n p (omega arith) (omega arith) out in_set others in

@@ -14,6 +14,8 @@ use Rattle.std.specs.Cmp.{both_ways}
 use mathlib.Core.Bool.{true≢false}
 use Rattle.rsc_search.specs.PatternSetsLaws.{same_patterns_equiv}
 use Rattle.rsc_search.specs.PatternSets.{Patterns, IsSet, has_member, numbers_below, with_member, same_patterns}
+use Rattle.std.specs.Int.{div_ceil}
+use Rattle.rsc_primitives.specs.Indices.{max_index}
 use Rattle.rsc_search.specs.PatternSetLayout.{patterns_of, IsPacked}
 use Rattle.rsc_search.specs.WordLayout.{has_bit, word_of, is_set, SameBits}
 use Rattle.rsc_search.proofs.NumbersLemmas.{member_is, member_in, filter_none, filter_alike, length_one_more, length_filter_le}
@@ -32,7 +34,7 @@ changed_bit words p word lt bits q = elim (cases_eq (q / 64) (p / 64)) [
 ]
 
 -- no bit of zeros is set
-pub none_of_zeros : (n p : ℕ) → is_set (replicate n 0) p ≡ false
+none_of_zeros : (n p : ℕ) → is_set (replicate n 0) p ≡ false
 none_of_zeros n p =
     let clear : has_bit 0 (p % 64) ≡ false = ap (λ (b : ℕ). eqb b 1) (bit_at-zero (p % 64)) in
     ap (λ (word : ℕ). has_bit word (p % 64)) (zeros n (p / 64)) ∙ clear
@@ -45,6 +47,15 @@ none_of_zeros n p =
 -- words of zeros have no member
 pub no_members : (capacity n : ℕ) → numbers_below capacity (is_set (replicate n 0)) ≡ []
 no_members capacity n = filter_none (is_set (replicate n 0)) 0 capacity (λ q from below. none_of_zeros n q)
+
+-- and they hold the set without members
+pub zeros_packed : (capacity n : ℕ) → capacity ≤ max_index + 1 → n ≡ div_ceil capacity 64 → IsPacked capacity (replicate n 0) 0
+zeros_packed capacity n fits n_is = record {
+  fits = fits;
+  length_is = length-replicate n 0 ∙ n_is;
+  spare_clear = λ p from. none_of_zeros n p;
+  count_is = sym (ap length (no_members capacity n));
+}
 
 -- words that were lent and came back as zeros
 pub all_zeros : (words lent : List ℕ) (n : ℕ) → n ≡ length words → lent ≡ replicate (length words) 0
@@ -99,9 +110,7 @@ module _ (capacity : ℕ) (xs ys : List ℕ) (lengths : length xs ≡ length ys)
     (ys_spare : (p : ℕ) → capacity ≤ p → is_set ys p ≡ false) where
   same_if_bits : SameBits xs ys → same_patterns (patterns_of capacity xs) (patterns_of capacity ys) ≡ true
   same_if_bits same_bits =
-      let members : (patterns_of capacity xs).members ≡ (patterns_of capacity ys).members =
-      filter_alike (is_set xs) (is_set ys) 0 capacity (λ q from below. same_bits.bits_are q) in
-      rw members (same_patterns_equiv.refl (patterns_of capacity ys))
+      rw (filter_alike (is_set xs) (is_set ys) 0 capacity (λ q from below. same_bits.bits_are q)) (same_patterns_equiv.refl (patterns_of capacity ys))
 
   bits_if_same : same_patterns (patterns_of capacity xs) (patterns_of capacity ys) ≡ true → SameBits xs ys
   bits_if_same e =
@@ -119,21 +128,17 @@ module _ (capacity : ℕ) (xs ys : List ℕ) (lengths : length xs ≡ length ys)
       (λ e. decides.1 (bits_if_same e))
 
 -- ---- what holds for each set
+number_at : (n k d : ℕ) → k < length (range_with_len 0 n) → (get_or (range_with_len 0 n) k d ≡ k) × (k < n)
+number_at n k d within =
+    let below : k < n = rw (length-range_with_len 0 n) at within in
+    (get_or-range_with_len 0 n k d below ∙ omega arith, below)
+
 members_ascend : (t : ℕ → Bool) (n : ℕ) → IsStrictlyIncreasing (numbers_below n t)
-members_ascend t n = IsStrictlyIncreasing-filter t (range_with_len 0 n) rises
-  where
-    rises : IsStrictlyIncreasing (range_with_len 0 n)
-    rises k within =
-        let count : length (range_with_len 0 n) ≡ n = length-range_with_len 0 n in
-        let here : get_or (range_with_len 0 n) k 0 ≡ 0 + k = get_or-range_with_len 0 n k 0 (omega arith) in
-        let next : get_or (range_with_len 0 n) (k + 1) 0 ≡ 0 + (k + 1) = get_or-range_with_len 0 n (k + 1) 0 (omega arith) in
-        omega arith
+members_ascend t n = IsStrictlyIncreasing-filter t (range_with_len 0 n)
+    (λ k within. omega (arith, (number_at n k 0 (omega arith)).0, (number_at n (k + 1) 0 within).0))
 
 members_below : (t : ℕ → Bool) (n : ℕ) → All (λ p. p < n) (numbers_below n t)
-members_below t n = All-filter t (λ p. p < n) (range_with_len 0 n) (λ k d within.
-    let count : length (range_with_len 0 n) ≡ n = length-range_with_len 0 n in
-    let here : get_or (range_with_len 0 n) k d ≡ 0 + k = get_or-range_with_len 0 n k d (omega arith) in
-    omega arith)
+members_below t n = All-filter t (λ p. p < n) (range_with_len 0 n) (λ k d within. let at = number_at n k d within in omega (arith, at.0, at.1))
 
 -- the members ascend, and lie below the capacity
 pub is_set_below : (capacity : ℕ) (words : List ℕ) → IsSet (patterns_of capacity words)

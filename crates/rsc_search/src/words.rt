@@ -119,7 +119,7 @@ pub(crate) fn first_from(words: &[u64], index: usize, rest: u64) -> (usize, u64)
 /// The last word that isn't zero, down from the one of that number, of which only `rest` is left: its number, and what is
 /// left of it. Where each is zero, so is the answer.
 #[inline(always)]
-pub(crate) fn last_to(words: &[u64], index: usize, rest: u64) -> (usize, u64)
+pub(crate) fn last_until(words: &[u64], index: usize, rest: u64) -> (usize, u64)
     requires { IsRestTo words.now index rest }
     ensures { IsWordTo words.now index rest result.0 result.1 }
 {

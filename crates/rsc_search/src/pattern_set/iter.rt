@@ -3,7 +3,7 @@ ghost use Rattle.std.specs.Prelude.{◌≡◌, length, IfSome, Some};
 ghost use Rattle.std.specs.Iterator.{YieldsFirst, YieldsLast, item_count, UpTo, at_most};
 ghost use Rattle.std.specs.Iterator.SizeHint.{IsWithinCount};
 
-use crate::words::{BITS, first_from, highest, last_to, without_highest, without_lowest};
+use crate::words::{BITS, first_from, highest, last_until, without_highest, without_lowest};
 use rsc_primitives::PatternID;
 use std::marker::Model;
 
@@ -93,7 +93,7 @@ impl<'a> DoubleEndedIterator for PatternSetIter<'a> {
         if self.left == 0 {
             return None;
         }
-        let (index, word) = last_to(self.words, self.back_index, self.back);
+        let (index, word) = last_until(self.words, self.back_index, self.back);
         let p = BITS * index + highest(word);
         self.back_index = index;
         self.back = without_highest(word);

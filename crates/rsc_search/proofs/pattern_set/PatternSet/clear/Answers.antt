@@ -1,26 +1,19 @@
-use Rattle.std.proofs.Common.{◌≡◌, length, replicate, refl, sym, ap, ◌∙◌}
-use Rattle.std.proofs.lemmas.List.{length-replicate}
-use Rattle.rsc_search.proofs.PatternSetsLemmas.{all_zeros, none_of_zeros, no_members}
+use Rattle.std.proofs.Common.{◌≡◌, ◌++◌, drop, length, replicate, take, refl, ap, ◌∙◌}
+use Rattle.rsc_search.proofs.PatternSetsLemmas.{all_zeros, no_members, zeros_packed}
 use Rattle.rsc_search.proofs.pattern_set.PatternSet.clear.Goals as goal
+use Rattle.rsc_search.proofs.pattern_set.PatternSet.clear.Goals.{After-clear_all}
+
+-- the words that came back are zeros
+cleared : (g : _) (c : After-clear_all g) → take c.self.inside.words.len (c.clear_all.new.words ++ drop (length c.clear_all.new.words) c.self.inside.words.items)
+    ≡ replicate (length c.self.inside.words.items) 0
+cleared g c = all_zeros c.self.inside.words.items c.clear_all.new.words c.self.inside.words.len c.self.inside.words.ok.0
+    (c.clear_all.ensures ∙ ap (λ ws. replicate (length ws) 0) c.as_mut_slice.ensures.value)
 
 pub invariant_of-self : goal.invariant_of-self
 invariant_of-self g c =
-    let zeros : c.clear_all.new.words ≡ replicate (length c.self.inside.words.items) 0 = c.clear_all.ensures
-    ∙ ap (λ ws. replicate (length ws) 0) c.as_mut_slice.ensures.value in
-    rw (all_zeros c.self.inside.words.items c.clear_all.new.words c.self.inside.words.len c.self.inside.words.ok.0 zeros) (record {
-      fits = c.self.invariant.fits;
-      length_is = length-replicate (length c.self.inside.words.items) 0 ∙ c.self.invariant.length_is;
-      spare_clear = λ p from. none_of_zeros (length c.self.inside.words.items) p;
-      count_is = sym (ap length (no_members c.self.inside.capacity (length c.self.inside.words.items)));
-    })
+    rw (cleared g (goal.at.invariant_of-self g c).After-clear_all)
+    (zeros_packed c.self.inside.capacity (length c.self.inside.words.items) c.self.invariant.fits c.self.invariant.length_is)
 
 pub returns : goal.returns
 returns g c =
-    let zeros : c.clear_all.new.words ≡ replicate (length c.self.inside.words.items) 0 = c.clear_all.ensures
-    ∙ ap (λ ws. replicate (length ws) 0) c.as_mut_slice.ensures.value in
-    rw (
-      all_zeros c.self.inside.words.items c.clear_all.new.words c.self.inside.words.len c.self.inside.words.ok.0 zeros,
-      no_members c.self.inside.capacity
-          (length c.self.inside.words.items),
-      ← c.self.view_is,
-    ) refl
+    rw (cleared g (goal.at.returns g c).After-clear_all, no_members c.self.inside.capacity (length c.self.inside.words.items), ← c.self.view_is) refl

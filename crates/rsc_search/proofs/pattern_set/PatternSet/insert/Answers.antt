@@ -1,17 +1,31 @@
-use Rattle.std.proofs.Common.{◌<◌, ap, not, sym, ◌∙◌, arith, refl}
+use Rattle.std.proofs.Common.{◌≡◌, ◌≢◌, ◌<◌, ◌||◌, ◌/◌, ℕ, ap, not, set, sym, ◌∙◌, arith, eqb, refl, false, true}
+use Rattle.rsc_search.specs.WordLayout.{is_set}
 use Rattle.rsc_search.proofs.PatternSetsLemmas.{has_member-set, members_within, member_before, same_at, new_member, more_at, more_packed, with_one_more, one_more_member}
 use Rattle.rsc_search.proofs.pattern_set.PatternSet.insert.Goals as goal
+use Rattle.rsc_search.proofs.pattern_set.PatternSet.insert.Goals.{After-with_bit-more}
+
+module _ (g : _) (c : After-with_bit-more g) where
+  below : c.args.pid < c.self.inside.capacity
+  below = rw (← c.self.view_is) at c.requires
+
+  -- the bit was set, or it wasn't
+  had : c.with_bit-more.result ≡ c.index-word.result.now → is_set c.self.inside.words.items c.args.pid ≡ true
+  had = member_before c.self.invariant _ _ below c.as_usize-p.ensures.value c.index-word.ensures c.with_bit-more.ensures.bits
+
+  lacked : c.with_bit-more.result ≢ c.index-word.result.now → is_set c.self.inside.words.items c.args.pid ≡ false
+  lacked = new_member c.self.invariant _ _ below c.as_usize-p.ensures.value c.index-word.ensures c.with_bit-more.ensures.bits c.with_bit-more.ensures.same
 
 pub returns-then-more-word : goal.returns-then-more-word
 returns-then-more-word g c =
-    let below : c.args.pid < c.self.inside.capacity = rw (← c.self.view_is) at c.requires in
-    let member = member_before c.self.invariant _ _ below c.as_usize-p.ensures.value c.index-word.ensures c.with_bit-more.ensures.bits c.if-more-word.true in
+    let s = c.self.inside in
+    let with = (goal.at.returns-then-more-word g c).After-with_bit-more in
+    let is = had g with c.if-more-word.true in
     rw (← c.self.view_is) (record {
-      set = with_one_more c.self.inside.capacity c.self.inside.words.items c.self.invariant.spare_clear _ _
-          (same_at c.self.invariant _ _ below c.as_usize-p.ensures.value c.index-word.ensures c.with_bit-more.ensures.bits member);
-      new = ap not (sym (has_member-set c.self.inside.capacity c.self.inside.words.items c.self.invariant.spare_clear c.args.pid ∙ member));
+      set = with_one_more s.capacity s.words.items c.self.invariant.spare_clear _ _
+          (same_at c.self.invariant _ _ (below g with) c.as_usize-p.ensures.value c.index-word.ensures c.with_bit-more.ensures.bits is);
+      new = ap not (sym (has_member-set s.capacity s.words.items c.self.invariant.spare_clear c.args.pid ∙ is));
       len = refl;
-      most = members_within c.self.inside.capacity c.self.inside.words.items;
+      most = members_within s.capacity s.words.items;
     })
 
 pub overflow_add-self : goal.overflow_add-self
@@ -19,20 +33,19 @@ overflow_add-self g c = omega (arith, c.self.invariant.count_is, c.self.invarian
 
 pub invariant_of-self : goal.invariant_of-self
 invariant_of-self g c =
-    let below : c.args.pid < c.self.inside.capacity = rw (← c.self.view_is) at c.requires in
-    more_packed c.self.invariant _ _ below c.as_usize-p.ensures.value c.index-word.ensures c.with_bit-more.ensures.bits
-    (new_member c.self.invariant _ _ below c.as_usize-p.ensures.value c.index-word.ensures c.with_bit-more.ensures.bits c.with_bit-more.ensures.same
-    c.if-more-word.false)
+    let with = (goal.at.invariant_of-self g c).After-with_bit-more in
+    more_packed c.self.invariant _ _ (below g with) c.as_usize-p.ensures.value c.index-word.ensures c.with_bit-more.ensures.bits
+    (lacked g with c.if-more-word.false)
 
 pub returns : goal.returns
 returns g c =
-    let below : c.args.pid < c.self.inside.capacity = rw (← c.self.view_is) at c.requires in
-    let out = new_member c.self.invariant _ _ below c.as_usize-p.ensures.value c.index-word.ensures c.with_bit-more.ensures.bits
-    c.with_bit-more.ensures.same c.if-more-word.false in
-    let at = more_at c.self.invariant _ _ below c.as_usize-p.ensures.value c.index-word.ensures c.with_bit-more.ensures.bits in
+    let s = c.self.inside in
+    let with = (goal.at.returns g c).After-with_bit-more in
+    let out = lacked g with c.if-more-word.false in
+    let at = more_at c.self.invariant _ _ (below g with) c.as_usize-p.ensures.value c.index-word.ensures c.with_bit-more.ensures.bits in
     rw (← c.self.view_is) (record {
-      set = with_one_more c.self.inside.capacity c.self.inside.words.items c.self.invariant.spare_clear _ _ at;
-      new = ap not (sym (has_member-set c.self.inside.capacity c.self.inside.words.items c.self.invariant.spare_clear c.args.pid ∙ out));
-      len = one_more_member c.self.inside.capacity c.self.inside.words.items c.self.invariant.spare_clear _ _ at below out;
-      most = members_within c.self.inside.capacity _;
+      set = with_one_more s.capacity s.words.items c.self.invariant.spare_clear _ _ at;
+      new = ap not (sym (has_member-set s.capacity s.words.items c.self.invariant.spare_clear c.args.pid ∙ out));
+      len = one_more_member s.capacity s.words.items c.self.invariant.spare_clear _ _ at (below g with) out;
+      most = members_within s.capacity _;
     })

@@ -1,19 +1,10 @@
-use Rattle.std.proofs.Common.{◌≡◌, length, replicate, refl, sym, ap, ◌∙◌}
-use Rattle.std.proofs.lemmas.List.{length-replicate}
-use Rattle.rsc_search.proofs.PatternSetsLemmas.{none_of_zeros, no_members}
+use Rattle.std.proofs.Common.{◌≡◌, length, replicate, refl}
+use Rattle.rsc_search.proofs.PatternSetsLemmas.{no_members, zeros_packed}
 use Rattle.rsc_search.proofs.pattern_set.PatternSet.new.Goals as goal
 
 pub invariant_of-result : goal.invariant_of-result
 invariant_of-result g c =
-    let items : c.in_ok-vec.field-0.items ≡ replicate c.div_ceil.result 0 = c.in_ok-vec.ensures.items_if_clones_equal (λ y e. e) in
-    rw items (record {
-      fits = c.requires;
-      length_is = length-replicate c.div_ceil.result 0 ∙ c.div_ceil.ensures;
-      spare_clear = λ p from. none_of_zeros c.div_ceil.result p;
-      count_is = sym (ap length (no_members c.args.capacity c.div_ceil.result));
-    })
+    rw (c.in_ok-vec.ensures.items_if_clones_equal (λ y e. e)) (zeros_packed c.args.capacity c.div_ceil.result c.requires c.div_ceil.ensures)
 
 pub returns : goal.returns
-returns g c =
-    let items : c.in_ok-vec.field-0.items ≡ replicate c.div_ceil.result 0 = c.in_ok-vec.ensures.items_if_clones_equal (λ y e. e) in
-    rw (items, no_members c.args.capacity c.div_ceil.result) refl
+returns g c = rw (c.in_ok-vec.ensures.items_if_clones_equal (λ y e. e), no_members c.args.capacity c.div_ceil.result) refl

@@ -1,6 +1,6 @@
 use Rattle.std.proofs.Common.{◌≡◌, ℕ, ◌^◌, ◌<◌, ◌≤◌, false}
 use Rattle.rsc_search.specs.WordLayout.{is_set, rest_end, IsRestTo}
-use Rattle.rsc_search.proofs.words.last_to.Given as goal
+use Rattle.rsc_search.proofs.words.last_until.Given as goal
 
 abbrev pub invariant-loop-word : goal.invariant-loop-word
 invariant-loop-word l = record {

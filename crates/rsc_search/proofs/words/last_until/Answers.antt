@@ -1,6 +1,6 @@
 use Rattle.std.proofs.Common.{◌-◌}
 use Rattle.rsc_search.proofs.WordsLemmas.{whole_to, order_to, clear_to}
-use Rattle.rsc_search.proofs.words.last_to.Goals as goal
+use Rattle.rsc_search.proofs.words.last_until.Goals as goal
 
 pub loop-word-preserved : goal.loop-word-preserved
 loop-word-preserved c = record {
