@@ -14,7 +14,6 @@ step() {
 case ${1:-} in
   '' | all)
     step "sources and documents: layers, lengths of lines, quotations, unused lemmas, the texts of wrong bodies"
-    gate/sources.py
     gate/pages.py
     gate/unused-lemmas.py
     gate/wrong-bodies.py --texts

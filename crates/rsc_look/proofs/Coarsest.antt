@@ -73,25 +73,23 @@ mark_is_needed q looks l t W b a keeps c lt m = true_from_ne_false (q b) (λ e. 
         (place_of l) (place_of_le l)) told
 
 -- the member whose boundary it is
-member_with : (looks : List Look) (t b : ℕ) → sets.contains (boundaries_of_each looks t) b ≡ true → Any (λ l. is_mark l t b ≡ true) looks
-member_with looks t b m = Any-from_list_any (λ l. is_mark l t b) looks (sym (contains-boundaries_of_each looks t b) ∙ m)
+member_with : (looks : List Look) (t b : ℕ) → sets.contains (boundaries_of_each looks t) b ≡ true → (l : Look) × Contains looks l × (is_mark l t b ≡ true)
+member_with looks t b m =
+    let found = Any-from_list_any (λ l. is_mark l t b) looks (sym (contains-boundaries_of_each looks t b) ∙ m) in
+    (found.1, (found.0, found.2, found.3), found.4)
 
 boundaries-IsCoarsest : (looks : List Look) (t : ℕ) (W : ℕ → Bool) → AgreesWhereAsked W looks
     → IsCoarsest (sets.contains (boundaries_of_each looks t)) looks t W
 boundaries-IsCoarsest looks t W a = record {
   keeps = Keeps-from (sets.contains (boundaries_of_each looks t)) looks t W (λ b lt m. contains-boundaries_of_each looks t b ∙ m) a;
-  least = λ q keeps b lt m.
-      let y : Any (λ l. is_mark l t b ≡ true) looks = member_with looks t b m in
-      let c : Contains looks y.1 = (y.0, y.2, y.3) in
-      mark_is_needed q looks y.1 t W b (a y.1 c) keeps c lt y.4;
+  least = λ q keeps b lt m. let y = member_with looks t b m in mark_is_needed q looks y.0 t W b (a y.0 y.1) keeps y.1 lt y.2;
 }
 
 boundaries-IsNeeded : (looks : List Look) (t : ℕ) (W : ℕ → Bool) (b : ℕ) → AgreesWhereAsked W looks → sets.contains (boundaries_of_each looks t) b ≡ true
     → IsNeeded b looks t W
 boundaries-IsNeeded looks t W b a m =
-    let y : Any (λ l. is_mark l t b ≡ true) looks = member_with looks t b m in
-    let c : Contains looks y.1 = (y.0, y.2, y.3) in
-    record { look = y.1; listed = c; position = place_of y.1; at_an_end = place_of_le y.1; tells = Tells-mark y.1 t W b (a y.1 c) y.4 }
+    let y = member_with looks t b m in
+    record { look = y.0; listed = y.1; position = place_of y.0; at_an_end = place_of_le y.0; tells = Tells-mark y.0 t W b (a y.0 y.1) y.2 }
 
 -- the class map of the members' boundaries is that of the coarsest partition
 pub IsCoarsestMap-from : (m : List ℕ) (looks : List Look) (t : ℕ) (W : ℕ → Bool) → m ≡ class_map (sets.contains (boundaries_of_each looks t))

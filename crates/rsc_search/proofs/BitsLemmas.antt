@@ -35,7 +35,9 @@ pred_above i zero n lt one = absurd (omega arith)
 pred_above zero (suc j) n lt one = pred_odd j n (sym (bit_at_lowest n) ∙ one)
 pred_above (suc i) (suc j) n lt one =
     elim (cases_lt (n % 2) 1) [
-      | inl even ↦ bit_at-suc (n - 1) j ∙ rw (half_of_even n (omega (arith, even))) (pred_above i j (n / 2) (omega arith) (sym (bit_at-suc n i) ∙ one)) ∙ sym (bit_at-suc n j)
+      | inl even ↦
+          bit_at-suc (n - 1) j ∙ rw (half_of_even n (omega (arith, even))) (pred_above i j (n / 2) (omega arith) (sym (bit_at-suc n i) ∙ one))
+          ∙ sym (bit_at-suc n j)
       | inr odd ↦ pred_odd j n (omega (arith, odd))
     ]
 

@@ -4,7 +4,8 @@ use Rattle.rsc_search.proofs.pattern_set.PatternSet.clear.Goals as goal
 use Rattle.rsc_search.proofs.pattern_set.PatternSet.clear.Goals.{After-clear_all}
 
 -- the words that came back are zeros
-cleared : (g : _) (c : After-clear_all g) → take c.self.inside.words.len (c.clear_all.new.words ++ drop (length c.clear_all.new.words) c.self.inside.words.items)
+cleared : (g : _) (c : After-clear_all g)
+    → take c.self.inside.words.len (c.clear_all.new.words ++ drop (length c.clear_all.new.words) c.self.inside.words.items)
     ≡ replicate (length c.self.inside.words.items) 0
 cleared g c = all_zeros c.self.inside.words.items c.clear_all.new.words c.self.inside.words.len c.self.inside.words.ok.0
     (c.clear_all.ensures ∙ ap (λ ws. replicate (length ws) 0) c.as_mut_slice.ensures.value)

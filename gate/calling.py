@@ -1,0 +1,185 @@
+"""Makes the lower part of a library's CALLING.md of its sources, its definitions and its callers in rsc_uses."""
+import itertools
+import pathlib
+import re
+
+ROOT = pathlib.Path(__file__).resolve().parent.parent
+
+
+def functions(text):
+    """Yields each function of a file: its type or trait, whether the call is public, and its signature with its clauses."""
+    owner, is_open, lines = "", False, None
+    for line in text.splitlines():
+        block = re.match(r"(?:pub )?(impl|trait)\b(?:<.*?>)? ?(.*?) ?\{", line)
+        if block:
+            owner = block[2].partition(":")[0] if block[1] == "trait" else block[2]
+            is_open = block[1] == "trait" or " for " in owner
+        elif line.startswith("}"):
+            owner, is_open = "", False
+        begins = re.match(r"\s*(pub )?(?:const )?fn \w", line)
+        if begins:
+            is_public, lines = bool(begins[1]) or is_open, []
+        if lines is None:
+            continue
+        is_body = re.match(r"\s*\{", line)
+        if not is_body:
+            lines.append(line)
+        is_last_clause = re.match(r"\s*(requires|ensures)\b.*\};$", line)
+        if is_body or is_last_clause or re.search(r"\{\s*(\}\s*)?$|;$", line) and not re.match(r"\s*(requires|ensures)", line):
+            yield owner, is_public, "\n".join(lines).removesuffix(";")
+            lines = None
+
+
+def sources(crate):
+    """Yields each source file of a crate but its tests: its path below src, and its text."""
+    for file in sorted((ROOT / "crates" / crate / "src").glob("**/*.rt")):
+        if "tests" not in file.parts and file.name != "tests.rt":
+            yield file.relative_to(ROOT / "crates" / crate / "src"), file.read_text(encoding="utf-8")
+
+
+MARK = re.compile(r"<!-- callers: (\S+) (.*) -->\n")
+LAWS = """## Laws, and what else can be cited
+
+A law is a public function of `{crate}::laws` that does nothing, and whose contract is the law. A function whose proof needs it calls it at its beginning, as
+`laws::{law}();`: from there on the law is among the facts that the checker searches.
+
+A contract or a proof of yours may use all of `Rattle.{crate}.specs`: a name `{module}.{word}` of the table below by
+`ghost use Rattle.{crate}.specs.{module}.{{{word}}};`, and a struct or an enum `TYPE` of `src/FILE.rt` by
+`ghost use Rattle.{crate}.specs.declared.FILE.TYPE.{{TYPE}};`. A proof may also cite the lemmas of `specs/..Laws`, which are about definitions
+alone. `Rattle.{crate}.proofs` and `specs/..Layout` are private: the gate refuses an import of them by another crate.
+"""
+
+
+def shortened(owner, signature):
+    """Returns a signature as the page shows it: with its type before the name, and no body."""
+    signature = re.sub(r"\s*\{\s*\}?\s*$", "", signature) if not signature.endswith("}") or signature.endswith("{}") else signature
+    indent = re.match(r"\s*", signature)[0]
+    lines = [it.removeprefix(indent) for it in signature.split("\n")]
+    prefix = f"<{owner.replace(' for ', '> for <')}>::" if " for " in owner else f"{owner}::" if owner else ""
+    if " for " in owner:
+        trait, _, of = owner.partition(" for ")
+        prefix = f"<{of} as {trait}>::"
+    lines[0] = re.sub(r"(?:pub )?((?:const )?fn )", lambda it: it[1] + prefix, lines[0], count=1)
+    return "\n".join(lines)
+
+
+def contracts(crate):
+    parts = ["## Contracts", "", f"Quoted from `crates/{crate}/src`; `specs/` defines the names, and the `ghost use` lines of the quoted file say where.", ""]
+    for path, text in sources(crate):
+        shown = [shortened(owner, it) for owner, is_public, it in functions(text) if is_public]
+        if shown:
+            parts += [f"### `{path}`", "", "```text", *shown, "```", ""]
+    return "\n".join(parts)
+
+
+def words(crate):
+    """Returns the definitions of specs/, each with the comment above it; those of lemmas and layout come last."""
+    believed, others = [], []
+    for file in sorted((ROOT / "crates" / crate / "specs").glob("**/*.antt")):
+        comment = ""
+        lines = file.read_text(encoding="utf-8").splitlines()
+        for k, line in enumerate(lines):
+            name = re.match(r"(?:abbrev |unfoldable )*pub (?:record |data |class )?([^\s:]+)", line)
+            if line.startswith("-- "):
+                comment = f"{comment} {line[3:]}".strip()
+            elif name and not line.startswith("pub mod") and not line.startswith("  "):
+                rows = others if re.search(r"Laws|Layout|Same", file.stem) else believed
+                if " record " in line:
+                    fields = itertools.takewhile(lambda it: it.startswith("  "), lines[k + 1 :])
+                    names = [f"`{found[1]}`" for it in fields if (found := re.match(r"  pub (\S+) :", it))]
+                    comment = f"{comment} (a record: {', '.join(names)})".strip()
+                if comment or rows is believed:
+                    rows.append(f"| `{file.stem}.{name[1]}` | {comment.replace('|', chr(92) + '|')} |")
+                comment = ""
+            elif not line.strip():
+                comment = ""
+    parts = ["## Names of `specs/`", "", "| Name | What it says |", "|---|---|", *believed, ""]
+    if others:
+        parts += ["These serve proofs and the layout, and need no trust:", "", "| Name | What it says |", "|---|---|", *others, ""]
+    return "\n".join(parts)
+
+
+def items(crate):
+    """Returns where each public item is imported from, and which types are `Copy`."""
+    texts = {path.as_posix(): text for path, text in sources(crate)}
+    roots, paths, types = [], [], []
+    for module, names in re.findall(r"^pub (?:use \w+::|mod )(?:(\w+);|\{([^}]*)\};)", texts["lib.rt"], flags=re.M):
+        if f"pub mod {module};" not in texts["lib.rt"]:
+            roots += [it.strip() for it in (names or module).split(",") if it.strip()]
+        elif module != "laws":
+            found = re.findall(r"^pub (?:const )?(?:fn|struct|enum|trait) (\w+)", texts[f"{module}.rt"], flags=re.M)
+            paths.append(f"`{crate}::{module}::{{{', '.join(found)}}}`")
+            types += found
+    paths, types = [f"`{crate}::{{{', '.join(roots)}}}`", *paths], roots + types
+    every = "\n".join(texts.values())
+    derived = {it: re.search(rf"((?:^#\[.*\]\n)*)^pub (?:struct|enum) {it}\b", every, flags=re.M) for it in types}
+    copied = [f"`{it}`" for it, found in derived.items() if found and re.search(r"\bCopy\b", found[1])]
+    others = [f"`{it}`" for it, found in derived.items() if found and not re.search(r"\bCopy\b", found[1])]
+    lines = ["## Items", "", f"{', '.join(paths)}, and the laws in `{crate}::laws`.", ""]
+    lines += [f"`Copy`: {', '.join(copied)}. Not `Copy`: {', '.join(others)}." if copied else "No type is `Copy`.", ""]
+    return "\n".join(lines)
+
+
+def caller(lines, at):
+    """Returns the item of rsc_uses that begins in a line, with the comment above it."""
+    first = at
+    while lines[first - 1].startswith(("///", "#[")):
+        first -= 1
+    last = next(k for k in range(at, len(lines)) if lines[k].startswith("}"))
+    return "\n".join(lines[first : last + 1])
+
+
+def callers(path, names):
+    """Returns the section of some functions of rsc_uses, after what they name of the same file, and says which have a proof file."""
+    lines = (ROOT / "crates/rsc_uses/src" / path).read_text(encoding="utf-8").splitlines()
+    places = {found[2]: k for k, line in enumerate(lines) if (found := re.match(r"pub (fn|trait) (\w+)", line))}
+    shown = {}
+
+    def add(name):
+        text = caller(lines, places[name])
+        for other in places:
+            if other != name and other not in shown and re.search(rf"(?<![.\w]){other}\b", re.sub("^///.*$", "", text, flags=re.M)):
+                add(other)
+        shown.setdefault(name, text)
+
+    for name in names:
+        add(name)
+    quoted = "\n\n".join(shown.values())
+    folder = f"crates/rsc_uses/proofs/{path.removesuffix('.rt')}"
+    proved = [f"`{it}`" for it in shown if (ROOT / folder / it).exists()]
+    files = f"Their proof files are in `{folder}`: {', '.join(proved)}; the others need none." if proved else "None needs a proof file."
+    used = imports(path, quoted)
+    own = " To copy one, copy what it names of `Rattle.rsc_uses` too." if "Rattle.rsc_uses." in used else ""
+    head = f"From `crates/rsc_uses/src/{path}`, proved from the contracts below alone. {files}{own}"
+    return f"## Callers\n\n{head}\n\n```rust\n{used}\n\n{quoted}\n```\n"
+
+
+def imports(path, quoted):
+    """Returns what a file of rsc_uses brings in, without the names that the quoted callers don't use."""
+    text = (ROOT / "crates/rsc_uses/src" / path).read_text(encoding="utf-8")
+    quoted = re.sub(r"^///.*$", "", quoted, flags=re.M)
+    kinds = {"ghost ": [], "": []}
+    for kind, source, group, names, alias in re.findall(r"^(ghost |)use ([^{};]+?)(\{([^}]*)\}| as (\w+)|);$", text, flags=re.M):
+        words = names.replace("\n", " ").split(",") if group.startswith("{") else [alias or source.rpartition("::")[2]]
+        used = [it.strip() for it in words if it.strip() and re.search(mentioned(it), quoted)]
+        if used:
+            is_single = len(used) == 1 and not kind
+            names = used[0] if is_single else f"{{{', '.join(used)}}}"
+            kinds[kind].append(f"{kind}use {source}{names if group.startswith('{') else group};")
+    return "\n".join([*kinds["ghost "], "", *kinds[""]])
+
+
+def mentioned(name):
+    """Returns a pattern of where a name is used: an operator by its first sign, a word as a whole."""
+    word = name.split(" as ")[-1].strip()
+    sign = word.replace("◌", " ").split()[0]
+    return re.escape(sign) if word != sign and not sign.isalpha() else rf"(?<!\w){re.escape(sign)}(?!\w)"
+
+
+def page(crate, text):
+    mark = MARK.search(text)
+    laws = (ROOT / "crates" / crate / "src/laws.rt").read_text(encoding="utf-8")
+    law = re.search(r"pub fn (\w+)\(\)", laws)[1]
+    listed = words(crate)
+    module, word = re.search(r"^\| `(\w+)\.([^`]+)` \|", listed, flags=re.M).groups()
+    return text[: mark.end()] + "\n" + "\n".join([items(crate), callers(mark[1], mark[2].split()), LAWS.format(crate=crate, law=law, module=module, word=word), contracts(crate), listed])
