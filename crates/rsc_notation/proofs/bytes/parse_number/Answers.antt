@@ -23,10 +23,12 @@ returns-then-not-is_ascii_digit-clause-found c = (
 pub returns-in_err-checked_mul-clause-found : goal.returns-in_err-checked_mul-clause-found
 returns-in_err-checked_mul-clause-found c = rw c.from_residual.ensures (
   (λ e. absurd (true≢false (sym e))),
-  (λ h.
-      let least = too_great c.args.digits.now c.loop-digit.digit-index c.loop-digit.number (2 ^ 64) c.loop-digit-test.true c.loop-digit.invariant.reads
-      (omega (arith, c.in_err-checked_mul.ensures)) in
-      absurd (omega (arith, least, h.1))),
+  (λ h. absurd (omega (
+    arith,
+    too_great c.args.digits.now c.loop-digit.digit-index c.loop-digit.number (2 ^ 64) c.loop-digit-test.true
+        c.loop-digit.invariant.reads (omega (arith, c.in_err-checked_mul.ensures)),
+    h.1,
+  ))),
 )
 
 pub returns-in_err-number-clause-found : goal.returns-in_err-number-clause-found
@@ -41,9 +43,9 @@ returns-in_err-number-clause-found c = rw c.from_residual-in_err-number.ensures 
 
 pub loop-digit-preserved : goal.loop-digit-preserved
 loop-digit-preserved c =
-    let digit = digit_value_digit (get_or c.args.digits.now c.loop-digit.digit-index 0) c.if-not-is_ascii_digit.ensures.cases in
+    let value = digit_value_digit (get_or c.args.digits.now c.loop-digit.digit-index 0) c.if-not-is_ascii_digit.ensures.cases in
     let number : c.in_ok-number.number ≡ c.loop-digit.number * 10 + digit_value (get_or c.args.digits.now c.loop-digit.digit-index 0) =
-    omega (arith, digit, c.in_ok-number.ensures, c.in_ok-checked_mul.ensures, c.from.ensures) in
+    omega (arith, value, c.in_ok-number.ensures, c.in_ok-checked_mul.ensures, c.from.ensures) in
     record {
       reads = rw number (Reads-one c.args.digits.now c.loop-digit.digit-index c.loop-digit.number c.loop-digit-test.true c.loop-digit.invariant.reads
           c.if-not-is_ascii_digit.ensures.bound);

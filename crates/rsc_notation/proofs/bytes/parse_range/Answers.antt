@@ -14,17 +14,19 @@ returns-then-dash-ne45-clause-found c = λ first last w order. absurd (c.if-dash
 
 pub returns-in_err-start-clause-found : goal.returns-in_err-start-clause-found
 returns-in_err-start-clause-found c = λ first last w order.
-    let text = c.args.text.now in
-    let digits = decode_of-ok (slice_index_or text 0 0 ∷ slice_index_or text 1 0 ∷ []) (first ∷ []) (written text first last w).2 in
-    let none : false ≡ true = c.in_err-start.ensures.found.1 (refl, digits.1) in
-    absurd (true≢false (sym none))
+    absurd (true≢false (sym (c.in_err-start.ensures.found.1 (
+      refl,
+      (decode_of-ok (slice_index_or c.args.text.now 0 0 ∷ slice_index_or c.args.text.now 1 0 ∷ []) (first ∷ [])
+          (written c.args.text.now first last w).2).1,
+    ))))
 
 pub returns-in_err-end-clause-found : goal.returns-in_err-end-clause-found
 returns-in_err-end-clause-found c = λ first last w order.
-    let text = c.args.text.now in
-    let digits = decode_of-ok (slice_index_or text 3 0 ∷ slice_index_or text 4 0 ∷ []) (last ∷ []) (written text first last w).3 in
-    let none : false ≡ true = c.in_err-end.ensures.found.1 (refl, digits.1) in
-    absurd (true≢false (sym none))
+    absurd (true≢false (sym (c.in_err-end.ensures.found.1 (
+      refl,
+      (decode_of-ok (slice_index_or c.args.text.now 3 0 ∷ slice_index_or c.args.text.now 4 0 ∷ []) (last ∷ [])
+          (written c.args.text.now first last w).3).1,
+    ))))
 
 pub returns-else-start-end-clause-found : goal.returns-else-start-end-clause-found
 returns-else-start-end-clause-found c = λ first last w order.

@@ -33,7 +33,6 @@ loop-look-preserved c =
 
 pub returns-clause-keeps : goal.returns-clause-keeps
 returns-clause-keeps c =
-    let t = c.args.matcher.now.0 in
-    let W = chosen_words c.args.matcher.now.1 in
-    subst (λ ls. Keeps (sets.contains c.loop-look.set) ls t W) (take_all c.loop-look.look-index c.args.looks.now c.loop-look-test.false)
+    subst (λ ls. Keeps (sets.contains c.loop-look.set) ls c.args.matcher.now.0 (chosen_words c.args.matcher.now.1))
+    (take_all c.loop-look.look-index c.args.looks.now c.loop-look-test.false)
     (c.loop-look.invariant.0 (sets.contains c.loop-look.set) (λ b lt e. e))

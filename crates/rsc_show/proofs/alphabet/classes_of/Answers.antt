@@ -5,18 +5,14 @@ use Rattle.rsc_show.proofs.alphabet.classes_of.Goals as goal
 
 pub returns-clause-parting : goal.returns-clause-parting
 returns-clause-parting c =
-    let t = c.args.matcher.now.0 in
-    let W = chosen_words c.args.matcher.now.1 in
     rw c.byte_classes.ensures.map
-    (coarsest_parting (sets.contains c.alphabet_of.result) c.args.ranges.now c.args.looks.now t W
-    (λ l. c.boundaries_are_exact.ensures l t W (λ _. c.words_agree.ensures c.args.matcher.now.1))
-    c.alphabet_of.ensures.keeps c.alphabet_of.ensures.parts c.alphabet_of.ensures.only)
+    (coarsest_parting (sets.contains c.alphabet_of.result) c.args.ranges.now c.args.looks.now c.args.matcher.now.0 (chosen_words c.args.matcher.now.1)
+    (λ l. c.boundaries_are_exact.ensures l _ _ (λ _. c.words_agree.ensures c.args.matcher.now.1)) c.alphabet_of.ensures.keeps c.alphabet_of.ensures.parts
+    c.alphabet_of.ensures.only)
 
 pub returns-clause-coarsest : goal.returns-clause-coarsest
 returns-clause-coarsest c = λ none.
-    let t = c.args.matcher.now.0 in
-    let W = chosen_words c.args.matcher.now.1 in
     rw c.byte_classes.ensures.map
-    (coarsest_map (sets.contains c.alphabet_of.result) c.args.ranges.now c.args.looks.now t W
-    (λ l. c.boundaries_are_exact.ensures l t W (λ _. c.words_agree.ensures c.args.matcher.now.1))
-    c.alphabet_of.ensures.keeps c.alphabet_of.ensures.parts c.alphabet_of.ensures.only none)
+    (coarsest_map (sets.contains c.alphabet_of.result) c.args.ranges.now c.args.looks.now c.args.matcher.now.0 (chosen_words c.args.matcher.now.1)
+    (λ l. c.boundaries_are_exact.ensures l _ _ (λ _. c.words_agree.ensures c.args.matcher.now.1)) c.alphabet_of.ensures.keeps c.alphabet_of.ensures.parts
+    c.alphabet_of.ensures.only none)

@@ -30,7 +30,6 @@ loop-look-preserved g c = λ q h.
 
 pub returns : goal.returns
 returns g c =
-    let t = c.args.matcher.now.0 in
-    let W = g.W.WordClass.word_chars c.args.matcher.now.1 in
-    subst (λ ls. Keeps (sets.contains c.loop-look.set) ls t W) (take_all c.loop-look.look-index c.args.looks.now c.loop-look-test.false)
+    subst (λ ls. Keeps (sets.contains c.loop-look.set) ls c.args.matcher.now.0 (g.W.WordClass.word_chars c.args.matcher.now.1))
+    (take_all c.loop-look.look-index c.args.looks.now c.loop-look-test.false)
     (c.loop-look.invariant (sets.contains c.loop-look.set) (λ b lt e. e))

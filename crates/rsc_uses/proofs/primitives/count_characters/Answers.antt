@@ -18,6 +18,6 @@ loop-at-preserved c = record {
 
 pub returns : goal.returns
 returns c = λ cs h.
-    let left = c.loop-at.invariant.chars cs h in
-    let none = all_read c.args.bytes.now c.loop-at.at c.loop-at-test.false left.0 left.1.0 in
-    omega (arith, left.1.1, none)
+    let all = c.loop-at.invariant.chars cs h in
+    let none = all_read c.args.bytes.now c.loop-at.at c.loop-at-test.false all.0 all.1.0 in
+    omega (arith, all.1.1, none)

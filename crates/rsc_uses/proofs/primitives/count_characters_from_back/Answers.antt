@@ -19,6 +19,6 @@ loop-end-preserved c = record {
 
 pub returns : goal.returns
 returns c = λ cs h.
-    let left = c.loop-end.invariant.chars cs h in
-    let none = none_before c.args.bytes.now c.loop-end.end (omega (arith, c.loop-end-test.false)) left.0 left.1.0 in
-    omega (arith, left.1.1, none)
+    let all = c.loop-end.invariant.chars cs h in
+    let none = none_before c.args.bytes.now c.loop-end.end (omega (arith, c.loop-end-test.false)) all.0 all.1.0 in
+    omega (arith, all.1.1, none)
