@@ -1,15 +1,13 @@
 -- What two numbers of 128 bits say of a set of bytes.
 use Rattle.std.proofs.Common.{◌≡◌, ℕ, ◌+◌, ◌-◌, ◌^◌, ◌<◌, ◌≤◌, Bool, false, ◌&&◌, filter, refl, ap, ◌∙◌, arith, nat_eq, ⊎_elim}
 use Rattle.std.specs.List.{list_any}
-use Rattle.std.specs.Cmp.{nat_cmp_total}
 use Rattle.std.specs.FinSet as sets
-use Rattle.std.specs.FinSet.{contains-from_list_nat, same_set, nat_cmp-IsAntisymmetric}
+use Rattle.std.specs.FinSet.{contains-from_list_nat}
 use Rattle.std.proofs.lemmas.Bool.{cases_lt, eq-eqb, lt-ltb, le-ltb, eqb-true}
 use Rattle.std.proofs.lemmas.Nat.Bits.{bit_at_above}
 use Rattle.std.proofs.Math.Bool.{and-true}
 use Rattle.std.proofs.lemmas.Map.Views.{any-filter_same}
 use Rattle.rsc_alphabet.specs.Bytes.{from_to, bytes}
-use Rattle.rsc_alphabet.specs.ByteSets.{Numbers}
 use Rattle.rsc_primitives.specs.BitsLaws.{has_bit, mask_of, mask_of_bits}
 use Rattle.rsc_alphabet.specs.ByteSetLayout.{is_masked, masked}
 use Rattle.rsc_alphabet.specs.BytesLaws.{any_from_to}
@@ -36,10 +34,6 @@ is_masked-past low high b fits l = is_masked-high low high b (omega arith) ∙ r
 pub contains-masked : (low high : ℕ) → high < 2 ^ 128 → (q : ℕ) → sets.contains (masked low high) q ≡ is_masked low high q
 contains-masked low high fits q =
     contains-from_list_nat (filter (is_masked low high) bytes) q ∙ any_kept (is_masked low high) 256 q (λ l. is_masked-past low high q fits l)
-
--- two numbers with the same answers as a set are that set
-pub masked_is : (low high : ℕ) → high < 2 ^ 128 → (s : Numbers) → ((q : ℕ) → is_masked low high q ≡ sets.contains s q) → masked low high ≡ s
-masked_is low high fits s same = same_set nat_cmp_total nat_cmp-IsAntisymmetric _ _ (λ q. contains-masked low high fits q ∙ same q)
 
 -- ---- from a set back to its numbers
 

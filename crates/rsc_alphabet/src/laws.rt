@@ -16,12 +16,14 @@ ghost use Rattle.rsc_alphabet.specs.Iterators.{end_of, symbols, symbol_count, re
 use crate::{ByteClassSet, ByteClasses, ByteSet, Unit};
 
 /// Two bytes have one class exactly if they are together: with a class map nobody need count boundaries.
+#[tactic(auto, using(crate::proofs::CitedLaws::class_map_together))]
 pub fn one_class_is_together()
     ensures { (p : ℕ → Bool) (b c : ℕ) → b < 256 → c < 256 →
         (slice_index (class_map p) b ≡ slice_index (class_map p) c) ↔ Together p b c }
 {}
 
 /// The classes of a partition start at 0, and rise by at most 1 from a byte to the next.
+#[tactic(auto, using(crate::proofs::CitedLaws::class_map_rises, crate::proofs::CitedLaws::first_class, crate::proofs::CitedLaws::next_class))]
 pub fn classes_rise_by_one()
     ensures rise { (p : ℕ → Bool) → ClassesRise (class_map p) }
     ensures first { (p : ℕ → Bool) → slice_index (class_map p) 0 ≡ 0 }
@@ -111,6 +113,7 @@ pub fn clones_are_accepted()
 {}
 
 /// Equality of units is that of their values; equality of sets of bytes is that of their members.
+#[tactic(auto, using(crate::proofs::CitedLaws::same_from, crate::proofs::CitedLaws::same_to, crate::proofs::CitedLaws::total, crate::proofs::CitedLaws::exact))]
 pub fn equality_is_of_the_value()
     ensures unit { (u v : Symbol) → (⟦<Unit as PartialEq>⟧.eq u v ≡ true) ↔ (u ≡ v) }
     ensures byte_set { (s t : Numbers) → (⟦<ByteSet as PartialEq>⟧.eq s t ≡ true) ↔ (s ≡ t) }

@@ -5,6 +5,7 @@ ghost use Rattle.rsc_primitives.specs.BitsLaws.{has_bit};
 ghost use Rattle.rsc_alphabet.specs.Partitions.{class_of};
 
 // Whether a bit is 1. One word is shifted, which takes less time than two, and no branch hangs on the bit.
+#[tactic(auto, using(std::proofs::lemmas::Nat::Bits::shr_and_one))]
 #[inline(always)]
 pub(crate) fn has_bit(mask: u128, bit: u8) -> bool
     requires { bit < 128 }
@@ -25,6 +26,7 @@ fn word_with_bit(mask: u128, bit: u8) -> u64
     }
 }
 
+#[tactic(auto, using(crate::proofs::BitsLemmas::has_bit_either))]
 #[inline(always)]
 pub(crate) fn with_bit(mask: u128, bit: u8) -> u128
     requires { bit < 128 }
@@ -71,6 +73,7 @@ fn run_of_bits(start: u8, end: u8) -> u128
     (u128::MAX >> (127 - end)) & (u128::MAX << start)
 }
 
+#[tactic(auto, using(crate::proofs::BitsLemmas::has_bit_both))]
 #[inline(always)]
 pub(crate) fn within(mask: u128, start: u8, end: u8) -> u128
     requires { (start ≤ end) × (end < 128) }
@@ -79,6 +82,7 @@ pub(crate) fn within(mask: u128, start: u8, end: u8) -> u128
     run_of_bits(start, end) & mask
 }
 
+#[tactic(auto, using(crate::proofs::BitsLemmas::has_bit_both, crate::proofs::BitsLemmas::has_bit_not))]
 #[inline(always)]
 pub(crate) fn difference(mask: u128, other: u128) -> u128
     ensures { (i : ℕ) → i < 128 → has_bit result i ≡ (has_bit mask i && not (has_bit other i)) }
@@ -86,6 +90,7 @@ pub(crate) fn difference(mask: u128, other: u128) -> u128
     mask & !other
 }
 
+#[tactic(auto, using(crate::proofs::BitsLemmas::has_bit_either))]
 #[inline(always)]
 pub(crate) fn either(mask: u128, other: u128) -> u128
     ensures { (i : ℕ) → has_bit result i ≡ (has_bit mask i || has_bit other i) }
@@ -154,6 +159,7 @@ pub(crate) fn word_shifted_left(word: u64) -> u64
 }
 
 // All bits shifted right by some places.
+#[tactic(auto, using(crate::proofs::BitsLemmas::bit_at_shr))]
 #[inline(always)]
 pub(crate) fn word_shifted_right(word: u64, places: u8) -> u64
     requires { places < 64 }

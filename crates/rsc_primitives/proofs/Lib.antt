@@ -1,3 +1,4 @@
+mod CitedLaws  -- the lemmas of `specs/` that laws state, under names that a source can cite
 mod EscapesLemmas  -- the texts of bytes, and the steps of a row of bytes
 mod IndicesLemmas  -- the iterator over the first indices: what is left of it at a place
 mod LongLemmas  -- the four bytes at either end of a list, where a byte that isn't there is 0

@@ -10,46 +10,36 @@ use Rattle.rsc_primitives.specs.Utf8Laws.{slice_from_start, slice_one}
 
 -- a character at the front is ASCII or of two to four bytes
 pub first_of : (h : List ℕ) (c : ℕ) → BeginsAt h 0 c → (get_or h 0 0 ≤ 0x7F) ⊎ BeginsLong h c
-first_of h c p = forms h p.0 c p.1.within (subst (λ (x : List ℕ). Encodes x c) (slice_from_start h p.0) p.1.encoded)
+first_of h c p = forms h p.0 c p.1.within (rw slice_from_start at p.1.encoded)
   where
     forms : (h : List ℕ) (j c : ℕ) → j ≤ length h → Encodes (take j h) c → (get_or h 0 0 ≤ 0x7F) ⊎ BeginsLong h c
     forms h zero c l e = absurd e
     forms (a ∷ r) (suc zero) c l e = inl e.0
-    forms (a ∷ b ∷ r) (suc (suc zero)) c l e = inr (inl (e.0, e.1, e.2))
-    forms (a ∷ b ∷ x ∷ r) (suc (suc (suc zero))) c l e = inr (inr (inl (e.0, e.1, e.2)))
-    forms (a ∷ b ∷ x ∷ y ∷ r) (suc (suc (suc (suc zero)))) c l e = inr (inr (inr (e.0, e.1, e.2, e.3)))
+    forms (a ∷ b ∷ r) (suc (suc zero)) c l e = inr (inl e)
+    forms (a ∷ b ∷ x ∷ r) (suc (suc (suc zero))) c l e = inr (inr (inl e))
+    forms (a ∷ b ∷ x ∷ y ∷ r) (suc (suc (suc (suc zero)))) c l e = inr (inr (inr e))
     forms (a ∷ b ∷ x ∷ y ∷ z ∷ r) (suc (suc (suc (suc (suc n))))) c l e = absurd e
     forms _ _ c l e = absurd (omega arith)
 
 front : (h : List ℕ) (j c : ℕ) → j ≤ length h → Encodes (take j h) c → BeginsAt h 0 c
-front h j c l e = (j, record { ordered = omega arith; within = l; encoded = subst (λ (x : List ℕ). Encodes x c) (sym (slice_from_start h j)) e })
+front h j c l e = (j, record { ordered = omega arith; within = l; encoded = rw slice_from_start e })
 
 -- and such bytes are a character
 pub begins_long : (h : List ℕ) (c : ℕ) → BeginsLong h c → BeginsAt h 0 c
-begins_long [] c (inl s) = absurd (omega (arith, s.0))
-begins_long (a ∷ []) c (inl s) = absurd (omega (arith, s.1))
 begins_long (a ∷ b ∷ r) c (inl s) = front (a ∷ b ∷ r) 2 c (omega arith) s
-begins_long [] c (inr (inl s)) = absurd (omega (arith, s.1))
-begins_long (a ∷ []) c (inr (inl s)) = absurd (omega (arith, s.1))
-begins_long (a ∷ b ∷ []) c (inr (inl s)) = absurd (omega (arith, s.1))
 begins_long (a ∷ b ∷ x ∷ r) c (inr (inl s)) = front (a ∷ b ∷ x ∷ r) 3 c (omega arith) s
-begins_long [] c (inr (inr s)) = absurd (omega (arith, s.2))
-begins_long (a ∷ []) c (inr (inr s)) = absurd (omega (arith, s.2))
-begins_long (a ∷ b ∷ []) c (inr (inr s)) = absurd (omega (arith, s.2))
-begins_long (a ∷ b ∷ x ∷ []) c (inr (inr s)) = absurd (omega (arith, s.2))
 begins_long (a ∷ b ∷ x ∷ y ∷ r) c (inr (inr s)) = front (a ∷ b ∷ x ∷ y ∷ r) 4 c (omega arith) s
+begins_long _ c (inl s) = absurd (omega (arith, s.0, s.1))
+begins_long _ c (inr (inl s)) = absurd (omega (arith, s.1))
+begins_long _ c (inr (inr s)) = absurd (omega (arith, s.1, s.2))
 
 -- ---- the back of a list: the front of the reversed list
 
 last_forms : (e rest : List ℕ) (c : ℕ) → Encodes e c
     → (get_or (reverse e ++ rest) 0 0 ≤ 0x7F) ⊎ EndsLongNumber (get_or (reverse e ++ rest) 3 0) (get_or (reverse e ++ rest) 2 0)
     (get_or (reverse e ++ rest) 1 0) (get_or (reverse e ++ rest) 0 0) c
-last_forms [] rest c e = absurd e
-last_forms (d ∷ []) rest c e = inl e.0
-last_forms (x ∷ d ∷ []) rest c e = inr (inl (e.0, e.1, e.2))
-last_forms (b ∷ x ∷ d ∷ []) rest c e = inr (inr (inl (e.0, e.1, e.2)))
-last_forms (a ∷ b ∷ x ∷ d ∷ []) rest c e = inr (inr (inr (e.0, e.1, e.2, e.3)))
-last_forms (a ∷ b ∷ x ∷ d ∷ z ∷ r) rest c e = absurd e
+last_forms (a ∷ b ∷ x ∷ d ∷ []) rest c e = inr (inr (inr e))
+last_forms _ rest c e = grind arith
 
 -- the same at the back
 pub last_of : (h : List ℕ) (c : ℕ) → EndsAt h (length h) c → (from_back h 0 ≤ 0x7F) ⊎ EndsLong h c
@@ -72,18 +62,12 @@ back_of : (last rest : List ℕ) (c : ℕ) → Encodes (reverse last) c → Ends
 back_of last rest c p = rw (reverse-append last rest) (back (reverse rest) (reverse last) c p)
 
 long_back : (r : List ℕ) (c : ℕ) → EndsLongNumber (get_or r 3 0) (get_or r 2 0) (get_or r 1 0) (get_or r 0 0) c → EndsAt (reverse r) (length (reverse r)) c
-long_back [] c (inl s) = absurd (omega (arith, s.0))
-long_back (d ∷ []) c (inl s) = absurd (omega (arith, s.0))
 long_back (d ∷ x ∷ r) c (inl s) = back_of (d ∷ x ∷ []) r c s
-long_back [] c (inr (inl s)) = absurd (omega (arith, s.1))
-long_back (d ∷ []) c (inr (inl s)) = absurd (grind (arith, s.0))
-long_back (d ∷ x ∷ []) c (inr (inl s)) = absurd (grind (arith, s.0))
 long_back (d ∷ x ∷ b ∷ r) c (inr (inl s)) = back_of (d ∷ x ∷ b ∷ []) r c s
-long_back [] c (inr (inr s)) = absurd (omega (arith, s.2))
-long_back (d ∷ []) c (inr (inr s)) = absurd (omega (arith, s.1))
-long_back (d ∷ x ∷ []) c (inr (inr s)) = absurd (grind (arith, s.0))
-long_back (d ∷ x ∷ b ∷ []) c (inr (inr s)) = absurd (grind (arith, s.0))
 long_back (d ∷ x ∷ b ∷ a ∷ r) c (inr (inr s)) = back_of (d ∷ x ∷ b ∷ a ∷ []) r c s
+long_back _ c (inl s) = absurd (omega (arith, s.0))
+long_back _ c (inr (inl s)) = absurd (grind (arith, s.0, s.1))
+long_back _ c (inr (inr s)) = absurd (grind (arith, s.0, s.1, s.2))
 
 pub ends_long : (h : List ℕ) (c : ℕ) → EndsLong h c → EndsAt h (length h) c
 ends_long h c s = subst (λ (x : List ℕ). EndsAt x (length x) c) (reverse-reverse h) (long_back (reverse h) c s)

@@ -1,7 +1,6 @@
 pub mod BitsLaws  -- numbers by their bits: a number of n bits is made of them
 pub mod BoundariesLaws  -- the boundaries of encoded text are the places where a character begins, and the end
 pub mod DecidedLaws  -- a character begins at a place or none does, and a character ends there or none does
-pub mod EncodeLaws  -- the nine forms are std's encoding, in both directions
 pub mod EncodingsLaws  -- what the encodings are beside std's, and beside one another
 pub mod Escapes  -- bytes shown as text
 pub mod IndexTexts  -- what the refusals of an index print

@@ -1,77 +1,35 @@
 -- What the nine forms say of bytes and places, in numbers alone.
 use Rattle.std.proofs.Common.{◌≡◌, ℕ, zero, suc, ◌+◌, ◌-◌, ◌<◌, ◌≤◌, ◌⊎◌, cond, ltb, List, [], ◌∷◌, length, get_or, take, drop, refl, sym, ap, ◌∙◌, subst, arith, length-take, length-drop, get_or-take, get_or-drop, inl, inr, ⊎_elim, ext_get_or, drop-cons}
-use Rattle.std.specs.Int.{IsInRange}
-use Rattle.std.specs.Char.{InScalarRange, len_utf8}
+use Rattle.std.specs.Char.{IsScalar, len_utf8}
 use Rattle.std.specs.Prelude.{slice_range}
+use Rattle.std.proofs.lemmas.Bool.{cases_lt}
 use Rattle.std.proofs.lemmas.Bool.Decides.{nat_tests}
-use Rattle.rsc_primitives.specs.Utf8.{IsTail, OpensThree, OpensFour, Encodes, EncodedFrom, BeginsAt, EndsAt, IsInside}
+use Rattle.rsc_primitives.specs.Utf8.{IsTail, Encodes, EncodedFrom, BeginsAt, EndsAt, IsInside}
 
 -- how many bytes an encoding takes that begins with this byte
 abbrev pub lead_len : ℕ → ℕ
 lead_len a = cond (ltb a 0x80) 1 (cond (ltb a 0xE0) 2 (cond (ltb a 0xF0) 3 4))
 
-lead_range : (a b : ℕ) → OpensThree a b → (0xE0 ≤ a) × (a < 0xF0) × IsTail b
-lead_range a b h = grind arith
-
-lead_range_four : (a b : ℕ) → OpensFour a b → (0xF0 ≤ a) × (a < 0xF5) × IsTail b
-lead_range_four a b h = grind arith
-
-len_one : (a : ℕ) → a ≤ 0x7F → 1 ≡ lead_len a
-len_one a h = grind (arith, nat_tests)
-
-len_two : (a : ℕ) → IsInRange 0xC2 0xDF a → 2 ≡ lead_len a
-len_two a h = grind (arith, nat_tests)
-
-len_three : (a : ℕ) → 0xE0 ≤ a → a < 0xF0 → 3 ≡ lead_len a
-len_three a h k = grind (arith, nat_tests)
-
-len_four : (a : ℕ) → 0xF0 ≤ a → 4 ≡ lead_len a
-len_four a h = grind (arith, nat_tests)
-
 pub length-Encodes : (e : List ℕ) (n : ℕ) → Encodes e n → length e ≡ lead_len (get_or e 0 0)
-length-Encodes [] n h = absurd h
-length-Encodes (a ∷ []) n h = len_one a h.0
-length-Encodes (a ∷ b ∷ []) n h = len_two a h.0
-length-Encodes (a ∷ b ∷ c ∷ []) n h = let r = lead_range a b h.0 in len_three a r.0 r.1
-length-Encodes (a ∷ b ∷ c ∷ d ∷ []) n h = len_four a (lead_range_four a b h.0).0
-length-Encodes (a ∷ b ∷ c ∷ d ∷ x ∷ r) n h = absurd h
+length-Encodes (a ∷ b ∷ c ∷ d ∷ []) n h = grind (arith, nat_tests)
+length-Encodes _ n h = grind (arith, nat_tests)
 
 pub Encodes-head : (e : List ℕ) (n : ℕ) → Encodes e n → IsTail (get_or e 0 0) → ⊥
-Encodes-head [] n h t = h
-Encodes-head (a ∷ []) n h t = omega arith
-Encodes-head (a ∷ b ∷ []) n h t = omega arith
-Encodes-head (a ∷ b ∷ c ∷ []) n h t = let r = lead_range a b h.0 in omega arith
-Encodes-head (a ∷ b ∷ c ∷ d ∷ []) n h t = let r = lead_range_four a b h.0 in omega arith
-Encodes-head (a ∷ b ∷ c ∷ d ∷ x ∷ r) n h t = h
+Encodes-head (a ∷ b ∷ c ∷ d ∷ []) n h t = grind arith
+Encodes-head _ n h t = grind arith
 
 pub Encodes-rest : (e : List ℕ) (n : ℕ) → Encodes e n → (k : ℕ) → 0 < k → k < length e → IsTail (get_or e k 0)
-Encodes-rest [] n h k p l = absurd h
-Encodes-rest (a ∷ []) n h k p l = absurd (omega arith)
-Encodes-rest (a ∷ b ∷ []) n h (suc zero) p l = h.1
-Encodes-rest (a ∷ b ∷ c ∷ []) n h (suc zero) p l = (lead_range a b h.0).2
-Encodes-rest (a ∷ b ∷ c ∷ []) n h (suc (suc zero)) p l = h.1
-Encodes-rest (a ∷ b ∷ c ∷ d ∷ []) n h (suc zero) p l = (lead_range_four a b h.0).2
-Encodes-rest (a ∷ b ∷ c ∷ d ∷ []) n h (suc (suc zero)) p l = h.1
 Encodes-rest (a ∷ b ∷ c ∷ d ∷ []) n h (suc (suc (suc zero))) p l = h.2
-Encodes-rest (a ∷ b ∷ c ∷ d ∷ x ∷ r) n h k p l = absurd h
-Encodes-rest _ n h k p l = absurd (omega arith)
+Encodes-rest _ n h k p l = grind arith
 
 pub Encodes-same : (e : List ℕ) (n m : ℕ) → Encodes e n → Encodes e m → n ≡ m
-Encodes-same [] n m h k = absurd h
-Encodes-same (a ∷ []) n m h k = h.1 ∙ sym k.1
-Encodes-same (a ∷ b ∷ []) n m h k = h.2 ∙ sym k.2
-Encodes-same (a ∷ b ∷ c ∷ []) n m h k = h.2 ∙ sym k.2
-Encodes-same (a ∷ b ∷ c ∷ d ∷ []) n m h k = h.3 ∙ sym k.3
-Encodes-same (a ∷ b ∷ c ∷ d ∷ x ∷ r) n m h k = absurd h
+Encodes-same (a ∷ b ∷ c ∷ d ∷ []) n m h k = grind arith
+Encodes-same _ n m h k = grind arith
 
 -- a character below 128 is its one byte, and the bytes of any other are 128 and more
 pub Encodes-size : (e : List ℕ) (n : ℕ) → Encodes e n → ((length e ≡ 1) × (get_or e 0 0 ≡ n) × (n < 128)) ⊎ ((128 ≤ n) × (128 ≤ get_or e 0 0))
-Encodes-size [] n h = absurd h
-Encodes-size (a ∷ []) n h = grind arith
-Encodes-size (a ∷ b ∷ []) n h = grind arith
-Encodes-size (a ∷ b ∷ c ∷ []) n h = grind arith
 Encodes-size (a ∷ b ∷ c ∷ d ∷ []) n h = grind arith
-Encodes-size (a ∷ b ∷ c ∷ d ∷ x ∷ r) n h = absurd h
+Encodes-size _ n h = grind arith
 
 -- an encoding by places
 pub record Placed (h : List ℕ) (i j : ℕ) : Type 0 where
@@ -83,6 +41,9 @@ pub record Placed (h : List ℕ) (i j : ℕ) : Type 0 where
 
 pub length-slice : (h : List ℕ) (i j : ℕ) → i ≤ j → j ≤ length h → length (slice_range h i j) ≡ j - i
 length-slice h i j p q = simp (length-take, length-drop) (omega arith)
+
+pub slice_from_start : (h : List ℕ) (j : ℕ) → slice_range h 0 j ≡ take j h
+slice_from_start h j = ap (λ n. take n h) (omega arith)
 
 pub get_or-slice : (h : List ℕ) (i j k : ℕ) → k < j - i → get_or (slice_range h i j) k 0 ≡ get_or h (i + k) 0
 get_or-slice h i j k p = get_or-take (j - i) (drop i h) k 0 p ∙ get_or-drop i h k 0
@@ -125,15 +86,11 @@ EncodedFrom-from h i j k c d p q =
 
 pub BeginsAt-same : (h : List ℕ) (i c d : ℕ) → BeginsAt h i c → BeginsAt h i d → c ≡ d
 BeginsAt-same h i c d p q =
-    let e : q.0 ≡ p.0 = EncodedFrom-to h i q.0 p.0 d c q.1 p.1 in
-    let r : EncodedFrom h i p.0 d = subst (λ x. EncodedFrom h i x d) e q.1 in
-    Encodes-same (slice_range h i p.0) c d p.1.encoded r.encoded
+    Encodes-same (slice_range h i p.0) c d p.1.encoded (rw (EncodedFrom-to h i p.0 q.0 c d p.1 q.1) q.1.encoded)
 
 pub EndsAt-same : (h : List ℕ) (i c d : ℕ) → EndsAt h i c → EndsAt h i d → c ≡ d
 EndsAt-same h i c d p q =
-    let e : q.0 ≡ p.0 = EncodedFrom-from h i q.0 p.0 d c q.1 p.1 in
-    let r : EncodedFrom h p.0 i d = subst (λ x. EncodedFrom h x i d) e q.1 in
-    Encodes-same (slice_range h p.0 i) c d p.1.encoded r.encoded
+    Encodes-same (slice_range h p.0 i) c d p.1.encoded (rw (EncodedFrom-from h i p.0 q.0 c d p.1 q.1) q.1.encoded)
 
 -- inside a character none begins and none ends
 pub IsInside-begins : (h : List ℕ) (i c : ℕ) → IsInside h i → BeginsAt h i c → ⊥
@@ -157,12 +114,6 @@ pub record AgreePastAscii (h k : List ℕ) : Type 0 where
   pub same_length : length h ≡ length k
   pub each : (i : ℕ) → i < length h → (get_or h i 0 ≡ get_or k i 0) ⊎ ((get_or h i 0 < 128) × (get_or k i 0 < 128))
 
-zero_or : (n : ℕ) → (n ≡ 0) ⊎ (0 < n)
-zero_or n = grind arith
-
-tail_agrees : (h k : List ℕ) (i : ℕ) → AgreePastAscii h k → i < length h → 128 ≤ get_or h i 0 → get_or k i 0 ≡ get_or h i 0
-tail_agrees h k i s l b = ⊎_elim (λ e. sym e) (λ p. absurd (omega arith)) (s.each i l)
-
 pub slice_one : (k : List ℕ) (i j : ℕ) → j ≡ i + 1 → i < length k → slice_range k i j ≡ get_or k i 0 ∷ []
 slice_one k i j one w =
     let e : j - i ≡ 1 = omega arith in
@@ -176,14 +127,12 @@ same_slice : (h k : List ℕ) (i j : ℕ) → AgreePastAscii h k → Placed h i 
 same_slice h k i j s p l lk big =
     ext_get_or 0 (slice_range h i j) (slice_range k i j) (l ∙ sym lk)
     (λ n q.
-    let some = p.some in
-    let w = p.within in
     let here : n < j - i = omega arith in
-    let at : get_or (slice_range h i j) n 0 ≡ get_or h (i + n) 0 = get_or-slice h i j n here in
-    let atk : get_or (slice_range k i j) n 0 ≡ get_or k (i + n) 0 = get_or-slice k i j n here in
-    let high : 128 ≤ get_or h (i + n) 0 = ⊎_elim (λ (z : n ≡ 0). subst (λ x. 128 ≤ get_or h x 0) (omega arith) big)
-    (λ (z : 0 < n). (p.rest (i + n) (omega arith) (omega arith)).0) (zero_or n) in
-    at ∙ sym (tail_agrees h k (i + n) s (omega arith) high) ∙ sym atk)
+    let high : 128 ≤ get_or h (i + n) 0 =
+    ⊎_elim (λ (z : n < 1). let e : i ≡ i + n = omega arith in rw e at big) (λ (z : 1 ≤ n). (p.rest (i + n) (omega arith) (omega arith)).0) (cases_lt n 1) in
+    let same : get_or h (i + n) 0 ≡ get_or k (i + n) 0 =
+    ⊎_elim (λ e. e) (λ low. absurd (omega (arith, low.0))) (s.each (i + n) (omega (arith, p.within))) in
+    get_or-slice h i j n here ∙ same ∙ sym (get_or-slice k i j n here))
 
 -- such lists have the same characters past ASCII at the same places, and one-byte characters at the same places
 pub EncodedFrom-agree : (h k : List ℕ) (i j c : ℕ) → AgreePastAscii h k → EncodedFrom h i j c
@@ -191,46 +140,28 @@ pub EncodedFrom-agree : (h k : List ℕ) (i j c : ℕ) → AgreePastAscii h k �
     (get_or k i 0))
 EncodedFrom-agree h k i j c s e =
     let p = Placed-from h i j c e in
-    let same_len = s.same_length in
-    let room : 0 < j - i = let some = p.some in omega arith in
+    let room : 0 < j - i = omega (arith, p.some) in
+    let within : j ≤ length k = omega (arith, e.within, s.same_length) in
     let l : length (slice_range h i j) ≡ j - i = length-slice h i j e.ordered e.within in
-    let lk : length (slice_range k i j) ≡ j - i = length-slice k i j e.ordered (let w = e.within in omega arith) in
+    let lk : length (slice_range k i j) ≡ j - i = length-slice k i j e.ordered within in
     let first : get_or (slice_range h i j) 0 0 ≡ get_or h i 0 = get_or-slice h i j 0 room ∙ ap (λ x. get_or h x 0) (omega arith) in
     ⊎_elim
     (λ t.
     let here : c ≡ get_or h i 0 = sym t.1 ∙ first in
-    let low : c < 128 = t.2 in
-    let one : j ≡ i + 1 = let some = p.some in let e1 = t.0 in omega arith in
-    let within : i < length h = let some = p.some in let w = e.within in omega arith in
-    let lowk : get_or k i 0 < 128 = ⊎_elim (λ q. let z : get_or k i 0 ≡ c = sym q ∙ sym here in omega arith) (λ q. q.1) (s.each i within) in
-    inr (one, here, low, lowk, record { ordered = e.ordered; within = (let w = e.within in omega arith); encoded = one_byte k i j one (omega arith) lowk }))
+    let one : j ≡ i + 1 = omega (arith, t.0) in
+    let low : get_or k i 0 < 128 = ⊎_elim (λ q. omega (arith, q, here, t.2)) (λ q. q.1) (s.each i (omega (arith, p.some, p.within))) in
+    inr (one, here, t.2, low, record { ordered = e.ordered; within = within; encoded = one_byte k i j one (omega arith) low }))
     (λ t. inl (
-      record {
-        ordered = e.ordered;
-        within = (let w = e.within in omega arith);
-        encoded =
-            subst (λ (x : List ℕ). Encodes x c) (same_slice h k i j s p l lk (subst (λ x. 128 ≤ x) first t.1)) e.encoded;
-      },
+      record { ordered = e.ordered; within = within; encoded = rw (same_slice h k i j s p l lk (rw first at t.1)) at e.encoded },
       t.0,
     ))
     (Encodes-size (slice_range h i j) c e.encoded)
 
-pub slice_from_start : (h : List ℕ) (j : ℕ) → slice_range h 0 j ≡ take j h
-slice_from_start h j = ap (λ n. take n h) (omega arith)
-
 -- the number is that of a character, and the character has as many bytes as std says
-pub InScalarRange-Encodes : (e : List ℕ) (n : ℕ) → Encodes e n → InScalarRange n
-InScalarRange-Encodes [] n h = absurd h
-InScalarRange-Encodes (a ∷ []) n h = grind arith
-InScalarRange-Encodes (a ∷ b ∷ []) n h = grind arith
-InScalarRange-Encodes (a ∷ b ∷ c ∷ []) n h = grind arith
-InScalarRange-Encodes (a ∷ b ∷ c ∷ d ∷ []) n h = grind arith
-InScalarRange-Encodes (a ∷ b ∷ c ∷ d ∷ x ∷ r) n h = absurd h
+pub IsScalar-Encodes : (e : List ℕ) (n : ℕ) → Encodes e n → IsScalar n
+IsScalar-Encodes (a ∷ b ∷ c ∷ d ∷ []) n h = grind (arith, nat_tests)
+IsScalar-Encodes _ n h = grind (arith, nat_tests)
 
 pub length-Encodes-len_utf8 : (e : List ℕ) (n : ℕ) → Encodes e n → length e ≡ len_utf8 n
-length-Encodes-len_utf8 [] n h = absurd h
-length-Encodes-len_utf8 (a ∷ []) n h = grind (arith, nat_tests)
-length-Encodes-len_utf8 (a ∷ b ∷ []) n h = grind (arith, nat_tests)
-length-Encodes-len_utf8 (a ∷ b ∷ c ∷ []) n h = grind (arith, nat_tests)
 length-Encodes-len_utf8 (a ∷ b ∷ c ∷ d ∷ []) n h = grind (arith, nat_tests)
-length-Encodes-len_utf8 (a ∷ b ∷ c ∷ d ∷ x ∷ r) n h = absurd h
+length-Encodes-len_utf8 _ n h = grind (arith, nat_tests)

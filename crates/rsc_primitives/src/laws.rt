@@ -125,21 +125,25 @@ pub fn conversions_are_exact()
 {}
 
 /// The bytes that encode a character are what std's `encode_utf8` writes for it, and nothing else is encoded.
+#[tactic(auto, using(crate::proofs::CitedLaws::encodes_std))]
 pub fn encoding_is_that_of_std()
     ensures { (e : List ℕ) (c : ℕ) → Encodes e c ↔ (IsScalar c × (e ≡ encode_utf8 c)) }
 {}
 
 /// The bytes that encode a list of characters are what std's `encode_utf8` writes for one after the other.
+#[tactic(auto, using(crate::proofs::CitedLaws::encodes_all_std))]
 pub fn encoding_of_a_list_is_that_of_std()
     ensures { (h cs : List ℕ) → EncodesAll h cs ↔ ((all_scalars cs ≡ true) × (h ≡ encode_utf8_all cs)) }
 {}
 
 /// No encoding is a proper beginning of another.
+#[tactic(auto, using(crate::proofs::CitedLaws::encodes_no_more))]
 pub fn no_encoding_begins_another()
     ensures { (e rest : List ℕ) (c d : ℕ) → Encodes e c → Encodes (e ++ rest) d → rest ≡ [] }
 {}
 
 /// An encoding of two or more bytes holds no byte below 128.
+#[tactic(auto, using(crate::proofs::CitedLaws::encodes_past_ascii))]
 pub fn long_encodings_hold_no_ascii()
     ensures { (e : List ℕ) (c k : ℕ) → Encodes e c → 2 ≤ length e → k < length e → 128 ≤ slice_index e k }
 {}
@@ -171,6 +175,7 @@ pub fn none_begins_or_ends_inside()
 {}
 
 /// In the encoding of a list of characters the boundaries are the places where a character begins, and the end.
+#[tactic(auto, using(crate::proofs::CitedLaws::is_boundary_encoded))]
 pub fn boundaries_of_encoded_text()
     ensures { (h cs : List ℕ) (i : ℕ) → EncodesAll h cs → IsBoundary h i ↔ (((c : ℕ) × BeginsAt h i c) ⊎ (i ≡ length h)) }
 {}

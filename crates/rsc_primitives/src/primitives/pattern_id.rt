@@ -147,6 +147,7 @@ impl PatternID {
     /// assert!(rt; patterns.next() == None);
     /// ```
     #[inline]
+    #[tactic(auto, using(crate::proofs::IndicesLemmas::indices_below))]
     pub fn iter(len: usize) -> PatternIDIter
         requires { len ≤ PatternID.LIMIT }
         ensures list { result ≡ range_with_len 0 len }

@@ -138,6 +138,7 @@ impl SmallIndex {
 
     /// The indices from 0 to `len - 1`, ascending, where `len` is at most [`SmallIndex::LIMIT`].
     #[inline]
+    #[tactic(auto, using(crate::proofs::IndicesLemmas::indices_below))]
     pub fn iter(len: usize) -> SmallIndexIter
         requires { len ≤ SmallIndex.LIMIT }
         ensures list { result ≡ range_with_len 0 len }

@@ -137,6 +137,7 @@ impl StateID {
 
     /// The indices from 0 to `len - 1`, ascending, where `len` is at most [`StateID::LIMIT`].
     #[inline]
+    #[tactic(auto, using(crate::proofs::IndicesLemmas::indices_below))]
     pub fn iter(len: usize) -> StateIDIter
         requires { len ≤ StateID.LIMIT }
         ensures list { result ≡ range_with_len 0 len }

@@ -1,15 +1,13 @@
-use Rattle.std.proofs.Common.{◌≤◌, ◌<◌, subst, ◌+◌, ◌-◌, ◌*◌, ◌≡◌, ℕ, get_or, take, drop, refl, sym, ap, ◌∙◌, arith, rules}
+use Rattle.std.proofs.Common.{◌≤◌, ◌+◌, ◌-◌, ◌*◌, ◌≡◌, get_or, take, drop, refl, ap, ◌∙◌, arith, rules}
 use Rattle.std.proofs.lemmas.Str.{IsCharBoundary-from_ascii}
 use Rattle.rsc_primitives.specs.declared.tables.TheConstants.{BYTE_LENGTHS}
 use Rattle.rsc_primitives.proofs.TableLemmas.{length_fits}
 use Rattle.rsc_primitives.proofs.escape.text_of_byte.Goals as goal
 
-fits : (b n : ℕ) → b < 256 → n ≡ get_or BYTE_LENGTHS b 0 → n ≤ 4
-fits b n low e = subst (λ m. m ≤ 4) (sym e) (length_fits 4 BYTE_LENGTHS refl b low)
-
 pub range-requires-clause-end_boundary : goal.range-requires-clause-end_boundary
 range-requires-clause-end_boundary c =
-    let short : c.from-2.result ≤ 4 = fits c.args.byte _ (omega arith) (c.from-2.ensures ∙ ap (λ i. get_or BYTE_LENGTHS i 0) c.from.ensures) in
+    let short : c.from-2.result ≤ 4 =
+    length_fits 4 BYTE_LENGTHS c.args.byte _ refl (omega arith) (c.from-2.ensures ∙ ap (λ i. get_or BYTE_LENGTHS i 0) c.from.ensures) in
     IsCharBoundary-from_ascii _ (4 * c.from-at.result + c.from-2.result) c.byte_texts.ensures.ascii (search (rules, short))
 
 pub returns : goal.returns

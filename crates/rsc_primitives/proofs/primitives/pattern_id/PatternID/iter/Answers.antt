@@ -1,5 +1,0 @@
-use Rattle.rsc_primitives.proofs.IndicesLemmas.{indices_below}
-use Rattle.rsc_primitives.proofs.primitives.pattern_id.PatternID.iter.Goals as goal
-
-pub returns-clause-below : goal.returns-clause-below
-returns-clause-below c = indices_below 0 c.args.len
