@@ -44,4 +44,4 @@ all_before lists = ap (sum_by length) (take-length lists)
 -- all groups are the first of each pattern and the explicit ones
 pub all_groups_are : (lists : GroupLists) → IsFaultless LIMIT_OF_IDS lists → all_groups lists ≡ length lists + explicit_before lists (length lists)
 all_groups_are lists faultless = sym (all_before lists)
-    ∙ groups_so_far lists (length lists) (omega arith) (λ p lt. some_group LIMIT_OF_IDS lists faultless p lt)
+    ∙ groups_so_far lists (length lists) (omega arith) (some_group lists faultless)

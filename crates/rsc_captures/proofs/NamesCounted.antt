@@ -15,5 +15,5 @@ length-patterns_from p (groups ∷ lists) =
     ∙ ap₂ (λ m n. m + n) (length-groups_from p 0 groups) (length-patterns_from (p + 1) lists) ∙ sym (sum_by-cons length groups lists)
 
 -- as many names as groups
-pub length-all_names_of : (lists : GroupLists) → length (all_names_of lists) ≡ all_groups lists
-length-all_names_of lists = length-patterns_from 0 lists
+pub names_counted : (lists : GroupLists) → length (all_names_of lists) ≡ all_groups lists
+names_counted lists = length-patterns_from 0 lists

@@ -37,6 +37,6 @@ next_enters lists p g next end first faultless at done lt is = record {
     at = omega (arith, at.at, at.ends, done, groups_more lists p (omega arith));
     ends = omega (arith, is, groups_more lists (p + 1) lt);
   };
-  group = some_group LIMIT_OF_IDS lists faultless (p + 1) lt;
+  group = some_group lists faultless (p + 1) lt;
   left = left_next lists p g (omega (arith, at.at, at.ends, done)) lt;
 }

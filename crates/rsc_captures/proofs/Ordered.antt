@@ -261,11 +261,11 @@ module _ (groups : Groups) where
             absurd (none_at_split order name k g parts (is_order.complete g (get_or_past groups g name named)) named)
 
 -- one number more
-pub counted_more : (n : ℕ) → range_with_len 0 n ++ n ∷ [] ≡ range_with_len 0 (n + 1)
+pub counted_more : (n : ℕ) → range_with_len 0 (n + 1) ≡ range_with_len 0 n ++ n ∷ []
 counted_more n =
     let from_zero : 0 + n ≡ n = omega arith in
-    sym (sym (map-id (range_with_len 0 (n + 1))) ∙ map-range_with_len_more (λ k. k) 0 n n from_zero
-    ∙ ap (λ (l : List ℕ). l ++ n ∷ []) (map-id (range_with_len 0 n)))
+    sym (map-id (range_with_len 0 (n + 1))) ∙ map-range_with_len_more (λ k. k) 0 n n from_zero
+    ∙ ap (λ (l : List ℕ). l ++ n ∷ []) (map-id (range_with_len 0 n))
 
 -- the numbers from 0 on have each group
 pub has_counted : (n : ℕ) → HasGroups (range_with_len 0 n) n

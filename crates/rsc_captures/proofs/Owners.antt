@@ -52,7 +52,7 @@ module _ (lists : GroupLists) (checked : IsFaultless LIMIT_OF_IDS lists) where
       × ((g < group_count lists p) × (slot_number lists p g ≡ 2 * h))
   owned_half h lt =
       ⊎_elim
-      (λ (first : h < length lists). (h, 0, (some_group LIMIT_OF_IDS lists checked h first, refl)))
+      (λ (first : h < length lists). (h, 0, (some_group lists checked h first, refl)))
       (λ (later : length lists ≤ h).
       let r : ℕ = h - length lists in
       let found = find_explicit lists (length lists) r (omega arith) (omega arith) in

@@ -5,7 +5,7 @@ use Rattle.std.proofs.lemmas.List.{ext_get_or, get_or-drop, get_or-take, length-
 use Rattle.std.proofs.lemmas.List.FromFn.{length-map-range_with_len, get_or-map-range_with_len}
 use Rattle.std.proofs.lemmas.List.Sums.{sum_by-cons}
 use Rattle.std.proofs.Math.Seq.{take-append_seam, drop-append-add}
-use Rattle.rsc_captures.proofs.Words.{Groups, GroupLists, groups_of, group_count, name_of, LIMIT_OF_IDS, IsFaultless, HasNoOtherFault, AreDistinctBelow, HasNoRepeatBefore, IsOrder, groups_before, names_of, lists_held, AreFirsts, IsLaidOut, AreOrdered, IsLayout}
+use Rattle.rsc_captures.proofs.Words.{Groups, GroupLists, groups_of, group_count, name_of, LIMIT_OF_IDS, IsFaultless, HasNoOtherFault, AreDistinctBelow, HasNoRepeatBefore, IsOrder, groups_before, names_of, lists_held, AreFirsts, AreOrdered, IsLayout}
 use Rattle.rsc_captures.proofs.FirstFault.{clear_distinct, faultless_from}
 use Rattle.rsc_captures.proofs.Clear.{some_group}
 use Rattle.rsc_captures.proofs.Owners.{pattern_in}
@@ -55,15 +55,12 @@ lists_are {firsts} {lists} are = ext_get_or [] (lists_held firsts (all lists)) l
 -- what the lists of a group info hold
 module _ (firsts order : List ℕ) (names : Groups) (lists : GroupLists) (are : lists_held firsts names ≡ lists)
     (layout : IsLayout firsts order (lists_held firsts names)) where
-  laid_out : IsLaidOut firsts lists
-  laid_out = rw are at layout.laid_out
-
-  ordered : AreOrdered order lists (length lists)
-  ordered = rw are at layout.ordered
+  here : IsLayout firsts order lists
+  here = rw are at layout
 
   -- the names of a pattern's groups
   part_is : (p : ℕ) → p < length lists → groups_of lists p ≡ take (group_count lists p) (drop (groups_before lists p) names)
-  part_is p lt = ap (λ lists. groups_of lists p) (sym are) ∙ held_at laid_out.firsts_are names p lt
+  part_is p lt = ap (λ lists. groups_of lists p) (sym are) ∙ held_at here.firsts_are names p lt
 
   -- the name of a group is at its place
   pub name_in : (p g first : ℕ) → first ≡ groups_before lists p → g < group_count lists p → get_or names (first + g) None ≡ name_of lists p g
@@ -84,7 +81,7 @@ module _ (firsts order : List ℕ) (names : Groups) (lists : GroupLists) (are : 
       × (slice_range names first end ≡ groups_of lists p)
   range_is p first end lt is_first is_end =
       let count : end - first ≡ group_count lists p = omega (arith, is_first, is_end, groups_more lists p lt) in
-      let some : 0 < group_count lists p = some_group LIMIT_OF_IDS lists laid_out.faultless p lt in
+      let some : 0 < group_count lists p = some_group lists here.faultless p lt in
       let last = within_names p (group_count lists p - 1) first is_first (omega arith) in
       (omega (arith, last, some, count), ap₂ (λ k from. take k (drop from names)) count is_first ∙ sym (part_is p lt))
 
@@ -94,7 +91,7 @@ module _ (firsts order : List ℕ) (names : Groups) (lists : GroupLists) (are : 
   part_ordered lent p first len lt is_order is_first is_len =
       let count : (first + len) - first ≡ group_count lists p = omega (arith, is_len) in
       let within : groups_before lists p + group_count lists p ≤ groups_before lists (length lists) = groups_within lists p (length lists) lt (omega arith) in
-      (rw is_order (omega (arith, within, ordered.count, is_first, is_len)), rw (count, is_first, is_order) (ordered.each p lt))
+      (rw is_order (omega (arith, within, here.ordered.count, is_first, is_len)), rw (count, is_first, is_order) (here.ordered.each p lt))
 
 -- a part of the first elements is one of all
 part_stays : (xs : List ℕ) (a k n : ℕ) → a + k ≤ n → take k (drop a (take n xs)) ≡ take k (drop a xs)
@@ -135,6 +132,7 @@ module _ {firsts : List ℕ} {names : Groups} {lists : GroupLists} {n : ℕ} (fi
   pub layout_is : {order : List ℕ} → HasNoOtherFault LIMIT_OF_IDS lists → HasNoRepeatBefore lists n 0 → AreOrdered order lists n
       → IsLayout firsts order (lists_held firsts names)
   layout_is no_other none ordered = rw held_are (record {
-    laid_out = record { faultless = faultless_from no_other (rw all_patterns none); firsts_are = rw all_patterns firsts_are };
+    faultless = faultless_from no_other (rw all_patterns none);
+    firsts_are = rw all_patterns firsts_are;
     ordered = rw all_patterns ordered;
   })

@@ -19,8 +19,8 @@ number_within lists checked p (suc g) lt =
 pub slot_within : (lists : GroupLists) → IsFaultless LIMIT_OF_IDS lists → (p g slot : ℕ) → slot_of lists p g ≡ Some slot → slot + 1 < 2 * all_groups lists
 slot_within lists checked p g slot is = let facts = slot_facts lists p g slot is in omega (arith, facts.1, number_within lists checked p g facts.0)
 
--- all slots are within the limit
-pub slots_within_limit : (lists : GroupLists) → IsFaultless LIMIT_OF_IDS lists → 2 * all_groups lists ≤ 2147483646
+-- all slots are within the limit: two for each group
+pub slots_within_limit : (lists : GroupLists) → IsFaultless LIMIT_OF_IDS lists → all_groups lists ≤ 1073741823
 slots_within_limit lists checked =
     ⊎_elim
     (λ (some : 0 < length lists).
@@ -33,8 +33,8 @@ slots_within_limit lists checked =
     (cases_lt 0 (length lists))
 
 -- a group's two slots are among all slots
-pub slot_of-within : (lists : GroupLists) → IsFaultless LIMIT_OF_IDS lists → (p g : ℕ) → IfSome (slot_of lists p g) (λ slot. slot + 1 < 2 * all_groups lists)
-slot_of-within lists faultless p g = elim (slot_of lists p g) as (λ o. slot_of lists p g ≡ o
+pub slot_among_all : (lists : GroupLists) → IsFaultless LIMIT_OF_IDS lists → (p g : ℕ) → IfSome (slot_of lists p g) (λ slot. slot + 1 < 2 * all_groups lists)
+slot_among_all lists faultless p g = elim (slot_of lists p g) as (λ o. slot_of lists p g ≡ o
     → IfSome o (λ slot. slot + 1 < 2 * all_groups lists)) [ None ↦ λ _. tt | Some slot ↦ slot_within lists faultless p g slot ] refl
 
 -- the slot of an explicit group: each pattern before has a first group, whose slots are counted apart
@@ -46,7 +46,7 @@ explicit_slot lists p g first faultless is group explicit =
     number : 2 * ((((length lists - p) + first) + g) - 1) ≡ 2 * length lists + 2 * explicit_before lists p + 2 * (g - 1)
     number =
         let pattern : p < length lists = pattern_in lists p g group in
-        omega (arith, groups_so_far lists p (omega arith) (some_group LIMIT_OF_IDS lists faultless), is)
+        omega (arith, groups_so_far lists p (omega arith) (some_group lists faultless), is)
 
     slot : Some (2 * ((((length lists - p) + first) + g) - 1)) ≡ slot_of lists p g
     slot =

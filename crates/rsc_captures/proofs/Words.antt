@@ -4,7 +4,7 @@ pub use Rattle.rsc_captures.specs.CapturedLayout.{participating_from, spans_from
 pub use Rattle.rsc_captures.specs.Faults.{Duplicate, TooManyPatterns, MissingGroups, TooManyGroups, GREATEST_PATTERN, pattern_fault, name_fault, group_fault, place_fault, IsFaultless, Fault, ComesBefore, IsPlace, slots_end, IsFirstFault, FirstIsDuplicate, RefusesFor, LIMIT_OF_IDS}
 pub use Rattle.rsc_captures.specs.FaultsLayout.{fault_found, IsDuplicate, HasNoOtherBefore, HasNoOtherFault, IsFirstOther}
 pub use Rattle.rsc_captures.specs.Groups.{Groups, groups_in, GroupLists, groups_of, group_count, name_of, stands_before, explicit_groups, explicit_before, all_groups, has_name, index_of, slot_number, slot_of, lists_in}
-pub use Rattle.rsc_captures.specs.Layout.{groups_before, AreFirsts, IsAt, names_of, lists_held, IsLaidOut, AreOrdered, IsLayout}
+pub use Rattle.rsc_captures.specs.Layout.{groups_before, AreFirsts, IsAt, names_of, lists_held, AreOrdered, IsLayout}
 pub use Rattle.rsc_captures.specs.NameIterators.{groups_from, patterns_from, all_names_of, names_left}
 pub use Rattle.rsc_captures.specs.NamesLayout.{name_held, names_held, place_held, IsCut, AreCut, AreHeld}
 pub use Rattle.rsc_captures.specs.OrderLayout.{name_at, name_cmp, IsOrder, named_cmp, named_group, has_name_of, HasGroups, IsSortedByName}

@@ -251,6 +251,7 @@ impl<A: Allocator + Clone + Drop> Captures<A> {
     }
 
     /// The span of each group of the pattern that matched, in order, or `None` for one that takes no part.
+    #[tactic(auto, using(crate::proofs::Spans::spans_counted))]
     #[inline]
     pub fn iter(&self) -> CapturesPatternIter<'_, A>
         ensures spans { result ≡ matched_spans self.now }
@@ -292,16 +293,9 @@ fn span_at(slots: &[Option<NonMaxUsize>], slot: usize) -> Option<Span>
     requires { slot + 1 < length slots.now }
     ensures { result ≡ span_at slots.now slot }
 {
-    let Some(start) = slots[slot] else {
-        return None;
-    };
-    let Some(end) = slots[slot + 1] else {
-        return None;
-    };
-    Some(Span {
-        start: start.get(),
-        end: end.get(),
-    })
+    let start = slots[slot]?.get();
+    let end = slots[slot + 1]?.get();
+    Some(Span { start, end })
 }
 
 // Empties each slot. `fill` writes the last one apart, which takes longer where they are few.

@@ -78,9 +78,7 @@ impl<A: Allocator> From<AllocError> for GroupInfoError<A> {
     ghost from_gives = { λ _ e. e ≡ None };
 
     fn from(_error: AllocError) -> GroupInfoError<A> {
-        GroupInfoError {
-            kind: GroupInfoErrorKind::OutOfMemory,
-        }
+        GroupInfoError::new(GroupInfoErrorKind::OutOfMemory)
     }
 }
 
@@ -88,9 +86,7 @@ impl<A: Allocator, T: Drop> From<AllocFailed<T>> for GroupInfoError<A> {
     ghost from_gives = { λ _ e. e ≡ None };
 
     fn from(_error: AllocFailed<T>) -> GroupInfoError<A> {
-        GroupInfoError {
-            kind: GroupInfoErrorKind::OutOfMemory,
-        }
+        GroupInfoError::new(GroupInfoErrorKind::OutOfMemory)
     }
 }
 
@@ -125,26 +121,18 @@ impl<A: Allocator + Clone + Drop> GroupInfoErrorKind<A> {
         ensures { IfOk result (λ copy. fault_of copy ≡ fault_of self.now) }
     {
         Ok(match self {
-            GroupInfoErrorKind::TooManyPatterns { err } => GroupInfoErrorKind::TooManyPatterns {
-                err: err.clone()?,
+            Self::TooManyPatterns { err } => Self::TooManyPatterns { err: err.clone()? },
+            Self::TooManyGroups { pattern, minimum } => Self::TooManyGroups {
+                pattern: *pattern,
+                minimum: *minimum,
             },
-            GroupInfoErrorKind::TooManyGroups { pattern, minimum } => {
-                GroupInfoErrorKind::TooManyGroups {
-                    pattern: *pattern,
-                    minimum: *minimum,
-                }
-            }
-            GroupInfoErrorKind::MissingGroups { pattern } => {
-                GroupInfoErrorKind::MissingGroups { pattern: *pattern }
-            }
-            GroupInfoErrorKind::FirstMustBeUnnamed { pattern } => {
-                GroupInfoErrorKind::FirstMustBeUnnamed { pattern: *pattern }
-            }
-            GroupInfoErrorKind::Duplicate { pattern, name } => GroupInfoErrorKind::Duplicate {
+            Self::MissingGroups { pattern } => Self::MissingGroups { pattern: *pattern },
+            Self::FirstMustBeUnnamed { pattern } => Self::FirstMustBeUnnamed { pattern: *pattern },
+            Self::Duplicate { pattern, name } => Self::Duplicate {
                 pattern: *pattern,
                 name: name.clone()?,
             },
-            GroupInfoErrorKind::OutOfMemory => GroupInfoErrorKind::OutOfMemory,
+            Self::OutOfMemory => Self::OutOfMemory,
         })
     }
 }
@@ -171,40 +159,30 @@ impl<A: Allocator> fmt::Display for GroupInfoErrorKind<A> {
 
     fn fmt<W: fmt::Write>(&self, f: &mut fmt::Formatter<W>) -> fmt::Result {
         match self {
-            GroupInfoErrorKind::TooManyPatterns { err } => {
+            Self::TooManyPatterns { err } => {
                 write!(f, "too many patterns to build capture info: {err}")
             }
-            GroupInfoErrorKind::TooManyGroups { pattern, minimum } => {
-                let pattern = pattern.as_usize();
-                write!(
-                    f,
-                    "too many capture groups (at least {minimum}) were found for pattern {pattern}"
-                )
-            }
-            GroupInfoErrorKind::MissingGroups { pattern } => {
-                let pattern = pattern.as_usize();
-                write!(
-                    f,
-                    "no capturing groups found for pattern {pattern} (either all patterns have zero groups or all patterns have at least one group)"
-                )
-            }
-            GroupInfoErrorKind::FirstMustBeUnnamed { pattern } => {
-                let pattern = pattern.as_usize();
-                write!(
-                    f,
-                    "first capture group (at index 0) for pattern {pattern} has a name (it must be unnamed)"
-                )
-            }
-            GroupInfoErrorKind::Duplicate { pattern, name } => {
-                let pattern = pattern.as_usize();
-                write!(
-                    f,
-                    "duplicate capture group name '{name}' found for pattern {pattern}"
-                )
-            }
-            GroupInfoErrorKind::OutOfMemory => f.write_str(
-                "out of memory while building capture info",
+            Self::TooManyGroups { pattern, minimum } => write!(
+                f,
+                "too many capture groups (at least {minimum}) were found for pattern {}",
+                pattern.as_usize()
             ),
+            Self::MissingGroups { pattern } => write!(
+                f,
+                "no capturing groups found for pattern {} (either all patterns have zero groups or all patterns have at least one group)",
+                pattern.as_usize()
+            ),
+            Self::FirstMustBeUnnamed { pattern } => write!(
+                f,
+                "first capture group (at index 0) for pattern {} has a name (it must be unnamed)",
+                pattern.as_usize()
+            ),
+            Self::Duplicate { pattern, name } => write!(
+                f,
+                "duplicate capture group name '{name}' found for pattern {}",
+                pattern.as_usize()
+            ),
+            Self::OutOfMemory => f.write_str("out of memory while building capture info"),
         }
     }
 }

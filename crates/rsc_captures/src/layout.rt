@@ -3,7 +3,7 @@
 //! A name is looked for among few groups one by one. Otherwise its hash leads to a few slots of a table, and each of these hints at a
 //! group: where that group has the name, it is the one. Nothing depends on the hints, so no contract speaks of them.
 //! Where none has the name, a binary search in the order of the pattern's names decides.
-ghost use Rattle.std.specs.Prelude.{◌≡◌, ◌<◌, ◌≤◌, length, IfOk, IfSome, Some};
+ghost use Rattle.std.specs.Prelude.{◌≡◌, ◌*◌, ◌<◌, ◌≤◌, length, IfOk, IfSome, Some};
 ghost use Rattle.std.specs.Option.{option_copied};
 ghost use Rattle.rsc_captures.specs.Groups.{lists_in, groups_of, group_count, name_of, index_of, slot_of, all_groups};
 ghost use Rattle.rsc_captures.specs.Faults.{LIMIT_OF_IDS, IsFaultless};
@@ -69,12 +69,14 @@ impl<A: Allocator + Clone + Drop> SharedLists<A> {
     #[inline]
     pub(crate) fn all_group_len(&self) -> usize
         ensures value { result ≡ all_groups self.now }
+        ensures limit { 2 * result ≤ LIMIT_OF_IDS }
         ensures faultless { IsFaultless LIMIT_OF_IDS self.now }
     {
         self.first(self.len())
     }
 
     /// How many groups a pattern has: none where there is no such pattern.
+    #[tactic(auto, using(crate::proofs::Firsts::groups_more))]
     #[inline]
     pub(crate) fn group_len(&self, p: usize) -> usize
         ensures value { result ≡ group_count self.now p }
@@ -161,6 +163,7 @@ impl<A: Allocator + Clone + Drop> SharedLists<A> {
     }
 
     // The group that has the name, by looking at one after another.
+    #[tactic(auto, using(crate::proofs::Indexed::index_of_first, std::proofs::lemmas::List::Folds::list_any_more))]
     #[inline]
     fn find_by_scan(&self, p: usize, name: &str) -> Option<usize>
         requires { p < length self.now }
@@ -188,6 +191,7 @@ impl<A: Allocator + Clone + Drop> SharedLists<A> {
     }
 
     // The name of a group that the pattern has, if the group has one.
+    #[tactic(auto, using(crate::proofs::Owners::pattern_in, crate::proofs::Parts::name_in))]
     #[inline]
     fn name_within(&self, p: usize, group: usize) -> Option<&str>
         requires { group < group_count self.now p }

@@ -42,6 +42,7 @@ impl<A: Allocator> Model for NameList<A> {
 
 impl<A: Allocator + Clone + Drop> NameList<A> {
     /// The names of all groups of these lists, by pattern and then by group.
+    #[tactic(auto, using(crate::proofs::Places::flat_more))]
     pub(crate) fn new(alloc: A, lists: &[&[Option<&str>]]) -> Result<NameList<A>, AllocError>
         ensures { IfOk result (λ names. names ≡ flat_map (λ groups. groups) (lists_in lists.now)) }
     {
@@ -90,20 +91,11 @@ fn room_for(lists: &[&[Option<&str>]]) -> (usize, usize) {
     let mut bytes: usize = 0;
     for groups in lists {
         len = len.saturating_add(groups.len());
-        bytes = bytes.saturating_add(text_len(groups));
-    }
-    (len, bytes)
-}
-
-// How many bytes the names of these groups have together; less only where that is past the greatest number.
-fn text_len(groups: &[Option<&str>]) -> usize {
-    let mut len: usize = 0;
-    for group in groups {
-        if let Some(name) = group {
-            len = len.saturating_add(name.len());
+        for group in *groups {
+            bytes = bytes.saturating_add(group.map_or(0, |name| name.len()));
         }
     }
-    len
+    (len, bytes)
 }
 
 // Adds the name of a group to the text, and says where it is there.

@@ -27,18 +27,6 @@ fn span(start: usize, end: usize) -> Option<Span> {
     Some(Span { start, end })
 }
 
-// The span of a group of captures that `filled` makes.
-fn span_of(
-    alloc: Global,
-    lists: &[&[Option<&str>]],
-    pid: usize,
-    offsets: &[Option<usize>],
-    group: usize,
-) -> Result<Option<Span>, Fail> {
-    let captures = filled(alloc, lists, pid, offsets)?;
-    Ok(captures.get_group(group))
-}
-
 #[test]
 fn spans_of_one_pattern_go_by_place(rt: HostRuntime) -> Result<(), Fail> {
     for (pid, start, end, group, want) in [
@@ -47,8 +35,11 @@ fn spans_of_one_pattern_go_by_place(rt: HostRuntime) -> Result<(), Fail> {
         (0, Some(5), Some(3), 9223372036854775808, None),
         (0, Some(5), None, 0, None),
     ] {
-        let found = span_of(rt.alloc(), &[&[None]], pid, &[start, end], group)?;
-        assert!(rt; found == want, "group {group} of pattern {pid}");
+        let captures = filled(rt.alloc(), &[&[None]], pid, &[start, end])?;
+        assert!(rt;
+            captures.get_group(group) == want,
+            "group {group} of pattern {pid}"
+        );
     }
     Ok(())
 }
@@ -81,10 +72,9 @@ fn a_pattern_may_be_set_where_there_is_none(rt: HostRuntime) -> Result<(), Fail>
 fn spans_of_more_patterns_go_by_the_pattern(rt: HostRuntime) -> Result<(), Fail> {
     let offsets = [None, None, Some(3), Some(5)];
     for (pid, want) in [(0, None), (1, span(3, 5)), (7, None), (2147483646, None)] {
-        let found = span_of(rt.alloc(), &[&[None], &[None]], pid, &offsets, 0)?;
-        assert!(rt; found == want, "of pattern {pid}");
+        let captures = filled(rt.alloc(), &[&[None], &[None]], pid, &offsets)?;
+        assert!(rt; captures.get_group(0) == want, "of pattern {pid}");
     }
-    assert!(rt; span_of(rt.alloc(), &[], 0, &[], 0)? == None);
     Ok(())
 }
 
@@ -132,17 +122,15 @@ fn a_clone_keeps_what_its_source_loses(rt: HostRuntime) -> Result<(), Fail> {
     Ok(())
 }
 
-// Captures of three groups in one pattern: the first holds all of "abc", the others what the offsets say.
-fn three_groups(alloc: Global, offsets: &[Option<usize>]) -> Result<Captures, Fail> {
-    filled(alloc, &[&[None, None, None]], 0, offsets)
+// Captures of three groups in one pattern: the first holds all of "abc", the second what is asked for, and the last "b".
+fn three_groups(alloc: Global, start: Option<usize>, end: Option<usize>) -> Result<Captures, Fail> {
+    let offsets = [Some(0), Some(3), start, end, Some(1), Some(2)];
+    filled(alloc, &[&[None, None, None]], 0, &offsets)
 }
 
 #[test]
 fn extracts_the_groups_that_take_part(rt: HostRuntime) -> Result<(), Fail> {
-    let captures = three_groups(
-        rt.alloc(),
-        &[Some(0), Some(3), None, None, Some(1), Some(2)],
-    )?;
+    let captures = three_groups(rt.alloc(), None, None)?;
     assert!(rt; captures.extract_from::<&str, 0>("abc") == Some(("abc", [])));
     assert!(rt; captures.extract_from::<&str, 1>("abc") == Some(("abc", ["b"])));
     assert!(rt; captures.extract_from::<&str, 2>("abc") == None);
@@ -153,24 +141,12 @@ fn extracts_the_groups_that_take_part(rt: HostRuntime) -> Result<(), Fail> {
 }
 
 #[test]
-fn extracts_text_by_count(rt: HostRuntime) -> Result<(), Fail> {
-    let captures = three_groups(
-        rt.alloc(),
-        &[Some(0), Some(3), Some(0), Some(1), Some(1), Some(2)],
-    )?;
+fn extracts_by_count(rt: HostRuntime) -> Result<(), Fail> {
+    let captures = three_groups(rt.alloc(), Some(0), Some(1))?;
     assert!(rt; captures.extract_from::<&str, 0>("abc") == Some(("abc", [])));
     assert!(rt; captures.extract_from::<&str, 1>("abc") == Some(("abc", ["a"])));
     assert!(rt; captures.extract_from::<&str, 2>("abc") == Some(("abc", ["a", "b"])));
     assert!(rt; captures.extract_from::<&str, 3>("abc") == None);
-    Ok(())
-}
-
-#[test]
-fn extracts_bytes_by_count(rt: HostRuntime) -> Result<(), Fail> {
-    let captures = three_groups(
-        rt.alloc(),
-        &[Some(0), Some(3), Some(0), Some(1), Some(1), Some(2)],
-    )?;
     let (abc, a, b): (&[u8], &[u8], &[u8]) = (b"abc", b"a", b"b");
     assert!(rt; captures.extract_from::<&[u8], 0>(abc) == Some((abc, [])));
     assert!(rt; captures.extract_from::<&[u8], 1>(abc) == Some((abc, [a])));
@@ -189,31 +165,17 @@ fn match_in_order(captures: &Captures) -> Option<Match> {
     captures.get_match()
 }
 
-// The match of captures that `filled` makes.
-fn match_of(
-    alloc: Global,
-    lists: &[&[Option<&str>]],
-    pid: usize,
-    offsets: &[Option<usize>],
-) -> Result<Option<Match>, Fail> {
-    let captures = filled(alloc, lists, pid, offsets)?;
-    Ok(match_in_order(&captures))
-}
-
 #[test]
 fn matches_need_the_pattern_and_both_slots(rt: HostRuntime) -> Result<(), Fail> {
     let alloc = rt.alloc();
-    let found = match_of(
-        alloc,
-        &[&[None], &[None]],
-        1,
-        &[None, None, Some(3), Some(5)],
-    )?;
-    assert!(rt; found == Some(Match::must(1, Span { start: 3, end: 5 })));
-    let one_slot_set = match_of(alloc, &[&[None]], 0, &[Some(5), None])?;
-    assert!(rt; one_slot_set == None);
-    let of_an_unknown_pattern = match_of(alloc, &[&[None], &[None]], 7, &[Some(3), Some(5)])?;
-    assert!(rt; of_an_unknown_pattern == None);
+    let offsets = [None, None, Some(3), Some(5)];
+    let of_the_second = filled(alloc, &[&[None], &[None]], 1, &offsets)?;
+    let wanted = Some(Match::must(1, Span { start: 3, end: 5 }));
+    assert!(rt; match_in_order(&of_the_second) == wanted);
+    let with_one_slot = filled(alloc, &[&[None]], 0, &[Some(5), None])?;
+    assert!(rt; match_in_order(&with_one_slot) == None);
+    let of_an_unknown_pattern = filled(alloc, &[&[None], &[None]], 7, &[Some(3), Some(5)])?;
+    assert!(rt; match_in_order(&of_an_unknown_pattern) == None);
     Ok(())
 }
 

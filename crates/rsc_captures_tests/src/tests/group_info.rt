@@ -96,44 +96,29 @@ fn iterates_over_names(rt: HostRuntime) -> Result<(), Fail> {
     Ok(())
 }
 
+// Groups with the names of a text that are parted by commas, and without one for "-".
+fn groups_of<'a>(alloc: Global, names: &'a str) -> Result<Vec<Option<&'a str>>, Fail> {
+    let mut groups = Vec::new(alloc);
+    for name in names.split(',') {
+        groups.push(if name == "-" { None } else { Some(name) })?;
+    }
+    Ok(groups)
+}
+
 #[test]
 fn finds_each_of_many_names(rt: HostRuntime) -> Result<(), Fail> {
-    let groups = [
-        None,
-        Some("year"),
-        Some("month"),
-        Some("day"),
-        None,
-        Some("hour"),
-        Some("minute"),
-        Some("second"),
-        Some("fraction"),
-        Some("zone"),
-        Some("offset_hours"),
-        Some("offset_minutes"),
-        Some(""),
-        Some("größe"),
-        None,
-        Some("日"),
-    ];
+    let names =
+        "-,year,month,day,-,hour,minute,second,fraction,zone,offset_hours,offset_minutes,,größe,-,日";
+    let groups = groups_of(rt.alloc(), names)?;
     let info = GroupInfo::new(rt.alloc(), &[&groups])?;
+    assert_eq!(rt; info.group_len(pattern(0)), 16);
     for (group, name) in groups.iter().enumerate() {
         if let Some(name) = name {
             assert_eq!(rt; info.to_index(pattern(0), name), Some(group), "{name}");
         }
         assert_eq!(rt; info.to_name(pattern(0), group), *name);
     }
-    for name in [
-        "years",
-        "yea",
-        "Year",
-        "offset_hour",
-        "0",
-        "fractions of a second",
-        "gr",
-        "größ",
-        "日本",
-    ] {
+    for name in "years,yea,Year,offset_hour,0,fractions of a second,gr,größ,日本".split(',') {
         assert_eq!(rt; info.to_index(pattern(0), name), None, "{name}");
     }
     Ok(())
@@ -163,28 +148,14 @@ fn refuses_the_first_fault(rt: HostRuntime) -> Result<(), Fail> {
     assert!(rt; refused_as(alloc, &[&[None, Some("x"), Some("x")], &[None]], duplicate)?);
     assert!(rt; refused_as(alloc, &[&[None, Some("x"), Some("x")], &[]], duplicate)?);
     let duplicate = "duplicate capture group name 'y' found for pattern 1";
-    assert!(rt;
-        refused_as(
-            alloc,
-            &[&[None, Some("x")], &[None, Some("y"), None, Some("y")]],
-            duplicate
-        )?
-    );
+    let second: [&[Option<&str>]; 2] = [&[None, Some("x")], &[None, Some("y"), None, Some("y")]];
+    assert!(rt; refused_as(alloc, &second, duplicate)?);
     let duplicate = "duplicate capture group name 'b' found for pattern 0";
-    let names = ["f", "b", "d", "e", "a", "c", "b", "i", "h", "g", "a"];
-    let mut groups: [Option<&str>; 12] = [None; 12];
-    for (g, name) in names.iter().enumerate() {
-        groups[g + 1] = Some(*name);
-    }
+    let groups = groups_of(alloc, "-,f,b,d,e,a,c,b,i,h,g,a")?;
     assert!(rt; refused_as(alloc, &[&groups], duplicate)?);
     let duplicate = "duplicate capture group name '' found for pattern 1";
-    assert!(rt;
-        refused_as(
-            alloc,
-            &[&[None, Some("")], &[None, Some(""), Some("")]],
-            duplicate
-        )?
-    );
+    let second: [&[Option<&str>]; 2] = [&[None, Some("")], &[None, Some(""), Some("")]];
+    assert!(rt; refused_as(alloc, &second, duplicate)?);
     Ok(())
 }
 

@@ -89,10 +89,14 @@ fn finds_a_repeated_name_in_a_short_list(rt: HostRuntime) -> Result<(), Fail> {
             );
             for later in 2..count {
                 for earlier in 1..later {
-                    assert!(rt;
-                        is_refused(alloc, &names, count, &[(earlier, later)], with_fault)?,
-                        "{earlier}, {later} of {count}"
-                    );
+                    let is_refused = is_refused(
+                        alloc,
+                        &names,
+                        count,
+                        &[(earlier, later)],
+                        with_fault,
+                    )?;
+                    assert!(rt; is_refused, "{earlier}, {later} of {count}");
                 }
             }
         }
@@ -113,10 +117,8 @@ fn finds_a_repeated_name_at_each_edge_of_a_block(rt: HostRuntime) -> Result<(), 
         (8193, 4095, 8192),
         (8194, 8192, 8193),
     ] {
-        assert!(rt;
-            is_refused(alloc, &names, count, &[(earlier, later)], true)?,
-            "{earlier}, {later} of {count}"
-        );
+        let is_refused = is_refused(alloc, &names, count, &[(earlier, later)], true)?;
+        assert!(rt; is_refused, "{earlier}, {later} of {count}");
     }
     for count in [4096usize, 4097, 8194] {
         assert!(rt; is_refused(alloc, &names, count, &[], true)?, "{count}");
@@ -136,24 +138,11 @@ fn names_the_first_of_several(rt: HostRuntime) -> Result<(), Fail> {
     Ok(())
 }
 
-// Whether one of the first `count` groups has the name.
-fn is_among(groups: &[Option<&str>], count: usize, name: &str) -> bool {
-    for group in groups.iter().take(count) {
-        if *group == Some(name) {
-            return true;
-        }
-    }
-    false
-}
-
 // The first repeated name, found by the plainest means.
 fn first_repeated<'a>(groups: &[Option<&'a str>]) -> Option<&'a str> {
     for (g, group) in groups.iter().enumerate() {
-        let group = *group;
-        if let Some(name) = group {
-            if is_among(groups, g, name) {
-                return Some(name);
-            }
+        if group.is_some() && groups[..g].contains(group) {
+            return *group;
         }
     }
     None
@@ -171,17 +160,12 @@ fn agrees_with_plain_comparisons(rt: HostRuntime) -> Result<(), Fail> {
             random = random
                 .wrapping_mul(6364136223846793005)
                 .wrapping_add(1442695040888963407);
-            match names.get((random >> 56) as usize) {
-                Some(name) => list.push(Some(name.as_str()))?,
-                None => list.push(None)?,
-            }
+            list.push(names.get((random >> 56) as usize).map(|name| name.as_str()))?;
         }
         let repeat = first_repeated(&list);
         for with_fault in [false, true] {
-            assert!(rt;
-                answer(alloc, &list, with_fault)? == wanted(alloc, repeat, with_fault)?,
-                "{count}"
-            );
+            let wanted = wanted(alloc, repeat, with_fault)?;
+            assert!(rt; answer(alloc, &list, with_fault)? == wanted, "{count}");
         }
     }
     Ok(())

@@ -7,11 +7,6 @@ use std::test::Fail;
 
 const SIZES: [usize; 10] = [0, 1, 2, 31, 63, 64, 65, 1_000, 2_000, 100_000];
 
-// That many groups without names.
-fn unnamed<'a>(alloc: Global, count: usize) -> Result<Vec<Option<&'a str>>, Fail> {
-    Ok(vec![in alloc; None; count]?)
-}
-
 // Whether captures and their clones are answered, with that many slots.
 fn are_answered(alloc: Global, info: GroupInfo, all: usize, matches: usize) -> Result<bool, Fail> {
     let first = Captures::all(alloc, info.clone()?)?;
@@ -23,12 +18,9 @@ fn are_answered(alloc: Global, info: GroupInfo, all: usize, matches: usize) -> R
 #[test]
 fn so_many_patterns_are_answered(rt: HostRuntime) -> Result<(), Fail> {
     let alloc = rt.alloc();
-    let groups: [Option<&str>; 2] = [None, Some("name")];
+    let groups: &[Option<&str>] = &[None, Some("name")];
     for count in SIZES {
-        let mut lists: Vec<&[Option<&str>]> = Vec::new(alloc);
-        for _ in 0..count {
-            lists.push(&groups)?;
-        }
+        let lists: Vec<&[Option<&str>]> = vec![in alloc; groups; count]?;
         let info = GroupInfo::new(alloc, &lists)?;
         assert!(rt; info.pattern_len() == count && info.all_group_len() / 2 == count);
         assert!(rt; are_answered(alloc, info, 4 * count, 2 * count)?, "{count}");
@@ -41,7 +33,7 @@ fn so_many_groups_are_answered(rt: HostRuntime) -> Result<(), Fail> {
     let alloc = rt.alloc();
     for count in SIZES {
         if count > 0 {
-            let groups = unnamed(alloc, count)?;
+            let groups: Vec<Option<&str>> = vec![in alloc; None; count]?;
             let info = GroupInfo::new(alloc, &[&groups])?;
             assert!(rt; are_answered(alloc, info, 2 * count, 2)?, "{count}");
         }
@@ -61,10 +53,7 @@ fn repeats(error: &GroupInfoError, name: &str) -> bool {
 fn names_of_any_length_are_answered(rt: HostRuntime) -> Result<(), Fail> {
     let alloc = rt.alloc();
     for length in SIZES {
-        let mut name = String::new(alloc);
-        for _ in 0..length {
-            name.push('n')?;
-        }
+        let name = "n".repeat(alloc, length)?;
         let info = GroupInfo::new(alloc, &[&[None, Some(name.as_str())]])?;
         assert_eq!(rt; info.to_index(PatternID::ZERO, &name), Some(1), "{length}");
         match GroupInfo::new(alloc, &[&[None, Some(name.as_str()), Some(name.as_str())]]) {
