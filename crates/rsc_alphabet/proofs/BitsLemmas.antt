@@ -35,7 +35,7 @@ has_bit_one k w i l = rw (one_shl k w l) (⊎_elim
     (λ (ne : i ≢ k). rw (bit_at-pow_other k i ne, ne_eqb i k ne) refl)
     (cases_eq i k))
 
--- two places are the same if they are so many places higher
+-- two places are the same exactly if they are once the same number is added to both
 pub eqb_shifted : (i k a b : ℕ) → a + k ≡ b → nat_eq i k ≡ nat_eq (a + i) b
 eqb_shifted i k a b is = grind (arith, nat_tests)
 

@@ -100,7 +100,7 @@ counts_all p (suc n) each =
     let e : suc n ≡ n + 1 = omega arith in
     rw (e, class_of_more p n, each n (omega arith)) (ap (λ x. x + 1) (counts_all p n (λ k l. each k (omega (arith, l)))))
 
--- the least exponent with a power of two that is enough is the number of those that are too small
+-- the least exponent with a power of two that is enough is the number of exponents whose power is too small
 pub exponent_counted : (n r : ℕ) → r ≤ 9 → n ≤ 2 ^ r → ((k : ℕ) → n ≤ 2 ^ k → r ≤ k) → class_of (λ k. nat_lt (2 ^ k) n) 9 ≡ r
 exponent_counted n r most enough least =
     let p : ℕ → Bool = λ k. nat_lt (2 ^ k) n in
