@@ -7,9 +7,11 @@ use Rattle.std.proofs.lemmas.List.Elements.{All-from_get_or}
 range_first : (a n m : ℕ) → n ≡ suc m → range_with_len a n ≡ a ∷ range_with_len (a + 1) m
 range_first a n m e = rw e refl
 
+-- the first index of a range that isn't empty, and the rest
 pub range_left_first : (a b : ℕ) → a < b → range_with_len a (b - a) ≡ a ∷ range_with_len (a + 1) (b - (a + 1))
 range_left_first a b h = range_first a (b - a) (b - (a + 1)) (omega (arith, h))
 
+-- an empty range
 pub range_left_none : (a b : ℕ) → b ≤ a → range_with_len a (b - a) ≡ []
 range_left_none a b h = let e : b - a ≡ 0 = omega (arith, h) in rw e refl
 

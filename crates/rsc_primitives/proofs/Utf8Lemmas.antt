@@ -69,6 +69,7 @@ long_back _ c (inl s) = absurd (omega (arith, s.0))
 long_back _ c (inr (inl s)) = absurd (grind (arith, s.0, s.1))
 long_back _ c (inr (inr s)) = absurd (grind (arith, s.0, s.1, s.2))
 
+-- a long encoding at the end of the bytes ends there
 pub ends_long : (h : List ℕ) (c : ℕ) → EndsLong h c → EndsAt h (length h) c
 ends_long h c s = subst (λ (x : List ℕ). EndsAt x (length x) c) (reverse-reverse h) (long_back (reverse h) c s)
 

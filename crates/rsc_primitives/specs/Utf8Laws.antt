@@ -51,14 +51,17 @@ get_or-slice h i j k p = get_or-take (j - i) (drop i h) k 0 p ∙ get_or-drop i 
 pub lead_len_pos : (a : ℕ) → 0 < lead_len a
 lead_len_pos a = grind (arith, nat_tests)
 
+-- the first byte of a part that isn't empty
+first_of_part : (h : List ℕ) (i j : ℕ) → 0 < j - i → get_or (slice_range h i j) 0 0 ≡ get_or h i 0
+first_of_part h i j room = get_or-slice h i j 0 room ∙ ap (λ x. get_or h x 0) (omega arith)
+
 pub Placed-from : (h : List ℕ) (i j c : ℕ) → EncodedFrom h i j c → Placed h i j
 Placed-from h i j c e =
     let l = length-slice h i j e.ordered e.within in
     let s = length-Encodes (slice_range h i j) c e.encoded in
     let pos = lead_len_pos (get_or (slice_range h i j) 0 0) in
     let some : i < j = omega arith in
-    let room : 0 < j - i = omega arith in
-    let first : get_or (slice_range h i j) 0 0 ≡ get_or h i 0 = get_or-slice h i j 0 room ∙ ap (λ x. get_or h x 0) (omega arith) in
+    let first = first_of_part h i j (omega arith) in
     let size : j - i ≡ lead_len (get_or h i 0) = sym l ∙ s ∙ ap lead_len first in
     record {
       some = some;
@@ -92,16 +95,17 @@ pub EndsAt-same : (h : List ℕ) (i c d : ℕ) → EndsAt h i c → EndsAt h i d
 EndsAt-same h i c d p q =
     Encodes-same (slice_range h p.0 i) c d p.1.encoded (rw (EncodedFrom-from h i p.0 q.0 c d p.1 q.1) q.1.encoded)
 
+-- the places of a character that i is inside of
+around : (h : List ℕ) (i : ℕ) (s : IsInside h i) → Placed h s.from s.to
+around h i s = Placed-from h s.from s.to s.char s.encoded
+
 -- inside a character none begins and none ends
 pub IsInside-begins : (h : List ℕ) (i c : ℕ) → IsInside h i → BeginsAt h i c → ⊥
-IsInside-begins h i c s b =
-    let a = Placed-from h s.from s.to s.char s.encoded in
-    let p = Placed-from h i b.0 c b.1 in
-    p.head (a.rest i s.after_first s.before_last)
+IsInside-begins h i c s b = (Placed-from h i b.0 c b.1).head ((around h i s).rest i s.after_first s.before_last)
 
 pub IsInside-ends : (h : List ℕ) (i c : ℕ) → IsInside h i → EndsAt h i c → ⊥
 IsInside-ends h i c s b =
-    let a = Placed-from h s.from s.to s.char s.encoded in
+    let a = around h i s in
     let p = Placed-from h b.0 i c b.1 in
     let before : b.0 < s.from → ⊥ = λ l. a.head (p.rest s.from l s.after_first) in
     let after : s.from < b.0 → ⊥ = λ l. p.head (a.rest b.0 l (omega arith)) in
@@ -140,11 +144,10 @@ pub EncodedFrom-agree : (h k : List ℕ) (i j c : ℕ) → AgreePastAscii h k �
     (get_or k i 0))
 EncodedFrom-agree h k i j c s e =
     let p = Placed-from h i j c e in
-    let room : 0 < j - i = omega (arith, p.some) in
     let within : j ≤ length k = omega (arith, e.within, s.same_length) in
     let l : length (slice_range h i j) ≡ j - i = length-slice h i j e.ordered e.within in
     let lk : length (slice_range k i j) ≡ j - i = length-slice k i j e.ordered within in
-    let first : get_or (slice_range h i j) 0 0 ≡ get_or h i 0 = get_or-slice h i j 0 room ∙ ap (λ x. get_or h x 0) (omega arith) in
+    let first = first_of_part h i j (omega (arith, p.some)) in
     ⊎_elim
     (λ t.
     let here : c ≡ get_or h i 0 = sym t.1 ∙ first in

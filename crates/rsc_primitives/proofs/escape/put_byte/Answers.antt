@@ -1,8 +1,7 @@
 use Rattle.std.proofs.Common.{◌≡◌, ℕ, ◌+◌, ◌-◌, ◌*◌, ◌++◌, ◌≤◌, ◌<◌, List, get_or, take, drop, take-take, refl, ap, ◌∙◌, arith, rules}
 use Rattle.rsc_primitives.specs.Escapes.{step_text}
 use Rattle.rsc_primitives.specs.declared.tables.TheConstants.{STEP_TEXTS, STEP_LENGTHS}
-use Rattle.rsc_primitives.proofs.EscapesLemmas.{take-put_mid-front}
-use Rattle.rsc_primitives.proofs.TableLemmas.{tabled_is, length_fits}
+use Rattle.rsc_primitives.proofs.EscapesLemmas.{take-put_mid-front, tabled_is, length_fits}
 use Rattle.rsc_primitives.proofs.escape.put_byte.Goals as goal
 
 -- the copied part of the table begins with the byte's text

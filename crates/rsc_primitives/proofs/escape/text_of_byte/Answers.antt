@@ -1,7 +1,7 @@
 use Rattle.std.proofs.Common.{◌≤◌, ◌+◌, ◌-◌, ◌*◌, ◌≡◌, get_or, take, drop, refl, ap, ◌∙◌, arith, rules}
 use Rattle.std.proofs.lemmas.Str.{IsCharBoundary-from_ascii}
 use Rattle.rsc_primitives.specs.declared.tables.TheConstants.{BYTE_LENGTHS}
-use Rattle.rsc_primitives.proofs.TableLemmas.{length_fits}
+use Rattle.rsc_primitives.proofs.EscapesLemmas.{length_fits}
 use Rattle.rsc_primitives.proofs.escape.text_of_byte.Goals as goal
 
 pub range-requires-clause-end_boundary : goal.range-requires-clause-end_boundary

@@ -1,7 +1,7 @@
 use Rattle.std.proofs.Common.{refl}
 use Rattle.rsc_primitives.specs.Escapes.{byte_text}
 use Rattle.rsc_primitives.specs.declared.tables.TheConstants.{BYTE_LENGTHS}
-use Rattle.rsc_primitives.proofs.TableLemmas.{tabled_is, ascii_if_low}
+use Rattle.rsc_primitives.proofs.EscapesLemmas.{tabled_is, ascii_if_low}
 use Rattle.rsc_primitives.proofs.tables.byte_texts.Goals as goal
 
 pub returns-clause-ascii : goal.returns-clause-ascii

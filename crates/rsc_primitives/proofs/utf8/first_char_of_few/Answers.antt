@@ -1,7 +1,7 @@
 use Rattle.std.proofs.Common.{arith, refl}
 use Rattle.std.proofs.lemmas.List.{get_or_past}
 use Rattle.rsc_primitives.specs.Utf8Layout.{IsLongNumber}
-use Rattle.rsc_primitives.proofs.LongLemmas.{says_of}
+use Rattle.rsc_primitives.proofs.Utf8LayoutLemmas.{says_of}
 use Rattle.rsc_primitives.proofs.utf8.first_char_of_few.Goals as goal
 
 pub returns-in-len2 : goal.returns-in-len2

@@ -1,6 +1,6 @@
 use Rattle.std.proofs.Common.{◌-◌, length, arith}
 use Rattle.rsc_primitives.specs.Utf8Layout.{EndsLongNumber}
-use Rattle.rsc_primitives.proofs.LongLemmas.{says_of, back_at}
+use Rattle.rsc_primitives.proofs.Utf8LayoutLemmas.{says_of, back_at}
 use Rattle.rsc_primitives.proofs.utf8.last_char.Goals as goal
 
 pub returns : goal.returns

@@ -1,5 +1,5 @@
 use Rattle.std.proofs.Common.{arith}
-use Rattle.rsc_show.proofs.Reaching.{not_inside}
+use Rattle.rsc_show.proofs.SidesLemmas.{not_inside}
 use Rattle.rsc_show.proofs.positions.is_inside.Goals as goal
 
 pub returns : goal.returns

@@ -1,6 +1,6 @@
 -- The set has the boundaries of all members, which make the coarsest partition.
-use Rattle.rsc_look.proofs.Coarsest.{IsCoarsestMap-from}
-use Rattle.rsc_look.proofs.Marks.{HasBoundaries-none, HasBoundaries-more, classes_whole}
+use Rattle.rsc_look.proofs.KeepingLemmas.{IsCoarsestMap-from}
+use Rattle.rsc_look.proofs.BoundariesLemmas.{HasBoundaries-none, HasBoundaries-more, classes_whole}
 use Rattle.rsc_look.specs.declared.assertion.Look.TheVariants.{Start}
 use Rattle.rsc_look.proofs.matcher.LookMatcher.classes_of.Goals as goal
 

@@ -1,5 +1,5 @@
 use Rattle.std.proofs.Common.{take}
-use Rattle.rsc_look.proofs.Marks.{HasBoundaries}
+use Rattle.rsc_look.proofs.BoundariesLemmas.{HasBoundaries}
 use Rattle.rsc_look.proofs.matcher.LookMatcher.classes_of.Given as goal
 
 -- the set has the boundaries of the members so far

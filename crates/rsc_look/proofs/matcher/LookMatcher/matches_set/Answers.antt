@@ -1,6 +1,6 @@
 use Rattle.std.proofs.Common.{◌∙◌, refl}
 use Rattle.rsc_look.specs.Holds.{Holds}
-use Rattle.rsc_look.proofs.Asked.{HasAsked-none, HasAsked-more, HasAsked-all}
+use Rattle.rsc_look.proofs.LookSetLayoutLemmas.{HasAsked-none, HasAsked-more, HasAsked-all}
 use Rattle.rsc_look.proofs.matcher.LookMatcher.matches_set.Goals as goal
 
 pub loop-look-init : goal.loop-look-init

@@ -1,5 +1,5 @@
 use Rattle.rsc_look.specs.Holds.{Holds}
-use Rattle.rsc_look.proofs.Asked.{HasAsked}
+use Rattle.rsc_look.proofs.LookSetLayoutLemmas.{HasAsked}
 use Rattle.rsc_look.proofs.matcher.LookMatcher.matches_set.Given as goal
 
 -- all members so far hold
