@@ -1,15 +1,23 @@
--- The steps of the iterators of a class map.
-use Rattle.std.proofs.Common.{◌≡◌, ℕ, ◌+◌, ◌-◌, ◌<◌, ◌≤◌, Bool, true, false, not, List, [], ◌∷◌, ◌++◌, map, filter, refl, sym, ap, ap₂, ◌∙◌, arith, nat_eq, slice_index, Some, None, ◌^◌, length, append-nil, nat_le, ⊎_elim, set, below_more, get_or-set_same, get_or-set_other, zero, suc, ◌||◌, ◌&&◌, slice_get, length-append, option_map, pow_mono, nat_cmp}
-use Rattle.std.proofs.lemmas.Bool.{eq-eqb, ne_eqb, cases_lt, le-leb, lt-leb}
-use Rattle.rsc_alphabet.proofs.Words.{from_to, bytes, from_to_none, from_to_first, length-from_to, get_or-from_to, filter_same, filter_first, filter_none, filter_parts, Symbol, byte, end_of_input, byte_of, end_of, symbols, elements_of, representing, end_if_unbounded, representatives_of, has_bit, Numbers, members, symbols_left, elements_left}
+-- The steps of the iterators of a class map, and what they give.
+use Rattle.std.proofs.Common.{◌≡◌, ℕ, ◌+◌, ◌-◌, ◌<◌, ◌≤◌, Bool, true, false, not, List, [], ◌∷◌, ◌++◌, map, filter, refl, sym, ap, ap₂, ◌∙◌, arith, nat_eq, slice_index, Some, None, ◌^◌, length, append-nil, nat_le, ⊎_elim, set, below_more, get_or-set_same, get_or-set_other, zero, suc, ◌||◌, ◌&&◌, slice_get, length-append, option_map, pow_mono, nat_cmp, get_or, nat_lt, IsSome, All, ◌⊎◌, inl, inr, ◌==◌, subst, Contains}
+use Rattle.std.proofs.lemmas.Bool.{eq-eqb, ne_eqb, cases_lt, le-leb, lt-leb, eqb-true}
+use Rattle.rsc_alphabet.proofs.Words.{from_to, bytes, from_to_none, from_to_first, length-from_to, get_or-from_to, filter_same, filter_first, filter_none, filter_parts, Symbol, byte, end_of_input, byte_of, end_of, symbols, elements_of, representing, end_if_unbounded, representatives_of, has_bit, Numbers, members, symbols_left, elements_left, class_of, number_of, class_at, class_of_none, class_of_more, class_of-between}
 use Rattle.std.proofs.lemmas.Option.{slice_get-map, slice_get-get_or}
 use Rattle.std.specs.declared.ops.Bound.{Bound}
 use Rattle.std.specs.Range.Bound.{start_index, end_index}
 use Rattle.std.proofs.lemmas.List.{ext_get_or, length-map}
 use Rattle.std.specs.FinSet as sets
 use Rattle.std.specs.FinSet.{contains-empty}
+use Rattle.std.specs.declared.ops.Bound.TheVariants.{Included, Excluded, Unbounded}
+use Rattle.std.proofs.lemmas.Bool.Decides.{nat_tests}
+use Rattle.std.proofs.lemmas.List.Sums.{length-filter, count_by-le-length}
+use Rattle.std.proofs.lemmas.List.Elements.{All-nil, All-cons, All-append, All-map, All-filter, All-weaker, All-from_get_or, filter_passes, All-contains, Contains-append_left, Contains-push}
+use Rattle.rsc_alphabet.proofs.ByteSetsLemmas.{Contains-first, Contains-later, Contains-cases, Contains-none, Contains-filter}
 
 -- ---- the classes
+
+abbrev class_count : List ℕ → ℕ
+class_count classes = slice_index classes 255 + 1
 
 -- at first all symbols are left
 pub symbols_left_all : (classes : List ℕ) → symbols_left classes 0 ≡ symbols classes
@@ -19,20 +27,23 @@ symbols_left_all classes = rw (le-leb 0 (slice_index classes 255 + 1) (omega ari
 pub symbols_left_more : (classes : List ℕ) (next : ℕ) → next < slice_index classes 255 + 1
     → symbols_left classes next ≡ byte next ∷ symbols_left classes (next + 1)
 symbols_left_more classes next l =
-    let n = slice_index classes 255 + 1 in
-    rw (from_to_first next n l, le-leb next n (omega arith), le-leb (next + 1) n (omega arith)) refl
+    rw (from_to_first next (class_count classes) l, le-leb next (class_count classes) (omega arith), le-leb (next + 1) (class_count classes) (omega arith)) refl
 
+-- after the last class comes the end
 pub symbols_left_end : (classes : List ℕ) (next : ℕ) → next ≡ slice_index classes 255 + 1
     → symbols_left classes next ≡ end_of classes ∷ symbols_left classes (next + 1)
 symbols_left_end classes next e =
-    let n = slice_index classes 255 + 1 in
-    let none = from_to_none (next + 1) n (omega arith) in
-    rw (from_to_none next n (omega arith), none, le-leb next n (omega arith), lt-leb (next + 1) n (omega arith)) refl
+    let none = from_to_none (next + 1) (class_count classes) (omega arith) in
+    rw (
+      from_to_none next (class_count classes) (omega arith),
+      none,
+      le-leb next (class_count classes) (omega arith),
+      lt-leb (next + 1) (class_count classes) (omega arith),
+    ) refl
 
+-- after the end comes nothing
 pub symbols_left_none : (classes : List ℕ) (next : ℕ) → slice_index classes 255 + 1 < next → symbols_left classes next ≡ []
-symbols_left_none classes next l =
-    let n = slice_index classes 255 + 1 in
-    rw (from_to_none next n (omega arith), lt-leb next n l) refl
+symbols_left_none classes next l = rw (from_to_none next (class_count classes) (omega arith), lt-leb next (class_count classes) l) refl
 
 slice_get-append-left : (xs ys : List Symbol) (i : ℕ) → i < length xs → slice_get (xs ++ ys) i ≡ slice_get xs i
 slice_get-append-left [] ys i l = absurd (omega arith)
@@ -99,6 +110,7 @@ representative_bytes_are classes changes part s low high l h changed parted adde
 
 -- ---- sets by their words
 
+-- the empty set has no members
 pub members_none : members sets.empty ≡ []
 members_none = filter_none (λ b. sets.contains sets.empty b) 0 256 (λ b p q. contains-empty nat_cmp b)
 
@@ -155,6 +167,7 @@ class_more f classes b long before h =
 
 -- ---- the first representative
 
+-- the first byte of a range is its first representative
 pub first_representative : (classes : List ℕ) (from to : Bound ℕ) → start_index from < end_index to 256 →
     (rest : List Symbol) × (representatives_of classes from to ≡ byte (start_index from) ∷ rest)
 first_representative classes from to l = (
@@ -164,3 +177,182 @@ first_representative classes from to l = (
       (end_index to 256) l
       (rw (eq-eqb (start_index from) (start_index from) refl) refl)),
 )
+
+-- ---- what the iterators of a class map give stays within its alphabet; the length of a row
+
+-- each number of a range is below its end
+pub All-from_to : (low high : ℕ) → All (λ k. k < high) (from_to low high)
+All-from_to low high =
+    All-from_get_or (λ k. k < high) (from_to low high) 0 (λ i l.
+    let small : i < high - low = rw (length-from_to low high) at l in
+    let is : get_or (from_to low high) i 0 ≡ low + i = get_or-from_to low high i 0 small in
+    omega (arith, is, small))
+
+-- how many bytes of a range pass a test
+pub length-filter_range : (p : ℕ → Bool) (low high : ℕ) → length (filter p (from_to low high)) ≤ high - low
+length-filter_range p low high =
+    let all = from_to low high in
+    omega (arith, length-filter p all, count_by-le-length p all, length-from_to low high)
+
+-- how many units the iterators give at most
+pub length-elements : (classes : List ℕ) (unit : Symbol) → length (elements_of classes unit) ≤ 256
+length-elements classes (byte c) =
+    let p : ℕ → Bool = λ b. nat_eq (slice_index classes b) c in
+    omega (arith, length-map (filter p bytes) (λ b. byte b), length-filter_range p 0 256)
+length-elements classes (end_of_input n) = omega arith
+
+-- the representatives are at most 256 bytes and the end
+pub length-representatives : (classes : List ℕ) (from to : Bound ℕ) → end_index to 256 ≤ 256 → length (representatives_of classes from to) ≤ 257
+length-representatives classes from to low =
+    let chosen = representing classes (start_index from) (end_index to 256) in
+    omega (
+      arith,
+      low,
+      ends to,
+      length-map chosen (λ b. byte b),
+      length-append (map (λ b. byte b) chosen) (end_if_unbounded classes to),
+      length-filter_range (λ b. nat_eq b (start_index from) || not (nat_eq (slice_index classes b) (slice_index classes (b - 1)))) (start_index from)
+          (end_index to 256),
+    )
+  where
+    ends : (bound : Bound ℕ) → length (end_if_unbounded classes bound) ≤ 1
+    ends (Included n) = omega arith
+    ends (Excluded n) = omega arith
+    ends Unbounded = omega arith
+
+-- what holds for the bytes of a list and for what follows them, and for the end of the input alone
+pub All-bytes : (P : Symbol → Type 0) (xs : List ℕ) (rest : List Symbol) → All (λ b. P (byte b)) xs → All P rest → All P (map (λ b. byte b) xs ++ rest)
+All-bytes P xs rest all after = All-append P (map (λ b. byte b) xs) rest (All-map P (λ b. byte b) xs all) after
+
+-- a list of one unit
+pub All-one : (P : Symbol → Type 0) (u : Symbol) → P u → All P (u ∷ [])
+All-one P u is = All-cons P u [] is (All-nil P)
+
+-- the number of a symbol is below the number of symbols
+pub symbols_within : (classes : List ℕ) → All (λ u. number_of u < slice_index classes 255 + 2) (symbols classes)
+symbols_within classes =
+    let end : ℕ = slice_index classes 255 + 1 in
+    All-bytes (λ u. number_of u < slice_index classes 255 + 2) (from_to 0 end) (end_of classes ∷ [])
+    (All-weaker (λ c. c < end) (λ c. c < slice_index classes 255 + 2) (λ c l. omega (arith, l)) (from_to 0 end) (All-from_to 0 end))
+    (All-one (λ u. number_of u < slice_index classes 255 + 2) (end_of classes) (omega arith))
+
+-- the elements of a class have that class
+pub elements_have_class : (classes : List ℕ) (unit : Symbol) → IsSome (byte_of unit) → All (λ u. class_at classes u ≡ number_of unit) (elements_of classes unit)
+elements_have_class classes (byte c) some =
+    All-map (λ u. class_at classes u ≡ c) (λ b. byte b) (filter (λ b. nat_eq (slice_index classes b) c) bytes)
+    (All-weaker (λ b. nat_eq (slice_index classes b) c ≡ true) (λ b. slice_index classes b ≡ c) (λ b h. eqb-true (slice_index classes b) c h)
+    (filter (λ b. nat_eq (slice_index classes b) c) bytes) (filter_passes (λ b. nat_eq (slice_index classes b) c) bytes))
+elements_have_class classes (end_of_input n) some = cc
+
+-- representatives are bytes or the end
+pub representatives_within : (classes : List ℕ) (from to : Bound ℕ) → end_index to 256 ≤ 256
+    → ((b : ℕ) → b < 256 → slice_index classes b ≤ slice_index classes 255) →
+    All (λ u. class_at classes u < slice_index classes 255 + 2) (representatives_of classes from to)
+representatives_within classes from to low rises =
+    let P : Symbol → Type 0 = λ u. class_at classes u < slice_index classes 255 + 2 in
+    let first = start_index from in
+    let end = end_index to 256 in
+    All-bytes P (representing classes first end) (end_if_unbounded classes to)
+    (All-filter _ (λ b. P (byte b)) (from_to first end) (All-weaker (λ b. b < end) (λ b. P (byte b))
+    (λ b l. let r = rises b (omega (arith, l, low)) in omega (arith, r)) (from_to first end) (All-from_to first end)))
+    (ends P (omega arith) to)
+  where
+    ends : (P : Symbol → Type 0) → P (end_of classes) → (bound : Bound ℕ) → All P (end_if_unbounded classes bound)
+    ends P is (Included n) = All-nil P
+    ends P is (Excluded n) = All-nil P
+    ends P is Unbounded = All-one P (end_of classes) is
+
+-- ---- the length of a row
+
+counts_all : (p : ℕ → Bool) (n : ℕ) → ((k : ℕ) → k < n → p k ≡ true) → class_of p n ≡ n
+counts_all p zero each = class_of_none p
+counts_all p (suc n) each =
+    let e : suc n ≡ n + 1 = omega arith in
+    rw (e, class_of_more p n, each n (omega arith)) (ap (λ x. x + 1) (counts_all p n (λ k l. each k (omega (arith, l)))))
+
+-- the least exponent with a power of two that is enough is the number of exponents whose power is too small
+pub exponent_counted : (n r : ℕ) → r ≤ 9 → n ≤ 2 ^ r → ((k : ℕ) → n ≤ 2 ^ k → r ≤ k) → class_of (λ k. nat_lt (2 ^ k) n) 9 ≡ r
+exponent_counted n r most enough least =
+    let p : ℕ → Bool = λ k. nat_lt (2 ^ k) n in
+    let e : r + (9 - r) ≡ 9 = omega (arith, most) in
+    (rw e at (class_of-between p r (9 - r) (λ k low high is. not_below k low is))) ∙ counts_all p r (λ k l. below k l)
+  where
+    below : (k : ℕ) → k < r → nat_lt (2 ^ k) n ≡ true
+    below k l = ⊎_elim (λ (h : 2 ^ k < n). grind (arith, nat_tests)) (λ (h : n ≤ 2 ^ k). let b = least k h in absurd (omega (arith, b, l)))
+        (cases_lt (2 ^ k) n)
+
+    not_below : (k : ℕ) → r ≤ k → ¬ (nat_lt (2 ^ k) n ≡ true)
+    not_below k l is = let more : 2 ^ r ≤ 2 ^ k = pow_mono {i = r} {j = k} l in grind (arith, nat_tests)
+
+-- ---- the representatives of all bytes reach each class
+
+Contains-map : {X Y : Type 0} (f : X → Y) (xs : List X) (q : X) → Contains xs q → Contains (map f xs) (f q)
+Contains-map f [] q c = absurd (Contains-none q c)
+Contains-map f (x ∷ xs) q c =
+    ⊎_elim
+    (λ (e : x ≡ q). subst (λ y. Contains (map f (x ∷ xs)) y) (ap f e) (Contains-first (f x) (map f xs)))
+    (λ (later : Contains xs q). Contains-later (f x) (map f xs) (f q) (Contains-map f xs q later))
+    (Contains-cases x xs q c)
+
+all_bytes : (b : ℕ) → b < 256 → Contains (from_to 0 256) b
+all_bytes b l = (b, rw (length-from_to 0 256) (omega (arith, l)), get_or-from_to 0 256 b b (omega (arith, l)) ∙ omega arith)
+
+-- a byte that begins a class is its representative
+given : (classes : List ℕ) (b : ℕ) → b < 256 → (b == 0 || not (slice_index classes b == slice_index classes (b - 1))) ≡ true
+    → Contains (representing classes 0 256) b
+given classes b l begins = Contains-filter (λ k. k == 0 || not (slice_index classes k == slice_index classes (k - 1))) (from_to 0 256) b begins (all_bytes b l)
+
+reached : (classes : List ℕ) (b : ℕ) → b < 256 → (r : ℕ) × ((r < 256) × Contains (representing classes 0 256) r ×
+    (slice_index classes r ≡ slice_index classes b))
+reached classes zero l = (0, (l, given classes 0 l refl, refl))
+reached classes (suc b) l =
+    let before : suc b - 1 ≡ b = omega arith in
+    let r = reached classes b (omega (arith, l)) in
+    elim (slice_index classes (suc b) == slice_index classes b) as
+    (λ v. (slice_index classes (suc b) == slice_index classes b) ≡ v
+    → (r : ℕ) × ((r < 256) × Contains (representing classes 0 256) r × (slice_index classes r ≡ slice_index classes (suc b)))) [
+      | true ↦ λ e. let same : slice_index classes (suc b) ≡ slice_index classes b = grind (arith, nat_tests) in (r.0, (r.1.0, r.1.1, r.1.2 ∙ sym same))
+      | false ↦ λ e. (suc b, (l, given classes (suc b) l (rw (before, e) (grind (arith, nat_tests))), refl))
+    ] refl
+
+-- each byte has a representative of its class
+pub class_represented : (classes : List ℕ) (b : ℕ) → b < 256
+    → (r : ℕ) × ((r < 256) × Contains (representatives_of classes Unbounded Unbounded) (byte r) × (slice_index classes r ≡ slice_index classes b))
+class_represented classes b l =
+    let r = reached classes b l in (
+      r.0,
+      (
+        r.1.0,
+        Contains-append_left (map (λ b. byte b) (representing classes 0 256)) (end_of classes ∷ []) (byte r.0)
+            (Contains-map (λ b. byte b) (representing classes 0 256) r.0 r.1.1),
+        r.1.2,
+      ),
+    )
+
+-- the end is the last representative
+pub end_given : (classes : List ℕ) → Contains (representatives_of classes Unbounded Unbounded) (end_of classes)
+end_given classes = Contains-push (map (λ b. byte b) (representing classes 0 256)) (end_of classes)
+
+-- and no others are
+pub only_bytes_and_the_end : (classes : List ℕ) (u : Symbol) → Contains (representatives_of classes Unbounded Unbounded) u
+    → ((b : ℕ) × ((b < 256) × (u ≡ byte b))) ⊎ (u ≡ end_of classes)
+only_bytes_and_the_end classes u c =
+    let P : Symbol → Type 0 = λ s. ((b : ℕ) × ((b < 256) × (s ≡ byte b))) ⊎ (s ≡ end_of classes) in
+    let xs = representing classes 0 256 in
+    let all : All P (representatives_of classes Unbounded Unbounded) =
+    All-bytes P xs (end_of classes ∷ []) (All-filter _ (λ b. P (byte b)) (from_to 0 256)
+    (All-weaker (λ b. b < 256) (λ b. P (byte b)) (λ b l. inl (b, (l, refl))) (from_to 0 256) (All-from_to 0 256)))
+    (All-one P (end_of classes) (inr refl))
+    in All-contains P (representatives_of classes Unbounded Unbounded) u all c
+
+slice_get_last : (xs : List Symbol) (y : Symbol) → slice_get (xs ++ y ∷ []) (length xs) ≡ Some y
+slice_get_last [] y = refl
+slice_get_last (x ∷ xs) y = slice_get_last xs y
+
+-- the end of the input is after all classes of bytes
+pub end_comes_last : (classes : List ℕ) → slice_get (symbols classes) (slice_index classes 255 + 1) ≡ Some (end_of classes)
+end_comes_last classes =
+    let n : ℕ = slice_index classes 255 + 1 in
+    let xs = map (λ c. byte c) (from_to 0 n) in
+    let long : length xs ≡ n = rw length-map (length-from_to 0 n ∙ omega arith) in
+    subst (λ k. slice_get (symbols classes) k ≡ Some (end_of classes)) long (slice_get_last xs (end_of classes))

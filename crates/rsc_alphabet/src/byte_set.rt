@@ -93,7 +93,7 @@ impl Default for ByteSet {
     }
 }
 
-#[tactic(auto, using(crate::proofs::MaskedLemmas::contains_masked, crate::proofs::MaskedLemmas::bit_at_zero, std::proofs::lemmas::Bool::Decides::nat_tests))]
+#[tactic(auto, using(crate::proofs::ByteSetLayoutLemmas::contains_masked, crate::proofs::ByteSetLayoutLemmas::bit_at_zero, std::proofs::lemmas::Bool::Decides::nat_tests))]
 impl ByteSet {
     /// The set with no member.
     #[inline]

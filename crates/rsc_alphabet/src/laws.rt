@@ -61,13 +61,13 @@ pub fn each_class_is_represented()
 {}
 
 /// The boundaries of a set's maximal runs are where membership changes from one byte to the next.
-#[tactic(auto, using(crate::proofs::EdgesLemmas::changes_are_edges))]
+#[tactic(auto, using(crate::proofs::PartitionsLemmas::changes_are_edges))]
 pub fn edges_of_runs_are_changes()
     ensures { (s : Numbers) (k : ℕ) → sets.contains (edges_of_each (runs s)) k ≡ changes_at s k }
 {}
 
 /// The members that [`crate::ByteSet::iter`] gives are all members below 256, ascending.
-#[tactic(auto, using(crate::proofs::MaximalRuns::members_exactly, crate::proofs::MaximalRuns::members_ascending))]
+#[tactic(auto, using(crate::proofs::ByteSetsLemmas::members_exactly, crate::proofs::ByteSetsLemmas::members_ascending))]
 pub fn members_are_exact()
     ensures exactly { (s : Numbers) (b : ℕ) → b < 256 → Contains (members s) b ↔ (sets.contains s b ≡ true) }
     ensures ascending { (s : Numbers) → IsStrictlyIncreasing (members s) }

@@ -26,7 +26,7 @@ fn word_with_bit(mask: u128, bit: u8) -> u64
     }
 }
 
-#[tactic(auto, using(crate::proofs::BitsLemmas::has_bit_either))]
+#[tactic(auto, using(crate::proofs::ByteSetLayoutLemmas::has_bit_either))]
 #[inline(always)]
 pub(crate) fn with_bit(mask: u128, bit: u8) -> u128
     requires { bit < 128 }
@@ -73,7 +73,7 @@ fn run_of_bits(start: u8, end: u8) -> u128
     (u128::MAX >> (127 - end)) & (u128::MAX << start)
 }
 
-#[tactic(auto, using(crate::proofs::BitsLemmas::has_bit_both))]
+#[tactic(auto, using(crate::proofs::ByteSetLayoutLemmas::has_bit_both))]
 #[inline(always)]
 pub(crate) fn within(mask: u128, start: u8, end: u8) -> u128
     requires { (start ≤ end) × (end < 128) }
@@ -82,7 +82,7 @@ pub(crate) fn within(mask: u128, start: u8, end: u8) -> u128
     run_of_bits(start, end) & mask
 }
 
-#[tactic(auto, using(crate::proofs::BitsLemmas::has_bit_both, crate::proofs::BitsLemmas::has_bit_not))]
+#[tactic(auto, using(crate::proofs::ByteSetLayoutLemmas::has_bit_both, crate::proofs::ByteSetLayoutLemmas::has_bit_not))]
 #[inline(always)]
 pub(crate) fn difference(mask: u128, other: u128) -> u128
     ensures { (i : ℕ) → i < 128 → has_bit result i ≡ (has_bit mask i && not (has_bit other i)) }
@@ -90,7 +90,7 @@ pub(crate) fn difference(mask: u128, other: u128) -> u128
     mask & !other
 }
 
-#[tactic(auto, using(crate::proofs::BitsLemmas::has_bit_either))]
+#[tactic(auto, using(crate::proofs::ByteSetLayoutLemmas::has_bit_either))]
 #[inline(always)]
 pub(crate) fn either(mask: u128, other: u128) -> u128
     ensures { (i : ℕ) → has_bit result i ≡ (has_bit mask i || has_bit other i) }
@@ -159,7 +159,7 @@ pub(crate) fn word_shifted_left(word: u64) -> u64
 }
 
 // All bits shifted right by some places.
-#[tactic(auto, using(crate::proofs::BitsLemmas::bit_at_shr))]
+#[tactic(auto, using(crate::proofs::ByteSetLayoutLemmas::bit_at_shr))]
 #[inline(always)]
 pub(crate) fn word_shifted_right(word: u64, places: u8) -> u64
     requires { places < 64 }

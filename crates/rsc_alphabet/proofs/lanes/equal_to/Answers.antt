@@ -1,4 +1,4 @@
-use Rattle.rsc_alphabet.proofs.LanesLemmas.{equal_bits}
+use Rattle.rsc_alphabet.proofs.ByteSetLayoutLemmas.{equal_bits}
 use Rattle.rsc_alphabet.proofs.lanes.equal_to.Goals as goal
 
 pub returns : goal.returns

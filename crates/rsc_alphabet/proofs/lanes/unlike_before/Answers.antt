@@ -1,4 +1,4 @@
-use Rattle.rsc_alphabet.proofs.LanesLemmas.{unlike_bits}
+use Rattle.rsc_alphabet.proofs.ByteSetLayoutLemmas.{unlike_bits}
 use Rattle.rsc_alphabet.proofs.lanes.unlike_before.Goals as goal
 
 pub returns : goal.returns

@@ -1,6 +1,5 @@
 use Rattle.rsc_alphabet.specs.PartitionsLaws.{class_within, class_reached}
-use Rattle.rsc_alphabet.proofs.IteratorsLemmas.{slice_get-symbols, length-symbols}
-use Rattle.rsc_alphabet.proofs.Represented.{end_comes_last}
+use Rattle.rsc_alphabet.proofs.IteratorsLemmas.{slice_get-symbols, length-symbols, end_comes_last}
 use Rattle.rsc_alphabet.proofs.laws.each_class_comes_once.Goals as goal
 
 pub returns-clause-place : goal.returns-clause-place

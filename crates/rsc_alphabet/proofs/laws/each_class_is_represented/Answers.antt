@@ -1,4 +1,4 @@
-use Rattle.rsc_alphabet.proofs.Represented.{class_represented, end_given, only_bytes_and_the_end}
+use Rattle.rsc_alphabet.proofs.IteratorsLemmas.{class_represented, end_given, only_bytes_and_the_end}
 use Rattle.rsc_alphabet.proofs.laws.each_class_is_represented.Goals as goal
 
 pub returns-clause-reached : goal.returns-clause-reached

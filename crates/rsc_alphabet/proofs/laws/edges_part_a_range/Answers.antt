@@ -1,5 +1,5 @@
 use Rattle.rsc_alphabet.specs.PartitionsLaws.{contains-edges}
-use Rattle.rsc_alphabet.proofs.RangeEdges.{edges-boundary, edges-together}
+use Rattle.rsc_alphabet.proofs.PartitionsLemmas.{edges-boundary, edges-together}
 use Rattle.rsc_alphabet.proofs.laws.edges_part_a_range.Goals as goal
 
 pub returns-clause-edges : goal.returns-clause-edges

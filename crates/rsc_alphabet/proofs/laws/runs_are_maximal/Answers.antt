@@ -1,4 +1,4 @@
-use Rattle.rsc_alphabet.proofs.MaximalRuns.{runs_exactly, runs_apart}
+use Rattle.rsc_alphabet.proofs.ByteSetsLemmas.{runs_exactly, runs_apart}
 use Rattle.rsc_alphabet.proofs.laws.runs_are_maximal.Goals as goal
 
 pub returns-clause-exactly : goal.returns-clause-exactly

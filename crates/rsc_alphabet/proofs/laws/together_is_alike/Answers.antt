@@ -1,4 +1,4 @@
-use Rattle.rsc_alphabet.proofs.RangeEdges.{together-alike}
+use Rattle.rsc_alphabet.proofs.PartitionsLemmas.{together-alike}
 use Rattle.rsc_alphabet.proofs.laws.together_is_alike.Goals as goal
 
 pub returns : goal.returns

@@ -1,5 +1,5 @@
 use Rattle.std.proofs.lemmas.Bool.{eq-eqb, eqb-true}
-use Rattle.rsc_alphabet.proofs.BitsLemmas.{run_within}
+use Rattle.rsc_alphabet.proofs.ByteSetLayoutLemmas.{run_within}
 use Rattle.rsc_alphabet.proofs.masks.has_bits.Goals as goal
 
 pub returns : goal.returns

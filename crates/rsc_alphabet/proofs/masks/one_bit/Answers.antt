@@ -1,6 +1,6 @@
 use Rattle.std.proofs.Common.{◌≡◌, ◌+◌, ◌%◌, refl, ap, arith, ◌∙◌, nat_eq, ne_eqb}
 use Rattle.std.proofs.lemmas.Nat.Bits.{bit_at-zero}
-use Rattle.rsc_alphabet.proofs.BitsLemmas.{has_bit_halves, has_bit_one, eqb_shifted}
+use Rattle.rsc_alphabet.proofs.ByteSetLayoutLemmas.{has_bit_halves, has_bit_one, eqb_shifted}
 use Rattle.rsc_alphabet.proofs.masks.one_bit.Goals as goal
 
 pub returns-then-bit-lt64 : goal.returns-then-bit-lt64

@@ -1,7 +1,7 @@
 use Rattle.std.proofs.Common.{sym, ap, ◌∙◌, arith, mod-eq_of_lt}
 use Rattle.std.specs.Int.Count.{ones}
 use Rattle.rsc_alphabet.proofs.Words.{has_bit, class_of-le}
-use Rattle.rsc_alphabet.proofs.BitsLemmas.{ones_class_of}
+use Rattle.rsc_alphabet.proofs.ByteSetLayoutLemmas.{ones_class_of}
 use Rattle.rsc_alphabet.proofs.masks.ones.Goals as goal
 
 pub returns-clause-count : goal.returns-clause-count

@@ -2,7 +2,7 @@ use Rattle.std.proofs.Common.{◌≡◌, ◌-◌, ◌+◌, ◌<◌, ◌≤◌, �
 use Rattle.std.proofs.lemmas.Bool.{cases_lt, le-leb, lt-leb}
 use Rattle.std.proofs.lemmas.Nat.Bits.{bit_at_ones, bit_at_ones_above, bit_at_mask_inside, bit_at_mask_below, ones_shl, ones_shr}
 use Rattle.std.proofs.Math.Bool.{and-false}
-use Rattle.rsc_alphabet.proofs.BitsLemmas.{has_bit_both}
+use Rattle.rsc_alphabet.proofs.ByteSetLayoutLemmas.{has_bit_both}
 use Rattle.rsc_alphabet.proofs.masks.run_of_bits.Goals as goal
 
 pub returns : goal.returns

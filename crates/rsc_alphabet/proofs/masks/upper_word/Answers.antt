@@ -1,5 +1,5 @@
 use Rattle.std.proofs.Common.{nat_eq, ap}
-use Rattle.rsc_alphabet.proofs.BitsLemmas.{bit_at_shr}
+use Rattle.rsc_alphabet.proofs.ByteSetLayoutLemmas.{bit_at_shr}
 use Rattle.rsc_alphabet.proofs.masks.upper_word.Goals as goal
 
 pub returns : goal.returns

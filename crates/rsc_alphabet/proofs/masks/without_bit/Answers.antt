@@ -1,6 +1,6 @@
 use Rattle.std.proofs.Common.{◌*◌, ◌%◌, ◌^◌, refl, ◌∙◌, arith}
 use Rattle.std.specs.Int.{w128, bit_not}
-use Rattle.rsc_alphabet.proofs.BitsLemmas.{has_bit_both, has_bit_not, has_bit_one}
+use Rattle.rsc_alphabet.proofs.ByteSetLayoutLemmas.{has_bit_both, has_bit_not, has_bit_one}
 use Rattle.rsc_alphabet.proofs.masks.without_bit.Goals as goal
 
 pub returns : goal.returns

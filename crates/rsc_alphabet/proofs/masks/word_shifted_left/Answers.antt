@@ -1,5 +1,5 @@
 use Rattle.std.proofs.Common.{nat_eq, ap, arith}
-use Rattle.rsc_alphabet.proofs.BitsLemmas.{bit_at_shl, bit_at_shl_below}
+use Rattle.rsc_alphabet.proofs.ByteSetLayoutLemmas.{bit_at_shl, bit_at_shl_below}
 use Rattle.rsc_alphabet.proofs.masks.word_shifted_left.Goals as goal
 
 pub returns-clause-first : goal.returns-clause-first

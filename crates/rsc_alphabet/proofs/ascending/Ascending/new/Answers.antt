@@ -1,5 +1,5 @@
 use Rattle.std.proofs.Common.{arith}
-use Rattle.rsc_alphabet.proofs.AscendingLemmas.{whole_word, whole_word_fits}
+use Rattle.rsc_alphabet.proofs.ByteSetLayoutLemmas.{whole_word, whole_word_fits}
 use Rattle.rsc_alphabet.proofs.ascending.Ascending.new.Goals as goal
 
 pub invariant_of-result : goal.invariant_of-result

@@ -1,6 +1,6 @@
 use Rattle.std.proofs.Common.{◌≡◌, ◌+◌, [], ◌∷◌, sym, ap, ◌∙◌, arith, rules}
 use Rattle.rsc_alphabet.specs.ByteSetLayout.{members_left}
-use Rattle.rsc_alphabet.proofs.AscendingLemmas.{none_left, next_word, whole_word_fits, lowest_left, first_left}
+use Rattle.rsc_alphabet.proofs.ByteSetLayoutLemmas.{none_left, next_word, whole_word_fits, lowest_left, first_left}
 use Rattle.rsc_alphabet.proofs.ascending.AscendingIterator.next.Goals as goal
 
 pub returns-then-self-eq1-clause-steps : goal.returns-then-self-eq1-clause-steps

@@ -1,6 +1,6 @@
 use Rattle.std.proofs.Common.{◌||◌, ap, ◌∙◌}
 use Rattle.std.specs.FinSet as sets
-use Rattle.rsc_alphabet.proofs.EdgesLemmas.{edges_of_ends, edges_added}
+use Rattle.rsc_alphabet.proofs.PartitionsLemmas.{edges_of_ends, edges_added}
 use Rattle.rsc_alphabet.proofs.byte_class_set.ByteClassSet.add_set.Goals as goal
 
 pub returns-clause-boundaries : goal.returns-clause-boundaries

@@ -51,9 +51,8 @@ loop-number-preserved c =
 
 pub returns-clause-map : goal.returns-clause-map
 returns-clause-map c =
-    let l = c.loop-number in
-    rw (← c.self.view_is) (map_of_counts c.self.inside.ends l.classes l.invariant.len
-    (λ k h. l.invariant.each k (omega (arith, h, c.loop-number-test.false))))
+    rw (← c.self.view_is) (map_of_counts c.self.inside.ends c.loop-number.classes c.loop-number.invariant.len
+    (λ k h. c.loop-number.invariant.each k (omega (arith, h, c.loop-number-test.false))))
 
 pub returns-clause-below : goal.returns-clause-below
 returns-clause-below c =

@@ -1,7 +1,6 @@
 use Rattle.std.proofs.Common.{arith, ◌<◌, ◌+◌, slice_index, sym, subst, All}
 use Rattle.rsc_alphabet.specs.Symbols.{number_of}
-use Rattle.rsc_alphabet.proofs.IteratorsLemmas.{symbols_left_all, length-symbols}
-use Rattle.rsc_alphabet.proofs.Within.{symbols_within}
+use Rattle.rsc_alphabet.proofs.IteratorsLemmas.{symbols_left_all, length-symbols, symbols_within}
 use Rattle.rsc_alphabet.proofs.byte_classes.ByteClasses.iter.Goals as goal
 
 pub returns-clause-list : goal.returns-clause-list

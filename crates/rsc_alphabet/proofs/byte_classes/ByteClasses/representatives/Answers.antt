@@ -1,6 +1,6 @@
 use Rattle.std.proofs.Common.{◌<◌, ◌+◌, slice_index, sym, subst, All}
 use Rattle.rsc_alphabet.specs.Iterators.{class_at}
-use Rattle.rsc_alphabet.proofs.Within.{representatives_within, length-representatives}
+use Rattle.rsc_alphabet.proofs.IteratorsLemmas.{representatives_within, length-representatives}
 use Rattle.rsc_alphabet.proofs.byte_classes.ByteClasses.representatives.Goals as goal
 
 pub returns-clause-within : goal.returns-clause-within

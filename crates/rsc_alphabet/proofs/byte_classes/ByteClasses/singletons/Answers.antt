@@ -13,14 +13,12 @@ loop-byte-preserved c =
     )
 
 pub returns-2-clause-own : goal.returns-2-clause-own
-returns-2-clause-own c = λ b h. let l = c.loop-byte in rw c.set.ensures
-    (class_more (λ k. k) l.classes l.byte l.invariant.0 l.invariant.1 (omega arith) b (omega (arith, h)))
+returns-2-clause-own c = λ b h. rw c.set.ensures
+    (class_more (λ k. k) c.loop-byte.classes c.loop-byte.byte c.loop-byte.invariant.0 c.loop-byte.invariant.1 (omega arith) b (omega (arith, h)))
 
 pub returns-2-clause-list : goal.returns-2-clause-list
 returns-2-clause-list c =
-    let l = c.loop-byte in
-    let long = length-set l.classes l.byte l.byte ∙ l.invariant.0 in
-    is_bytes _ (rw c.set.ensures long) (returns-2-clause-own c)
+    is_bytes _ (rw c.set.ensures (length-set c.loop-byte.classes c.loop-byte.byte c.loop-byte.byte ∙ c.loop-byte.invariant.0)) (returns-2-clause-own c)
 
 pub returns-2-clause-rise : goal.returns-2-clause-rise
 returns-2-clause-rise c = bytes_rise _ (returns-2-clause-own c)

@@ -1,7 +1,6 @@
 use Rattle.std.proofs.Common.{ℕ, ◌+◌, ◌-◌, ◌≤◌, ◌^◌, slice_index, ◌≡◌, sym, ◌∙◌, ◌*◌, suc, ap, arith}
 use Rattle.std.proofs.Math.Nat.{pow-succ'}
-use Rattle.rsc_alphabet.proofs.IteratorsLemmas.{least_exponent}
-use Rattle.rsc_alphabet.proofs.Within.{exponent_counted}
+use Rattle.rsc_alphabet.proofs.IteratorsLemmas.{least_exponent, exponent_counted}
 use Rattle.rsc_alphabet.proofs.byte_classes.ByteClasses.stride2.Goals as goal
 
 pub returns-clause-least : goal.returns-clause-least

@@ -1,6 +1,6 @@
 use Rattle.std.proofs.Common.{arith}
 use Rattle.std.proofs.lemmas.Bool.Decides.{nat_tests}
-use Rattle.rsc_alphabet.proofs.MaskedLemmas.{contains_masked, inserted}
+use Rattle.rsc_alphabet.proofs.ByteSetLayoutLemmas.{contains_masked, inserted}
 use Rattle.rsc_alphabet.proofs.byte_set.ByteSet.add.Goals as goal
 
 pub returns-then-byte-lt128-clause-set : goal.returns-then-byte-lt128-clause-set

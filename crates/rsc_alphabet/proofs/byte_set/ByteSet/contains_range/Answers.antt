@@ -1,7 +1,7 @@
 use Rattle.std.proofs.Common.{◌-◌, ◌+◌, arith}
 use Rattle.std.proofs.lemmas.Bool.Decides.{nat_tests}
 use Rattle.std.proofs.lemmas.Bool.{both_ways}
-use Rattle.rsc_alphabet.proofs.MaskedLemmas.{contains_masked}
+use Rattle.rsc_alphabet.proofs.ByteSetLayoutLemmas.{contains_masked}
 use Rattle.rsc_alphabet.proofs.byte_set.ByteSet.contains_range.Goals as goal
 
 pub returns-then-end-lt128 : goal.returns-then-end-lt128

@@ -1,6 +1,6 @@
 use Rattle.std.proofs.Common.{◌≡◌, ◌+◌, ◌-◌, arith}
 use Rattle.std.proofs.lemmas.Bool.Decides.{nat_tests}
-use Rattle.rsc_alphabet.proofs.MaskedLemmas.{contains_masked}
+use Rattle.rsc_alphabet.proofs.ByteSetLayoutLemmas.{contains_masked}
 use Rattle.rsc_alphabet.proofs.byte_set.ByteSet.from_words.Goals as goal
 
 pub returns-clause-third : goal.returns-clause-third

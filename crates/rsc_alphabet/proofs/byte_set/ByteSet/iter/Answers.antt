@@ -1,6 +1,6 @@
 use Rattle.std.specs.FinSet as sets
-use Rattle.rsc_alphabet.proofs.MaximalRuns.{members_contained}
-use Rattle.rsc_alphabet.proofs.Within.{length-filter_range}
+use Rattle.rsc_alphabet.proofs.ByteSetsLemmas.{members_contained}
+use Rattle.rsc_alphabet.proofs.IteratorsLemmas.{length-filter_range}
 use Rattle.rsc_alphabet.proofs.byte_set.ByteSet.iter.Goals as goal
 
 pub returns-clause-contained : goal.returns-clause-contained

@@ -1,6 +1,5 @@
 use Rattle.std.proofs.Common.{ap₂, ◌∙◌, zip}
-use Rattle.rsc_alphabet.proofs.MaximalRuns.{runs_ordered}
-use Rattle.rsc_alphabet.proofs.RunsLemmas.{zip-runs}
+use Rattle.rsc_alphabet.proofs.ByteSetsLemmas.{runs_ordered, zip-runs}
 use Rattle.rsc_alphabet.proofs.byte_set.ByteSet.iter_ranges.Goals as goal
 
 pub returns-clause-list : goal.returns-clause-list

@@ -1,7 +1,7 @@
 use Rattle.std.proofs.Common.{◌≡◌, ◌<◌, ◌≤◌, ◌-◌, arith, ⊎_elim}
 use Rattle.std.proofs.lemmas.Bool.{cases_lt}
 use Rattle.std.proofs.lemmas.Bool.Decides.{nat_tests}
-use Rattle.rsc_alphabet.proofs.MaskedLemmas.{contains_masked}
+use Rattle.rsc_alphabet.proofs.ByteSetLayoutLemmas.{contains_masked}
 use Rattle.rsc_alphabet.proofs.byte_set.ByteSet.successors.Goals as goal
 
 pub returns : goal.returns

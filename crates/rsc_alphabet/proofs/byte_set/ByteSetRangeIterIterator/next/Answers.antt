@@ -1,4 +1,4 @@
-use Rattle.rsc_alphabet.proofs.RunsLemmas.{zip_none}
+use Rattle.rsc_alphabet.proofs.ByteSetsLemmas.{zip_none}
 use Rattle.rsc_alphabet.proofs.byte_set.ByteSetRangeIterIterator.next.Goals as goal
 
 pub returns-in_err-end-clause-steps : goal.returns-in_err-end-clause-steps
