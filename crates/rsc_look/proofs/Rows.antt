@@ -2,8 +2,8 @@
 use Rattle.std.proofs.Common.{◌≡◌, ℕ, Bool, true, false, List, [], ◌∷◌, refl, sym, ap, ◌∙◌, arith}
 use Rattle.std.specs.FinSet as sets
 use Rattle.rsc_look.proofs.Words.{Look, StartLF, EndLF, StartCRLF, EndCRLF, WordAscii, WordUnicode, WordUnicodeNegate, WordStartHalfUnicode, Invalid, Word, Other, every_look, bits_of, bits_of-looks_of, byte_before, byte_after, holds_at_bytes, holds_at_sides, boundaries_of, mirror}
-use Rattle.rsc_look.proofs.Marks.{contains-boundaries_of}
-use Rattle.rsc_look.proofs.LookSetLemmas.{looks_of-all}
+use Rattle.rsc_look.proofs.BoundariesLemmas.{contains-boundaries_of}
+use Rattle.rsc_look.proofs.LookSetLayoutLemmas.{looks_of-all}
 
 -- what a byte assertion says at a position, for the line terminator `\n`
 abbrev says : Look → List ℕ → ℕ → Bool

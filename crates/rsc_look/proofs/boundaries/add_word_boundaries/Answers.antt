@@ -1,4 +1,4 @@
-use Rattle.rsc_look.proofs.WordMarks.{word_boundaries-added}
+use Rattle.rsc_look.proofs.KeepingLemmas.{word_boundaries-added}
 use Rattle.rsc_look.proofs.boundaries.add_word_boundaries.Goals as goal
 
 pub returns : goal.returns

@@ -1,4 +1,4 @@
-use Rattle.rsc_look.proofs.Single.{IsExactFor-own}
+use Rattle.rsc_look.proofs.KeepingLemmas.{IsExactFor-own}
 use Rattle.rsc_look.proofs.laws.boundaries_are_exact.Goals as goal
 
 pub returns : goal.returns

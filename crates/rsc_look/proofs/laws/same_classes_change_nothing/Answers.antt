@@ -1,4 +1,4 @@
-use Rattle.rsc_look.proofs.Coarsest.{AreInterchanged-from_classes}
+use Rattle.rsc_look.proofs.KeepingLemmas.{AreInterchanged-from_classes}
 use Rattle.rsc_look.proofs.laws.same_classes_change_nothing.Goals as goal
 
 pub returns-clause-bytes : goal.returns-clause-bytes

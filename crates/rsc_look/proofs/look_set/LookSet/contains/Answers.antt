@@ -1,4 +1,4 @@
-use Rattle.rsc_look.proofs.LookSetLemmas.{contains_by_and}
+use Rattle.rsc_look.proofs.LookSetLayoutLemmas.{contains_by_and}
 use Rattle.rsc_look.proofs.look_set.LookSet.contains.Goals as goal
 
 pub returns : goal.returns

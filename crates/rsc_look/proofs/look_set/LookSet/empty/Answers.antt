@@ -2,7 +2,7 @@ use Rattle.std.proofs.Common.{ap, ◌∙◌}
 use Rattle.std.specs.FinSet as sets
 use Rattle.std.specs.FinSet.{contains-empty}
 use Rattle.rsc_look.specs.LookSets.{look_cmp}
-use Rattle.rsc_look.proofs.LookSetLemmas.{looks_of-none}
+use Rattle.rsc_look.proofs.LookSetLayoutLemmas.{looks_of-none}
 use Rattle.rsc_look.proofs.look_set.LookSet.empty.Goals as goal
 
 pub returns-clause-value : goal.returns-clause-value

@@ -1,4 +1,4 @@
-use Rattle.rsc_look.proofs.LookSetLemmas.{some_exact, none_exact}
+use Rattle.rsc_look.proofs.LookSetLayoutLemmas.{some_exact, none_exact}
 use Rattle.std.proofs.Common.{arith}
 use Rattle.rsc_look.proofs.look_set.LookSet.from_bits.Goals as goal
 

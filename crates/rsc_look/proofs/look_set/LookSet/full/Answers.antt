@@ -1,4 +1,4 @@
-use Rattle.rsc_look.proofs.LookSetLemmas.{looks_of-all, contains-looks_of-all}
+use Rattle.rsc_look.proofs.LookSetLayoutLemmas.{looks_of-all, contains-looks_of-all}
 use Rattle.rsc_look.proofs.look_set.LookSet.full.Goals as goal
 
 pub returns-clause-value : goal.returns-clause-value

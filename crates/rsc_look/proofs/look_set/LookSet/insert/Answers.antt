@@ -1,7 +1,7 @@
 use Rattle.std.proofs.Common.{ap, ◌∙◌}
 use Rattle.std.specs.FinSet as sets
-use Rattle.rsc_look.proofs.GrownSets.{grown_by, grown_apart}
-use Rattle.rsc_look.proofs.LookSetLemmas.{looks_of-insert, insert_fits}
+use Rattle.rsc_look.proofs.LookSetsLemmas.{grown_by, grown_apart}
+use Rattle.rsc_look.proofs.LookSetLayoutLemmas.{looks_of-insert, insert_fits}
 use Rattle.rsc_look.proofs.look_set.LookSet.insert.Goals as goal
 
 pub invariant_of-result : goal.invariant_of-result

@@ -1,4 +1,4 @@
-use Rattle.rsc_look.proofs.LookSetLemmas.{none_by_bits}
+use Rattle.rsc_look.proofs.LookSetLayoutLemmas.{none_by_bits}
 use Rattle.rsc_look.proofs.look_set.LookSet.is_empty.Goals as goal
 
 pub returns : goal.returns

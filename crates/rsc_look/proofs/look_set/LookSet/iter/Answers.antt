@@ -3,7 +3,7 @@ use Rattle.std.specs.FinSet as sets
 use Rattle.std.proofs.lemmas.List.Elements.{filter_passes}
 use Rattle.std.proofs.lemmas.List.Sums.{length-filter, count_by-le-length}
 use Rattle.rsc_look.specs.Looks.{every_look}
-use Rattle.rsc_look.proofs.LookSetLemmas.{eighteen}
+use Rattle.rsc_look.proofs.LookSetLayoutLemmas.{eighteen}
 use Rattle.rsc_look.proofs.look_set.LookSet.iter.Goals as goal
 
 pub returns-clause-contained : goal.returns-clause-contained

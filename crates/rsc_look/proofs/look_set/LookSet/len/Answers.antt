@@ -1,6 +1,6 @@
 use Rattle.std.proofs.Common.{arith}
 use Rattle.std.proofs.lemmas.Nat.{ones-le}
-use Rattle.rsc_look.proofs.LookSetLemmas.{count_by_bits}
+use Rattle.rsc_look.proofs.LookSetLayoutLemmas.{count_by_bits}
 use Rattle.rsc_look.proofs.look_set.LookSet.len.Goals as goal
 
 pub returns-clause-value : goal.returns-clause-value

@@ -1,7 +1,7 @@
 use Rattle.std.proofs.Common.{ap, ◌∙◌}
 use Rattle.std.specs.FinSet as sets
-use Rattle.rsc_look.proofs.GrownSets.{shrunk_by, shrunk_apart}
-use Rattle.rsc_look.proofs.LookSetLemmas.{looks_of-remove}
+use Rattle.rsc_look.proofs.LookSetsLemmas.{shrunk_by, shrunk_apart}
+use Rattle.rsc_look.proofs.LookSetLayoutLemmas.{looks_of-remove}
 use Rattle.rsc_look.proofs.look_set.LookSet.remove.Goals as goal
 
 pub returns-clause-value : goal.returns-clause-value

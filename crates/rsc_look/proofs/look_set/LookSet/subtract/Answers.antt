@@ -2,7 +2,7 @@ use Rattle.std.proofs.Common.{ap, ◌∙◌}
 use Rattle.std.specs.FinSet as sets
 use Rattle.std.specs.FinSet.{contains-difference}
 use Rattle.rsc_look.specs.LookSetLaws.{look_cmp_total}
-use Rattle.rsc_look.proofs.LookSetLemmas.{looks_of-difference}
+use Rattle.rsc_look.proofs.LookSetLayoutLemmas.{looks_of-difference}
 use Rattle.rsc_look.proofs.look_set.LookSet.subtract.Goals as goal
 
 pub returns-clause-value : goal.returns-clause-value

@@ -3,7 +3,7 @@ use Rattle.std.proofs.lemmas.Nat.{or_lt}
 use Rattle.std.specs.FinSet as sets
 use Rattle.std.specs.FinSet.{contains-union}
 use Rattle.rsc_look.specs.LookSetLaws.{look_cmp_total}
-use Rattle.rsc_look.proofs.LookSetLemmas.{looks_of-union}
+use Rattle.rsc_look.proofs.LookSetLayoutLemmas.{looks_of-union}
 use Rattle.rsc_look.proofs.look_set.LookSet.union.Goals as goal
 
 pub invariant_of-result : goal.invariant_of-result

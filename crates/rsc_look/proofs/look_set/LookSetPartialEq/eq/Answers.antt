@@ -1,4 +1,4 @@
-use Rattle.rsc_look.proofs.LookSetLemmas.{same_by_bits}
+use Rattle.rsc_look.proofs.LookSetLayoutLemmas.{same_by_bits}
 use Rattle.rsc_look.proofs.look_set.LookSetPartialEq.eq.Goals as goal
 
 pub returns : goal.returns

@@ -1,5 +1,5 @@
 use Rattle.std.proofs.Common.{◌∙◌}
-use Rattle.rsc_look.proofs.UnicodeWords.{is_word_char-is_unicode_word}
+use Rattle.rsc_look.proofs.WordsLemmas.{is_word_char-is_unicode_word}
 use Rattle.rsc_look.proofs.word.UnicodeWordWordClass.is_word.Goals as goal
 
 pub returns-else-number-lt128 : goal.returns-else-number-lt128

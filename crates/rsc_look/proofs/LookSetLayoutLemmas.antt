@@ -1,22 +1,24 @@
--- What the operations on eighteen bits do to the set that they stand for.
-use Rattle.std.proofs.Common.{◌≡◌, ◌≢◌, ◌↔◌, ℕ, zero, suc, ◌-◌, ◌*◌, ◌^◌, ◌<◌, ◌≤◌, Bool, true, false, not, ◌&&◌, ◌||◌, cond, List, length, get_or, map, filter, Some, None, min, max, refl, sym, ap, ap₂, ◌∙◌, arith, nat_eq, bit_and, bit_or, w32, ⊎_elim, count_ones, IsTrue}
+-- What the operations on eighteen bits do to the set that they stand for, and what an iterator takes.
+use Rattle.std.proofs.Common.{◌≡◌, ◌≢◌, ◌↔◌, ℕ, zero, suc, ◌-◌, ◌*◌, ◌^◌, ◌<◌, ◌≤◌, Bool, true, false, not, ◌&&◌, ◌||◌, cond, List, length, get_or, map, filter, Some, None, min, max, refl, sym, ap, ap₂, ◌∙◌, arith, nat_eq, bit_and, bit_or, w32, ⊎_elim, count_ones, IsTrue, ◌+◌, ◌%◌, [], ◌∷◌, ◌++◌, Option, subst, MatchOption, ◌⊎◌, inl, inr, true≢false}
 use Rattle.std.specs.List.{list_any}
-use Rattle.std.specs.Int.{bit_at}
+use Rattle.std.specs.Int.{bit_at, trailing_zeros}
 use Rattle.std.specs.FinSet as sets
 use Rattle.std.specs.FinSet.{contains-empty, contains-from_list, contains-insert, contains-remove, contains-union, contains-intersection, contains-difference}
-use Rattle.std.proofs.lemmas.Bool.{cases_eq, eq-eqb, ne_eqb, eqb-true}
+use Rattle.std.proofs.lemmas.Bool.{cases_eq, eq-eqb, ne_eqb, eqb-true, cases_lt}
 use Rattle.std.proofs.lemmas.Bool.Decides.{nat_tests}
 use Rattle.std.proofs.lemmas.List.{get_or-map, length-map}
 use Rattle.std.proofs.lemmas.List.Sums.{length-filter}
 use Rattle.std.proofs.lemmas.Nat.{or_lt}
-use Rattle.std.proofs.lemmas.Nat.Bits.{and_pow, bit_at_and, bit_at_or, bit_at_not, bit_at-zero, bit_at-lt, bit_at-pow_same, bit_at-pow_other, same_from_bits_below}
+use Rattle.std.proofs.lemmas.Nat.Bits.{and_pow, bit_at_and, bit_at_or, bit_at_not, bit_at-zero, bit_at-lt, bit_at-pow_same, bit_at-pow_other, same_from_bits_below, bit_at_above, bit_at-trailing_zeros}
 use Rattle.std.proofs.lemmas.Simd.{mask_l-lt, bit_mask_l, ones-mask_l}
-use Rattle.std.proofs.Math.Bool.{or_comm, and_comm}
+use Rattle.std.proofs.Math.Bool.{or_comm, and_comm, and-false, or-true}
 use Rattle.std.proofs.lemmas.Option.{same_Some, none-some}
 use lib.Lanes.{mask_l}
-use Rattle.rsc_look.proofs.Words.{Look, Start, look_cmp, Looks, members, bits_of, look_cmp_total, look_cmp-IsAntisymmetric, same_looks, repr_of-injective, repr_of-pow, place_of-look_at, place_of-lt, contains-looks_of, bits_of-looks_of, looks_of-bits_of, bits_of-lt, every_look_has, tied, same_members, same_bools, same_from, same_to}
+use Rattle.rsc_look.proofs.Words.{Look, Start, look_cmp, Looks, members, bits_of, look_cmp_total, look_cmp-IsAntisymmetric, same_looks, repr_of-injective, repr_of-pow, place_of-look_at, place_of-lt, contains-looks_of, bits_of-looks_of, looks_of-bits_of, bits_of-lt, every_look_has, tied, same_members, same_bools, same_from, same_to, from_to, from_to_parts, filter_none, filter_first, filter_same, repr_of-look_at, every_look-is, contains-filtered}
 use Rattle.rsc_look.specs.Looks.{repr_of, every_look}
 use Rattle.rsc_look.specs.LookSetLayout.{place_of, has_bit, looks_of, look_at, look_at-place_of}
+use Rattle.std.proofs.lemmas.List.Elements.{filter-append}
+use Rattle.std.specs.Cmp.{unsigned_tied}
 
 -- ---- single assertions
 
@@ -77,9 +79,11 @@ all_bits : (l : Look) → has_bit 262143 l ≡ true
 all_bits Start = refl
 all_bits _ = refl
 
+-- all eighteen bits stand for a set with each assertion
 pub contains-looks_of-all : (l : Look) → sets.contains (looks_of 262143) l ≡ true
 contains-looks_of-all l = contains-looks_of 262143 l ∙ all_bits l
 
+-- they stand for the set of all
 pub looks_of-all : looks_of 262143 ≡ sets.from_list every_look
 looks_of-all = same_looks (looks_of 262143) (sets.from_list every_look) (λ l.
     contains-looks_of 262143 l ∙ all_bits l
@@ -91,9 +95,11 @@ looks_of-insert n l = same_looks (looks_of (bit_or n (repr_of l))) (sets.insert 
     contains-looks_of (bit_or n (repr_of l)) m ∙ has_bit-or n (repr_of l) m ∙ or_comm (has_bit n m) (has_bit (repr_of l) m)
     ∙ sym (contains-insert look_cmp_total (looks_of n) l m ∙ ap₂ (λ x y. x || y) (tied m l ∙ sym (single_bit l m)) (contains-looks_of n m)))
 
+-- an insertion stays within eighteen bits
 pub insert_fits : (n : ℕ) (l : Look) → n < 2 ^ 18 → bit_or n (repr_of l) < 2 ^ 18
 insert_fits n l h = or_lt 18 n (repr_of l) h (repr_of-lt l)
 
+-- to clear an assertion's bit is to remove it
 pub looks_of-remove : (n : ℕ) (l : Look) → looks_of (bit_and n (4294967295 - repr_of l)) ≡ sets.remove (looks_of n) l
 looks_of-remove n l = same_looks (looks_of (bit_and n (4294967295 - repr_of l))) (sets.remove (looks_of n) l) (λ m.
     let small = repr_of-lt l in
@@ -102,16 +108,19 @@ looks_of-remove n l = same_looks (looks_of (bit_and n (4294967295 - repr_of l)))
     ∙ and_comm (has_bit n m) (not (nat_eq (repr_of m) (repr_of l)))
     ∙ sym (contains-remove look_cmp_total (looks_of n) l m ∙ ap₂ (λ x y. not x && y) (tied m l) (contains-looks_of n m)))
 
+-- the bits of either number stand for the union
 pub looks_of-union : (a b : ℕ) → looks_of (bit_or a b) ≡ sets.union (looks_of a) (looks_of b)
 looks_of-union a b = same_looks (looks_of (bit_or a b)) (sets.union (looks_of a) (looks_of b)) (λ m.
     contains-looks_of (bit_or a b) m ∙ has_bit-or a b m
     ∙ sym (contains-union look_cmp_total (looks_of a) (looks_of b) m ∙ ap₂ (λ x y. x || y) (contains-looks_of a m) (contains-looks_of b m)))
 
+-- the bits of both stand for the intersection
 pub looks_of-intersection : (a b : ℕ) → looks_of (bit_and a b) ≡ sets.intersection (looks_of a) (looks_of b)
 looks_of-intersection a b = same_looks (looks_of (bit_and a b)) (sets.intersection (looks_of a) (looks_of b)) (λ m.
     contains-looks_of (bit_and a b) m ∙ has_bit-and a b m
     ∙ sym (contains-intersection look_cmp_total (looks_of a) (looks_of b) m ∙ ap₂ (λ x y. x && y) (contains-looks_of a m) (contains-looks_of b m)))
 
+-- the bits of one without those of the other stand for the difference
 pub looks_of-difference : (a b : ℕ) → b < 2 ^ 18 → looks_of (bit_and a (4294967295 - b)) ≡ sets.difference (looks_of a) (looks_of b)
 looks_of-difference a b h = same_looks (looks_of (bit_and a (4294967295 - b))) (sets.difference (looks_of a) (looks_of b)) (λ m.
     contains-looks_of (bit_and a (4294967295 - b)) m ∙ has_bit-and a (4294967295 - b) m ∙ ap (λ x. has_bit a m && x) (has_bit-not b m (omega arith))
@@ -133,18 +142,21 @@ contains_by_and n l =
 zero_test : (n : ℕ) → IsTrue (nat_eq n 0) ↔ (n ≡ 0)
 zero_test n = ((λ h. grind (arith, nat_tests)), (λ h. eq-eqb n 0 h))
 
+-- only 0 stands for the empty set
 pub none_by_bits : (n : ℕ) → n < 2 ^ 18 → IsTrue (nat_eq n 0) ↔ (looks_of n ≡ sets.empty)
 none_by_bits n h = (
   (λ t. ap looks_of ((zero_test n).0 t) ∙ looks_of-none),
   (λ e. (zero_test n).1 (sym (bits_of-looks_of n h) ∙ ap bits_of (e ∙ sym looks_of-none) ∙ bits_of-looks_of 0 (omega arith))),
 )
 
+-- equal sets have equal bits
 pub same_by_bits : (a b : ℕ) → a < 2 ^ 18 → b < 2 ^ 18 → nat_eq a b ≡ same_members (looks_of a) (looks_of b)
 same_by_bits a b la lb = same_bools (nat_eq a b) (same_members (looks_of a) (looks_of b))
     (λ t. same_to look_cmp_total look_cmp-IsAntisymmetric (looks_of a) (looks_of b) (ap looks_of (eqb-true a b t)))
     (λ t. eq-eqb a b (sym (bits_of-looks_of a la) ∙ ap bits_of (same_from look_cmp_total look_cmp-IsAntisymmetric (looks_of a) (looks_of b) t)
     ∙ bits_of-looks_of b lb))
 
+-- there are eighteen assertions
 pub eighteen : length every_look ≡ 18
 unfolding every_look
 eighteen = refl
@@ -184,5 +196,144 @@ some_exact n s h = (
   (λ e. ap Some (ap looks_of (sym e) ∙ looks_of-bits_of s)),
 )
 
+-- a number with more bits stands for no set
 pub none_exact : (n : ℕ) (s : Looks) → 2 ^ 18 ≤ n → (None ≡ Some s) ↔ (bits_of s ≡ n)
 none_exact n s h = ((λ e. absurd (none-some s e)), (λ e. let l = bits_of-lt s in absurd (omega arith)))
+
+-- ---- the first member of a set by its bits, and the set without it: what an iterator takes
+
+filter-map : (p : Look → Bool) (ks : List ℕ) → filter p (map look_at ks) ≡ map look_at (filter (λ k. p (look_at k)) ks)
+filter-map p [] = refl
+filter-map p (k ∷ ks) =
+    elim (p (look_at k)) as (λ v. cond v (look_at k ∷ filter p (map look_at ks)) (filter p (map look_at ks)) ≡ map look_at
+    (cond v (k ∷ filter (λ j. p (look_at j)) ks) (filter (λ j. p (look_at j)) ks))) [
+      | true ↦ ap (λ t. look_at k ∷ t) (filter-map p ks)
+      | false ↦ filter-map p ks
+    ]
+
+members-at : (s : Looks) → members s ≡ map look_at (filter (λ k. sets.contains s (look_at k)) (from_to 0 18))
+members-at s = ap (λ (x : List Look). filter (λ l. sets.contains s l) x) every_look-is ∙ filter-map (λ l. sets.contains s l) (from_to 0 18)
+
+from_place : (p : ℕ → Bool) (k : ℕ) → k ≤ 18 → ((j : ℕ) → j < k → p j ≡ false) → filter p (from_to 0 18) ≡ filter p (from_to k 18)
+from_place p k l none =
+    ap (filter p) (from_to_parts 0 k 18 (omega arith) l) ∙ filter-append p (from_to 0 k) (from_to k 18)
+    ∙ ap (λ x. x ++ filter p (from_to k 18)) (filter_none p 0 k (λ j low high. none j high))
+
+-- the member of the lowest bit comes first, and the others are those of the set without it
+pub first_member : (s : Looks) (k : ℕ) → k < 18 → sets.contains s (look_at k) ≡ true → ((j : ℕ) → j < k → sets.contains s (look_at j) ≡ false)
+    → members s ≡ look_at k ∷ members (sets.remove s (look_at k))
+first_member s k l is none =
+    members-at s ∙ ap (map look_at) (from_place p k (omega arith) none ∙ filter_first p k 18 l is)
+    ∙ ap (λ x. look_at k ∷ map look_at x) (sym (from_place q (k + 1) (omega arith) gone ∙ filter_same q p (k + 1) 18 kept))
+    ∙ ap (λ x. look_at k ∷ x) (sym (members-at (sets.remove s (look_at k))))
+  where
+    p : ℕ → Bool
+    p j = sets.contains s (look_at j)
+
+    q : ℕ → Bool
+    q j = sets.contains (sets.remove s (look_at k)) (look_at j)
+
+    without : (j : ℕ) → sets.contains (sets.remove s (look_at k)) (look_at j) ≡
+        (not (nat_eq (repr_of (look_at j)) (repr_of (look_at k))) && sets.contains s (look_at j))
+    without j = contains-remove look_cmp_total s (look_at k) (look_at j) ∙ ap (λ b. not b && sets.contains s (look_at j)) (tied (look_at j) (look_at k))
+
+    gone : (j : ℕ) → j < k + 1 → q j ≡ false
+    gone j h = without j ∙ ⊎_elim
+        (λ (e : j ≡ k). ap (λ b. not b && p j) (eq-eqb (repr_of (look_at j)) (repr_of (look_at k)) (ap (λ i. repr_of (look_at i)) e)))
+        (λ (ne : j ≢ k). ap (λ b. not (nat_eq (repr_of (look_at j)) (repr_of (look_at k))) && b) (none j (omega arith))
+        ∙ and-false (not (nat_eq (repr_of (look_at j)) (repr_of (look_at k)))))
+        (cases_eq j k)
+
+    kept : (j : ℕ) → k + 1 ≤ j → j < 18 → q j ≡ p j
+    kept j low high = without j ∙ ap (λ b. not b && p j) (ne_eqb (repr_of (look_at j)) (repr_of (look_at k)) (λ e.
+        let same : j ≡ k = sym (place_of-look_at j high) ∙ ap place_of (repr_of-injective (look_at j) (look_at k) e)
+        ∙ place_of-look_at k l in omega arith))
+
+pub no_member : (s : Looks) → s ≡ sets.empty → members s ≡ []
+no_member s e = members-at s
+    ∙ ap (map look_at) (filter_none (λ k. sets.contains s (look_at k)) 0 18 (λ k low high. ap (λ t. sets.contains t (look_at k)) e
+    ∙ contains-empty look_cmp (look_at k)))
+
+-- the bit found by `trailing_zeros`
+pub first_by_bits : (n : ℕ) → 0 < n → n < 2 ^ 18 → (k : ℕ) → k ≡ trailing_zeros w32 n
+    → (k < 18) × (members (looks_of n) ≡ look_at k ∷ members (sets.remove (looks_of n) (look_at k)))
+first_by_bits n pos h k e =
+    let found = bit_at-trailing_zeros w32 n pos (omega arith) in
+    let one : bit_at n k ≡ 1 = ap (bit_at n) e ∙ found.1 in
+    let small : k < 18 = below n k h one in (
+      small,
+      first_member (looks_of n) k small
+          (contains-looks_of n (look_at k) ∙ ap (λ p. nat_eq (bit_at n p) 1) (place_of-look_at k small) ∙ ap (λ x. nat_eq x 1) one)
+          (λ j l. contains-looks_of n (look_at j) ∙ ap (λ p. nat_eq (bit_at n p) 1) (place_of-look_at j (omega arith))
+          ∙ ap (λ x. nat_eq x 1) (found.2 j (rw e at l))),
+    )
+  where
+    below : (n k : ℕ) → n < 2 ^ 18 → bit_at n k ≡ 1 → k < 18
+    below n k h one = ⊎_elim (λ (l : k < 18). l) (λ (l : 18 ≤ k). let z = bit_at_above n 18 k h l in absurd (omega arith)) (cases_lt k 18)
+
+-- what the iterator takes
+abbrev pub IsFirstMember : Looks → Option Look → Type 0
+IsFirstMember s r = MatchOption r (members s ≡ []) (λ l. members s ≡ l ∷ members (sets.remove s l))
+
+-- no bit is set: the iterator ends
+pub first_none : (n : ℕ) → n ≡ 0 → members (looks_of n) ≡ []
+first_none n e = no_member (looks_of n) (ap looks_of e ∙ looks_of-none)
+
+shifted : (k : ℕ) → k < 18 → 1 * 2 ^ k % 2 ^ 32 ≡ 2 ^ k
+shifted k l =
+    let one : 1 * 2 ^ k ≡ 2 ^ k = omega arith in
+    let small : 2 ^ k < 2 ^ 32 = subst (λ x. x < 2 ^ 32) (repr_of-look_at k l) (let m = repr_of-lt (look_at k) in omega arith) in
+    rw one (omega (arith, small))
+
+-- the lowest bit gives the first member
+pub first_some : (n : ℕ) (r : Option Look) → (n ≡ 0 → ⊥) → n < 2 ^ 18 → ((l : Look) → (r ≡ Some l) ↔ (repr_of l ≡ 1 * 2 ^ trailing_zeros w32 n % 2 ^ 32))
+    → IsFirstMember (looks_of n) r
+first_some n r some h is =
+    let k = trailing_zeros w32 n in
+    let found = first_by_bits n (omega arith) h k refl in
+    let first : r ≡ Some (look_at k) = (is (look_at k)).1 (repr_of-look_at k found.0 ∙ sym (shifted k found.0)) in
+    rw first found.1
+
+-- ---- a loop over the members of a set that asks each for something
+
+-- the loop has the assertions `rest` left: P holds of all other members, and they are members
+pub record HasAsked (s : Looks) (rest : List Look) (P : Look → Type 0) : Type 0 where
+  pub asked : (l : Look) → sets.contains s l ≡ true → (sets.contains (sets.from_list {R = look_cmp} rest) l ≡ true) ⊎ P l
+  pub left : (l : Look) → sets.contains (sets.from_list {R = look_cmp} rest) l ≡ true → sets.contains s l ≡ true
+
+contains-members : (s : Looks) (l : Look) → sets.contains (sets.from_list {R = look_cmp} (members s)) l ≡ sets.contains s l
+contains-members s l = contains-filtered (λ m. sets.contains s m) l
+
+-- nothing is asked yet
+pub HasAsked-none : (s : Looks) (rest : List Look) (P : Look → Type 0) → rest ≡ members s → HasAsked s rest P
+HasAsked-none s rest P e = rw e (record { asked = λ l h. inl (contains-members s l ∙ h); left = λ l h. sym (contains-members s l) ∙ h })
+
+with_first : (x : Look) (rest : List Look) (l : Look) → sets.contains (sets.from_list {R = look_cmp} (x ∷ rest)) l ≡
+    (nat_eq (repr_of l) (repr_of x) || sets.contains (sets.from_list {R = look_cmp} rest) l)
+with_first x rest l =
+    contains-insert look_cmp_total (sets.from_list rest) x l
+    ∙ ap (λ b. b || sets.contains (sets.from_list {R = look_cmp} rest) l) (unsigned_tied (repr_of l) (repr_of x))
+
+-- one more is asked
+pub HasAsked-more : (s : Looks) (x : Look) (all rest : List Look) (P : Look → Type 0) → HasAsked s all P → all ≡ x ∷ rest → P x → HasAsked s rest P
+HasAsked-more s x all rest P a e p = record {
+  asked = λ l h. ⊎_elim
+      (λ (q : sets.contains (sets.from_list {R = look_cmp} all) l ≡ true). ⊎_elim
+      (λ (same : repr_of l ≡ repr_of x). inr (subst P (sym (repr_of-injective l x same)) p))
+      (λ (other : repr_of l ≢ repr_of x). inl
+      (sym (ap (λ b. b || sets.contains (sets.from_list {R = look_cmp} rest) l) (ne_eqb (repr_of l) (repr_of x) other))
+      ∙ sym (with_first x rest l) ∙ sym (ap (λ (r : List Look). sets.contains (sets.from_list {R = look_cmp} r) l) e) ∙ q))
+      (cases_eq (repr_of l) (repr_of x)))
+      (λ (q : P l). inr q)
+      (a.asked l h);
+  left = λ l h. a.left l (ap (λ (r : List Look). sets.contains (sets.from_list {R = look_cmp} r) l) e ∙ with_first x rest l
+      ∙ ap (λ b. nat_eq (repr_of l) (repr_of x) || b) h ∙ or-true (nat_eq (repr_of l) (repr_of x)));
+}
+
+-- all are asked
+pub HasAsked-all : (s : Looks) (rest : List Look) (P : Look → Type 0) → HasAsked s rest P → rest ≡ [] → (l : Look) → sets.contains s l ≡ true → P l
+HasAsked-all s rest P a e l h = ⊎_elim
+    (λ (q : sets.contains (sets.from_list {R = look_cmp} rest) l ≡ true). absurd
+    (true≢false (sym q ∙ ap (λ (r : List Look). sets.contains (sets.from_list {R = look_cmp} r) l) e ∙ contains-empty look_cmp l)))
+    (λ (q : P l). q)
+    (a.asked l h)

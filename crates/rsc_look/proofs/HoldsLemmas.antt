@@ -2,7 +2,7 @@
 use Rattle.std.proofs.Common.{◌≡◌, ◌↔◌, ℕ, Bool, true, false, List, refl, sym, ◌∙◌, arith, true≢false, IsTrue}
 use Rattle.std.proofs.lemmas.Bool.{false_from_ne_true}
 use Rattle.rsc_look.proofs.Words.{IsInside, IsInside-begins, IsInside-ends, Look, WordUnicode, Side, Absent, Invalid, Word, Other, IsBefore, IsAfter, holds_at_sides, Holds, is_unicode}
-use Rattle.rsc_look.proofs.Sides.{Holds-sides}
+use Rattle.rsc_look.proofs.SideLayoutLemmas.{Holds-sides}
 
 bad_before : (W : ℕ → Bool) (h : List ℕ) (i : ℕ) (a : Side) → IsInside h i → IsBefore W h i a → a ≡ Invalid
 bad_before W h i Absent s p = let f = s.after_first in absurd (omega arith)

@@ -16,15 +16,19 @@ apart l m ne = tied l m ∙ ne_eqb (repr_of l) (repr_of m) (λ e. ne (repr_of-in
 pub grown_by : (s : Looks) (l : Look) → sets.contains (sets.insert s l) l ≡ true
 grown_by s l = contains-insert look_cmp_total s l l ∙ ap (λ b. b || sets.contains s l) (itself l)
 
+-- an insertion changes no other member
 pub grown_apart : (s : Looks) (l m : Look) → m ≢ l → sets.contains (sets.insert s l) m ≡ sets.contains s m
 grown_apart s l m ne = contains-insert look_cmp_total s l m ∙ ap (λ b. b || sets.contains s m) (apart m l ne)
 
+-- what is removed is no member
 pub shrunk_by : (s : Looks) (l : Look) → sets.contains (sets.remove s l) l ≡ false
 shrunk_by s l = contains-remove look_cmp_total s l l ∙ ap (λ b. not b && sets.contains s l) (itself l)
 
+-- a removal changes no other member
 pub shrunk_apart : (s : Looks) (l m : Look) → m ≢ l → sets.contains (sets.remove s l) m ≡ sets.contains s m
 shrunk_apart s l m ne = contains-remove look_cmp_total s l m ∙ ap (λ b. not b && sets.contains s m) (apart m l ne)
 
+-- after an insertion the members are the new one and those before
 pub grown : (s : Looks) (l m : Look) → (sets.contains (sets.insert s l) m ≡ true) ↔ ((l ≡ m) ⊎ (sets.contains s m ≡ true))
 grown s l m = ⊎_elim
     (λ (e : repr_of l ≡ repr_of m). let same : l ≡ m = repr_of-injective l m e in

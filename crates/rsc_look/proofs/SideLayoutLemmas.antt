@@ -3,8 +3,7 @@ use Rattle.std.specs.Bool.{beq}
 use Rattle.std.proofs.Common.{not, ◌&&◌, ap₂, ◌≡◌, ◌↔◌, ℕ, ◌-◌, ◌<◌, ◌≤◌, Bool, true, false, List, length, get_or, refl, sym, ap, ◌∙◌, subst, arith, inl, inr, ⊎_elim, true≢false, IsTrue}
 use Rattle.std.proofs.lemmas.Bool.{cases_eq, cases_Bool}
 use Rattle.rsc_look.proofs.Words.{is_word_byte, BeginsAt, EndsAt, EncodedFrom, AgreePastAscii, EncodedFrom-agree, BeginsAt-same, EndsAt-same, Look, Side, Absent, Invalid, Word, Other, IsBefore, IsAfter, HoldsAtSides, holds_at_sides, exactly_one, is_invalid, is_word_side, is_edge_or_non_word, Holds, WordUnicode, WordUnicodeNegate, WordStartUnicode, WordEndUnicode, WordStartHalfUnicode, WordEndHalfUnicode, BeginsAt-decided, EndsAt-decided, IsSideOf, is_unicode, AreInterchanged, DifferInAscii, AgreesWithAscii}
-use Rattle.rsc_look.proofs.Marks.{is_word_mark}
-use Rattle.rsc_look.proofs.BytesKept.{HasMarks, Together-is_word_byte}
+use Rattle.rsc_look.proofs.BoundariesLemmas.{is_word_mark, HasMarks, Together-is_word_byte}
 
 -- a place has one side before it, and one after it
 some_bytes : (h : List ℕ) (i j c : ℕ) → EncodedFrom h i j c → j ≤ i → ⊥
@@ -19,6 +18,7 @@ begins_before_end h c e = let w = e.1.within in some_bytes h (length h) e.0 c e.
 not_both : (W : ℕ → Bool) (c d : ℕ) → c ≡ d → W c ≡ true → W d ≡ false → ⊥
 not_both W c d e t f = true≢false (sym t ∙ ap W e ∙ f)
 
+-- a place has one side before it
 pub IsBefore-same : (W : ℕ → Bool) (h : List ℕ) (i : ℕ) (a b : Side) → IsBefore W h i a → IsBefore W h i b → a ≡ b
 IsBefore-same W h i Absent Absent p q = refl
 IsBefore-same W h i Absent Invalid p q = absurd (omega arith)
@@ -37,6 +37,7 @@ IsBefore-same W h i Other Invalid p q = absurd (q.1 p.0 p.1)
 IsBefore-same W h i Other Word p q = absurd (not_both W q.0 p.0 (EndsAt-same h i q.0 p.0 q.1 p.1) q.2 p.2)
 IsBefore-same W h i Other Other p q = refl
 
+-- and one after it
 pub IsAfter-same : (W : ℕ → Bool) (h : List ℕ) (i : ℕ) (a b : Side) → IsAfter W h i a → IsAfter W h i b → a ≡ b
 IsAfter-same W h i Absent Absent p q = refl
 IsAfter-same W h i Absent Invalid p q = absurd (omega arith)
@@ -152,6 +153,7 @@ IsBefore-from_char W h i c Invalid e s = absurd s
 IsBefore-from_char W h i c Word e s = (c, e, s)
 IsBefore-from_char W h i c Other e s = (c, e, s)
 
+-- the side after a place where a character begins
 pub IsAfter-from_char : (W : ℕ → Bool) (h : List ℕ) (i c : ℕ) (a : Side) → BeginsAt h i c → IsSideOf W c a → IsAfter W h i a
 IsAfter-from_char W h i c Absent e s = absurd s
 IsAfter-from_char W h i c Invalid e s = absurd s
@@ -160,6 +162,7 @@ IsAfter-from_char W h i c Other e s = (c, e, s)
 
 -- ---- each place has a side before it and one after it
 
+-- each place has a side before it
 pub has_before : (W : ℕ → Bool) (h : List ℕ) (i : ℕ) → (a : Side) × IsBefore W h i a
 has_before W h i =
     ⊎_elim (λ e. (Absent, e))
@@ -168,6 +171,7 @@ has_before W h i =
     (EndsAt-decided h i))
     (cases_eq i 0)
 
+-- and one after it
 pub has_after : (W : ℕ → Bool) (h : List ℕ) (i : ℕ) → i ≤ length h → (a : Side) × IsAfter W h i a
 has_after W h i o =
     ⊎_elim (λ e. (Absent, e))
@@ -198,12 +202,15 @@ module _ (W : ℕ → Bool) (h : List ℕ) (i : ℕ) (a b : Side) where
     pub starts : IsTrue (y && not x) ↔ HoldsAtSides WordStartUnicode W h i
     starts = by_sides WordStartUnicode _ p q (rw (e, f) refl)
 
+    -- a word ends
     pub ends : IsTrue (x && not y) ↔ HoldsAtSides WordEndUnicode W h i
     ends = by_sides WordEndUnicode _ p q (rw (e, f) refl)
 
+    -- one side is a word character
     pub differs : IsTrue (not (beq x y)) ↔ HoldsAtSides WordUnicode W h i
     differs = by_sides WordUnicode _ p q (exactly_one-ne x y ∙ ap₂ exactly_one e f)
 
+    -- both sides are word characters or neither, and the place is inside none
     pub agrees : (w v : Bool) → w ≡ is_invalid a → w ≡ false → v ≡ is_invalid b → IsTrue (not v && beq x y) ↔ HoldsAtSides WordUnicodeNegate W h i
     agrees w v g z k =
         let n : is_invalid a ≡ false = sym g ∙ z in
@@ -217,6 +224,7 @@ module _ (W : ℕ → Bool) (h : List ℕ) (i : ℕ) (a : Side) where
   pub half_before : (r : Bool) → i ≤ length h → IsBefore W h i a → r ≡ is_edge_or_non_word a → IsTrue r ↔ HoldsAtSides WordStartHalfUnicode W h i
   half_before r o p e = by_before WordStartHalfUnicode r o p (λ b. e)
 
+  -- the half assertion of the side after
   pub half_after : (r : Bool) → IsAfter W h i a → r ≡ is_edge_or_non_word a → IsTrue r ↔ HoldsAtSides WordEndHalfUnicode W h i
   half_after r q e = let p = has_before W h i in by_sides W h i p.0 a WordEndHalfUnicode r p.1 q e
 

@@ -9,7 +9,7 @@ use Rattle.std.proofs.lemmas.Option.{slice_get-get_or, slice_get_past, slice_get
 use Rattle.std.proofs.Math.Bool.{and_comm}
 use Rattle.std.proofs.lemmas.Bool.{and_parts, cases_lt}
 use Rattle.rsc_look.proofs.Words.{EncodesAll-std, place, BeginsAt-place, EndsAt-place, Look, Start, StartCRLF, EndCRLF, WordAscii, WordAsciiNegate, WordUnicode, WordUnicodeNegate, Side, Absent, Word, Other, byte_before, byte_after, is_byte, is_word_neighbor, exactly_one, holds_at_bytes, holds_at_sides, is_invalid, is_word_side, IsBefore, IsAfter, Holds, is_unicode, reversed, is_crlf, exchanged, mirror, EndsFirst, IsTextMirrored}
-use Rattle.rsc_look.proofs.Sides.{Holds-bytes, Holds-sides, at_sides}
+use Rattle.rsc_look.proofs.SideLayoutLemmas.{Holds-bytes, Holds-sides, at_sides}
 
 -- ---- neighbours in a list read from the other end
 
