@@ -1,184 +1,194 @@
--- The members of a set, by its words.
-use Rattle.std.proofs.Common.{◌≡◌, ◌≢◌, ℕ, zero, suc, replicate, ◌+◌, ◌/◌, ◌%◌, inl, inr, get_or, ◌<◌, ◌≤◌, ◌↔◌, Bool, true, false, ◌||◌, List, [], ◌++◌, length, take, drop, set, refl, sym, ap, ◌∙◌, arith, eqb, get_or-set_other, get_or-set_same, All, bytes_eq}
-use Rattle.std.proofs.Math.Seq.{take-append_seam}
-use Rattle.std.proofs.lemmas.List.{get_or_default, length-replicate, length-set}
-use Rattle.std.proofs.lemmas.List.Elements.{All-filter}
-use Rattle.std.proofs.lemmas.List.FromFn.{length-range_with_len, get_or-range_with_len}
-use Rattle.std.proofs.lemmas.List.Kept.{IsStrictlyIncreasing-filter}
-use Rattle.std.specs.List.{range_with_len}
+-- The numbers of a range that pass a test, and the test of membership.
+use Rattle.std.proofs.Common.{◌≡◌, ◌≢◌, ℕ, zero, suc, ◌+◌, ◌-◌, ◌<◌, ◌≤◌, Bool, true, false, cond, ◌||◌, List, [], ◌∷◌, ◌++◌, length, refl, ap, ◌∙◌, arith, append-nil, eqb, leb, ltb, inl, inr, ◌&&◌, ◌↔◌, get_or, sym, All}
+use Rattle.std.proofs.Math.Bool.{and-true}
+use Rattle.std.proofs.lemmas.Bool.{cases_eq, cases_lt, eqb-true, le-leb, lt-ltb, cases_Bool, eq-eqb, ne_eqb}
+use Rattle.std.proofs.lemmas.Bool.Decides.{nat_tests, Decides-eqb}
+use Rattle.std.proofs.lemmas.Map.Views.{any-filter_same}
+use Rattle.std.proofs.lemmas.List.Elements.{filter-append, All-cons, All-head, All-tail, All-weaker}
+use Rattle.std.proofs.lemmas.List.FromFn.{length-range_with_len}
+use Rattle.std.proofs.lemmas.List.Sums.{count_by-le-length, length-filter}
+use Rattle.std.specs.List.{filter, range_with_len, AllPairs, Contains}
+use Rattle.rsc_search.specs.PatternSets.{has_member, Patterns, IsSet, numbers_below, with_member}
+use Rattle.std.proofs.lemmas.List.Folds.{list_any_at}
+use Rattle.std.proofs.lemmas.List.Kept.{AllPairs-from_increasing}
 use Rattle.std.specs.List.Sorted.{IsStrictlyIncreasing}
-use Rattle.std.proofs.lemmas.Bool.{and_parts, cases_Bool, cases_eq, cases_lt, eq-eqb, ne_eqb}
-use Rattle.std.proofs.lemmas.Nat.Bits.{bit_at-zero}
-use Rattle.std.proofs.lemmas.Slice.Eq.{bytes_eq-Decides}
-use Rattle.std.specs.Cmp.{both_ways}
 use mathlib.Core.Bool.{true≢false}
-use Rattle.rsc_search.specs.PatternSetsLaws.{same_patterns_equiv}
-use Rattle.rsc_search.specs.PatternSets.{Patterns, IsSet, has_member, numbers_below, with_member, same_patterns}
-use Rattle.std.specs.Int.{div_ceil}
-use Rattle.rsc_primitives.specs.Indices.{max_index}
-use Rattle.rsc_search.specs.PatternSetLayout.{patterns_of, IsPacked}
-use Rattle.rsc_search.specs.WordLayout.{has_bit, word_of, is_set, SameBits}
-use Rattle.rsc_search.proofs.NumbersLemmas.{member_is, member_in, filter_none, filter_alike, length_one_more, length_filter_le}
 
--- a word of the list replaced by the same with one more bit
-pub changed_bit : (words : List ℕ) (p word : ℕ) → p / 64 < length words → ((j : ℕ) → has_bit word j ≡ (eqb j (p % 64) || has_bit (word_of words (p / 64)) j))
-    → (q : ℕ) → is_set (set words (p / 64) word) q ≡ (eqb q p || is_set words q)
-changed_bit words p word lt bits q = elim (cases_eq (q / 64) (p / 64)) [
-  | inl here ↦
-      let whole : eqb (q % 64) (p % 64) ≡ eqb q p = elim (cases_eq q p) [
-        | inl eq ↦ rw (eq, eq-eqb p p refl, eq-eqb (p % 64) (p % 64) refl) refl
-        | inr ne ↦ rw (ne_eqb q p ne, ne_eqb (q % 64) (p % 64) (λ e. ne (omega (arith, here, e)))) refl
-      ] in
-      rw (here, get_or-set_same {A = ℕ}) (bits (q % 64) ∙ rw whole refl)
-  | inr there ↦ rw (ne_eqb q p (λ e. there (ap (λ n. n / 64) e)), get_or-set_other {A = ℕ}) refl
-]
+-- ---- the numbers of a range that pass a test
 
--- no bit of zeros is set
-none_of_zeros : (n p : ℕ) → is_set (replicate n 0) p ≡ false
-none_of_zeros n p =
-    let clear : has_bit 0 (p % 64) ≡ false = ap (λ (b : ℕ). eqb b 1) (bit_at-zero (p % 64)) in
-    ap (λ (word : ℕ). has_bit word (p % 64)) (zeros n (p / 64)) ∙ clear
+range_longer : (a n q : ℕ) → (eqb a q || (leb (a + 1) q && ltb q (a + 1 + n))) ≡ (leb a q && ltb q (a + suc n))
+range_longer a n q = grind (arith, nat_tests)
+
+in_range : (a n q : ℕ) → has_member (range_with_len a n) q ≡ (leb a q && ltb q (a + n))
+in_range a zero q = no_more a q
   where
-    zeros : (n i : ℕ) → word_of (replicate n 0) i ≡ 0
-    zeros zero i = refl
-    zeros (suc n) zero = refl
-    zeros (suc n) (suc i) = zeros n i
+    no_more : (a q : ℕ) → false ≡ (leb a q && ltb q (a + 0))
+    no_more a q = grind (arith, nat_tests)
+in_range a (suc n) q = rw (in_range (a + 1) n q) (range_longer a n q)
 
--- words of zeros have no member
-pub no_members : (capacity n : ℕ) → numbers_below capacity (is_set (replicate n 0)) ≡ []
-no_members capacity n = filter_none (is_set (replicate n 0)) 0 capacity (λ q from below. none_of_zeros n q)
+module _ (t : ℕ → Bool) where
+  -- a number is among the passing ones exactly if it passes and is in the range
+  pub member_is : (a n q : ℕ) → has_member (filter t (range_with_len a n)) q ≡ (t q && (leb a q && ltb q (a + n)))
+  member_is a n q =
+      any-filter_same (λ p. eqb p q) t (t q) (λ p same. ap t (eqb-true p q same)) (range_with_len a n) ∙ ap (λ b. t q && b) (in_range a n q)
 
--- and they hold the set without members
-pub zeros_packed : (capacity n : ℕ) → capacity ≤ max_index + 1 → n ≡ div_ceil capacity 64 → IsPacked capacity (replicate n 0) 0
-zeros_packed capacity n fits n_is = record {
-  fits = fits;
-  length_is = length-replicate n 0 ∙ n_is;
-  spare_clear = λ p from. none_of_zeros n p;
-  count_is = sym (ap length (no_members capacity n));
-}
+  -- a number of the range is listed exactly if it passes
+  pub member_in : (a n q : ℕ) → a ≤ q → q < a + n → has_member (filter t (range_with_len a n)) q ≡ t q
+  member_in a n q from below = member_is a n q ∙ rw (le-leb a q from, lt-ltb q (a + n) below) (and-true (t q))
 
--- words that were lent and came back as zeros
-pub all_zeros : (words lent : List ℕ) (n : ℕ) → n ≡ length words → lent ≡ replicate (length words) 0
-    → take n (lent ++ drop (length lent) words) ≡ replicate (length words) 0
-all_zeros words lent n n_is zeros =
-    let whole : n ≡ length lent = n_is ∙ sym (ap length zeros ∙ length-replicate (length words) 0) in
-    rw whole (take-append_seam lent (drop (length lent) words)) ∙ zeros
+  -- where none passes, the list is empty
+  pub filter_none : (a n : ℕ) → ((q : ℕ) → a ≤ q → q < a + n → t q ≡ false) → filter t (range_with_len a n) ≡ []
+  filter_none a zero fails = refl
+  filter_none a (suc n) fails = rw (fails a (omega arith) (omega arith)) (filter_none (a + 1) n (λ q from below. fails q (omega arith) (omega arith)))
 
--- there are at most as many members as the capacity
-pub members_within : (capacity : ℕ) (words : List ℕ) → length (numbers_below capacity (is_set words)) ≤ capacity
-members_within capacity words = length_filter_le (is_set words) 0 capacity
+  filter_parts : (a m n : ℕ) → filter t (range_with_len a (m + n)) ≡ filter t (range_with_len a m) ++ filter t (range_with_len (a + m) n)
+  filter_parts a m n = ap (filter t) (parts a m) ∙ filter-append t (range_with_len a m) (range_with_len (a + m) n)
+    where
+      parts : (a m : ℕ) → range_with_len a (m + n) ≡ range_with_len a m ++ range_with_len (a + m) n
+      parts a zero = let none : zero + n ≡ n = omega arith in let there : a + zero ≡ a = omega arith in rw (none, there) refl
+      parts a (suc m) =
+          let more : suc m + n ≡ suc (m + n) = omega arith in
+          let there : a + suc m ≡ (a + 1) + m = omega arith in
+          rw (more, there) (ap (λ (ps : List ℕ). a ∷ ps) (parts (a + 1) m))
 
-module _ (capacity : ℕ) (words : List ℕ) (spare_clear : (p : ℕ) → capacity ≤ p → is_set words p ≡ false) where
-  -- a number is a member exactly if its bit is set
-  pub has_member-set : (p : ℕ) → has_member (patterns_of capacity words).members p ≡ is_set words p
-  has_member-set p = elim (cases_lt p capacity) [
-    | inl lt ↦ member_in (is_set words) 0 capacity p (omega arith) (omega arith)
-    | inr le ↦ member_is (is_set words) 0 capacity p ∙ rw (spare_clear p le) refl
-  ]
+  cut_at : (a c b : ℕ) → a ≤ c → c ≤ b → filter t (range_with_len a (b - a)) ≡ filter t (range_with_len a (c - a)) ++ filter t (range_with_len c (b - c))
+  cut_at a c b from to =
+      let parts : b - a ≡ (c - a) + (b - c) = omega arith in
+      let there : a + (c - a) ≡ c = omega arith in
+      rw parts (filter_parts a (c - a) (b - c) ∙ rw there refl)
 
-  -- a number whose bit is set is below the capacity
-  pub set_below : (p : ℕ) → is_set words p ≡ true → p < capacity
-  set_below p is = elim (cases_lt p capacity) [ inl lt ↦ lt | inr le ↦ absurd (true≢false (sym is ∙ spare_clear p le)) ]
+  -- from a on and below b: nothing between a and c passes, so it may begin at c
+  pub skip_front : (a c b : ℕ) → a ≤ c → ((q : ℕ) → a ≤ q → q < c → t q ≡ false) → filter t (range_with_len a (b - a)) ≡ filter t (range_with_len c (b - c))
+  skip_front a c b order fails =
+      elim (cases_lt b c) [
+        | inl short ↦
+            let none : b - c ≡ 0 = omega arith in
+            rw none (filter_none a (b - a) (λ q from below. fails q from (omega arith)))
+        | inr long ↦ cut_at a c b order long ∙ rw (filter_none a (c - a) (λ q from below. fails q from (omega arith))) refl
+      ]
 
-  -- words with the bits of one more number are the set with it as a member
-  module _ (others : List ℕ) (p : ℕ) (at : (q : ℕ) → is_set others q ≡ (eqb q p || is_set words q)) where
-    -- a set with one bit more has one member more
-    pub with_one_more : patterns_of capacity others ≡ with_member (patterns_of capacity words) p
-    with_one_more =
-        let members : numbers_below capacity (is_set others) ≡ numbers_below capacity (λ q. eqb q p || has_member (patterns_of capacity words).members q) =
-        filter_alike (is_set others) (λ q. eqb q p || has_member (patterns_of capacity words).members q) 0 capacity
-        (λ q from below. at q ∙ rw (has_member-set q) refl) in
-        ap (λ (ms : List ℕ). let s : Patterns = record { capacity = capacity; members = ms } in s) members
+  -- nothing between c and b passes, so it may end at c
+  pub skip_back : (a c b : ℕ) → c ≤ b → ((q : ℕ) → c ≤ q → q < b → t q ≡ false) → filter t (range_with_len a (b - a)) ≡ filter t (range_with_len a (c - a))
+  skip_back a c b order fails =
+      elim (cases_lt c a) [
+        | inl short ↦
+            let none : c - a ≡ 0 = omega arith in
+            rw none (filter_none a (b - a) (λ q from below. fails q (omega arith) (omega arith)))
+        | inr long ↦ cut_at a c b long order ∙ rw (filter_none c (b - c) (λ q from below. fails q from (omega arith)), append-nil) refl
+      ]
 
-    -- the bits at and above the capacity stay clear
-    pub spare_stays : p < capacity → (q : ℕ) → capacity ≤ q → is_set others q ≡ false
-    spare_stays lt q le = at q ∙ rw (ne_eqb q p (λ e. omega (arith, e, lt, le)), spare_clear q le) refl
+  -- the first and the last of the numbers that pass
+  pub first_passes : (a b : ℕ) → a < b → t a ≡ true → filter t (range_with_len a (b - a)) ≡ a ∷ filter t (range_with_len (a + 1) (b - (a + 1)))
+  first_passes a b lt is = let more : b - a ≡ suc (b - (a + 1)) = omega arith in rw (more, is) refl
 
-    -- the count after a new member
-    pub one_more_member : p < capacity → is_set words p ≡ false
-        → length (numbers_below capacity (is_set others)) ≡ length (numbers_below capacity (is_set words)) + 1
-    one_more_member lt out =
-        length_one_more (is_set words) (is_set others) 0 capacity p (omega arith) (omega (arith, lt)) out (at p ∙ rw (eq-eqb p p refl) refl)
-        (λ q ne. sym (at q ∙ rw (ne_eqb q p ne) refl))
+  -- the last number of a range passes
+  pub last_passes : (a p : ℕ) → a ≤ p → t p ≡ true → filter t (range_with_len a ((p + 1) - a)) ≡ filter t (range_with_len a (p - a)) ++ p ∷ []
+  last_passes a p le is = let one : (p + 1) - p ≡ 1 = omega arith in cut_at a p (p + 1) le (omega arith) ∙ rw (one, is) refl
 
--- a number below the capacity is a member after an insertion exactly if it was one or is the new one
-pub member_if_inserted : (s : Patterns) (p q : ℕ) → q < s.capacity → has_member (with_member s p).members q ≡ (eqb q p || has_member s.members q)
-member_if_inserted s p q lt = member_in (λ r. eqb r p || has_member s.members r) 0 s.capacity q (omega arith) (omega arith)
+module _ (t u : ℕ → Bool) where
+  -- tests that agree on a range list the same
+  pub filter_alike : (a n : ℕ) → ((q : ℕ) → a ≤ q → q < a + n → t q ≡ u q) → filter t (range_with_len a n) ≡ filter u (range_with_len a n)
+  filter_alike a zero alike = refl
+  filter_alike a (suc n) alike =
+      let rest : filter t (range_with_len (a + 1) n) ≡ filter u (range_with_len (a + 1) n) =
+      filter_alike (a + 1) n (λ q from below. alike q (omega arith) (omega arith)) in
+      rw (alike a (omega arith) (omega arith), rest) refl
 
--- sets of the same capacity are equal exactly if the same bits are set
-module _ (capacity : ℕ) (xs ys : List ℕ) (lengths : length xs ≡ length ys) (xs_spare : (p : ℕ) → capacity ≤ p → is_set xs p ≡ false)
-    (ys_spare : (p : ℕ) → capacity ≤ p → is_set ys p ≡ false) where
-  same_if_bits : SameBits xs ys → same_patterns (patterns_of capacity xs) (patterns_of capacity ys) ≡ true
-  same_if_bits same_bits =
-      rw (filter_alike (is_set xs) (is_set ys) 0 capacity (λ q from below. same_bits.bits_are q)) (same_patterns_equiv.refl (patterns_of capacity ys))
+  -- one more number passes
+  pub length_one_more : (a n p : ℕ) → a ≤ p → p < a + n → t p ≡ false → u p ≡ true → ((q : ℕ) → q ≢ p → t q ≡ u q)
+      → length (filter u (range_with_len a n)) ≡ length (filter t (range_with_len a n)) + 1
+  length_one_more a zero p from below out in_set others = absurd (omega arith)
+  length_one_more a (suc n) p from below out in_set others =
+      elim (cases_eq a p) [
+        | inl here ↦
+            rw (ap t here ∙ out, ap u here ∙ in_set, filter_alike (a + 1) n (λ q from below. others q (λ e. absurd (omega arith)))) (omega arith)
+        | inr other ↦
+            let rest : length (filter u (range_with_len (a + 1) n)) ≡ length (filter t (range_with_len (a + 1) n)) + 1 =
+            length_one_more (a + 1) n p (omega arith) (omega arith) out in_set others in
+            rw (others a other) (elim (u a) as (λ b. length (cond b (a ∷ filter u (range_with_len (a + 1) n)) (filter u (range_with_len (a + 1) n))) ≡
+            length (cond b (a ∷ filter t (range_with_len (a + 1) n)) (filter t (range_with_len (a + 1) n))) + 1) [ true ↦ omega arith | false ↦ rest ])
+      ]
 
-  bits_if_same : same_patterns (patterns_of capacity xs) (patterns_of capacity ys) ≡ true → SameBits xs ys
-  bits_if_same e =
-      let parts = and_parts (eqb capacity capacity) (bytes_eq (patterns_of capacity xs).members (patterns_of capacity ys).members) e in
-      let members : (patterns_of capacity xs).members ≡ (patterns_of capacity ys).members =
-      (bytes_eq-Decides (patterns_of capacity xs).members (patterns_of capacity ys).members).0 parts.1 in
-      record {
-        as_many = lengths;
-        bits_are = λ p. sym (has_member-set capacity xs xs_spare p) ∙ ap (λ ms. has_member ms p) members ∙ has_member-set capacity ys ys_spare p;
-      }
+-- no more pass than there are
+pub length_filter_le : (t : ℕ → Bool) (a n : ℕ) → length (filter t (range_with_len a n)) ≤ n
+length_filter_le t a n =
+    omega (arith, length-filter t (range_with_len a n), count_by-le-length t (range_with_len a n), length-range_with_len a n)
 
-  -- sets are equal exactly if their bits are
-  pub same_by_bits : (b : Bool) → (b ≡ true) ↔ SameBits xs ys → b ≡ same_patterns (patterns_of capacity xs) (patterns_of capacity ys)
-  same_by_bits b decides = both_ways b (same_patterns (patterns_of capacity xs) (patterns_of capacity ys)) (λ e. same_if_bits (decides.0 e))
-      (λ e. decides.1 (bits_if_same e))
+-- ---- the test of membership, in std's words
 
--- ---- what holds for each set
-number_at : (n k d : ℕ) → k < length (range_with_len 0 n) → (get_or (range_with_len 0 n) k d ≡ k) × (k < n)
-number_at n k d within =
-    let below : k < n = rw (length-range_with_len 0 n) at within in
-    (get_or-range_with_len 0 n k d below ∙ omega arith, below)
+to_contains : (members : List ℕ) (p : ℕ) → has_member members p ≡ true → Contains members p
+to_contains [] p h = absurd (true≢false (sym h))
+to_contains (q ∷ members) p h =
+    elim (eqb q p) as (λ b. eqb q p ≡ b → (b || has_member members p) ≡ true → Contains (q ∷ members) p) [
+      | true ↦ λ e _. (0, omega arith, (Decides-eqb q p).0 e)
+      | false ↦ λ _ rest. let there : Contains members p = to_contains members p rest in (suc there.0, omega (arith, there.1), there.2)
+    ] refl h
 
-members_ascend : (t : ℕ → Bool) (n : ℕ) → IsStrictlyIncreasing (numbers_below n t)
-members_ascend t n = IsStrictlyIncreasing-filter t (range_with_len 0 n)
-    (λ k within. omega (arith, (number_at n k 0 (omega arith)).0, (number_at n (k + 1) 0 within).0))
+from_contains : (members : List ℕ) (p : ℕ) → Contains members p → has_member members p ≡ true
+from_contains members p there = list_any_at (λ q. eqb q p) members there.0 p there.1 ((Decides-eqb (get_or members there.0 p) p).1 there.2)
 
-members_below : (t : ℕ → Bool) (n : ℕ) → All (λ p. p < n) (numbers_below n t)
-members_below t n = All-filter t (λ p. p < n) (range_with_len 0 n) (λ k d within. let at = number_at n k d within in omega (arith, at.0, at.1))
+-- the test of membership tells what the list contains
+pub is_contained : (members : List ℕ) (p : ℕ) → (has_member members p ≡ true) ↔ Contains members p
+is_contained members p = (to_contains members p, from_contains members p)
 
--- the members ascend, and lie below the capacity
-pub is_set_below : (capacity : ℕ) (words : List ℕ) → IsSet (patterns_of capacity words)
-is_set_below capacity words = record {
-  ascending = members_ascend (is_set words) capacity;
-  below = members_below (is_set words) capacity;
-  most = members_within capacity words;
-}
+-- the first of ascending members is the least
+pub first_is_least : (members rest : List ℕ) (first p : ℕ) → members ≡ first ∷ rest → IsStrictlyIncreasing members → has_member members p ≡ true → first ≤ p
+first_is_least members rest first p parts ascends is =
+    let there : Contains members p = to_contains members p is in
+    let head : get_or members 0 p ≡ first = ap (λ ms. get_or ms 0 p) parts in
+    elim (cases_lt 0 there.0) [
+      | inl later ↦ omega (arith, head, there.2, AllPairs-from_increasing members ascends 0 there.0 p later there.1)
+      | inr here ↦ let none : there.0 ≡ 0 = omega (arith, here) in omega (arith, head, rw none at there.2)
+    ]
 
--- ---- an insertion: the word of a number, and the same with its bit set
-module _ {capacity count : ℕ} {words : List ℕ} (packed : IsPacked capacity words count) {p n word : ℕ} (more d : ℕ) (below : p < capacity)
-    (n_is : n ≡ p)
-    (word_is : word ≡ get_or words (n / 64) d) (bits : (j : ℕ) → has_bit more j ≡ (eqb j (n % 64) || has_bit word j)) where
-  has_word : p / 64 < length words
-  has_word = omega (arith, packed.length_is, below)
+-- each member of a list is one of its members
+pub all_members : (members : List ℕ) → All (λ p. has_member members p ≡ true) members
+all_members members k d lt = list_any_at (λ q. eqb q (get_or members k d)) members k d lt ((Decides-eqb (get_or members k d) (get_or members k d)).1 refl)
 
-  is_word : word ≡ word_of words (p / 64)
-  is_word = rw n_is at word_is ∙ get_or_default words (p / 64) d 0 has_word
+-- ---- the members of a set are the numbers below its capacity that are members
+no_member : (ms : List ℕ) (a : ℕ) → All (λ p. a < p) ms → has_member ms a ≡ false
+no_member [] a above = refl
+no_member (m ∷ ms) a above =
+    let first : a < m = All-head (λ p. a < p) m ms above in
+    rw (ne_eqb m a (λ e. omega (arith, e, first))) (no_member ms a (All-tail (λ p. a < p) m ms above))
 
-  -- the bit was set: nothing changes
-  pub member_before : more ≡ word → is_set words p ≡ true
-  member_before stays = ap (λ w. has_bit w (p % 64)) (sym (stays ∙ is_word)) ∙ rw n_is at (bits (p % 64)) ∙ rw (eq-eqb (p % 64) (p % 64) refl) refl
+filtered : (ms : List ℕ) (a n : ℕ) → AllPairs (λ x y. x < y) ms → All (λ p. a ≤ p) ms → All (λ p. p < a + n) ms
+    → filter (has_member ms) (range_with_len a n) ≡ ms
+filtered [] a n pairs low high = filter_none (has_member []) a n (λ q from below. refl)
+filtered (m ∷ ms) a zero pairs low high = absurd (omega (arith, All-head (λ p. a ≤ p) m ms low, All-head (λ p. p < a + zero) m ms high))
+filtered (m ∷ ms) a (suc n) pairs low high =
+    let place : a + suc n ≡ (a + 1) + n = omega arith in
+    let later : All (λ p. m < p) ms = λ k d lt. pairs zero (suc k) d (omega arith) (omega (arith, lt)) in
+    let rest : AllPairs (λ x y. x < y) ms = λ i j d order lt. pairs (suc i) (suc j) d (omega (arith, order)) (omega (arith, lt)) in
+    let within : All (λ p. p < (a + 1) + n) (m ∷ ms) = rw place at high in
+    elim (cases_eq m a) [
+      | inl here ↦
+          let above : All (λ p. a + 1 ≤ p) ms = All-weaker (λ p. m < p) (λ p. a + 1 ≤ p) (λ p lt. omega (arith, here, lt)) ms later in
+          let same : filter (has_member (m ∷ ms)) (range_with_len (a + 1) n) ≡ filter (has_member ms) (range_with_len (a + 1) n) =
+          filter_alike (has_member (m ∷ ms)) (has_member ms) (a + 1) n (λ q from below. rw (ne_eqb m q (λ e. omega (arith, e, here, from))) refl) in
+          rw (eq-eqb m a here) (ap (λ (ps : List ℕ). a ∷ ps) (same ∙ filtered ms (a + 1) n rest above (All-tail (λ p. p < (a + 1) + n) m ms within))
+          ∙ ap (λ x. x ∷ ms) (sym here))
+      | inr other ↦
+          let first : a ≤ m = All-head (λ p. a ≤ p) m ms low in
+          let above : All (λ p. a < p) (m ∷ ms) =
+          All-cons (λ p. a < p) m ms (omega (arith, other, first)) (All-weaker (λ p. m < p) (λ p. a < p) (λ p lt. omega (arith, first, lt)) ms later) in
+          rw (no_member (m ∷ ms) a above) (filtered (m ∷ ms) (a + 1) n pairs
+          (All-weaker (λ p. a < p) (λ p. a + 1 ≤ p) (λ p lt. omega (arith, lt)) (m ∷ ms) above) within)
+    ]
 
-  pub same_at : is_set words p ≡ true → (q : ℕ) → is_set words q ≡ (eqb q p || is_set words q)
-  same_at is q = elim (cases_eq q p) [ inl eq ↦ rw (eq, eq-eqb p p refl) is | inr ne ↦ rw (ne_eqb q p ne) refl ]
-
-  -- the bit wasn't set: the words with it
-  pub new_member : (has_bit word (n % 64) ≡ true → more ≡ word) → more ≢ word → is_set words p ≡ false
-  new_member stays other = elim (cases_Bool (is_set words p)) [
-    | inl is ↦ absurd (other (stays (rw (n_is, is_word) is)))
-    | inr out ↦ out
-  ]
-
-  pub more_at : (q : ℕ) → is_set (set words (n / 64) more) q ≡ (eqb q p || is_set words q)
-  more_at = rw n_is (changed_bit words p more has_word (λ j. rw (n_is, is_word) at (bits j)))
-
-  pub more_packed : is_set words p ≡ false → IsPacked capacity (set words (n / 64) more) (count + 1)
-  more_packed out = record {
-    fits = packed.fits;
-    length_is = length-set words (n / 64) more ∙ packed.length_is;
-    spare_clear = spare_stays capacity words packed.spare_clear (set words (n / 64) more) p more_at below;
-    count_is = omega (arith, packed.count_is, one_more_member capacity words packed.spare_clear (set words (n / 64) more) p more_at below out);
-  }
+-- an insertion makes at most one member more
+pub one_more : (s : Patterns) (p : ℕ) → IsSet s → p < s.capacity
+    → length (with_member s p).members ≡ cond (has_member s.members p) (length s.members) (length s.members + 1)
+one_more s p is_set below =
+    let within : All (λ q. q < 0 + s.capacity) s.members = λ k d lt. omega (arith, is_set.below k d lt) in
+    let all : numbers_below s.capacity (has_member s.members) ≡ s.members =
+    filtered s.members 0 s.capacity (AllPairs-from_increasing s.members is_set.ascending) (λ k d lt. omega arith) within in
+    elim (cases_Bool (has_member s.members p)) [
+      | inl is ↦ rw is (ap length (filter_alike (λ q. eqb q p || has_member s.members q) (has_member s.members) 0 s.capacity (λ q from lt. had is q) ∙
+          all))
+      | inr out ↦ rw out (length_one_more (has_member s.members) (λ q. eqb q p || has_member s.members q) 0 s.capacity p (omega arith)
+          (omega (arith, below)) out (rw (eq-eqb p p refl) refl) (λ q ne. rw (ne_eqb q p ne) refl) ∙ ap (λ (ms : List ℕ). length ms + 1) all)
+    ]
+  where
+    had : has_member s.members p ≡ true → (q : ℕ) → (eqb q p || has_member s.members q) ≡ has_member s.members q
+    had is q = elim (cases_eq q p) [ inl e ↦ rw (e, eq-eqb p p refl, is) refl | inr ne ↦ rw (ne_eqb q p ne) refl ]

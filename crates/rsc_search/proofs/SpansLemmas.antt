@@ -9,9 +9,11 @@ use Rattle.rsc_search.specs.Spans.{cut}
 pub cut_reversed : (haystack : List ℕ) (s : Span) → s.end < s.start → cut haystack s ≡ None
 cut_reversed haystack s lt = grind (arith, common_steps)
 
+-- a span past the haystack cuts nothing out
 pub cut_past : (haystack : List ℕ) (s : Span) → length haystack < s.end → cut haystack s ≡ None
 cut_past haystack s lt = grind (arith, common_steps)
 
+-- a span within it cuts out the bytes between its ends
 pub cut_within : (haystack : List ℕ) (s : Span) → s.start ≤ s.end → s.end ≤ length haystack
     → cut haystack s ≡ Some (take (s.end - s.start) (drop s.start haystack))
 cut_within haystack s order within = grind (arith, common_steps)

@@ -22,7 +22,7 @@ use std::alloc::Allocator;
 use std::hash::Hash;
 
 /// An insertion makes its number a member, and no other number below the capacity: where it wasn't one, there is one member more.
-#[tactic(auto, using(crate::proofs::MembersLemmas::one_more, crate::proofs::PatternSetsLemmas::member_if_inserted))]
+#[tactic(auto, using(crate::proofs::PatternSetsLemmas::one_more, crate::proofs::PatternSetLayoutLemmas::member_if_inserted))]
 pub fn insertion_adds_one_member()
     ensures count { (s : Patterns) (p : ℕ) → IsSet s → p < s.capacity →
         length (with_member s p).members ≡ (if has_member s.members p then length s.members else length s.members + 1) }
@@ -36,7 +36,7 @@ pub fn boundary_is_tested()
 {}
 
 /// The test of membership is true of the elements of the list of members, in std's word. The least comes first.
-#[tactic(auto, using(crate::proofs::MembersLemmas::is_contained, crate::proofs::MembersLemmas::first_is_least))]
+#[tactic(auto, using(crate::proofs::PatternSetsLemmas::is_contained, crate::proofs::PatternSetsLemmas::first_is_least))]
 pub fn members_are_contained()
     ensures contained { (members : List ℕ) (p : ℕ) → (has_member members p ≡ true) ↔ Contains members p }
     ensures least { (members rest : List ℕ) (first p : ℕ) → members ≡ first ∷ rest → IsStrictlyIncreasing members →

@@ -132,7 +132,7 @@ impl<A: Allocator> PatternSet<A> {
 
     /// Whether there is no member.
     #[inline]
-    #[tactic(auto, using(crate::proofs::PatternSetsLemmas::is_set_below))]
+    #[tactic(auto, using(crate::proofs::PatternSetLayoutLemmas::is_set_below))]
     pub fn is_empty(&self) -> bool
         ensures empty { IsTrue result ↔ (length self.now.members ≡ 0) }
         ensures set { IsSet self.now }
@@ -142,7 +142,7 @@ impl<A: Allocator> PatternSet<A> {
 
     /// Whether each pattern below the capacity is a member: there are as many members as the capacity says.
     #[inline]
-    #[tactic(auto, using(crate::proofs::PatternSetsLemmas::is_set_below))]
+    #[tactic(auto, using(crate::proofs::PatternSetLayoutLemmas::is_set_below))]
     pub fn is_full(&self) -> bool
         ensures full { IsTrue result ↔ (length self.now.members ≡ self.now.capacity) }
         ensures set { IsSet self.now }
@@ -162,7 +162,7 @@ impl<A: Allocator> PatternSet<A> {
 
     /// The capacity: a member is below it.
     #[inline]
-    #[tactic(auto, using(crate::proofs::PatternSetsLemmas::is_set_below))]
+    #[tactic(auto, using(crate::proofs::PatternSetLayoutLemmas::is_set_below))]
     pub fn capacity(&self) -> usize
         ensures capacity { result ≡ self.now.capacity }
         ensures bound { result ≤ PatternID.LIMIT }

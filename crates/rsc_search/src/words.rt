@@ -17,7 +17,7 @@ pub(crate) fn has_bit(word: u64, i: usize) -> bool
 
 /// The word with bit `i` set: the same word where it was.
 #[inline(always)]
-#[tactic(auto, using(crate::proofs::BitsLemmas::bit_set, crate::proofs::BitsLemmas::bit_stays))]
+#[tactic(auto, using(crate::proofs::WordLayoutLemmas::bit_set, crate::proofs::WordLayoutLemmas::bit_stays))]
 pub(crate) fn with_bit(word: u64, i: usize) -> u64
     requires { i < 64 }
     ensures bits { (j : ℕ) → has_bit result j ≡ (j == i || has_bit word j) }
@@ -28,7 +28,7 @@ pub(crate) fn with_bit(word: u64, i: usize) -> u64
 
 /// The word without its lowest set bit.
 #[inline(always)]
-#[tactic(auto, using(crate::proofs::BitsLemmas::lowest_taken))]
+#[tactic(auto, using(crate::proofs::WordLayoutLemmas::lowest_taken))]
 pub(crate) fn without_lowest(word: u64) -> u64
     requires { 0 < word }
     ensures { IsWithout word (trailing_zeros w64 word) result }

@@ -1,6 +1,6 @@
 use Rattle.std.proofs.Common.{◌<◌, ◌^◌, ◌+◌, refl}
 use Rattle.rsc_search.specs.WordLayout.{word_of}
-use Rattle.rsc_search.proofs.WordsLemmas.{whole_from, order_from, clear_from}
+use Rattle.rsc_search.proofs.WordLayoutLemmas.{whole_from, order_from, clear_from}
 use Rattle.rsc_search.proofs.words.first_from.Goals as goal
 
 pub loop-word-preserved : goal.loop-word-preserved

@@ -1,5 +1,5 @@
 use Rattle.std.proofs.Common.{◌<◌, ◌^◌, ℕ, get_or, rules}
-use Rattle.rsc_search.proofs.WordsLemmas.{decides_bits}
+use Rattle.rsc_search.proofs.WordLayoutLemmas.{decides_bits}
 use Rattle.rsc_search.proofs.words.have_same_bits.Goals as goal
 
 pub returns : goal.returns

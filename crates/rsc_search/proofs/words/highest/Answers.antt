@@ -1,6 +1,6 @@
 use Rattle.std.proofs.Common.{arith, w64}
 use Rattle.std.specs.Int.{leading_zeros}
-use Rattle.rsc_search.proofs.BitsLemmas.{length_some, place_by_xor}
+use Rattle.rsc_search.proofs.WordLayoutLemmas.{length_some, place_by_xor}
 use Rattle.rsc_search.proofs.words.highest.Goals as goal
 
 pub returns : goal.returns

@@ -1,5 +1,5 @@
 use Rattle.std.proofs.Common.{◌-◌}
-use Rattle.rsc_search.proofs.WordsLemmas.{whole_to, order_to, clear_to}
+use Rattle.rsc_search.proofs.WordLayoutLemmas.{whole_to, order_to, clear_to}
 use Rattle.rsc_search.proofs.words.last_until.Goals as goal
 
 pub loop-word-preserved : goal.loop-word-preserved

@@ -1,6 +1,6 @@
 use Rattle.std.proofs.Common.{arith}
 use Rattle.rsc_search.specs.WordLayout.{highest_place}
-use Rattle.rsc_search.proofs.BitsLemmas.{bit_taken, highest_set, length_some}
+use Rattle.rsc_search.proofs.WordLayoutLemmas.{bit_taken, highest_set, length_some}
 use Rattle.rsc_search.proofs.words.without_highest.Goals as goal
 
 pub returns : goal.returns

@@ -1,5 +1,5 @@
 use Rattle.std.proofs.Common.{◌≡◌, ◌++◌, drop, length, replicate, take, refl, ap, ◌∙◌}
-use Rattle.rsc_search.proofs.PatternSetsLemmas.{all_zeros, no_members, zeros_packed}
+use Rattle.rsc_search.proofs.PatternSetLayoutLemmas.{all_zeros, no_members, zeros_packed}
 use Rattle.rsc_search.proofs.pattern_set.PatternSet.clear.Goals as goal
 use Rattle.rsc_search.proofs.pattern_set.PatternSet.clear.Goals.{After-clear_all}
 

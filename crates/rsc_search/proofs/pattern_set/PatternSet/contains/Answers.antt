@@ -1,6 +1,6 @@
 use Rattle.std.proofs.Common.{◌≡◌, sym, ◌∙◌}
 use Rattle.rsc_search.specs.WordLayout.{is_set}
-use Rattle.rsc_search.proofs.PatternSetsLemmas.{is_set_below, has_member-set}
+use Rattle.rsc_search.proofs.PatternSetLayoutLemmas.{is_set_below, has_member-set}
 use Rattle.rsc_search.proofs.pattern_set.PatternSet.contains.Goals as goal
 
 pub returns-clause-value : goal.returns-clause-value

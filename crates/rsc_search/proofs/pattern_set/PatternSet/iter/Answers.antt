@@ -1,9 +1,8 @@
 use Rattle.std.proofs.Common.{refl}
 use Rattle.rsc_search.specs.PatternSets.{IsSet}
 use Rattle.rsc_search.specs.PatternSetLayout.{patterns_of}
-use Rattle.rsc_search.proofs.IteratorLemmas.{begins_between, left_members}
-use Rattle.rsc_search.proofs.MembersLemmas.{all_members}
-use Rattle.rsc_search.proofs.PatternSetsLemmas.{is_set_below}
+use Rattle.rsc_search.proofs.PatternSetLayoutLemmas.{begins_between, left_members, is_set_below}
+use Rattle.rsc_search.proofs.PatternSetsLemmas.{all_members}
 use Rattle.rsc_search.proofs.pattern_set.PatternSet.iter.Goals as goal
 
 pub invariant_of-result : goal.invariant_of-result

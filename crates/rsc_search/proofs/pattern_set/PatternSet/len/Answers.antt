@@ -1,5 +1,5 @@
 use Rattle.std.proofs.Common.{arith}
-use Rattle.rsc_search.proofs.PatternSetsLemmas.{is_set_below, members_within}
+use Rattle.rsc_search.proofs.PatternSetLayoutLemmas.{is_set_below, members_within}
 use Rattle.rsc_search.proofs.pattern_set.PatternSet.len.Goals as goal
 
 pub returns-clause-within : goal.returns-clause-within

@@ -1,5 +1,5 @@
 use Rattle.std.proofs.Common.{◌≡◌, length, replicate, refl}
-use Rattle.rsc_search.proofs.PatternSetsLemmas.{no_members, zeros_packed}
+use Rattle.rsc_search.proofs.PatternSetLayoutLemmas.{no_members, zeros_packed}
 use Rattle.rsc_search.proofs.pattern_set.PatternSet.new.Goals as goal
 
 pub invariant_of-result : goal.invariant_of-result

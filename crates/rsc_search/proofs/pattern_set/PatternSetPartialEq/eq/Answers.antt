@@ -1,7 +1,7 @@
 use Rattle.std.proofs.Common.{◌≡◌, ◌≤◌, ◌↔◌, ℕ, length, true, false, ap, sym, ◌∙◌}
 use Rattle.std.specs.Int.{div_ceil}
 use Rattle.rsc_search.specs.WordLayout.{is_set, SameBits}
-use Rattle.rsc_search.proofs.PatternSetsLemmas.{same_by_bits}
+use Rattle.rsc_search.proofs.PatternSetLayoutLemmas.{same_by_bits}
 use Rattle.rsc_search.proofs.pattern_set.PatternSetPartialEq.eq.Goals as goal
 
 pub returns-then-self-other : goal.returns-then-self-other

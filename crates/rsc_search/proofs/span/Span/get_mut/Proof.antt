@@ -44,7 +44,7 @@ use Rattle.std.proofs.alloc.Shapes.{after}
 use Rattle.std.proofs.option.Made.{Some-of, none_of}
 use Rattle.std.specs.contracts.option.Option as option
 use Rattle.rsc_search.proofs.SpansLemmas.{cut_reversed, cut_past, cut_within, cut_apart}
-use Rattle.rsc_search.proofs.PartsLent.{part_lent, lends_part}
+use Rattle.rsc_search.proofs.LendingLemmas.{part_lent, lends_part}
 use Rattle.rsc_search.specs.Spans.{cut}
 use Rattle.rsc_search.specs.declared.span.Span.{Span}
 use Rattle.rsc_search.specs.contracts.span.Span as span

@@ -1,5 +1,5 @@
 use Rattle.std.proofs.Common.{rules, sym, ◌∙◌, arith, length-append}
-use Rattle.rsc_search.proofs.IteratorLemmas.{back_some, back_fits, back_step, back_between}
+use Rattle.rsc_search.proofs.PatternSetLayoutLemmas.{back_some, back_fits, back_step, back_between}
 use Rattle.rsc_search.proofs.pattern_set.iter.PatternSetIterDoubleEndedIterator.next_back.Goals as goal
 
 pub overflow_mul-p : goal.overflow_mul-p

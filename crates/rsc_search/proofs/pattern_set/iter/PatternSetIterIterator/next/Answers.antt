@@ -1,5 +1,5 @@
 use Rattle.std.proofs.Common.{rules, sym, ◌∙◌, arith}
-use Rattle.rsc_search.proofs.IteratorLemmas.{front_some, front_fits, front_step, front_between}
+use Rattle.rsc_search.proofs.PatternSetLayoutLemmas.{front_some, front_fits, front_step, front_between}
 use Rattle.rsc_search.proofs.pattern_set.iter.PatternSetIterIterator.next.Goals as goal
 
 pub overflow_mul-p : goal.overflow_mul-p
