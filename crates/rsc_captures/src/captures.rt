@@ -218,7 +218,7 @@ impl<A: Allocator + Clone + Drop> Captures<A> {
     }
 
     // `get_group`, with the one exact clause.
-    #[tactic(auto, using(crate::proofs::SpanAt::none_past))]
+    #[tactic(auto, using(crate::proofs::CapturedLemmas::none_past))]
     #[inline]
     fn group_span(&self, index: usize) -> Option<Span>
         ensures span { result ≡ group_span self.now index }
@@ -251,7 +251,7 @@ impl<A: Allocator + Clone + Drop> Captures<A> {
     }
 
     /// The span of each group of the pattern that matched, in order, or `None` for one that takes no part.
-    #[tactic(auto, using(crate::proofs::Spans::spans_counted))]
+    #[tactic(auto, using(crate::proofs::CapturedLemmas::spans_counted))]
     #[inline]
     pub fn iter(&self) -> CapturesPatternIter<'_, A>
         ensures spans { result ≡ matched_spans self.now }

@@ -143,7 +143,7 @@ impl<A: Allocator + Clone + Drop> GroupInfo<A> {
     }
 
     /// All groups by pattern and then by group, each with its pattern, its number and its name, if it has one.
-    #[tactic(auto, using(crate::proofs::NamesCounted::names_counted))]
+    #[tactic(auto, using(crate::proofs::NameIteratorsLemmas::names_counted))]
     #[inline]
     pub fn all_names(&self) -> GroupInfoAllNames<'_, A>
         ensures groups { result ≡ all_names_of self.now }
@@ -176,7 +176,7 @@ impl<A: Allocator + Clone + Drop> GroupInfo<A> {
     }
 
     /// How many groups a pattern has: none where there is no such pattern.
-    #[tactic(auto, using(crate::proofs::Clear::some_group))]
+    #[tactic(auto, using(crate::proofs::FaultsLemmas::some_group))]
     #[inline]
     pub fn group_len(&self, pid: PatternID) -> usize
         ensures value { result ≡ group_count self.now pid }
@@ -223,7 +223,7 @@ impl<A: Allocator + Clone + Drop> GroupInfo<A> {
     }
 
     /// How many slots there are: two for each group. Each of them is a slot of exactly one group.
-    #[tactic(auto, using(crate::proofs::Owners::each_owned))]
+    #[tactic(auto, using(crate::proofs::SlotOwnersLemmas::each_owned))]
     #[inline]
     pub fn slot_len(&self) -> usize
         ensures value { result ≡ 2 * all_groups self.now }
@@ -243,7 +243,7 @@ impl<A: Allocator + Clone + Drop> GroupInfo<A> {
     }
 
     /// How many slots the first groups have: two for each pattern. They come before all others.
-    #[tactic(auto, using(crate::proofs::Firsts::all_groups_are))]
+    #[tactic(auto, using(crate::proofs::NamesLayoutLemmas::all_groups_are))]
     #[inline]
     pub fn implicit_slot_len(&self) -> usize
         ensures value { result ≡ 2 * length self.now }
@@ -253,7 +253,7 @@ impl<A: Allocator + Clone + Drop> GroupInfo<A> {
     }
 
     /// How many slots all other groups have.
-    #[tactic(auto, using(crate::proofs::Firsts::all_groups_are))]
+    #[tactic(auto, using(crate::proofs::NamesLayoutLemmas::all_groups_are))]
     #[inline]
     pub fn explicit_slot_len(&self) -> usize
         ensures { result ≡ 2 * all_groups self.now - 2 * length self.now }

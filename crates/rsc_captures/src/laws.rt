@@ -17,7 +17,7 @@ pub fn one_first_fault()
 
 /// Two groups share no slot: a slot has one group, two groups with one first slot are one, and a first slot is no
 /// group's second.
-#[tactic(auto, using(crate::proofs::Owners::one_start, crate::proofs::Owners::start_no_end))]
+#[tactic(auto, using(crate::proofs::SlotOwnersLemmas::one_start, crate::proofs::SlotOwnersLemmas::start_no_end))]
 pub fn slots_are_apart()
     ensures owner { (lists : GroupLists) (s p g q h : ℕ) → IsSlotOf lists p g s → IsSlotOf lists q h s → (p ≡ q) × (g ≡ h) }
     ensures first { (lists : GroupLists) (p g q h s : ℕ) → slot_of lists p g ≡ Some s → slot_of lists q h ≡ Some s → (p ≡ q) × (g ≡ h) }
@@ -26,14 +26,14 @@ pub fn slots_are_apart()
 
 /// The spans that [`crate::Captures::iter`] gives are as many as the groups of the pattern that matched, and each is the
 /// span of the group at its place.
-#[tactic(auto, using(crate::proofs::Spans::spans_counted, crate::proofs::Spans::span_by_place))]
+#[tactic(auto, using(crate::proofs::CapturedLemmas::spans_counted, crate::proofs::CapturedLemmas::span_by_place))]
 pub fn spans_by_place()
     ensures count { (c : Captured) → length (matched_spans c) ≡ matched_groups c }
     ensures each { (c : Captured) (i : ℕ) → i < matched_groups c → slice_index_or (matched_spans c) i None ≡ group_span c i }
 {}
 
 /// What [`crate::GroupInfo::all_names`] gives is as many as all groups.
-#[tactic(auto, using(crate::proofs::NamesCounted::names_counted))]
+#[tactic(auto, using(crate::proofs::NameIteratorsLemmas::names_counted))]
 pub fn names_are_counted()
     ensures { (lists : GroupLists) → length (all_names_of lists) ≡ all_groups lists }
 {}

@@ -76,7 +76,7 @@ impl<A: Allocator + Clone + Drop> SharedLists<A> {
     }
 
     /// How many groups a pattern has: none where there is no such pattern.
-    #[tactic(auto, using(crate::proofs::Firsts::groups_more))]
+    #[tactic(auto, using(crate::proofs::NamesLayoutLemmas::groups_more))]
     #[inline]
     pub(crate) fn group_len(&self, p: usize) -> usize
         ensures value { result ≡ group_count self.now p }
@@ -163,7 +163,7 @@ impl<A: Allocator + Clone + Drop> SharedLists<A> {
     }
 
     // The group that has the name, by looking at one after another.
-    #[tactic(auto, using(crate::proofs::Indexed::index_of_first, std::proofs::lemmas::List::Folds::list_any_more))]
+    #[tactic(auto, using(crate::proofs::GroupsLemmas::index_of_first, std::proofs::lemmas::List::Folds::list_any_more))]
     #[inline]
     fn find_by_scan(&self, p: usize, name: &str) -> Option<usize>
         requires { p < length self.now }
@@ -191,7 +191,7 @@ impl<A: Allocator + Clone + Drop> SharedLists<A> {
     }
 
     // The name of a group that the pattern has, if the group has one.
-    #[tactic(auto, using(crate::proofs::Owners::pattern_in, crate::proofs::Parts::name_in))]
+    #[tactic(auto, using(crate::proofs::SlotOwnersLemmas::pattern_in, crate::proofs::LayoutLemmas::name_in))]
     #[inline]
     fn name_within(&self, p: usize, group: usize) -> Option<&str>
         requires { group < group_count self.now p }

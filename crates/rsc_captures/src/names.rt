@@ -42,7 +42,7 @@ impl<A: Allocator> Model for NameList<A> {
 
 impl<A: Allocator + Clone + Drop> NameList<A> {
     /// The names of all groups of these lists, by pattern and then by group.
-    #[tactic(auto, using(crate::proofs::Places::flat_more))]
+    #[tactic(auto, using(crate::proofs::GroupsLemmas::flat_more))]
     pub(crate) fn new(alloc: A, lists: &[&[Option<&str>]]) -> Result<NameList<A>, AllocError>
         ensures { IfOk result (λ names. names ≡ flat_map (λ groups. groups) (lists_in lists.now)) }
     {

@@ -47,7 +47,7 @@ pub(crate) fn add_order<A: Allocator>(
 }
 
 // Adds that many numbers from 0 on.
-#[tactic(auto, using(crate::proofs::Ordered::counted_more, std::proofs::lemmas::List::append_assoc))]
+#[tactic(auto, using(crate::proofs::OrderLayoutLemmas::counted_more, std::proofs::lemmas::List::append_assoc))]
 fn add_numbers<A: Allocator>(order: &mut Vec<u32, A>, count: usize) -> Result<(), AllocError>
     requires { count ≤ LIMIT_OF_IDS }
     ensures { OnOk result (order.new.items ≡ order.old.items ++ range_with_len 0 count) }

@@ -97,7 +97,7 @@ fn first_repeat(groups: &[Option<&str>], table: &mut [u32]) -> Option<usize>
 }
 
 // The first group whose name a lesser one has that is in the block, which are the first groups and whose order is given.
-#[tactic(auto, using(crate::proofs::Blocks::apart_from_distinct, crate::proofs::Blocks::repeat_in_block, crate::proofs::Blocks::repeat_found))]
+#[tactic(auto, using(crate::proofs::RepeatsLayoutLemmas::apart_from_distinct, crate::proofs::RepeatsLayoutLemmas::repeat_in_block, crate::proofs::RepeatsLayoutLemmas::repeat_found))]
 fn repeat_of_block(groups: &[Option<&str>], order: &[u32]) -> Option<usize>
     requires within { length order.now ≤ length groups.now }
     requires order { IsOrder order.now (groups_in (take (length order.now) groups.now)) }

@@ -30,7 +30,7 @@ impl<'a, A: Allocator> Model for CapturesPatternIter<'a, A> {
 
 impl<'a, A: Allocator + Clone + Drop> CapturesPatternIter<'a, A> {
     /// How many groups are left.
-    #[tactic(auto, using(crate::proofs::Spans::spans_counted))]
+    #[tactic(auto, using(crate::proofs::CapturedLemmas::spans_counted))]
     #[inline]
     pub fn len(&self) -> usize
         ensures { result ≡ length self.now }
@@ -46,7 +46,7 @@ impl<'a, A: Allocator + Clone + Drop> Iterator for CapturesPatternIter<'a, A> {
 
     ghost remaining = { item_count (λ rest. rest) };
 
-    #[tactic(auto, using(crate::proofs::Spans::spans_from_first))]
+    #[tactic(auto, using(crate::proofs::CapturedLemmas::spans_from_first))]
     #[inline]
     fn next(&mut self) -> Option<Option<Span>> {
         let group = self.next_group;

@@ -1,6 +1,6 @@
 use Rattle.std.proofs.Common.{◌≡◌, ◌<◌, ◌-◌, ◌/◌, length, arith}
-use Rattle.rsc_captures.proofs.FirstFault.{other_at, too_many, past_limit}
-use Rattle.rsc_captures.proofs.Places.{length-lists_in, group_count_in}
+use Rattle.rsc_captures.proofs.FaultsLayoutLemmas.{other_at, too_many, past_limit}
+use Rattle.rsc_captures.proofs.GroupsLemmas.{length-lists_in, group_count_in}
 use Rattle.rsc_captures.proofs.faults.first_other_fault.Goals as goal
 
 pub returns-in-Err : goal.returns-in-Err
@@ -9,10 +9,9 @@ returns-in-Err c = other_at c.loop-p.invariant.places _ (rw length-lists_in (ome
 pub returns-then-explicit-room : goal.returns-then-explicit-room
 returns-then-explicit-room c =
     let lt : c.loop-p.p < length c.args.lists.now = omega arith in
-    let so_far = c.loop-p.invariant in
-    rw c.in-Ok.ensures.ok.0 (too_many c.loop-p.p (c.args.limit / 2 - c.loop-p.before) so_far.places c.in-Ok.ensures.ok.1 (rw length-lists_in lt)
-    (omega (arith, c.if-explicit-room.true, group_count_in _ _ lt)) (omega (arith, so_far.before, so_far.places.within))
-    (omega (arith, so_far.before)))
+    rw c.in-Ok.ensures.ok.0 (too_many c.loop-p.p (c.args.limit / 2 - c.loop-p.before) c.loop-p.invariant.places c.in-Ok.ensures.ok.1
+    (rw length-lists_in lt) (omega (arith, c.if-explicit-room.true, group_count_in _ _ lt))
+    (omega (arith, c.loop-p.invariant.before, c.loop-p.invariant.places.within)) (omega (arith, c.loop-p.invariant.before)))
 
 pub returns : goal.returns
 returns c =

@@ -1,17 +1,17 @@
 use Rattle.std.proofs.Common.{◌≡◌, ◌<◌, ◌≤◌, length, inl, arith}
 use Rattle.rsc_captures.proofs.Words.{lists_in, Fault, slots_end, fault_found, IsFirstRepeatBefore}
-use Rattle.rsc_captures.proofs.Clear.{pattern_clear, before_more}
-use Rattle.rsc_captures.proofs.FirstFault.{MatchOption-some_weaker}
-use Rattle.rsc_captures.proofs.Places.{length-lists_in, in_lists, groups_of_in, group_count_in}
-use Rattle.rsc_captures.proofs.Parts.{ordered_more}
-use Rattle.rsc_captures.proofs.RepeatsFound.{repeat_of_pattern, none_more}
+use Rattle.rsc_captures.proofs.FaultsLemmas.{pattern_clear, before_more}
+use Rattle.rsc_captures.proofs.FaultsLayoutLemmas.{MatchOption-some_weaker}
+use Rattle.rsc_captures.proofs.GroupsLemmas.{length-lists_in, in_lists, groups_of_in, group_count_in}
+use Rattle.rsc_captures.proofs.LayoutLemmas.{ordered_more}
+use Rattle.rsc_captures.proofs.RepeatsLayoutLemmas.{repeat_of_pattern, none_more}
 use Rattle.rsc_captures.proofs.group_info.order_of.Goals as goal
 
 pub add_order-requires : goal.add_order-requires
 add_order-requires g c =
-    let lt : c.loop-p.p < length c.args.lists.now = omega arith in
-    let within : slots_end (lists_in c.args.lists.now) c.loop-p.p ≤ 2147483646 = c.requires.slots c.loop-p.p (in_lists _ _ lt) in
-    omega (arith, within, before_more (lists_in c.args.lists.now) c.loop-p.p (in_lists _ _ lt), group_count_in _ _ lt, in_lists _ _ lt)
+    let lt = in_lists c.args.lists.now c.loop-p.p (omega arith) in
+    let within : slots_end (lists_in c.args.lists.now) c.loop-p.p ≤ 2147483646 = c.requires.slots c.loop-p.p lt in
+    omega (arith, within, before_more (lists_in c.args.lists.now) c.loop-p.p lt, group_count_in c.args.lists.now c.loop-p.p (omega arith), lt)
 
 pub repeated-requires-clause-number : goal.repeated-requires-clause-number
 repeated-requires-clause-number g c =
@@ -19,9 +19,8 @@ repeated-requires-clause-number g c =
 
 pub returns-in-Some-clause-err : goal.returns-in-Some-clause-err
 returns-in-Some-clause-err g c =
-    let lt : c.loop-p.p < length c.args.lists.now = omega arith in
-    let first = rw (← groups_of_in _ _ lt) at c.in-Some.ensures in
-    let found = repeat_of_pattern _ _ _ (length c.args.lists.now) 0 _ c.loop-p.invariant.none first c.repeated.ensures.1 (inl lt) in
+    let first = rw (← groups_of_in c.args.lists.now c.loop-p.p (omega arith)) at c.in-Some.ensures in
+    let found = repeat_of_pattern _ _ _ (length c.args.lists.now) 0 _ c.loop-p.invariant.none first c.repeated.ensures.1 (inl (omega arith)) in
     MatchOption-some_weaker c.refusal.result _ _ (IsFirstRepeatBefore (lists_in c.args.lists.now) (length c.args.lists.now) 0)
     (λ (f : Fault) (same : f ≡ fault_found c.repeated.result). rw (same, c.repeated.ensures.2) found) c.refusal.ensures
 

@@ -1,4 +1,4 @@
-use Rattle.rsc_captures.proofs.Owners.{one_owner}
+use Rattle.rsc_captures.proofs.SlotOwnersLemmas.{one_owner}
 use Rattle.rsc_captures.proofs.laws.slots_are_apart.Goals as goal
 
 pub returns-clause-owner : goal.returns-clause-owner

@@ -1,7 +1,7 @@
 use Rattle.std.proofs.Common.{◌<◌, ◌∷◌, [], length, take, get_or, None, arith, option_copied, string_bytes, append_assoc}
 use Rattle.rsc_captures.proofs.Words.{groups_in, names_held}
-use Rattle.rsc_captures.proofs.Places.{take_groups_more}
-use Rattle.rsc_captures.proofs.Held.{held_more}
+use Rattle.rsc_captures.proofs.GroupsLemmas.{take_groups_more}
+use Rattle.rsc_captures.proofs.NamesLayoutLemmas.{held_more}
 use Rattle.rsc_captures.proofs.names.hold_names.Goals as goal
 
 pub loop-group-preserved : goal.loop-group-preserved

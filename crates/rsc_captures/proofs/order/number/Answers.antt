@@ -1,6 +1,6 @@
 use Rattle.std.proofs.Common.{◌<◌, ◌++◌, ◌∷◌, [], length, ap, sym, ◌∙◌, arith}
 use Rattle.std.proofs.lemmas.List.{length-set, take_more_set}
-use Rattle.rsc_captures.proofs.Ordered.{counted_more}
+use Rattle.rsc_captures.proofs.OrderLayoutLemmas.{counted_more}
 use Rattle.rsc_captures.proofs.order.number.Goals as goal
 
 pub loop-i-preserved : goal.loop-i-preserved

@@ -1,7 +1,7 @@
 use Rattle.std.proofs.Common.{length, option_copied}
 use Rattle.std.proofs.lemmas.List.{length-map}
 use Rattle.std.proofs.lemmas.List.Sorted.{Contains-permutation}
-use Rattle.rsc_captures.proofs.Ordered.{has_counted}
+use Rattle.rsc_captures.proofs.OrderLayoutLemmas.{has_counted}
 use Rattle.rsc_captures.proofs.order.put_in_order.Goals as goal
 
 pub returns-clause-order : goal.returns-clause-order

@@ -1,6 +1,6 @@
 use Rattle.std.proofs.Common.{get_or, None, rules}
 use Rattle.std.proofs.lemmas.Fn.{always_returns_same}
-use Rattle.rsc_captures.proofs.Ordered.{sorted_in}
+use Rattle.rsc_captures.proofs.OrderLayoutLemmas.{sorted_in}
 use Rattle.rsc_captures.proofs.order.sort_by_name.Goals as goal
 
 -- the closure answers a group's name and the group, so the sort is by both

@@ -1,7 +1,7 @@
 use Rattle.std.proofs.Common.{◌≡◌, ◌≤◌, ◌++◌, length, take, drop, ◌∙◌, arith}
 use Rattle.std.proofs.lemmas.List.{length-map, length-append, length-drop, length-take-le}
 use Rattle.rsc_captures.specs.Groups.{groups_in}
-use Rattle.rsc_captures.proofs.Blocks.{length_rest, apart_blocks, repeat_of_rest, distinct_from_apart}
+use Rattle.rsc_captures.proofs.RepeatsLayoutLemmas.{length_rest, apart_blocks, repeat_of_rest, distinct_from_apart}
 use Rattle.rsc_captures.proofs.repeats.first_repeat.Goals.{in-Some, in_default}
 use Rattle.rsc_captures.proofs.repeats.first_repeat.Goals as goal
 

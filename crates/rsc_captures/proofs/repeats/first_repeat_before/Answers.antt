@@ -1,23 +1,27 @@
-use Rattle.std.proofs.Common.{◌<◌, length, ◌∙◌, arith}
-use Rattle.rsc_captures.proofs.Places.{group_count_in}
-use Rattle.rsc_captures.proofs.RepeatsFound.{distinct_handed, first_handed, repeat_of_pattern, none_before, none_so_far}
+use Rattle.std.proofs.Common.{◌≡◌, ◌<◌, length, ◌∙◌, arith}
+use Rattle.rsc_captures.proofs.GroupsLemmas.{group_count_in}
+use Rattle.rsc_captures.proofs.RepeatsLayoutLemmas.{distinct_handed, first_handed, repeat_of_pattern, none_before, none_so_far}
+use Rattle.rsc_captures.proofs.Words.{lists_in, groups_of, IsFirstRepeat}
+use Rattle.rsc_captures.proofs.repeats.first_repeat_before.Goals.{In-Some}
 use Rattle.rsc_captures.proofs.repeats.first_repeat_before.Goals as goal
+
+-- the group is the pattern's first repeated name
+found : (c : In-Some) → (c.in-Some.g < c.count_before-end.result) × IsFirstRepeat (groups_of (lists_in c.args.lists.now) c.loop-p.p) c.in-Some.g
+found c = first_handed c.args.lists.now c.loop-p.p _ (omega arith) c.count_before-end.ensures.within c.in-Some.ensures.repeat
 
 pub repeated-requires-clause-number : goal.repeated-requires-clause-number
 repeated-requires-clause-number c =
-    let found = first_handed c.args.lists.now c.loop-p.p _ (omega arith) c.count_before-end.ensures.within c.in-Some.ensures.repeat in
-    c.requires c.loop-p.p (c.count_before-end.ensures.before 0 (omega (arith, found.0)))
+    c.requires c.loop-p.p (c.count_before-end.ensures.before 0 (omega (arith, (found (goal.at.repeated-requires-clause-number c).In-Some).0)))
 
 pub repeated-requires-clause-repeats : goal.repeated-requires-clause-repeats
-repeated-requires-clause-repeats c =
-    (first_handed c.args.lists.now c.loop-p.p _ (omega arith) c.count_before-end.ensures.within c.in-Some.ensures.repeat).1.repeats
+repeated-requires-clause-repeats c = (found (goal.at.repeated-requires-clause-repeats c).In-Some).1.repeats
 
 pub returns-in-Some : goal.returns-in-Some
 returns-in-Some c =
-    let found = first_handed c.args.lists.now c.loop-p.p _ (omega arith) c.count_before-end.ensures.within c.in-Some.ensures.repeat in
+    let first = found (goal.at.returns-in-Some c).In-Some in
     let earlier = none_before _ c.loop-p.p c.args.place.0 _ (omega arith) c.loop-p.invariant.none in
-    let before = c.count_before-end.ensures.before c.in-Some.g found.0 in
-    rw c.repeated.ensures.2 (repeat_of_pattern _ _ _ _ _ _ earlier found.1 c.repeated.ensures.1 before)
+    let before = c.count_before-end.ensures.before c.in-Some.g first.0 in
+    rw c.repeated.ensures.2 (repeat_of_pattern _ _ _ _ _ _ earlier first.1 c.repeated.ensures.1 before)
 
 pub loop-p-preserved : goal.loop-p-preserved
 loop-p-preserved c =

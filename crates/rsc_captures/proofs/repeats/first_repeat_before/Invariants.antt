@@ -1,6 +1,6 @@
 use Rattle.std.proofs.Common.{◌≡◌, length}
 use Rattle.rsc_captures.specs.Groups.{lists_in}
-use Rattle.rsc_captures.proofs.RepeatsFound.{NoneSoFar}
+use Rattle.rsc_captures.proofs.RepeatsLayoutLemmas.{NoneSoFar}
 use Rattle.rsc_captures.proofs.repeats.first_repeat_before.Given as goal
 
 abbrev pub invariant-loop-p : goal.invariant-loop-p

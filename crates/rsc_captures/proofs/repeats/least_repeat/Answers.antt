@@ -1,7 +1,7 @@
 use Rattle.std.proofs.Common.{◌≡◌, ◌-◌, get_or, option_copied, true≢false, sym, ◌∙◌, arith}
 use Rattle.std.proofs.lemmas.List.{length-map}
 use Rattle.rsc_captures.specs.Groups.{groups_in}
-use Rattle.rsc_captures.proofs.Ordered.{is_repeat-from, above_more, distinct_from_order}
+use Rattle.rsc_captures.proofs.OrderLayoutLemmas.{is_repeat-from, above_more, distinct_from_order}
 use Rattle.rsc_captures.proofs.repeats.least_repeat.Goals.{then-group-least+then-has_name_of, else-group-least, else-group-least-via-then-group-least+else-has_name_of, else-group-least-via-else-group-least}
 use Rattle.rsc_captures.proofs.repeats.least_repeat.Goals as goal
 

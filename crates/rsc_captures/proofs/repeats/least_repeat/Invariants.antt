@@ -1,6 +1,6 @@
 use Rattle.std.proofs.Common.{◌≡◌, ◌<◌, ◌≤◌, true, length}
 use Rattle.rsc_captures.proofs.Words.{groups_in, is_repeat}
-use Rattle.rsc_captures.proofs.Ordered.{IsBound}
+use Rattle.rsc_captures.proofs.OrderLayoutLemmas.{IsBound}
 use Rattle.rsc_captures.proofs.repeats.least_repeat.Given as goal
 
 -- no lesser group so far comes right after one with its name

@@ -1,5 +1,5 @@
 use Rattle.std.proofs.Common.{length}
-use Rattle.rsc_captures.proofs.Blocks.{apart_unnamed, apart_absent}
+use Rattle.rsc_captures.proofs.RepeatsLayoutLemmas.{apart_unnamed, apart_absent}
 use Rattle.rsc_captures.proofs.repeats.repeat_of_block.Goals as goal
 
 pub loop-g-preserved-in_default-group : goal.loop-g-preserved-in_default-group

@@ -1,4 +1,4 @@
-use Rattle.rsc_captures.proofs.Extracted.{captures_row, self_slot, second, fat_pointer, passed, Result, Result-lawful, lives_so, beside, refl, [], ◌∷◌, named, a_number, inst_fn, id⊢, ‵, raw, ◌⊛◌, some, later, ◌$◌, ◌∵◌, !, qed, done, move, drop, use1, use2, split, join, pick, await, suffices, group, enter, no_more, and_then, returns, alloc_all, pass_all, free_all, look_at, get, lands_as, ◌⊑◌, tables, yes, no, shows, number, layouts, Types, arg_laws, arg_copy, RattleType, shr_vals, shr_Tells, Slot, shr_slice_vals, nothing, peeks, heard, Field, calls_at, Ended, lasts, at_exit, on_entry, alive, triple_of, framed, Stays, says, stay_dropped, Goes-dropped, ends_at, proved}
+use Rattle.rsc_captures.proofs.CapturedLemmas.{captures_row, self_slot, second, fat_pointer, passed, Result, Result-lawful, lives_so, beside, refl, [], ◌∷◌, named, a_number, inst_fn, id⊢, ‵, raw, ◌⊛◌, some, later, ◌$◌, ◌∵◌, !, qed, done, move, drop, use1, use2, split, join, pick, await, suffices, group, enter, no_more, and_then, returns, alloc_all, pass_all, free_all, look_at, get, lands_as, ◌⊑◌, tables, yes, no, shows, number, layouts, Types, arg_laws, arg_copy, RattleType, shr_vals, shr_Tells, Slot, shr_slice_vals, nothing, peeks, heard, Field, calls_at, Ended, lasts, at_exit, on_entry, alive, triple_of, framed, Stays, says, stay_dropped, Goes-dropped, ends_at, proved}
 use denote.Text.{StrRefOf, str-field, str-laws}
 use borrow.Table.Str.{str_laws, str_copy}
 use Rattle.std.specs.contracts.prelude.RefStrClone.TheImpl as clone

@@ -1,6 +1,6 @@
 use Rattle.std.proofs.Common.{arith}
-use Rattle.rsc_captures.proofs.NamesCounted.{names_counted}
-use Rattle.rsc_captures.proofs.SlotsWithin.{slots_within_limit}
+use Rattle.rsc_captures.proofs.NameIteratorsLemmas.{names_counted}
+use Rattle.rsc_captures.proofs.SlotOwnersLemmas.{slots_within_limit}
 use Rattle.rsc_captures.proofs.group_info.GroupInfo.all_names.Goals as goal
 
 pub returns-clause-limit : goal.returns-clause-limit

@@ -1,9 +1,9 @@
 use Rattle.std.proofs.Common.{length}
 use Rattle.std.proofs.lemmas.Result.{IfErr-weaker}
 use Rattle.rsc_captures.specs.Groups.{lists_in}
-use Rattle.rsc_captures.proofs.Clear.{pattern_clear}
-use Rattle.rsc_captures.proofs.FirstFault.{pattern_before, first_fault, refuses_from, refuses_found}
-use Rattle.rsc_captures.proofs.Places.{length-lists_in}
+use Rattle.rsc_captures.proofs.FaultsLemmas.{pattern_clear}
+use Rattle.rsc_captures.proofs.FaultsLayoutLemmas.{pattern_before, first_fault, refuses_from, refuses_found}
+use Rattle.rsc_captures.proofs.GroupsLemmas.{length-lists_in}
 use Rattle.rsc_captures.proofs.group_info.GroupInfo.new_limited.Goals as goal
 
 pub returns-in_default-clause-refused : goal.returns-in_default-clause-refused

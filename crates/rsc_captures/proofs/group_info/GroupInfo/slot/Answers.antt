@@ -1,4 +1,4 @@
-use Rattle.rsc_captures.proofs.SlotsWithin.{slot_among_all}
+use Rattle.rsc_captures.proofs.SlotOwnersLemmas.{slot_among_all}
 use Rattle.rsc_captures.proofs.group_info.GroupInfo.slot.Goals as goal
 
 pub returns-clause-within : goal.returns-clause-within

@@ -1,4 +1,4 @@
-use Rattle.rsc_captures.proofs.Owners.{one_owner}
+use Rattle.rsc_captures.proofs.SlotOwnersLemmas.{one_owner}
 use Rattle.rsc_captures.proofs.group_info.GroupInfo.slot_len.Goals as goal
 
 pub returns-clause-once : goal.returns-clause-once

@@ -1,6 +1,6 @@
 use Rattle.std.proofs.Common.{arith}
-use Rattle.rsc_captures.proofs.Firsts.{all_before}
-use Rattle.rsc_captures.proofs.SlotsWithin.{slots_within_limit}
+use Rattle.rsc_captures.proofs.NamesLayoutLemmas.{all_before}
+use Rattle.rsc_captures.proofs.SlotOwnersLemmas.{slots_within_limit}
 use Rattle.rsc_captures.proofs.layout.SharedLists.all_group_len.Goals as goal
 
 pub returns-clause-limit : goal.returns-clause-limit

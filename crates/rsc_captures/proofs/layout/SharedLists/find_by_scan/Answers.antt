@@ -1,6 +1,6 @@
 use Rattle.std.proofs.Common.{◌≡◌, sym, arith}
 use Rattle.rsc_captures.specs.Groups.{groups_of, group_count}
-use Rattle.rsc_captures.proofs.Indexed.{index_of_none}
+use Rattle.rsc_captures.proofs.GroupsLemmas.{index_of_none}
 use Rattle.rsc_captures.proofs.layout.SharedLists.find_by_scan.Goals as goal
 
 pub returns : goal.returns

@@ -1,4 +1,4 @@
-use Rattle.rsc_captures.proofs.Parts.{within_names}
+use Rattle.rsc_captures.proofs.LayoutLemmas.{within_names}
 use Rattle.rsc_captures.proofs.layout.SharedLists.name_within.Goals as goal
 
 pub get-requires : goal.get-requires

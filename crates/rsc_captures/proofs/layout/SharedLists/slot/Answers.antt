@@ -1,5 +1,5 @@
 use Rattle.std.proofs.Common.{arith}
-use Rattle.rsc_captures.proofs.SlotsWithin.{explicit_slot}
+use Rattle.rsc_captures.proofs.SlotOwnersLemmas.{explicit_slot}
 use Rattle.rsc_captures.proofs.layout.SharedLists.slot.Goals as goal
 
 pub overflow_add-result : goal.overflow_add-result

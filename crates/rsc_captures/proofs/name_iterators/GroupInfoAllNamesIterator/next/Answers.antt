@@ -1,7 +1,7 @@
 use Rattle.std.proofs.Common.{◌≡◌, refl, sym, ◌∙◌, arith, rules, option_copied}
 use Rattle.rsc_captures.specs.Groups.{name_of}
-use Rattle.rsc_captures.proofs.Parts.{within_names, name_in}
-use Rattle.rsc_captures.proofs.NamesLeft.{IsNext, next_stays, next_enters, left_more}
+use Rattle.rsc_captures.proofs.LayoutLemmas.{within_names, name_in}
+use Rattle.rsc_captures.proofs.NameIteratorsLemmas.{IsNext, IsNext-passed, next_stays, next_enters, left_more}
 use Rattle.rsc_captures.proofs.name_iterators.GroupInfoAllNamesIterator.next.Goals as goal
 use Rattle.rsc_captures.proofs.name_iterators.GroupInfoAllNamesIterator.next.Goals.{then-self+else-self-count, else-self}
 
@@ -27,10 +27,7 @@ get-name-requires g c =
     omega (arith, within_names _ _ _ _ c.lists.view_is c.lists.invariant _ _ _ refl is.group, is.at.at)
 
 pub invariant_of-self : goal.invariant_of-self
-invariant_of-self g c =
-    let is = next_is g c.before.before.before.before in
-    rw (same_lists g c.before.before.before.before)
-    (record { pattern = is.at.pattern; group = omega (arith, is.group); at = omega (arith, is.at.at); ends = is.at.ends })
+invariant_of-self g c = rw (same_lists g c.before.before.before.before) (IsNext-passed (next_is g c.before.before.before.before))
 
 pub returns-clause-steps : goal.returns-clause-steps
 returns-clause-steps g c =

@@ -1,12 +1,18 @@
--- Names in one text, as one more is added.
-use Rattle.std.proofs.Common.{◌≡◌, ◌≢◌, ℕ, ◌+◌, ◌-◌, ◌<◌, ◌≤◌, true, false, cond, eqb, ⊎_elim, List, [], ◌∷◌, ◌++◌, length, take, drop, get_or, Option, Some, None, refl, ap, ap₂, ◌∙◌, arith, unwrap_or, IsUtf8, IsCharBoundary, slice_range}
+-- Names in one text, and where those of each pattern begin, as one more is added.
+use Rattle.std.proofs.Common.{◌≡◌, ◌≢◌, ℕ, ◌+◌, ◌-◌, ◌<◌, ◌≤◌, true, false, cond, eqb, ⊎_elim, List, [], ◌∷◌, ◌++◌, length, take, drop, get_or, Bor, Option, Some, None, refl, ap, ap₂, ◌∙◌, arith, unwrap_or, IsUtf8, IsCharBoundary, slice_range, zero, suc, sym, add-one, sum_by}
 use Rattle.std.proofs.lemmas.Bool.{cases_lt, eqb-false}
 use Rattle.std.proofs.lemmas.Grind.{common_steps}
-use Rattle.std.proofs.lemmas.List.{drop-append-le, take-append-le, get_or_append_left, length-append, map-append, length-drop}
+use Rattle.std.proofs.lemmas.List.{drop-append-le, take-append-le, get_or_append_left, length-append, map-append, length-drop, length_push}
 use Rattle.std.proofs.lemmas.List.Elements.{All-push, All-tail}
-use Rattle.std.proofs.Math.Seq.{drop-append_seam, take-length}
+use Rattle.std.proofs.Math.Seq.{drop-append_seam, take-length, get_or-append_seam}
 use Rattle.std.proofs.lemmas.Str.{IsCharBoundary-at_seam, IsCharBoundary-end}
-use Rattle.rsc_captures.proofs.Words.{Place, NO_NAME, Groups, name_held, names_held, place_held, IsCut, AreCut, AreHeld}
+use Rattle.rsc_captures.proofs.Words.{Place, NO_NAME, Groups, lists_in, name_held, names_held, place_held, IsCut, AreCut, AreHeld, GroupLists, group_count, explicit_before, all_groups, LIMIT_OF_IDS, IsFaultless, groups_before, AreFirsts}
+use borrow.Author.Count.{below_more}
+use Rattle.std.proofs.lemmas.List.Sums.{sum_by_more}
+use Rattle.rsc_captures.proofs.GroupsLemmas.{Handed, handed, in_lists, group_count_in}
+use Rattle.rsc_captures.proofs.FaultsLemmas.{some_group, before_more}
+
+-- ---- names in one text, as one more is added
 
 module _ (text more : List ℕ) where
   -- a place where the text may be cut is one of the longer text
@@ -73,3 +79,49 @@ held_more text places groups name utf8 short held = record {
   cuts = All-push (λ p. p.length ≢ NO_NAME → IsCut (text ++ unwrap_or name []) p) places (place_held text name)
       (cuts_stay text (unwrap_or name []) places utf8 held.cuts) (cut_added text name utf8);
 }
+
+-- ---- where the names of the patterns begin, as one more is pushed
+
+-- one pattern more
+pub firsts_push : (firsts : List ℕ) (lists : GroupLists) (n first : ℕ) → AreFirsts firsts lists n → first ≡ groups_before lists (n + 1)
+    → AreFirsts (firsts ++ first ∷ []) lists (n + 1)
+firsts_push firsts lists n first are is = record {
+  count = length_push firsts first ∙ ap (λ k. k + 1) are.count;
+  each = below_more (λ p. get_or (firsts ++ first ∷ []) p 0 ≡ groups_before lists p) (n + 1) earlier last;
+}
+  where
+    earlier : (p : ℕ) → p < n + 1 → get_or (firsts ++ first ∷ []) p 0 ≡ groups_before lists p
+    earlier p lt = get_or_append_left firsts (first ∷ []) 0 p (omega (arith, are.count)) ∙ are.each p lt
+
+    last : get_or (firsts ++ first ∷ []) (n + 1) 0 ≡ groups_before lists (n + 1)
+    last = rw (← are.count) (get_or-append_seam firsts first [] 0) ∙ is
+
+-- the groups of one more pattern
+pub groups_more : (lists : GroupLists) (p : ℕ) → p < length lists → groups_before lists (p + 1) ≡ groups_before lists p + group_count lists p
+groups_more lists p lt = sum_by_more length lists p [] lt
+
+-- the same where the groups are handed in
+pub first_more : (lists : List (Bor Handed)) (p first : ℕ) → p < length lists → first ≡ groups_before (lists_in lists) p
+    → first + length (handed lists p) ≡ groups_before (lists_in lists) (p + 1)
+first_more lists p first lt is = omega (arith, is, groups_more (lists_in lists) p (in_lists lists p lt), group_count_in lists p lt)
+
+-- each of the first n patterns has one group more than its explicit groups
+pub groups_so_far : (lists : GroupLists) (n : ℕ) → n ≤ length lists → ((p : ℕ) → p < length lists → 0 < group_count lists p)
+    → groups_before lists n ≡ n + explicit_before lists n
+groups_so_far lists zero le nonempty = refl
+groups_so_far lists (suc n) le nonempty =
+    let lt : n < length lists = omega arith in
+    let some : 0 < group_count lists n = nonempty n lt in
+    let before : groups_before lists n ≡ n + explicit_before lists n = groups_so_far lists n (omega arith) nonempty in
+    let all = groups_more lists n lt in
+    let explicit = before_more lists n lt in
+    rw (← add-one) (omega arith)
+
+-- the groups of all patterns
+pub all_before : (lists : GroupLists) → groups_before lists (length lists) ≡ all_groups lists
+all_before lists = ap (sum_by length) (take-length lists)
+
+-- all groups are the first of each pattern and the explicit ones
+pub all_groups_are : (lists : GroupLists) → IsFaultless LIMIT_OF_IDS lists → all_groups lists ≡ length lists + explicit_before lists (length lists)
+all_groups_are lists faultless = sym (all_before lists)
+    ∙ groups_so_far lists (length lists) (omega arith) (some_group lists faultless)

@@ -18,8 +18,7 @@ use Rattle.std.proofs.lemmas.List.Sorted.{length_permutation, searchable_from_so
 use Rattle.std.proofs.lemmas.Map.Keys.{ge_from_not_lt}
 use Rattle.std.proofs.lemmas.Map.Lookups.{exact_bytes}
 use Rattle.rsc_captures.proofs.Words.{Groups, groups_in, has_name, index_of, stands_before, name_at, name_cmp, named_cmp, named_group, has_name_of, HasGroups, IsSortedByName, IsOrder, is_repeat, AreDistinctBelow}
-use Rattle.rsc_captures.proofs.Places.{Handed}
-use Rattle.rsc_captures.proofs.Indexed.{index_of-is, has_name-is, get_or_past}
+use Rattle.rsc_captures.proofs.GroupsLemmas.{Handed, index_of-is, has_name-is, get_or_past}
 
 -- the order of names is total, and tells names apart
 pub name_total : IsTotalOrder name_cmp
@@ -28,6 +27,7 @@ name_total = options_total nat_list_cmp_total
 named_total : IsTotalOrder named_cmp
 named_total = then_total (on_total (λ x. x.0) name_total) (on_total (λ x. x.1) nat_cmp_total)
 
+-- names that compare as equal are the same
 pub name_exact : (a b : Option (List ℕ)) → name_cmp a b ≡ Equal → a ≡ b
 name_exact None None e = refl
 name_exact None (Some b) e = cc
@@ -73,10 +73,14 @@ module _ (old added sorted rest : List ℕ) (moved : IsPermutation (mid_of (leng
       ∙ ap (λ k. length old + k) (length_permutation added sorted added_moved) ∙ sym (length-append old added) in
       rw (put_sorted, is, ← same, take-append_seam (old ++ sorted) (drop (length (old ++ sorted)) rest)) refl
 
--- the same, where they are lent from `first` on
+-- n elements whose part from `first` on, which was lent, was sorted
+abbrev pub with_sorted : (n first : ℕ) (lent sorted rest : List ℕ) → List ℕ
+with_sorted n first lent sorted rest =
+    take n (put_mid first (length lent - first) lent sorted ++ drop (length (put_mid first (length lent - first) lent sorted)) rest)
+
+-- they are the elements that were there, and the sorted ones
 pub lent_sorted : (old added sorted rest lent : List ℕ) (first n : ℕ) → first ≡ length old → lent ≡ old ++ added → n ≡ length lent
-    → IsPermutation (mid_of first (length lent - first) lent) sorted → IsPermutation added sorted
-    × (take n (put_mid first (length lent - first) lent sorted ++ drop (length (put_mid first (length lent - first) lent sorted)) rest) ≡ old ++ sorted)
+    → IsPermutation (mid_of first (length lent - first) lent) sorted → IsPermutation added sorted × (with_sorted n first lent sorted rest ≡ old ++ sorted)
 lent_sorted old added sorted rest lent first n is_first is_lent all permuted =
     let moved = rw (is_first, is_lent) at permuted in
     (added_moved old added sorted rest moved, rw (is_first, is_lent) (tail_sorted old added sorted rest moved n (all ∙ ap length is_lent)))

@@ -6,11 +6,11 @@ use Rattle.std.proofs.lemmas.List.FromFn.{length-map-range_with_len, get_or-map-
 use Rattle.std.proofs.lemmas.List.Sums.{sum_by-cons}
 use Rattle.std.proofs.Math.Seq.{take-append_seam, drop-append-add}
 use Rattle.rsc_captures.proofs.Words.{Groups, GroupLists, groups_of, group_count, name_of, LIMIT_OF_IDS, IsFaultless, HasNoOtherFault, AreDistinctBelow, HasNoRepeatBefore, IsOrder, groups_before, names_of, lists_held, AreFirsts, AreOrdered, IsLayout}
-use Rattle.rsc_captures.proofs.FirstFault.{clear_distinct, faultless_from}
-use Rattle.rsc_captures.proofs.Clear.{some_group}
-use Rattle.rsc_captures.proofs.Owners.{pattern_in}
-use Rattle.rsc_captures.proofs.Firsts.{groups_more}
-use Rattle.rsc_captures.proofs.Lists.{sum_rises}
+use Rattle.rsc_captures.proofs.FaultsLayoutLemmas.{clear_distinct, faultless_from}
+use Rattle.rsc_captures.proofs.FaultsLemmas.{some_group}
+use Rattle.rsc_captures.proofs.SlotOwnersLemmas.{pattern_in}
+use Rattle.rsc_captures.proofs.NamesLayoutLemmas.{groups_more}
+use Rattle.rsc_captures.proofs.GroupsLemmas.{sum_rises}
 
 -- the names of each pattern are distinct
 pub distinct_in : (lists : GroupLists) → IsFaultless LIMIT_OF_IDS lists → (p : ℕ) → AreDistinctBelow (groups_of lists p) (group_count lists p)
@@ -22,6 +22,7 @@ groups_within lists p n lt le =
     let rises : groups_before lists (p + 1) ≤ groups_before lists n = sum_rises length lists (p + 1) n (omega arith) in
     omega (arith, rises, groups_more lists p (omega (arith, lt, le)))
 
+-- all groups, pattern by pattern
 abbrev pub all : GroupLists → Groups
 all lists = flat_map (λ (groups : Groups). groups) lists
 

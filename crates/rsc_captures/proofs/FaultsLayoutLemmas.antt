@@ -5,10 +5,10 @@ use mathlib.Core.Bool.{true≢false}
 use borrow.Author.Count.{below_more}
 use Rattle.rsc_captures.specs.declared.faults.Fault as declared
 use Rattle.rsc_captures.proofs.Words.{Groups, GroupLists, groups_of, group_count, name_of, explicit_groups, explicit_before, Fault, TooManyGroups, Duplicate, ComesBefore, IsPlace, pattern_fault, name_fault, place_fault, slots_end, IsFirstFault, IsFaultless, FirstIsDuplicate, RefusesFor, fault_found, IsDuplicate, HasNoOtherBefore, HasNoOtherFault, IsFirstOther, is_repeat, AreDistinctBelow, IsFirstRepeat, HasNoRepeatBefore, IsFirstRepeatBefore}
-use Rattle.rsc_captures.proofs.Clear.{before_more, explicit_place, group_clear, name_fault_clear, name_fault_repeat, name_fault_none, no_repeat_at_zero}
-use Rattle.rsc_captures.proofs.Lists.{sum_rises}
-use Rattle.rsc_captures.proofs.Owners.{pattern_in}
-use Rattle.rsc_captures.proofs.RepeatsFound.{repeat_name, repeat_of_pattern, none_before, none_more}
+use Rattle.rsc_captures.proofs.FaultsLemmas.{before_more, explicit_place, group_clear, name_fault_clear, name_fault_repeat, name_fault_none, no_repeat_at_zero}
+use Rattle.rsc_captures.proofs.GroupsLemmas.{sum_rises}
+use Rattle.rsc_captures.proofs.SlotOwnersLemmas.{pattern_in}
+use Rattle.rsc_captures.proofs.RepeatsLayoutLemmas.{repeat_name, repeat_of_pattern, none_before, none_more}
 
 -- a list without a fault repeats no name
 pub clear_distinct : {limit : ℕ} {lists : GroupLists} → IsFaultless limit lists → (p : ℕ) → p < length lists

@@ -1,14 +1,17 @@
--- A table of the groups of a block in the order of their names, and which groups have the name of a lesser one.
-use Rattle.std.proofs.Common.{◌≡◌, ℕ, true≢false, ◌+◌, ◌-◌, ◌<◌, ◌≤◌, ◌≢◌, ⊎_elim, true, List, length, take, drop, get_or, Bor, option_copied, Some, None, Err, Less, Equal, Greater, ap, sym, ◌∙◌, arith}
+-- Repeated names: in a sorted block, of a pattern's first groups, and before a place.
+use Rattle.std.proofs.Common.{◌≡◌, ℕ, true≢false, ◌+◌, ◌-◌, ◌<◌, ◌≤◌, ◌≢◌, ⊎_elim, true, List, length, take, drop, get_or, Bor, option_copied, Some, None, Err, Less, Equal, Greater, ap, sym, ◌∙◌, arith, false, refl, ap₂, inl}
 use Rattle.std.specs.List.Sorted.{IsBinarySearchResult, IsPartitionPoint, IsNonDecreasingBy}
 use Rattle.std.specs.Ordering.{ordering_index}
 use Rattle.std.proofs.lemmas.Bool.{cases_lt, cases_eq, false_from_ne_true}
-use Rattle.rsc_captures.proofs.Places.{Handed}
-use Rattle.std.proofs.lemmas.List.{get_or-take, get_or-drop, length-map, length-take-le, length-drop}
+use Rattle.rsc_captures.proofs.GroupsLemmas.{Handed, handed, groups_of_in, group_count_in, get_or_past}
+use Rattle.std.proofs.lemmas.List.{get_or-take, get_or-drop, length-map, length-take-le, length-drop, take-take, take-map}
 use Rattle.std.proofs.lemmas.List.Sorted.{searchable_from_sorted}
-use Rattle.rsc_captures.proofs.Words.{Groups, groups_in, name_at, name_cmp, IsOrder, is_repeat, AreDistinctBelow, IsFirstRepeat, AreApart, IsRepeatOf}
-use Rattle.rsc_captures.proofs.Ordered.{name_total, name_exact, name_at_in, repeat_pair, repeat_of_pair, none_at_split, names_sorted}
-use Rattle.rsc_captures.proofs.Indexed.{get_or_past}
+use Rattle.rsc_captures.proofs.Words.{Groups, groups_in, name_at, name_cmp, IsOrder, is_repeat, AreDistinctBelow, IsFirstRepeat, AreApart, IsRepeatOf, GroupLists, lists_in, groups_of, group_count, name_of, stands_before, has_name, Duplicate, ComesBefore, HasNoRepeatBefore, IsFirstRepeatBefore}
+use Rattle.rsc_captures.proofs.OrderLayoutLemmas.{name_total, name_exact, name_at_in, repeat_pair, repeat_of_pair, none_at_split, names_sorted}
+use Rattle.std.specs.List.{list_any}
+use Rattle.std.specs.Option.{option_map_or}
+
+-- ---- a table of the groups of a block in the order of their names, and which groups have the name of a lesser one
 
 module _ {block : Groups} (order : List ℕ) (is_order : IsOrder order block) where
   -- a name that a binary search doesn't find is that of no group
@@ -111,6 +114,7 @@ module _ (groups : Handed) (from end : ℕ) (within : end ≤ length groups) whe
       ∙ ap option_copied (get_or-take (end - from) (drop from groups) (g - from) None (omega arith) ∙ get_or-drop from groups (g - from) None)
       ∙ sym (name_at_in groups (from + (g - from))) ∙ ap (name_at (groups_in groups)) same
 
+  -- the groups from one place to another are as many as the places
   pub length_rest : length (take (end - from) (drop from groups)) ≡ end - from
   length_rest = length-take-le (end - from) (drop from groups) (rw length-drop (omega arith))
 
@@ -134,3 +138,81 @@ module _ (groups : Handed) (from end : ℕ) (within : end ≤ length groups) whe
         repeat_of_pair (groups_in groups) (from + found.g) (from + h) found.name (omega (arith, found.lesser))
             (name_of_rest found.g (omega (arith, found.lesser)) ∙ found.one) (name_of_rest h (omega arith) ∙ found.other),
       )
+
+-- ---- repeated names: of a pattern's first groups, as they are handed in, and before a place
+
+-- a group of the first groups is a repeat there exactly if it is one
+repeat_in_take : (groups : Groups) (end g : ℕ) → g < end → is_repeat (take end groups) g ≡ is_repeat groups g
+repeat_in_take groups end g lt =
+    ap₂ (λ (earlier : Groups) group. option_map_or (λ name. list_any (has_name name) earlier) group false) (take-take g end groups (omega arith))
+    (get_or-take end groups g None lt)
+
+module _ (lists : List (Bor Handed)) (p end : ℕ) (lt : p < length lists) (le : end ≤ length (handed lists p)) where
+  repeat_handed : (g : ℕ) → g < end → is_repeat (groups_in (take end (handed lists p))) g ≡ is_repeat (groups_of (lists_in lists) p) g
+  repeat_handed g below =
+      ap (λ groups. is_repeat groups g) (sym (take-map option_copied end (handed lists p)))
+      ∙ repeat_in_take (groups_in (handed lists p)) end g below ∙ ap (λ groups. is_repeat groups g) (sym (groups_of_in lists p lt))
+
+  -- what the search says of the first groups, said of the pattern
+  pub distinct_handed : AreDistinctBelow (groups_in (take end (handed lists p))) (length (take end (handed lists p)))
+      → AreDistinctBelow (groups_of (lists_in lists) p) end
+  distinct_handed distinct g below = sym (repeat_handed g below) ∙ distinct g (rw (length-take-le end (handed lists p) le) below)
+
+  -- the first repeated name of the first groups is that of all
+  pub first_handed : {g : ℕ} → IsFirstRepeat (groups_in (take end (handed lists p))) g → (g < end) × IsFirstRepeat (groups_of (lists_in lists) p) g
+  first_handed {g} first =
+      let below : g < end = omega (arith, first.group, length-map (take end (handed lists p)) option_copied, length-take-le end (handed lists p) le) in (
+        below,
+        record {
+          group = rw (group_count_in lists p lt) (omega (arith, below, le));
+          repeats = sym (repeat_handed g below) ∙ first.repeats;
+          distinct = λ h lesser. sym (repeat_handed h (omega (arith, below))) ∙ first.distinct h lesser;
+        },
+      )
+
+-- a group that repeats a name has one
+pub repeat_name : (groups : Groups) (g : ℕ) → is_repeat groups g ≡ true → (name : List ℕ) × (get_or groups g None ≡ Some name)
+repeat_name groups g e =
+    elim (get_or groups g None) as (λ o. option_map_or (stands_before groups g) o false ≡ true → (name : List ℕ)
+    × (o ≡ Some name)) [ None ↦ λ q. cc | Some name ↦ λ _. (name, refl) ] e
+
+-- no group before place (r, s), of the patterns before p, repeats a name
+abbrev pub NoneSoFar : GroupLists → ℕ → ℕ → ℕ → Type 0
+NoneSoFar lists p r s = (q h : ℕ) → q < p → h < group_count lists q → ComesBefore q h r s → is_repeat (groups_of lists q) h ≡ false
+
+module _ (lists : GroupLists) (p : ℕ) where
+  -- the first repeated name of a pattern, where no earlier pattern repeats one
+  pub repeat_of_pattern : (g r s : ℕ) (name : List ℕ) → HasNoRepeatBefore lists p 0 → IsFirstRepeat (groups_of lists p) g → name_of lists p g ≡ Some name
+      → ComesBefore p g r s → IsFirstRepeatBefore lists r s (Duplicate p name)
+  repeat_of_pattern g r s name none first named before = record {
+    q = p;
+    h = g;
+    name = name;
+    before = before;
+    group = first.group;
+    repeats = first.repeats;
+    least = λ q h group. ⊎_elim (λ (lt : q < p). none q h group (inl lt)) (λ (same : (q ≡ p) × (h < g)). rw same.0 (first.distinct h same.1));
+    named = named;
+    fault = refl;
+  }
+
+  -- no pattern before has a repeated name
+  pub none_before : (r s : ℕ) → p ≤ r → NoneSoFar lists p r s → HasNoRepeatBefore lists p 0
+  none_before r s le none q h group =
+      ⊎_elim (λ (lt : q < p). none q h lt group (inl (omega arith))) (λ (same : (q ≡ p) × (h < 0)). absurd (omega (arith, same.1)))
+
+  -- one more pattern, of whose groups those before the place are distinct
+  pub none_so_far : (r s end : ℕ) → NoneSoFar lists p r s → ((h : ℕ) → h < group_count lists p → ComesBefore p h r s → h < end)
+      → AreDistinctBelow (groups_of lists p) end → NoneSoFar lists (p + 1) r s
+  none_so_far r s end none all distinct q h lt group before =
+      ⊎_elim
+      (λ (less : q < p). none q h less group before)
+      (λ (ge : p ≤ q). let same : q ≡ p = omega (arith, lt) in rw same (distinct h (all h (rw same at group) (rw same at before))))
+      (cases_lt q p)
+
+-- one more pattern whose names are distinct
+pub none_more : (lists : GroupLists) (p : ℕ) → HasNoRepeatBefore lists p 0 → AreDistinctBelow (groups_of lists p) (group_count lists p)
+    → HasNoRepeatBefore lists (p + 1) 0
+none_more lists p none distinct =
+    none_before lists (p + 1) (p + 1) 0 (omega arith)
+    (none_so_far lists p (p + 1) 0 _ (λ q h lt group _. none q h group (inl lt)) (λ h group _. group) distinct)
