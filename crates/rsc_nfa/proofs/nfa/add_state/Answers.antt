@@ -1,5 +1,5 @@
 use Rattle.std.proofs.Common.{ap, inl, inr}
-use Rattle.rsc_nfa.proofs.Gathered.{is_plain, plain-adds}
+use Rattle.rsc_nfa.proofs.ClassesLemmas.{is_plain, plain-adds}
 use Rattle.rsc_nfa.proofs.nfa.add_state.Goals as goal
 
 pub returns-in-Fork : goal.returns-in-Fork

@@ -2,9 +2,7 @@ use Rattle.std.proofs.Common.{◌≡◌, true≢false, sym, ap, ◌∙◌, ◌<�
 use Rattle.std.specs.FinSet as sets
 use Rattle.rsc_alphabet.specs.Partitions.{class_map}
 use Rattle.rsc_nfa.specs.Classes.{boundaries_of_states}
-use Rattle.rsc_nfa.proofs.Gathered.{HasGathered-none, HasGathered-more, HasGathered-all}
-use Rattle.rsc_nfa.proofs.Kept.{KeepsRuns-from, HasEdgesOfAll-from}
-use Rattle.rsc_nfa.proofs.Needed.{IsEachNeeded-from, IsCoarsestForRuns-from}
+use Rattle.rsc_nfa.proofs.ClassesLemmas.{HasGathered-none, HasGathered-more, HasGathered-all, KeepsRuns-from, HasEdgesOfAll-from, IsEachNeeded-from, IsCoarsestForRuns-from}
 use Rattle.rsc_nfa.proofs.nfa.Nfa.classes.Goals as goal
 
 pub loop-state-init : goal.loop-state-init
