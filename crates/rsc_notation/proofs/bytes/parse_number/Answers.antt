@@ -2,7 +2,7 @@ use Rattle.std.proofs.Common.{◌≡◌, ◌<◌, ℕ, zero, suc, ◌+◌, ◌*�
 use Rattle.std.specs.Char.{digit_value}
 use Rattle.std.proofs.lemmas.Str.{digit_value_digit}
 use Rattle.std.proofs.lemmas.Str.Parse.{digit_from_value}
-use Rattle.rsc_notation.proofs.Decimal.{Reads, Reads-none, Reads-one, all_read, no_digit, too_great}
+use Rattle.rsc_notation.proofs.RangeTextsLemmas.{Reads, Reads-none, Reads-one, all_read, no_digit, too_great}
 use Rattle.rsc_notation.proofs.bytes.parse_number.Goals as goal
 
 not_empty : (n : ℕ) → false ≡ nat_eq n 0 → 0 < n

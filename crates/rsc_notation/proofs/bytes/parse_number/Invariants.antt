@@ -1,5 +1,5 @@
 use Rattle.std.proofs.Common.{◌<◌, ◌^◌}
-use Rattle.rsc_notation.proofs.Decimal.{Reads}
+use Rattle.rsc_notation.proofs.RangeTextsLemmas.{Reads}
 use Rattle.rsc_notation.proofs.bytes.parse_number.Given as goal
 
 abbrev pub invariant-loop-digit : goal.invariant-loop-digit

@@ -1,6 +1,6 @@
 use Rattle.std.proofs.Common.{arith, sym, ap, ◌∙◌, length}
 use Rattle.rsc_notation.specs.LookNames.{look_name}
-use Rattle.rsc_notation.proofs.EveryLook.{eighteen, is_listed}
+use Rattle.rsc_notation.proofs.LookNamesLemmas.{eighteen, is_listed}
 use Rattle.rsc_notation.proofs.looks.look_of.Goals as goal
 
 pub returns : goal.returns
