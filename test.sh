@@ -17,6 +17,7 @@ case ${1:-} in
     gate/pages.py
     gate/unused-lemmas.py
     gate/wrong-bodies.py --texts
+    gate/tested-bodies.py --texts
     step "rt ci: proofs, tests, programs. It prints a crate when it has judged it"
     rt ci
     step "programs with arguments, on a terminal, without UTF-8, where reading or writing fails"
@@ -32,6 +33,7 @@ case ${1:-} in
     ;;
   quick)
     gate/wrong-bodies.py --texts
+    gate/tested-bodies.py --texts
     gate/quick.sh
     ;;
   *)

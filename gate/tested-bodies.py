@@ -1,7 +1,8 @@
 #!/usr/bin/env python3
 """Tries the wrong bodies that no contract refuses: each may prove, and a test must fail over it.
 
-    gate/tested-bodies.py [CRATE ..]      # the edits of crates/CRATE/tested-bodies.edits, of all crates without a name
+    gate/tested-bodies.py [CRATE ..]              # the edits of crates/CRATE/tested-bodies.edits, of all crates without a name
+    gate/tested-bodies.py --texts [CRATE ..]      # runs nothing: says which edits don't fit the sources
 
 A contract says nothing of whether memory is there, of the texts that only tests show, and of what a program reads and writes.
 gate/edits.py explains the format of an edit; its fields are `file`, the source file that it changes, `tests`, the crate whose tests must fail, and
@@ -22,32 +23,43 @@ import tempfile
 from edits import ROOT, blocks, replaced
 
 
-def edits():
-    """Returns the edits of all crates that are asked for."""
+def edits(crates):
+    """Returns the edits of these crates, or of all."""
     found = []
     for crate in sorted(os.listdir(f"{ROOT}/crates")):
         path = f"{ROOT}/crates/{crate}/tested-bodies.edits"
-        if os.path.exists(path) and (not sys.argv[1:] or crate in sys.argv[1:]):
+        if os.path.exists(path) and (not crates or crate in crates):
             found += [(crate, *it) for it in blocks(path, ("file", "tests", "also"))]
+    return found
+
+
+def changed(root, crate, fields, pairs):
+    """Returns the texts of each source that an edit changes, as it was and as it becomes: None where an old text isn't once in it."""
+    changes = [(fields["file"], pairs)]
+    if "also" in fields:
+        other, _, change = fields["also"].partition(": ")
+        changes.append((other, [tuple(change.split(" ⇒ "))]))
+    texts = {source: pathlib.Path(root, "crates", crate, source).read_text(encoding="utf-8") for source, _ in changes}
+    return {source: (texts[source], replaced(texts[source], its_pairs)) for source, its_pairs in changes}
+
+
+def misfits(wanted):
+    """Returns a line for each edit that doesn't fit its sources."""
+    found = []
+    for crate, name, fields, pairs in wanted:
+        bad = [source for source, (_, after) in changed(ROOT, crate, fields, pairs).items() if after is None]
+        found += [f"{crate}/{name}: BAD EDIT: an old text isn't once in {source}" for source in bad]
     return found
 
 
 def judge(copy, crate, name, fields, pairs):
     """Runs the tests over one edit in a copy, and returns whether a test fails, with a line that says which."""
-    changes = [(fields["file"], pairs)]
-    if "also" in fields:
-        other, _, change = fields["also"].partition(": ")
-        changes.append((other, [tuple(change.split(" ⇒ "))]))
-    kept = {}
-    for source, its_pairs in changes:
-        kept[source] = pathlib.Path(copy, "crates", crate, source).read_text(encoding="utf-8")
-        if replaced(kept[source], its_pairs) is None:
-            return False, f"{crate}/{name}: BAD EDIT: an old text isn't once in {source}"
-    for source, its_pairs in changes:
-        pathlib.Path(copy, "crates", crate, source).write_text(replaced(kept[source], its_pairs), encoding="utf-8")
+    texts = changed(copy, crate, fields, pairs)
+    for source, (_, after) in texts.items():
+        pathlib.Path(copy, "crates", crate, source).write_text(after, encoding="utf-8")
     ran = subprocess.run(["rt", "try", "--test"], cwd=f"{copy}/crates/{fields['tests']}", stdin=subprocess.DEVNULL, stdout=subprocess.PIPE, stderr=subprocess.STDOUT, errors="replace")
-    for source, text in kept.items():
-        pathlib.Path(copy, "crates", crate, source).write_text(text, encoding="utf-8")
+    for source, (before, _) in texts.items():
+        pathlib.Path(copy, "crates", crate, source).write_text(before, encoding="utf-8")
     failed = re.findall(r"^test (\S+) \.\.\. FAILED", ran.stdout, flags=re.M)
     if failed:
         return True, f"{crate}/{name}: fails {', '.join(failed)[:150]}"
@@ -61,7 +73,11 @@ def judge(copy, crate, name, fields, pairs):
 
 
 def main():
-    wanted = edits()
+    wanted = edits([it for it in sys.argv[1:] if it != "--texts"])
+    found = misfits(wanted)
+    if found or "--texts" in sys.argv:
+        print(*found, f"tested-bodies: the texts of {len(wanted) - len(found)} edits fit, {len(found)} don't", sep="\n")
+        return 1 if found else 0
     lanes = min(len(wanted), len(os.sched_getaffinity(0))) or 1
     passed = failed = 0
     with tempfile.TemporaryDirectory(prefix="tested-bodies-") as room:
