@@ -20,6 +20,7 @@ or .antt file is longer than 160 columns, except imports, tables of literals, an
 """
 import collections
 import itertools
+import pathlib
 import re
 import sys
 
@@ -167,8 +168,17 @@ def numbers():
     yield "crates/rsc_captures_tests/src/tests/repeats.rt", f"has room for {table:,} groups"
 
 
+def serves_nothing(crate, below):
+    """Returns whether a file of proofs/ isn't named after the file of specs/ or src/ that its lemmas serve."""
+    name = pathlib.Path(below[-1]).stem
+    if below[0] != "proofs" or len(below) > 2 or name in ("Lib", "Words", "Rows", "CitedLaws"):
+        return False
+    subject, folder = name.removesuffix("Lemmas"), ROOT / "crates" / crate
+    return subject == name or not ((folder / f"specs/{subject}.antt").exists() or (folder / f"src/{subject.lower()}.rt").exists())
+
+
 def source_faults():
-    """Yields each source and proof, with the faults of its lines: another crate's private modules, and too many columns."""
+    """Yields each source and proof, with its faults: another crate's private modules, too many columns, a file of lemmas that serves none."""
     for file in sorted((ROOT / "crates").glob("*/**/*")):
         crate, *below = file.relative_to(ROOT / "crates").parts
         if file.suffix not in (".antt", ".rt") or below[0] == "out":
@@ -178,12 +188,14 @@ def source_faults():
             for of, private in re.findall(r"use Rattle\.(rsc_\w+)\.(proofs|specs\.\w*Layout)\b", line):
                 if of != crate:
                     found.append(f"{file.relative_to(ROOT)}:{number}: {private} of {of} is private to that crate")
-            begins_import = re.match(r"\s*(pub |ghost )*use ", line) is not None
+            begins_import = re.match(r"\s*((pub |ghost )*use |#\[tactic\(auto, using\()", line) is not None
             is_literal = re.search(r'"[^"]{60,}|(\b\w+, ){12}', line)
             if len(line) > MOST_COLUMNS and not (is_import or begins_import or is_literal):
                 found.append(f"{file.relative_to(ROOT)}:{number}: {len(line)} columns")
             # An import goes on in the next line only within its braces.
             is_import = "{" in line and "}" not in line if begins_import else is_import and "}" not in line
+        if serves_nothing(crate, below):
+            found.append(f"{file.relative_to(ROOT)} is named after no file of specs/ or src/")
         yield file, found
 
 
