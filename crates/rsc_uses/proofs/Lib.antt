@@ -1,6 +1,6 @@
-mod Bytes  -- slices of bytes as lists of numbers below 256
-mod Characters  -- how many bytes a character takes
-mod Filling  -- tables that are filled unit by unit
+mod AlphabetLemmas  -- tables that are filled unit by unit
 mod ListedLemmas  -- how such a list is made, number by number
+mod LookLemmas  -- slices of bytes as lists of numbers below 256
+mod PrimitivesLemmas  -- how many bytes a character takes
 mod ReplacedLemmas  -- spans that are replaced by what they have already
-mod Sums  -- sums of a table's entries, modulo a number
+mod SearchLemmas  -- sums of a table's entries, modulo a number

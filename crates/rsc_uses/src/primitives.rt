@@ -6,7 +6,7 @@ ghost use Rattle.rsc_primitives.specs.Utf8.{BeginsAt, EndsAt, EncodesAll};
 use rsc_primitives::{PatternID, StateID, laws, utf8};
 
 /// How many bytes the first character takes, or 1 where the bytes begin with none: how far a scan of any bytes moves on.
-#[tactic(auto, using(crate::proofs::Characters::fits, crate::proofs::Characters::least_width))]
+#[tactic(auto, using(crate::proofs::PrimitivesLemmas::fits, crate::proofs::PrimitivesLemmas::least_width))]
 pub fn first_width(bytes: &[u8]) -> usize
     requires { 0 < length bytes.now }
     ensures some { 1 ≤ result }
@@ -37,7 +37,7 @@ pub fn count_characters(bytes: &[u8]) -> usize
 }
 
 /// How many bytes the last character takes, or 1 where the bytes end with none: how far a scan from the back moves on.
-#[tactic(auto, using(crate::proofs::Characters::fits_before, crate::proofs::Characters::least_width))]
+#[tactic(auto, using(crate::proofs::PrimitivesLemmas::fits_before, crate::proofs::PrimitivesLemmas::least_width))]
 pub fn last_width(bytes: &[u8]) -> usize
     requires { 0 < length bytes.now }
     ensures some { 1 ≤ result }

@@ -2,7 +2,7 @@ use Rattle.std.proofs.Common.{◌≡◌, length}
 use Rattle.std.specs.declared.ops.Bound.TheVariants.{Unbounded}
 use Rattle.rsc_alphabet.specs.Iterators.{class_at, representatives_of}
 use Rattle.rsc_uses.specs.Leads.{lead_of}
-use Rattle.rsc_uses.proofs.Filling.{Awaits}
+use Rattle.rsc_uses.proofs.AlphabetLemmas.{Awaits}
 use Rattle.rsc_uses.proofs.alphabet.fill_by_representatives.Given as goal
 
 -- each representative is still to come, or the entry of its class has where it leads

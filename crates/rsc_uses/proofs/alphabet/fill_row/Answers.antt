@@ -2,7 +2,7 @@ use Rattle.std.proofs.Common.{◌<◌, ◌+◌, ◌∙◌, slice_index, refl, su
 use Rattle.std.proofs.lemmas.List.Elements.{All-contains}
 use Rattle.rsc_alphabet.specs.Symbols.{number_of}
 use Rattle.rsc_alphabet.specs.Iterators.{symbols}
-use Rattle.rsc_uses.proofs.Filling.{one_filled, next_is_among, all_filled, unit_of_number}
+use Rattle.rsc_uses.proofs.AlphabetLemmas.{one_filled, next_is_among, all_filled, unit_of_number}
 use Rattle.rsc_uses.proofs.alphabet.fill_row.Goals as goal
 
 pub loop-unit-preserved : goal.loop-unit-preserved

@@ -1,7 +1,7 @@
 use Rattle.std.proofs.Common.{◌≡◌, ◌≤◌, ◌+◌, ℕ, length, slice_index}
 use Rattle.rsc_alphabet.specs.Symbols.{number_of}
 use Rattle.rsc_alphabet.specs.Iterators.{symbols}
-use Rattle.rsc_uses.proofs.Filling.{Awaits}
+use Rattle.rsc_uses.proofs.AlphabetLemmas.{Awaits}
 use Rattle.rsc_uses.proofs.alphabet.fill_row.Given as goal
 
 -- each unit is still to come, or its entry is marked; the entries after them are as they were

@@ -1,6 +1,6 @@
 use Rattle.std.proofs.Common.{rules, ◌∷◌, [], arith}
 use Rattle.std.proofs.lemmas.List.Elements.{Contains-push}
-use Rattle.rsc_uses.proofs.Bytes.{bytes_all}
+use Rattle.rsc_uses.proofs.LookLemmas.{bytes_all}
 use Rattle.rsc_uses.proofs.look.agree.Goals as goal
 
 pub returns : goal.returns

@@ -1,5 +1,5 @@
 use Rattle.std.proofs.Common.{arith, rules}
-use Rattle.rsc_uses.proofs.Characters.{more, all_read}
+use Rattle.rsc_uses.proofs.PrimitivesLemmas.{more, all_read}
 use Rattle.rsc_uses.proofs.primitives.count_characters.Goals as goal
 
 pub loop-at-init : goal.loop-at-init

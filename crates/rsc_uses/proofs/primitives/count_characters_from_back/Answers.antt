@@ -1,6 +1,6 @@
 use Rattle.std.proofs.Common.{arith, rules}
 use Rattle.std.proofs.Math.Seq.{take-length}
-use Rattle.rsc_uses.proofs.Characters.{more_before, none_before}
+use Rattle.rsc_uses.proofs.PrimitivesLemmas.{more_before, none_before}
 use Rattle.rsc_uses.proofs.primitives.count_characters_from_back.Goals as goal
 
 pub loop-end-init : goal.loop-end-init

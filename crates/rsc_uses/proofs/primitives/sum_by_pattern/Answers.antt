@@ -1,5 +1,5 @@
 use Rattle.std.proofs.Common.{◌∙◌, ◌^◌, arith}
-use Rattle.rsc_uses.proofs.Sums.{all_left, one_more, none_left}
+use Rattle.rsc_uses.proofs.SearchLemmas.{all_left, one_more, none_left}
 use Rattle.rsc_uses.proofs.primitives.sum_by_pattern.Goals as goal
 
 pub loop-pid-init : goal.loop-pid-init

@@ -1,5 +1,5 @@
 use Rattle.std.proofs.Common.{◌∙◌, ◌^◌, arith}
-use Rattle.rsc_uses.proofs.Sums.{one_more_of_range}
+use Rattle.rsc_uses.proofs.SearchLemmas.{one_more_of_range}
 use Rattle.rsc_uses.proofs.search.sum_of_bytes.Goals as goal
 
 pub loop-at-preserved : goal.loop-at-preserved

@@ -1,5 +1,5 @@
 use Rattle.std.proofs.Common.{◌∙◌, ◌^◌, arith}
-use Rattle.rsc_uses.proofs.Sums.{these_left, one_more, none_left}
+use Rattle.rsc_uses.proofs.SearchLemmas.{these_left, one_more, none_left}
 use Rattle.rsc_uses.proofs.search.sum_of_members.Goals as goal
 
 pub loop-pid-init : goal.loop-pid-init

@@ -15,6 +15,7 @@ entries t = same_lists _ _ (length-map-range_with_len (slice_index t) 0 (length 
 pub these_left : (t members : List ℕ) (m : ℕ) {left : List ℕ} → left ≡ members → (0 + sum_by (slice_index t) left) % m ≡ sum_by (slice_index t) members % m
 these_left t members m e = ap (λ n. n % m) (rw e (omega arith))
 
+-- at first all entries are left
 pub all_left : (t : List ℕ) (m : ℕ) {left : List ℕ} → left ≡ range_with_len 0 (length t) → (0 + sum_by (slice_index t) left) % m ≡ sum t % m
 all_left t m e =
     these_left t (range_with_len 0 (length t)) m e
