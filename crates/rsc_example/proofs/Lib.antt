@@ -1,3 +1,2 @@
-pub mod Trails  -- a trail grows by a place, and goes back to one
-pub mod Visits  -- a place more that was visited leaves one less
-pub mod Records  -- what a run records, from its end on
+pub mod RunsLemmas  -- what a run records, from its end on
+pub mod WalksLemmas  -- a trail grows by a place and goes back to one, and each visit leaves one place less

@@ -2,7 +2,7 @@ use Rattle.std.proofs.Common.{◌≡◌, ◌<◌, ◌+◌, ◌-◌, ◌∙◌, l
 use Rattle.std.proofs.lemmas.Grind.{common_steps}
 use Rattle.std.proofs.lemmas.List.{get_or_read}
 use Rattle.std.proofs.lemmas.List.Sums.{sum_by-take-le}
-use Rattle.rsc_example.proofs.Trails.{IsTrail-none, IsNext-back, IsTrail-less}
+use Rattle.rsc_example.proofs.WalksLemmas.{IsTrail-none, IsNext-back, IsTrail-less}
 use Rattle.rsc_example.proofs.backtrack.Walk.turn_back.Goals as goal
 
 pub returns-in-Some-clause-trail : goal.returns-in-Some-clause-trail
@@ -10,12 +10,12 @@ returns-in-Some-clause-trail g c = IsTrail-none _ _ _ _ _ c.places.invariant.tra
 
 pub returns-in-Some-clause-next : goal.returns-in-Some-clause-next
 returns-in-Some-clause-next g c =
-    let t = c.places.invariant.trail in
     let last : c.len-last.result - 1 + 1 ≡ length c.places.self.others.items = grind (arith, common_steps) in
     let at = get_or_read c.places.self.others.items (c.len-last.result - 1) c.index.result.now (omega (arith, last)) c.index.ensures None in
     let here = get_or_read c.places.self.run.items (c.len-last.result - 1) c.index-in-Some.result.now
-    (omega (arith, last, t.as_many)) c.index-in-Some.ensures (0, 0) in
-    rw here (IsNext-back _ _ _ _ (c.len-last.result - 1) c.in-Some.other t (omega (arith, last, t.as_many)) (sym at ∙ c.in-Some.is))
+    (omega (arith, last, c.places.invariant.trail.as_many)) c.index-in-Some.ensures (0, 0) in
+    rw here (IsNext-back _ _ _ _ (c.len-last.result - 1) c.in-Some.other c.places.invariant.trail (omega (arith, last, c.places.invariant.trail.as_many))
+    (sym at ∙ c.in-Some.is))
 
 pub places-preserved : goal.places-preserved
 places-preserved g c =

@@ -1,8 +1,7 @@
 use Rattle.std.proofs.Common.{◌≡◌, false, arith}
 use Rattle.std.proofs.lemmas.Grind.{common_steps}
 use Rattle.rsc_search.specs.PatternSets.{has_member}
-use Rattle.rsc_example.proofs.Trails.{IsAfter-more}
-use Rattle.rsc_example.proofs.Visits.{IsLess-more, unvisited-no_more}
+use Rattle.rsc_example.proofs.WalksLemmas.{IsAfter-more, IsLess-more, unvisited-no_more}
 use Rattle.rsc_example.proofs.backtrack.Walk.visit.Goals as goal
 
 pub returns-then-not-insert-clause-less : goal.returns-then-not-insert-clause-less
