@@ -1,6 +1,6 @@
 use Rattle.std.specs.FinSet as sets
 use Rattle.rsc_show.specs.Chosen.{chosen_words}
-use Rattle.rsc_show.proofs.Parting.{coarsest_map, coarsest_parting}
+use Rattle.rsc_show.proofs.RangesLemmas.{coarsest_map, coarsest_parting}
 use Rattle.rsc_show.proofs.alphabet.classes_of.Goals as goal
 
 pub returns-clause-parting : goal.returns-clause-parting

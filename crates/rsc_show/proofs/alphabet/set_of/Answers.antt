@@ -3,7 +3,7 @@ use Rattle.std.specs.FinSet as sets
 use Rattle.std.proofs.lemmas.List.{take_all, take_more}
 use Rattle.rsc_alphabet.specs.Partitions.{edges_of}
 use Rattle.rsc_show.specs.Ranges.{Parts}
-use Rattle.rsc_show.proofs.Parting.{edges_added, edges_as_they_are}
+use Rattle.rsc_show.proofs.RangesLemmas.{edges_added, edges_as_they_are}
 use Rattle.rsc_show.proofs.alphabet.set_of.Goals as goal
 use Rattle.rsc_show.proofs.alphabet.set_of.Goals.{then-start-end, else-start-end}
 

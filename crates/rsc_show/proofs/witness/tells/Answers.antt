@@ -1,4 +1,4 @@
-use Rattle.rsc_show.proofs.Telling.{differ_if}
+use Rattle.rsc_show.proofs.ChosenLemmas.{differ_if}
 use Rattle.rsc_show.proofs.witness.tells.Goals as goal
 
 pub returns : goal.returns

@@ -2,7 +2,7 @@ use Rattle.std.proofs.Common.{arith, refl, get_or, true≢false, sym}
 use Rattle.std.proofs.lemmas.List.Elements.{Contains-get_or}
 use Rattle.rsc_look.specs.declared.assertion.Look.TheVariants.{Start}
 use Rattle.rsc_show.specs.Chosen.{chosen_words}
-use Rattle.rsc_show.proofs.Telling.{none_tells_more, not_needed, boundary_between}
+use Rattle.rsc_show.proofs.ChosenLemmas.{none_tells_more, not_needed, boundary_between}
 use Rattle.rsc_show.proofs.witness.witness.Goals as goal
 
 pub loop-look-init : goal.loop-look-init

@@ -1,5 +1,5 @@
 use Rattle.rsc_show.specs.Chosen.{chosen_words}
-use Rattle.rsc_show.proofs.Telling.{NoneTells}
+use Rattle.rsc_show.proofs.ChosenLemmas.{NoneTells}
 use Rattle.rsc_show.proofs.witness.witness.Given as goal
 
 -- no assertion so far tells the byte

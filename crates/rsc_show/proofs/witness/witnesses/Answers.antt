@@ -2,7 +2,7 @@ use Rattle.std.proofs.Common.{inl, inr, ⊎_elim}
 use Rattle.rsc_look.specs.Keeping.{IsNeeded}
 use Rattle.rsc_show.specs.Chosen.{chosen_words}
 use Rattle.rsc_show.specs.Ranges.{HasEdge}
-use Rattle.rsc_show.proofs.Telling.{boundary_between}
+use Rattle.rsc_show.proofs.ChosenLemmas.{boundary_between}
 use Rattle.rsc_show.proofs.witness.witnesses.Goals as goal
 
 pub returns-clause-boundary : goal.returns-clause-boundary
