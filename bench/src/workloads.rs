@@ -284,19 +284,19 @@ fn names_of_1000_bytes() -> impl Iterator<Item = String> {
     ('0'..='z').filter(|&last| last != ';').map(move |last| format!("{shared}{last}"))
 }
 
-/// The first names of seven bytes that the port's table of `named` names has on one cell, by the
+/// The first names of seven bytes that the port's table of `named` names has on one slot, by the
 /// hash of the toolchain's library.
-fn names_on_one_cell(named: usize) -> impl Iterator<Item = String> {
+fn names_on_one_slot(named: usize) -> impl Iterator<Item = String> {
     const MULTIPLIER: u64 = 0x9E37_79B9_7F4A_7C15;
-    let cells = 2 * named.next_power_of_two() as u64;
-    let cell = move |name: &str| {
+    let slots = 2 * named.next_power_of_two() as u64;
+    let slot = move |name: &str| {
         let word = |at: usize| u32::from_le_bytes(name.as_bytes()[at..at + 4].try_into().unwrap());
         let read = u64::from(word(0)) | u64::from(word(3)) << 32;
         let (a, b) = (0x243F_6A88_85A3_08D3 ^ read, MULTIPLIER ^ (2 * 7));
         let product = u128::from(a) * u128::from(b);
-        (product as u64 ^ (product >> 64) as u64) % cells
+        (product as u64 ^ (product >> 64) as u64) % slots
     };
-    (0u32..).map(|i| format!("n{i:06x}")).filter(move |name| cell(name) == 0).take(named)
+    (0u32..).map(|i| format!("n{i:06x}")).filter(move |name| slot(name) == 0).take(named)
 }
 
 /// All workloads, in the order in which they are measured.
@@ -445,17 +445,17 @@ pub fn all() -> Vec<Workload> {
     let name = |g: usize| format!("name_0_{g}");
     let many = one_pattern((0..20_000).map(name));
     let long = one_pattern(names_of_1000_bytes());
-    let one_cell = one_pattern(names_on_one_cell(1000));
+    let one_slot = one_pattern(names_on_one_slot(1000));
     let patterns = String::from_utf8(group_lists(1000, 1)).unwrap();
     add("group_info_new_1000x1", GI_NEW, &patterns, 1);
     add("group_info_new_names_of_1000_bytes", GI_NEW, &long, 1);
-    add("group_info_new_names_on_one_cell", GI_NEW, &one_cell, 1);
-    add("group_info_to_index_names_on_one_cell", GI_TO_INDEX, &one_cell, 1000);
+    add("group_info_new_names_on_one_slot", GI_NEW, &one_slot, 1);
+    add("group_info_to_index_names_on_one_slot", GI_TO_INDEX, &one_slot, 1000);
     // The last pattern has a name where it may have none.
     let mut add = |name: &str, list: &str| add(name, GI_REFUSED, list, 1);
     add("group_info_refused_1000x1", &format!("{patterns};x"));
     add("group_info_refused_names_of_1000_bytes", &format!("{long};x"));
-    add("group_info_refused_names_on_one_cell", &format!("{one_cell};x"));
+    add("group_info_refused_names_on_one_slot", &format!("{one_slot};x"));
     add("group_info_refused_1x20000", &format!("{many};x"));
     add("group_info_refused_1x20000_first_used_twice", &format!("{many},name_0_0"));
     add("group_info_refused_1x20000_last_used_twice", &format!("{many},name_0_19999"));
