@@ -25,7 +25,7 @@ bit_at_shr n k i = ap (λ x. x % 2) (shr-shr n k i)
 bit_at_mod : (n k i : ℕ) → i < k → bit_at (n % 2 ^ k) i ≡ bit_at n i
 bit_at_mod n k i l = rw (← and_mask n k) (bit_at_and n (2 ^ k - 1) i ∙ rw (bit_at_ones k i l) (omega (arith, bit_at-lt n i)))
 
--- the bits of a number that was shifted left: those that are kept, from the lowest one on, and below it
+-- the bits of a number that was shifted left: the kept ones, from the lowest on, and below it
 kept_shl : (n k w i : ℕ) → i < w → bit_at (n * 2 ^ k % 2 ^ w) i ≡ bit_at (n * 2 ^ k + 0) i
 kept_shl n k w i high = bit_at_mod (n * 2 ^ k) w i high ∙ (let more : n * 2 ^ k ≡ n * 2 ^ k + 0 = omega arith in ap (λ x. bit_at x i) more)
 

@@ -1,4 +1,4 @@
--- The boundaries that a class set gathers from the states are exactly those that keep all runs.
+-- The boundaries that a class set gathers from the states are exactly what keeps all runs.
 use Rattle.std.proofs.Common.{◌≡◌, ℕ, ◌+◌, ◌<◌, ◌≤◌, Bool, true, false, ◌||◌, List, [], ◌∷◌, length, take, get_or, sym, ap, ap₂, ◌∙◌, nat_cmp, ◌↔◌, refl, arith, subst, slice_get, slice_index, Option, Some, None, MatchOption, zero, suc, ◌&&◌, nat_lt, nat_le, cond, ◌⊎◌, inl, inr, true≢false, IsTrue, Any}
 use Rattle.std.specs.List.{list_any}
 use Rattle.std.specs.FinSet as sets
