@@ -11,7 +11,7 @@ pub enum BenchError {
     /// The output failed. The answers of earlier lines were written.
     #[error("rsc_bench: write failed")]
     Write,
-    /// A request for memory was refused. The answers of earlier lines were written.
+    /// Out of memory. The answers of earlier lines were written.
     #[error("rsc_bench: out of memory")]
     OutOfMemory,
 }

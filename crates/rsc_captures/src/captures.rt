@@ -77,7 +77,7 @@ impl<A: Allocator + Clone + Drop> Captures<A> {
     ///
     /// # Errors
     ///
-    /// Where memory is refused; the group info is dropped then.
+    /// If memory runs out; the group info is dropped then.
     pub fn all(alloc: A, group_info: GroupInfo<A>) -> Result<Captures<A>, AllocError>
         ensures { IfOk result (λ c. c ≡ no_offsets group_info (2 * all_groups group_info)) }
     {
@@ -90,7 +90,7 @@ impl<A: Allocator + Clone + Drop> Captures<A> {
     ///
     /// # Errors
     ///
-    /// Where memory is refused; the group info is dropped then.
+    /// If memory runs out; the group info is dropped then.
     pub fn matches(alloc: A, group_info: GroupInfo<A>) -> Result<Captures<A>, AllocError>
         ensures { IfOk result (λ c. c ≡ no_offsets group_info (2 * length group_info)) }
     {
@@ -113,7 +113,7 @@ impl<A: Allocator + Clone + Drop> Captures<A> {
     ///
     /// # Errors
     ///
-    /// Where memory is refused; the source stays as it is.
+    /// If memory runs out; the source stays as it is.
     pub fn clone(&self) -> Result<Captures<A>, AllocError>
         ensures { IfOk result (λ copy. copy ≡ self.now) }
     {

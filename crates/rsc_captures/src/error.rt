@@ -11,7 +11,7 @@ use std::error::Error;
 use std::fmt;
 use std::marker::Model;
 
-/// What is wrong with a group list, or that memory was refused.
+/// What is wrong with a group list, or out of memory.
 ///
 /// # Examples
 ///
@@ -52,7 +52,7 @@ pub enum GroupInfoErrorKind<A: Allocator = Global> {
         /// The name.
         name: String<A>,
     },
-    /// A request for memory was refused.
+    /// Out of memory.
     OutOfMemory,
 }
 
@@ -116,7 +116,7 @@ impl<A: Allocator + Clone + Drop> GroupInfoErrorKind<A> {
     ///
     /// # Errors
     ///
-    /// Where memory is refused; the source stays as it is.
+    /// If memory runs out; the source stays as it is.
     pub fn clone(&self) -> Result<GroupInfoErrorKind<A>, AllocError>
         ensures { IfOk result (λ copy. fault_of copy ≡ fault_of self.now) }
     {
@@ -144,7 +144,7 @@ impl<A: Allocator + Clone + Drop> GroupInfoError<A> {
     ///
     /// # Errors
     ///
-    /// Where memory is refused; the source stays as it is.
+    /// If memory runs out; the source stays as it is.
     pub fn clone(&self) -> Result<GroupInfoError<A>, AllocError>
         ensures { IfOk result (λ copy. copy ≡ self.now) }
     {

@@ -63,8 +63,8 @@ impl<A: Allocator + Clone + Drop> GroupInfo<A> {
     ///
     /// The first fault of the lists, which are read by pattern and then by group: too many patterns, a pattern without
     /// groups, a first group with a name, too many groups, a name that a lesser group of its pattern has. Last comes a pattern
-    /// whose groups, after the first groups of all patterns, have no slots left. Where memory is refused the kind is
-    /// [`OutOfMemory`](crate::GroupInfoErrorKind::OutOfMemory); a list with any fault but a repeated name takes none.
+    /// whose groups, after the first groups of all patterns, have no slots left. If memory runs out the kind is
+    /// [`OutOfMemory`](crate::GroupInfoErrorKind::OutOfMemory); a list whose first fault is no repeated name takes none.
     ///
     /// # Cost
     ///
@@ -116,7 +116,7 @@ impl<A: Allocator + Clone + Drop> GroupInfo<A> {
     ///
     /// # Errors
     ///
-    /// Where memory is refused.
+    /// If memory runs out.
     pub fn empty(alloc: A) -> Result<GroupInfo<A>, GroupInfoError<A>>
         ensures groups { IfOk result (λ info. info ≡ []) }
         ensures refused { IfErr result (λ e. e ≡ None) }

@@ -1,4 +1,4 @@
-//! Group lists and captures: worked rows, shown texts, and refused memory.
+//! Group lists and captures: worked rows, shown texts, and running out of memory.
 mod captures;
 mod group_info;
 mod memory;

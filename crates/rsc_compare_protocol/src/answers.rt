@@ -5,7 +5,7 @@ use std::alloc::Global;
 use std::cmp::Ordering;
 use std::fmt;
 
-/// A text that is put together of parts, with a separator between each two. Where memory is refused it goes on without
+/// A text that is put together of parts, with a separator between each two. If memory runs out it goes on without
 /// that part, and [`Parts::finish`] tells.
 #[derive(Drop)]
 pub struct Parts {

@@ -12,7 +12,7 @@ pub enum CommandError {
     /// A token can't be read, or what a call needs of its caller isn't kept.
     #[error("bad command")]
     BadCommand,
-    /// A request for memory was refused.
+    /// Out of memory.
     #[error("out of memory")]
     OutOfMemory,
 }
@@ -38,7 +38,7 @@ pub enum RunError {
     /// The output failed. The answers of earlier lines may have been written.
     #[error("rsc_compare: write failed")]
     Write,
-    /// A request for memory was refused. The answers of earlier lines may have been written.
+    /// Out of memory. The answers of earlier lines may have been written.
     #[error("rsc_compare: out of memory")]
     OutOfMemory,
 }

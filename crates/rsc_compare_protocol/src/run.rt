@@ -15,7 +15,7 @@ pub trait Answerer {
     /// # Errors
     ///
     /// Where there is no command of that name, where it can't be read or asks for what a call doesn't allow, and where
-    /// memory is refused.
+    /// memory runs out.
     fn answer(
         &self,
         alloc: Global,

@@ -43,7 +43,7 @@ pub struct Walk {
 ///
 /// # Errors
 ///
-/// That memory was refused, or `TooLarge` if there are more states times positions of the span than numbers for patterns.
+/// Out of memory, or `TooLarge` if there are more states times positions of the span than numbers for patterns.
 pub fn search<W: WordClass>(
     alloc: Global,
     program: &Program<W>,

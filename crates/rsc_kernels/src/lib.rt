@@ -22,7 +22,7 @@ use std::alloc::Global;
 /// The sum, wrapping at 64 bits, of what each of `reps` repetitions of a kernel adds. README.md has the table of kernels.
 ///
 /// What a kernel needs is made once, before the repetitions. The answer is 0 for a number that is no kernel's, for `data` and
-/// `param` that aren't what the kernel reads, and where memory is refused.
+/// `param` that aren't what the kernel reads, and if memory runs out.
 #[unsafe(no_mangle)]
 pub extern "C" fn rsc_kernel(
     alloc: Global,

@@ -4,7 +4,7 @@ ghost use Rattle.std.specs.Prelude.{IsOk};
 use std::error::Error;
 use std::fmt;
 
-/// The tables of word characters are missing. They are always there, so that no call answers this.
+/// The tables of word characters are missing. They are always there, so no function returns this.
 #[derive(Clone, Debug, Drop)]
 pub struct UnicodeWordBoundaryError(());
 
@@ -13,7 +13,7 @@ impl UnicodeWordBoundaryError {
     ///
     /// # Errors
     ///
-    /// None: the Rust answers one where it was built without the tables.
+    /// None: the original returns one if it is built without the tables.
     pub fn check() -> Result<(), UnicodeWordBoundaryError>
         ensures { IsOk result }
     {

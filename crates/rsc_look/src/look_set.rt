@@ -292,7 +292,7 @@ impl LookSet {
     ///
     /// # Errors
     ///
-    /// None: the Rust answers one where it was built without the tables.
+    /// None: the original returns one if it is built without the tables.
     pub fn available(self) -> Result<(), UnicodeWordBoundaryError>
         ensures { IsOk result }
     {

@@ -73,7 +73,7 @@ impl<W: WordClass> LookMatcher<W> {
     ///
     /// # Errors
     ///
-    /// An `AllocError` is answered only where the clone of the choice of word characters is refused.
+    /// `AllocError` only if the clone of the `WordClass` fails.
     pub fn clone(&self) -> Result<Self, AllocError>
     where
         W: Clone,

@@ -144,7 +144,7 @@ impl<W: WordClass, A: Allocator + Clone + Drop> Nfa<W, A> {
     ///
     /// # Errors
     ///
-    /// The first fault of the states in their order, or that memory was refused.
+    /// The first fault of the states in their order, or out of memory.
     pub fn new(
         alloc: A,
         group_info: GroupInfo<A>,

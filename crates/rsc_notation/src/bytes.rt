@@ -44,7 +44,7 @@ pub fn parse_range(text: &[u8]) -> Option<(u8, u8)>
 ///
 /// # Errors
 ///
-/// An `AllocError` is answered only where memory was refused.
+/// `AllocError` only if memory runs out.
 pub fn parse_bytes<A: Allocator + Copy + Drop>(
     alloc: A,
     digits: &[u8],

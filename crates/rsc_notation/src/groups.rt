@@ -8,7 +8,7 @@ use std::alloc::{AllocError, Allocator};
 ///
 /// # Errors
 ///
-/// An `AllocError` is answered only where memory was refused.
+/// `AllocError` only if memory runs out.
 pub fn slices_of<'a, 'b, A: Allocator + Copy + Drop>(
     alloc: A,
     patterns: &'a [Vec<Option<&'b str>, A>],
@@ -28,7 +28,7 @@ pub fn slices_of<'a, 'b, A: Allocator + Copy + Drop>(
 ///
 /// # Errors
 ///
-/// An `AllocError` is answered only where memory was refused.
+/// `AllocError` only if memory runs out.
 pub fn parse_patterns<'a, A: Allocator + Copy + Drop>(
     alloc: A,
     text: &'a [u8],

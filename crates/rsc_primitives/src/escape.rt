@@ -39,7 +39,7 @@ impl<'a> fmt::Debug for DebugHaystack<'a> {
 ///
 /// # Errors
 ///
-/// An `AllocError` is answered where there is no memory for the text.
+/// `AllocError` only if memory runs out.
 ///
 /// # Examples
 ///
@@ -60,7 +60,7 @@ pub fn byte_text<A: Allocator + Drop>(alloc: A, byte: u8) -> Result<String<A>, A
 ///
 /// # Errors
 ///
-/// An `AllocError` is answered where there is no memory for the text.
+/// `AllocError` only if memory runs out.
 ///
 /// # Examples
 ///

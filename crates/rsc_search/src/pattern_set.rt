@@ -53,7 +53,7 @@ impl<A: Allocator> PatternSet<A> {
     ///
     /// # Errors
     ///
-    /// An `AllocError` is answered only where memory was refused.
+    /// `AllocError` only if memory runs out.
     pub fn new(alloc: A, capacity: usize) -> Result<PatternSet<A>, AllocError>
         requires { capacity ≤ PatternID.LIMIT }
         ensures { IfOk result (λ set. set ≡ no_patterns capacity) }
@@ -198,7 +198,7 @@ impl<A: Allocator + Clone + Drop> PatternSet<A> {
     ///
     /// # Errors
     ///
-    /// An `AllocError` is answered only where memory was refused, and this set is as before.
+    /// `AllocError` only if memory runs out; this set is as before then.
     pub fn clone(&self) -> Result<PatternSet<A>, AllocError>
         ensures { IfOk result (λ set. set ≡ self.now) }
     {

@@ -19,7 +19,7 @@ pub enum ShowError {
     Closed,
     /// A list of groups is refused; the answer, which was written, says why.
     ListRefused,
-    /// A request for memory was refused.
+    /// Out of memory.
     OutOfMemory,
 }
 

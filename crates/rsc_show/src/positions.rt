@@ -83,7 +83,7 @@ fn reaches_past(haystack: &[u8], start: usize, at: usize) -> bool
 ///
 /// # Errors
 ///
-/// [`AllocError`] where memory was refused.
+/// [`AllocError`] if memory runs out.
 pub fn marks_at(
     alloc: Global,
     matcher: &LookMatcher<Words>,

@@ -9,12 +9,12 @@ use std::fmt;
 use std::fmt::Write;
 use unicode_width::UnicodeWidthStr;
 
-/// A text that grows, and remembers that memory was refused, so that this is asked once, at its end.
+/// A text that grows, and remembers that memory ran out, so that this is asked once, at its end.
 #[derive(Drop)]
 pub struct Page {
     alloc: Global,
     text: String,
-    // Whether the text lacks something because memory was refused.
+    // Whether the text lacks something because memory ran out.
     is_refused: bool,
 }
 

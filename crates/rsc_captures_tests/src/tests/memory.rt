@@ -18,7 +18,7 @@ enum Outcome {
     Wrong,
 }
 
-// Whether memory was refused.
+// Whether memory ran out.
 fn is_out_of_memory(error: &GroupInfoError<&LocalHeap>) -> bool {
     matches!(error.kind(), GroupInfoErrorKind::OutOfMemory)
 }
@@ -61,7 +61,7 @@ fn empty_within(heap: &LocalHeap) -> Outcome {
     }
 }
 
-// Whether a repeated name of 70 bytes is found, and given whole, or memory is refused.
+// Whether a repeated name of 70 bytes is found, and given whole, or memory runs out.
 fn repeated_name_within(heap: &LocalHeap) -> Outcome {
     let long = "a name of seventy bytes, so that a limit on how long names are would show";
     let Err(error) = GroupInfo::new(heap, &[&[None, Some(long), Some(long)]]) else {

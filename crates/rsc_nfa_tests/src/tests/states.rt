@@ -1,4 +1,4 @@
-//! Refusals, refused memory, and what is lent.
+//! Refusals, running out of memory, and what is lent.
 use linked_list_allocator::LocalHeap;
 use rsc_captures::GroupInfo;
 use rsc_look::{AsciiWord, LookMatcher};
