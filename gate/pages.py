@@ -163,7 +163,7 @@ def numbers():
     """Yields each place where a page must have a number that the code decides, with the words that it must have."""
     source = "crates/rsc_captures/src/repeats.rt"
     table = int(re.search(r"^const TABLE: usize = (\d+);", (ROOT / source).read_text(encoding="utf-8"), flags=re.M)[1])
-    yield "docs/DECISIONS.md", f"block of {table:,} are sorted by name in a table of {4 * table // 1024} KiB"
+    yield "docs/DECISIONS.md", f"blocks of {table:,} groups are sorted by name in a table of {4 * table // 1024} KiB"
     yield "docs/DECISIONS.md", f"n²/{2 * table} look-ups"
     yield "crates/rsc_captures_tests/src/tests/repeats.rt", f"has room for {table:,} groups"
 
