@@ -76,7 +76,7 @@ def main():
     wanted = edits([it for it in sys.argv[1:] if it != "--texts"])
     found = misfits(wanted)
     if found or "--texts" in sys.argv:
-        print(*found, f"tested-bodies: the texts of {len(wanted) - len(found)} edits fit, {len(found)} don't", sep="\n")
+        print(*found, f"tested-bodies: {len(wanted) - len(found)} fit, {len(found)} failed", sep="\n")
         return 1 if found else 0
     lanes = min(len(wanted), len(os.sched_getaffinity(0))) or 1
     passed = failed = 0
