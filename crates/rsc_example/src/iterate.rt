@@ -1,5 +1,5 @@
 //! An iteration over matches: the DFA finds where the next one ends, and the backtracker its groups.
-ghost use Rattle.std.specs.Prelude.{◌≡◌, ◌<◌, ◌≤◌, IfOk, IfSome, MatchOption};
+ghost use Rattle.std.specs.Prelude.{◌≡◌, ◌<◌, ◌≤◌, IfOk, IfSome, MatchOption, Some};
 ghost use Rattle.std.specs.Option.{ForSome};
 ghost use Rattle.rsc_example.specs.Programs.{scene};
 ghost use Rattle.rsc_example.specs.Runs.{IsInSpan, IsFound};
@@ -37,6 +37,7 @@ impl<'h, W: WordClass> Matches<'h, W> {
     /// nor within a character.
     pub fn next(&mut self, alloc: Global, captures: &mut Captures) -> Result<Option<Match>, Error>
         ensures later { IfOk result (λ found. IfSome found (λ m. MatchOption self.old.last_end (m.span.end ≡ m.span.end) (λ end. end < m.span.end))) }
+        ensures last { IfOk result (λ found. MatchOption found (self.new.last_end ≡ self.old.last_end) (λ m. self.new.last_end ≡ Some m.span.end)) }
     {
         let most = self.input.end() + 1;
         'matches: for _ in 0..most {
