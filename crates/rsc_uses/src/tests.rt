@@ -7,7 +7,7 @@ use rsc_captures::{Captures, GroupInfo};
 use rsc_look::{AsciiWord, Look, LookMatcher, LookSet, UnicodeWord};
 use rsc_nfa::{Nfa, State};
 use rsc_primitives::{NonMaxUsize, PatternID, StateID};
-use rsc_search::{Input, Match, Span};
+use rsc_search::{Input, Match, PatternSet, Span};
 use std::test::Fail;
 
 fn are_positions(found: &[usize], want: &[usize]) -> bool {
@@ -233,6 +233,20 @@ fn members_from_both_ends(rt: HostRuntime) -> Result<(), Fail> {
         137
     );
     assert_eq!(rt; search::room(&set), 5);
+    Ok(())
+}
+
+#[test]
+fn inputs_read_and_patterns_met(rt: HostRuntime) -> Result<(), Fail> {
+    let input = search::input_of("ab\n");
+    assert_eq!(rt; search::sum_of_bytes(&input), 205);
+    assert!(rt; search::has_byte(&input, 1, b'b'));
+    assert!(rt; !search::has_byte(&input, 2, b'b'));
+    assert!(rt; search::is_done_or_holds(&input, Look::StartLF));
+    assert!(rt; !search::is_done_or_holds(&input, Look::End));
+    let mut met = PatternSet::new(rt.alloc(), 4)?;
+    let leads = [PatternID::must(2), PatternID::ZERO, PatternID::ZERO];
+    assert_eq!(rt; search::follow(&mut met, &leads, PatternID::ZERO), 2);
     Ok(())
 }
 

@@ -14,7 +14,7 @@ fn is_send_and_sync<T: Send + Sync>() -> bool
     true
 }
 
-/// Whether every public type that holds something may be shared by threads. That this compiles is the answer.
+/// Whether these types may be shared by threads. That this compiles is the answer.
 pub fn are_shared_by_threads() -> bool
     ensures { IsTrue result }
 {
