@@ -111,8 +111,8 @@ impl ByteClassSet {
 
     /// The class map of the partition: the class of a byte is the number of boundaries below it.
     ///
-    /// Classes are intervals, so that the map is made in one pass over the bytes: two bytes that every range treats alike have
-    /// different classes where a byte between them is treated otherwise.
+    /// Classes are intervals, so that the map is made in one pass over the bytes: two bytes that are in the same ranges have
+    /// different classes if a byte between them isn't.
     pub fn byte_classes(&self) -> ByteClasses
         ensures map { result ≡ class_map (sets.contains self.now) }
         ensures below { (k : ℕ) → sets.contains self.now k ≡ true → k < 255 }

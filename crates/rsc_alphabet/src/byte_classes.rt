@@ -106,8 +106,8 @@ impl ByteClasses {
 
     /// How many symbols there are: the classes 0 to that of the byte 255, and one more, the end of the input.
     ///
-    /// It is one more than the number of classes, since an automaton has a transition for the end of the input too, with which it
-    /// decides what looks at the next byte, as `$` and `\b` do.
+    /// The one more is there since an automaton has a transition for the end of the input too, with which it decides what looks at
+    /// the next byte, as `$` and `\b` do.
     ///
     /// # Examples
     ///
@@ -124,7 +124,7 @@ impl ByteClasses {
         usize::from(self.classes[255]) + 1 + 1
     }
 
-    /// The end of the input, as the symbol after all classes of bytes: its number is one more than the class of the byte 255.
+    /// The end of the input: its number is one more than the class of the byte 255.
     ///
     /// # Examples
     ///
@@ -161,7 +161,7 @@ impl ByteClasses {
         (self.alphabet_len() - 1).ilog2() as usize + 1
     }
 
-    /// Whether the byte 255 has the class 255, as where each byte has a class of its own. No other byte is looked at.
+    /// Whether the byte 255 has the class 255, as it has if each byte has a class of its own. No other byte is looked at.
     #[inline]
     pub fn is_singleton(&self) -> bool
         ensures { IsTrue result ↔ (slice_index self.now 255 ≡ 255) }
@@ -184,8 +184,7 @@ impl ByteClasses {
         }
     }
 
-    /// The bytes of a class, ascending, where the unit is the byte of that number. Of any end of the input it is the end
-    /// of the input after 256 classes alone.
+    /// The bytes of the class that a byte unit numbers, ascending. For any end of the input, only the end numbered 256.
     ///
     /// # Examples
     ///
@@ -208,7 +207,7 @@ impl ByteClasses {
         }
     }
 
-    /// The first byte of a range, each later one whose class differs from its predecessor's, and then, where the range
+    /// The first byte of a range, each later one whose class differs from its predecessor's, and then, if the range
     /// has no end, the end of the input.
     ///
     /// To compute something for each class, such as where a state leads, compute it for the representatives alone.

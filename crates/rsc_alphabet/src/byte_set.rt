@@ -139,7 +139,7 @@ impl ByteSet {
         has_bit(self.mask_with(byte), byte % 128)
     }
 
-    /// Whether all bytes from `start` to `end` are members, both included. Where `start` is above `end` that is true.
+    /// Whether all bytes from `start` to `end` are members, both included. True if `start` is above `end`.
     pub fn contains_range(&self, start: u8, end: u8) -> bool
         ensures { IsTrue result ↔ ((b : ℕ) → start ≤ b → b ≤ end → sets.contains self.now b ≡ true) }
     {

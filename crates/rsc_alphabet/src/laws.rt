@@ -1,4 +1,4 @@
-//! Laws of sets, partitions, class maps and trait impls that a caller can cite: functions that do nothing, and whose contracts are the laws.
+//! Laws of sets, partitions, class maps and trait impls that a caller can cite: functions whose contracts are the laws.
 ghost use Rattle.std.specs.Prelude.{true, ◌≡◌, ◌↔◌, ◌⊎◌, ◌+◌, ◌<◌, ◌≤◌, ◌∷◌, ℕ, Bool, List, length, slice_index, slice_get, Some, All, IsTrue, ◌==◌, ◌&&◌, ◌||◌, nat_lt};
 ghost use Rattle.std.specs.List.{Contains, AllAdjacentBelow};
 ghost use Rattle.std.specs.List.Sorted.{IsStrictlyIncreasing};
@@ -50,8 +50,8 @@ pub fn first_byte_is_representative()
         (rest : List Symbol) × (representatives_of classes from to ≡ byte (start_index from) ∷ rest) }
 {}
 
-/// The representatives of all bytes are bytes and the end of the input, and each byte has the class of one of them: who looks at the
-/// representatives alone has seen every class.
+/// The representatives of all bytes are bytes and the end of the input, and each byte has the class of one of them: looking at the
+/// representatives alone shows every class.
 pub fn each_class_is_represented()
     ensures reached { (classes : List ℕ) (b : ℕ) → b < 256 →
         (r : ℕ) × ((r < 256) × Contains (representatives_of classes Unbounded Unbounded) (byte r) × (slice_index classes r ≡ slice_index classes b)) }
@@ -89,7 +89,8 @@ pub fn edges_part_a_range()
         ((k : ℕ) → k < 255 → sets.contains (edges_of r) k ≡ true → p k ≡ true) → Together p b c → holds r b ≡ holds r c }
 {}
 
-/// Two bytes that are together for a partition with the boundaries of each of several ranges are alike for the ranges.
+/// Two bytes that are together for a partition with the boundaries of each of several ranges, whose first bytes are at most their last, are
+/// alike for the ranges.
 pub fn together_is_alike()
     ensures { (p : ℕ → Bool) (ranges : List (ℕ × ℕ)) → All (λ r. r.0 ≤ r.1) ranges →
         ((r : ℕ × ℕ) → Contains ranges r → (k : ℕ) → k < 255 → sets.contains (edges_of r) k ≡ true → p k ≡ true) →
@@ -124,7 +125,7 @@ pub fn order_of_units()
     ensures { (u v : Symbol) → ⟦<Unit as Ord>⟧.cmp u v ≡ symbol_cmp u v }
 {}
 
-/// The default of a set of bytes and of a partition is the empty one, and that of a class map has a class for each byte.
+/// The default of a set of bytes and of a partition is the empty one, and that of a class map gives each byte a class of its own.
 #[tactic(auto, using(crate::proofs::IteratorsLemmas::bytes_own))]
 pub fn defaults()
     ensures byte_set { (s : Numbers) → ⟦<ByteSet as Default>⟧.is_default s → s ≡ sets.empty }

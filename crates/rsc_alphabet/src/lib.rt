@@ -6,7 +6,7 @@
 //! The end of the input is a symbol of its own, a [`Unit`] after all classes: an assertion such as `$` is decided when the byte after a position
 //! is known, so an automaton takes one more step at the end. The number of symbols, [`ByteClasses::alphabet_len`], counts it.
 //!
-//! Classes are intervals, in the order of their bytes, so a partition is the set of its boundaries, and a range of bytes adds two of them.
+//! Classes are intervals, in the order of their bytes, so a partition is the set of its boundaries, and a range of bytes adds at most two of them.
 //!
 //! ```
 //! let mut set = ByteClassSet::empty();

@@ -16,9 +16,9 @@ use std::marker::Model;
 
 /// The offsets of the groups of a match, if there is a match.
 ///
-/// A search fills the slots and sets the pattern. Nothing is asked of what is in the slots, and no call here fails on
-/// it. A contract sees captures as the groups, the pattern and the offset of each slot, if it is set. How many slots
-/// there are never changes.
+/// A search fills the slots and sets the pattern. Only [`Captures::get_match`] requires something of what is in the slots.
+/// A contract sees captures as the groups, the pattern and the offset of each slot, if it is set. How many slots there are
+/// never changes.
 ///
 /// # Examples
 ///
@@ -195,7 +195,7 @@ impl<A: Allocator + Clone + Drop> Captures<A> {
         Some(Match::new(pid, span))
     }
 
-    /// How many groups the pattern has that matched; none without one, and of an unknown one.
+    /// How many groups the pattern that matched has; 0 without one, or if it is unknown.
     #[inline]
     pub fn group_len(&self) -> usize
         ensures { result ≡ matched_groups self.now }

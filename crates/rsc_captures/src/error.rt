@@ -28,7 +28,7 @@ pub enum GroupInfoErrorKind<A: Allocator = Global> {
         /// The refusal of the first number that no pattern can have.
         err: PatternIDError,
     },
-    /// There are more groups than slots can be numbered for.
+    /// There are more groups than the limit on slots allows.
     TooManyGroups {
         /// The pattern whose groups pass the limit.
         pattern: PatternID,

@@ -60,7 +60,7 @@ impl<A: Allocator + Clone + Drop> Captures<A> {
         None
     }
 
-    /// The parts of a text or of bytes that the participating groups span: the first, which is the whole match, and
+    /// The parts of a text or of bytes that the participating groups span: the first, the whole match if it has a span, and
     /// the next `N`. Any after them are not looked at. `None` exactly if there are fewer than `N + 1` of them, or one of
     /// those doesn't cut the haystack. The parts live as long as the haystack.
     ///
@@ -99,7 +99,7 @@ impl Captures {
         self.extract_from::<H, N>(haystack)
     }
 
-    /// The parts of a text that the participating groups span: the first, which is the whole match, and the next
+    /// The parts of a text that the participating groups span: the first, the whole match if it has a span, and the next
     /// `N`, as by [`Captures::extract_from`].
     #[inline]
     pub fn extract<'h, const N: usize>(&self, haystack: &'h str) -> Option<(&'h str, [&'h str; N])>
@@ -109,7 +109,7 @@ impl Captures {
         self.extract_parts::<&str, N>(haystack)
     }
 
-    /// The parts of bytes that the participating groups span: the first, which is the whole match, and the next `N`,
+    /// The parts of bytes that the participating groups span: the first, the whole match if it has a span, and the next `N`,
     /// as by [`Captures::extract_from`].
     #[inline]
     pub fn extract_bytes<'h, const N: usize>(

@@ -9,7 +9,7 @@ ghost use Rattle.rsc_captures.specs.NameIterators.{all_names_of};
 
 pub mod clones;
 
-/// A list has at most one first fault, and none where it has no fault.
+/// A list has at most one first fault, and none if it has no fault.
 pub fn one_first_fault()
     ensures unique { (limit : ℕ) (lists : GroupLists) (f f' : Fault) → IsFirstFault limit lists f → IsFirstFault limit lists f' → f ≡ f' }
     ensures none { (limit : ℕ) (lists : GroupLists) (f : Fault) → IsFaultless limit lists → ¬ (IsFirstFault limit lists f) }
@@ -32,7 +32,7 @@ pub fn spans_by_place()
     ensures each { (c : Captured) (i : ℕ) → i < matched_groups c → slice_index_or (matched_spans c) i None ≡ group_span c i }
 {}
 
-/// What [`crate::GroupInfo::all_names`] gives is as many as all groups.
+/// [`crate::GroupInfo::all_names`] gives as many items as there are groups.
 #[tactic(auto, using(crate::proofs::NameIteratorsLemmas::names_counted))]
 pub fn names_are_counted()
     ensures { (lists : GroupLists) → length (all_names_of lists) ≡ all_groups lists }

@@ -50,7 +50,7 @@ IsAfter e from p run others (Goes s i) = IsTrail e from run others × IsNext e f
 IsAfter e from p run others (Forks a b) = IsTrail e from run others × IsNext e from run (a, p.1)
 IsAfter e from p run others Accepts = IsMatchRun e from run
 
--- less is left to do, or as much where the trail doesn't go on
+-- less is left to do, or as much if the move fails
 abbrev pub IsLess : ℕ → ℕ → Move → Type 0
 IsLess after before Fails = after ≤ before
 IsLess after before _ = after < before

@@ -25,8 +25,8 @@ pub record AreInterchanged (p : ℕ → Bool) (h k : List ℕ) : Type 0 where
 abbrev pub DifferInAscii : List ℕ → List ℕ → Type 0
 DifferInAscii h k = (i : ℕ) → i < length h → slice_index h i ≢ slice_index k i → (slice_index h i < 128) × (slice_index k i < 128)
 
--- the partition keeps a list of assertions: to replace bytes by bytes that are together with them changes none of them at any
--- position of any haystack, where a Unicode assertion asks for this of replacements within ASCII alone
+-- the partition keeps a list of assertions: replacing bytes by bytes that are together with them changes none of them at any
+-- position of any haystack; for a Unicode assertion, only if the two haystacks differ in ASCII
 pub record Keeps (p : ℕ → Bool) (looks : List Look) (t : ℕ) (W : ℕ → Bool) : Type 0 where
   pub at_bytes : (l : Look) → Contains looks l → is_unicode l ≡ false → (h k : List ℕ) → AreInterchanged p h k
       → (i : ℕ) → i ≤ length h → Holds l t W h i ↔ Holds l t W k i

@@ -69,7 +69,7 @@ is_unicode WordStartHalfUnicode = true
 is_unicode WordEndHalfUnicode = true
 is_unicode _ = false
 
--- the assertion that says the same from the other end
+-- the assertion's counterpart at the other end
 abbrev pub reversed : Look → Look
 reversed Start = End
 reversed End = Start

@@ -57,7 +57,7 @@ pub enum Look {
 impl Look {
     ghost use Rattle.rsc_look.specs.Looks.{repr_of, char_of, reversed};
 
-    /// The assertion that says the same of a haystack read from the other end.
+    /// The assertion's counterpart at the other end: `End` for `Start`, and so on.
     #[inline]
     pub fn reversed(self) -> Look
         ensures value { result ≡ reversed self }

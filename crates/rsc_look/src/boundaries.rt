@@ -18,8 +18,8 @@ use rsc_alphabet::{ByteClassSet, ByteClasses, ByteSet};
 impl<W: WordClass> LookMatcher<W> {
     /// Adds to a set the boundaries between bytes that an assertion can tell apart, and no others.
     ///
-    /// A partition with these boundaries keeps the assertion: to replace bytes by bytes of their interval changes it at no
-    /// position of any haystack. Of a Unicode assertion this holds for replacements within ASCII, and where the matcher's
+    /// A partition with these boundaries keeps the assertion: replacing bytes within their intervals changes it at no
+    /// position of any haystack. For a Unicode assertion this holds for replacements within ASCII, and if the matcher's
     /// word characters below 128 are the word bytes.
     ///
     /// # Examples
@@ -41,10 +41,10 @@ impl<W: WordClass> LookMatcher<W> {
     }
 
     /// The classes of bytes that the assertions of a list can't tell apart: those of the coarsest partition of the bytes
-    /// into intervals that keeps them all. Takes no memory.
+    /// into intervals that keeps them all. Allocates nothing.
     ///
     /// Two bytes of one class may replace each other anywhere in any haystack, and no assertion of the list changes at any
-    /// position. Of a Unicode assertion this holds for replacements within ASCII, and where the matcher's word characters
+    /// position. For a Unicode assertion this holds for replacements within ASCII, and if the matcher's word characters
     /// below 128 are the word bytes; without that the classes are still those of the list's boundaries.
     ///
     /// # Examples

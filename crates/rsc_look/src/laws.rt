@@ -1,4 +1,4 @@
-//! Laws of assertions that a caller can cite: functions that do nothing, and whose contracts are the laws.
+//! Laws of assertions that a caller can cite: functions whose contracts are the laws.
 ghost use Rattle.std.specs.Prelude.{true, false, ◌≡◌, ◌↔◌, ◌⊎◌, ◌+◌, ◌<◌, ◌≤◌, ◌++◌, [], ◌∷◌, ℕ, Bool, List, length, slice_index, IsTrue};
 ghost use Rattle.std.specs.List.{Contains};
 ghost use Rattle.std.specs.FinSet as sets;
@@ -23,8 +23,8 @@ pub fn at_most_one_coarsest()
         IsCoarsest p looks t W → IsCoarsest q looks t W → (b : ℕ) → b < 255 → p b ≡ q b }
 {}
 
-/// The headline over the class map alone: where two haystacks of one length have the same classes at each index, each listed
-/// assertion holds at the same positions of both; a Unicode assertion where they differ in ASCII alone.
+/// The headline over the class map alone: if two haystacks of one length have the same classes of a coarsest class map at each index,
+/// each listed assertion holds at the same positions of both; a Unicode one only if they differ in ASCII alone.
 pub fn same_classes_change_nothing()
     ensures bytes { (m : List ℕ) (looks : List Look) (t : ℕ) (W : ℕ → Bool) → IsCoarsestMap m looks t W →
         (l : Look) → Contains looks l → is_unicode l ≡ false → (h k : List ℕ) → IsHaystack h → IsHaystack k → length h ≡ length k →
@@ -38,8 +38,8 @@ pub fn same_classes_change_nothing()
     rsc_alphabet::laws::one_class_is_together();
 }
 
-/// A partition with the boundaries of an assertion keeps it, and each of them is needed: what
-/// [`crate::LookMatcher::add_to_byteset`] says of the set that it leaves.
+/// A partition with the boundaries of an assertion keeps it, and each of them is needed, for a Unicode assertion if the word characters
+/// agree with ASCII: what [`crate::LookMatcher::add_to_byteset`] says of the set that it leaves.
 pub fn boundaries_are_exact()
     ensures { (l : Look) (t : ℕ) (W : ℕ → Bool) → (is_unicode l ≡ true → AgreesWithAscii W) → IsExactFor (sets.contains (boundaries_of l t)) l t W }
 {}
@@ -68,8 +68,7 @@ pub fn words_agree_with_ascii()
     ensures unicode_word { (w : UnicodeWord) → AgreesWithAscii (⟦<UnicodeWord as WordClass>⟧.word_chars w) }
 {}
 
-/// What holds of all members of a set with one more member holds of that member and of all others; and of the empty set
-/// everything does.
+/// The empty set has no member; a set with one more member has that one and its own.
 pub fn members_of_grown_sets()
     ensures none { (l : Look) → sets.contains (let s : Looks = sets.empty in s) l ≡ false }
     ensures grown { (s : Looks) (l m : Look) → (sets.contains (sets.insert s l) m ≡ true) ↔ ((l ≡ m) ⊎ (sets.contains s m ≡ true)) }

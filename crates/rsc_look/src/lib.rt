@@ -6,7 +6,7 @@
 //! A haystack need not be UTF-8. A Unicode assertion asks for the character on each side; if bytes are there but no character, the side is invalid.
 //! `\B` must not hold between two bytes of one character, or an empty match would split it, so it doesn't hold next to an invalid side.
 //!
-//! An automaton with assertions has to keep the bytes apart that they tell apart. [`LookMatcher::classes_of`] answers the coarsest classes that do.
+//! An automaton with assertions has to keep apart the bytes that they tell apart. [`LookMatcher::classes_of`] returns the coarsest intervals that do.
 //!
 //! ```
 //! let matcher = LookMatcher::new(UnicodeWord);

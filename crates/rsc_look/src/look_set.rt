@@ -248,7 +248,7 @@ impl LookSet {
         *self = self.subtract(other);
     }
 
-    /// The members of both sets.
+    /// The members of either set.
     #[inline]
     pub fn union(self, other: LookSet) -> LookSet
         ensures value { result ≡ sets.union self other }

@@ -107,9 +107,9 @@ impl<W: WordClass> LookMatcher<W> {
 
     /// Whether an assertion holds at a position of a haystack, by its own call below.
     ///
-    /// No Unicode assertion holds inside an encoded character. What an assertion says of a haystack, its reversed one says
+    /// No Unicode assertion holds inside an encoded character. What an assertion about bytes says of a haystack, its reverse says
     /// of the haystack read from the other end, with `\r` and `\n` exchanged for the two that look at `\r\n`; what a Unicode
-    /// assertion says of a text, its reversed one says of the same characters in reverse.
+    /// assertion says of a text, its reverse says of the same characters in reverse.
     #[inline(always)]
     pub fn matches(&self, look: Look, haystack: &[u8], at: usize) -> bool
         requires { at ≤ length haystack.now }
@@ -154,7 +154,7 @@ impl<W: WordClass> LookMatcher<W> {
         }
     }
 
-    /// Whether every assertion of a set holds at a position of a haystack; so it is where the set has no member.
+    /// Whether every assertion of a set holds at a position of a haystack; true if the set has no member.
     ///
     /// # Examples
     ///

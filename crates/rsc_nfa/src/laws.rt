@@ -1,4 +1,4 @@
-//! Laws of runs and of states that a caller can cite: functions that do nothing, and whose contracts are the laws.
+//! Laws of runs and of states that a caller can cite: functions whose contracts are the laws.
 ghost use Rattle.std.specs.Prelude.{true, ◌≡◌, ◌↔◌, ℕ, List, Some};
 ghost use Rattle.rsc_nfa.specs.declared.state.State.{State};
 ghost use Rattle.rsc_nfa.specs.declared.error.BuildError.{BuildError};

@@ -3,9 +3,9 @@
 //! An [`Nfa`] is a checked list of [`State`]s with a group info and a matcher: each state that a state names is there, and so is each slot and pattern.
 //! An engine that is given an `&Nfa` need not test them again.
 //!
-//! Nothing is searched. A run is a list of states and positions, and [`Nfa::check_run`] answers whether each step is one of the automaton's on an
-//! input. [`Nfa::classes`] answers the classes for the columns of a table: replacing bytes within their classes changes no run, and each boundary
-//! between two classes is needed for some step.
+//! Nothing is searched. A run is a list of states and positions, and [`Nfa::check_run`] tells whether each step is one of the automaton's on an
+//! input. [`Nfa::classes`] returns the classes for the columns of a table: replacing bytes within their classes changes no run, and each boundary
+//! between two classes is needed for some step; a Unicode assertion limits the first to ASCII, and needs word characters that below 128 are the word bytes.
 //!
 //! ```
 //! let nfa = Nfa::new(alloc, info, LookMatcher::new(AsciiWord), &states)?;

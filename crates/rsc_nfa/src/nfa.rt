@@ -193,10 +193,9 @@ impl<W: WordClass, A: Allocator + Clone + Drop> Nfa<W, A> {
     /// The classes of the bytes that no run of the automaton tells apart, gathered from the ranges and the assertions of its
     /// states. Takes no memory.
     ///
-    /// To replace bytes by bytes of their classes makes no run of what was none, and the other way round; where a state asks a
-    /// Unicode assertion this holds for replacements within ASCII, and where the matcher's word characters below 128 are the
-    /// word bytes. Each boundary between two classes is needed: from some state a step exists on exactly one of the haystacks
-    /// of one byte on both sides of it.
+    /// Replacing bytes within their classes makes or unmakes no run. Each boundary between two classes is needed: from some state a
+    /// step exists on exactly one of the haystacks of one byte on both sides of it. With a Unicode assertion both need word characters
+    /// that below 128 are the word bytes, and the first covers replacements within ASCII. Without one the classes are the coarsest.
     pub fn classes(&self) -> ByteClasses
         ensures classes { result ≡ class_map (sets.contains (boundaries_of_states self.now.states self.now.matcher.0)) }
         ensures rise { ClassesRise result }

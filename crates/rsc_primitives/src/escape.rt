@@ -13,7 +13,7 @@ use std::fmt;
 // How much text is put together before it is written.
 const PIECE_SIZE: usize = 64;
 
-/// A byte that shows itself as a character where it prints, and as an escape where it doesn't. A space is shown in quotes.
+/// A byte that shows itself as a character if it prints and is no quote or `\`, else as an escape. A space is shown in quotes.
 #[derive(Clone, Copy)]
 pub struct DebugByte(pub u8);
 
@@ -25,7 +25,7 @@ impl fmt::Debug for DebugByte {
     }
 }
 
-/// Bytes that show themselves as quoted text: the characters that they encode, and an escape for each byte that is part of none.
+/// Bytes that show themselves as quoted text: the characters that they encode, escaped as in a string, and an escape for each other byte.
 #[derive(Drop)]
 pub struct DebugHaystack<'a>(pub &'a [u8]);
 
@@ -35,7 +35,7 @@ impl<'a> fmt::Debug for DebugHaystack<'a> {
     }
 }
 
-/// The text that [`DebugByte`] shows: the byte as a character where it prints, and else an escape.
+/// The text that [`DebugByte`] shows.
 ///
 /// # Errors
 ///
@@ -54,9 +54,9 @@ pub fn byte_text<A: Allocator + Drop>(alloc: A, byte: u8) -> Result<String<A>, A
     String::from_str(alloc, text_of_byte(byte))
 }
 
-/// The text that [`DebugHaystack`] shows: the bytes' characters in quotes, with an escape for each byte that is part of none.
+/// The text that [`DebugHaystack`] shows.
 ///
-/// A character past ASCII is shown as std's `escape_debug` shows it.
+/// The contract speaks of bytes that encode no character past ASCII; such a character is shown as by std's `escape_debug`.
 ///
 /// # Errors
 ///

@@ -1,4 +1,4 @@
-//! Laws that a caller can cite: functions that do nothing, and whose contracts are the laws. Those of constants answer the constants.
+//! Laws that a caller can cite: functions whose contracts are the laws. Those of constants return the constants.
 ghost use Rattle.std.specs.Prelude.{◌≡◌, ◌↔◌, ◌⊎◌, ◌<◌, ◌≤◌, ◌++◌, ℕ, List, [], length, slice_index, Result, Ok, Some, true, ◌==◌, ◌+◌};
 ghost use Rattle.std.specs.Char.{IsScalar, encode_utf8};
 ghost use Rattle.std.specs.Int.{w32, from_le_bytes, to_le_bytes};
@@ -105,7 +105,7 @@ pub fn defaults()
     ensures state_id { (a : ℕ) → ⟦<StateID as Default>⟧.is_default a → a ≡ 0 }
 {}
 
-/// What a number converts to is that number, or a refusal of it.
+/// What a number converts to is that number, or above the greatest index a refusal of it.
 pub fn conversions_are_exact()
     ensures small_index_from_u8 { (n a : ℕ) → ⟦<SmallIndex as From<u8>>⟧.from_gives n a → a ≡ n }
     ensures small_index_from_u16 { (n : ℕ) (r : Result ℕ ℕ) → ⟦<SmallIndex as TryFrom<u16>>⟧.try_from_gives n r → r ≡ Ok n }

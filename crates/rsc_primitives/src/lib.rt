@@ -3,10 +3,10 @@
 //! Patterns, states and slots have numbers that fit 32 bits, so tables of them are small. [`SmallIndex`], [`PatternID`] and [`StateID`] are such
 //! numbers, at most 2147483646, and one type can't be taken for another. An offset that may be missing is an `Option<NonMaxUsize>`.
 //!
-//! Haystacks are any bytes, and a Unicode assertion has to know the character on each side of a position. [`utf8::decode`] answers the character
+//! Haystacks are any bytes, and a Unicode assertion has to know the character on each side of a position. [`utf8::decode`] returns the character
 //! that begins the bytes and [`utf8::decode_last`] the one that ends them, by RFC 3629, or the byte where no character does.
 //!
-//! [`escape`] shows bytes to people: what prints as itself, everything else escaped.
+//! [`escape`] shows bytes to people, as characters or as escapes.
 //!
 //! ```
 //! assert!(utf8::decode("é".as_bytes()) == Some(Ok('é')));

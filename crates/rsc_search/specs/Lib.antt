@@ -1,6 +1,6 @@
 pub mod Inputs  -- what a search is given
 pub mod Lending  -- what writing through a part of a haystack does to the haystack
-pub mod Matches  -- what a search answers
+pub mod Matches  -- what a search finds
 pub mod Modes  -- where a search may begin
 pub mod PatternSetLayout  -- how the code holds a set: by words whose set bits are its members
 pub mod PatternSets  -- sets of patterns: a capacity, and the members below it in ascending order

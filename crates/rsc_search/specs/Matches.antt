@@ -1,4 +1,4 @@
--- What a search answers.
+-- What a search finds.
 use Rattle.std.specs.Prelude.{ℕ}
 use Rattle.rsc_search.specs.declared.span.Span.{Span}
 

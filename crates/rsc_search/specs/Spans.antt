@@ -7,7 +7,7 @@ use Rattle.rsc_search.specs.declared.span.Span.{Span}
 abbrev pub same_span : Span → Span → Bool
 same_span s t = s.start == t.start && s.end == t.end
 
--- the place is the end of the text, or a byte is there that goes on no character
+-- the place is the end of the text, or a byte is there that continues no character
 abbrev pub is_boundary : List ℕ → ℕ → Bool
 is_boundary text i = i == length text || (nat_lt i (length text) && (nat_le (slice_index text i) 0x7F || nat_le 0xC0 (slice_index text i)))
 

@@ -104,7 +104,7 @@ impl<'h> Input<'h> {
         self
     }
 
-    /// This input with another answer to where a match may begin.
+    /// This input with another mode of where a match may begin.
     #[inline]
     pub fn anchored(mut self, mode: Anchored) -> Input<'h>
         ensures { result ≡ record self.entry { anchored = mode } }
@@ -113,7 +113,7 @@ impl<'h> Input<'h> {
         self
     }
 
-    /// This input with another answer to whether the first match found will do.
+    /// This input, which says whether the first match found will do.
     #[inline]
     pub fn earliest(mut self, earliest: bool) -> Input<'h>
         ensures { result ≡ record self.entry { earliest = earliest } }
@@ -257,8 +257,8 @@ impl<'h> Input<'h> {
         self.earliest
     }
 
-    /// Whether a position is a character boundary: the haystack's length, or the place of a byte that goes on no
-    /// character. Any number is allowed; above the length the answer is false. In valid UTF-8 it is true exactly where a
+    /// Whether a position is a character boundary: the haystack's length, or the place of a byte that continues no
+    /// character. Any number is allowed; above the length it is false. In valid UTF-8 it is true exactly where a
     /// character begins and at the end.
     #[inline]
     pub fn is_char_boundary(&self, at: usize) -> bool

@@ -1,4 +1,4 @@
-//! Laws that a caller can cite: functions that do nothing, and whose contracts are the laws.
+//! Laws that a caller can cite: functions whose contracts are the laws.
 ghost use Rattle.std.specs.Prelude.{◌≡◌, ◌↔◌, ◌+◌, ◌++◌, ◌<◌, ◌≤◌, if◌then◌else◌, length, ◌==◌, ◌||◌, ◌∷◌, ℕ, List, IsTrue, true};
 ghost use Rattle.std.specs.Hash as fed;
 ghost use Rattle.std.specs.List.{Contains};
@@ -30,12 +30,12 @@ pub fn insertion_adds_one_member()
         has_member (with_member s p).members q ≡ (q == p || has_member s.members q) }
 {}
 
-/// The test that cuts of a text ask of both their ends is that of a character boundary.
+/// Cuts of a text test both their ends for being character boundaries.
 pub fn boundary_is_tested()
     ensures { (text : List ℕ) (i : ℕ) → IsTrue (is_boundary text i) ↔ IsBoundary text i }
 {}
 
-/// The test of membership is true of the elements of the list of members, in std's word. The least comes first.
+/// The test of membership is true exactly for the elements that std's `Contains` finds. The first member is the least.
 #[tactic(auto, using(crate::proofs::PatternSetsLemmas::is_contained, crate::proofs::PatternSetsLemmas::first_is_least))]
 pub fn members_are_contained()
     ensures contained { (members : List ℕ) (p : ℕ) → (has_member members p ≡ true) ↔ Contains members p }
@@ -92,7 +92,7 @@ pub fn hash_is_of_the_parts()
     ensures whole_match { (m : Matched) → ⟦<Match as Hash>⟧.hash_input m ≡ fed.u32 m.pattern ++ (fed.usize m.span.start ++ fed.usize m.span.end) }
 {}
 
-/// The default match kind is the preference for the first.
+/// The default match kind is `LeftmostFirst`.
 pub fn defaults()
     ensures kind { (k : kinds.MatchKind) → ⟦<MatchKind as Default>⟧.is_default k → k ≡ LeftmostFirst }
 {}

@@ -1,7 +1,7 @@
-//! What a search is given and what it answers: inputs, spans, matches, errors, and sets of patterns.
+//! What a search is given and what it finds: inputs, spans, matches, errors, and sets of patterns.
 //!
-//! An [`Input`] is a haystack with the [`Span`] of it to search. It is not a part of the haystack: assertions at the ends of the span look at the
-//! bytes around it. A span may be one past its end, which an iteration over matches reaches after an empty match at the end.
+//! An [`Input`] is a haystack with the [`Span`] of it to search. The haystack isn't cut: assertions at the ends of the span look at the
+//! bytes around it. A span's start may be one above its end, which an iteration over matches reaches after an empty match at the end.
 //!
 //! A [`Match`] has a pattern and a span, a [`HalfMatch`] one end of it, for engines that find no start.
 //!
@@ -9,7 +9,7 @@
 //! does: an engine makes it before the search, and clears it between searches.
 //!
 //! ```
-//! let input = Input::new(b"abc").span(1..3);
+//! let input = Input::new(b"abc").span(Span { start: 1, end: 3 });
 //! assert!(input.get_span() == Span { start: 1, end: 3 });
 //! ```
 #![tactic(auto)]

@@ -1,4 +1,4 @@
-//! What a search answers: the pattern that matched, and where.
+//! What a search finds: the pattern that matched, and where.
 ghost use Rattle.std.specs.Prelude.{◌≡◌, ◌+◌, ◌-◌, ◌≤◌, ◌↔◌, IsTrue};
 ghost use Rattle.rsc_primitives.specs.Indices.{IsIndex};
 
@@ -7,7 +7,7 @@ use rsc_primitives::PatternID;
 use std::marker::Model;
 use std::ops::Range;
 
-/// The pattern that matched, and one end of the match: what a search knows that doesn't look for the other end.
+/// The pattern that matched, and one end of the match: all that a search for one end knows.
 ///
 /// # Examples
 ///

@@ -108,7 +108,7 @@ impl Span {
         }
     }
 
-    /// The bytes of the span, lent for writing. Those outside it stay as they are.
+    /// The bytes of the span, lent for writing, or `None` if [`Span::get`] is. Those outside it stay as they are.
     #[inline]
     pub fn get_mut<'h>(&self, haystack: &'h mut [u8]) -> Option<&'h mut [u8]>
         ensures* writes_back { sem 𝓛 (LendsCut haystack.entry self.now result) }

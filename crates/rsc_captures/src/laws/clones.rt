@@ -1,4 +1,4 @@
-//! What a clone of an iterator is: it takes no memory, so it is always there, and it has the same left.
+//! What a clone of an iterator is: it takes no memory, so it always succeeds, and it has the same items left.
 ghost use Rattle.std.specs.Prelude.{◌≡◌, Ok};
 
 use crate::{CapturesPatternIter, GroupInfoPatternNames};

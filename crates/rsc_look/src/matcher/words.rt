@@ -1,7 +1,7 @@
 //! The assertions about words: those of ASCII look at the neighbouring bytes, those of Unicode at the characters beside the position.
 //!
-//! A side of a position may be no character at all, since a haystack is any list of bytes. Of such a side no Unicode assertion says that
-//! a word or its end is there, so that a match never splits a character.
+//! A side of a position may be no character at all, since a haystack is any list of bytes. Beside it the Unicode `\B` and the half
+//! assertions fail, so that a match never splits a character; the other three take it as no word.
 ghost use Rattle.std.specs.Prelude.{◌≤◌, ◌↔◌, IsTrue, IsOkAnd, length};
 ghost use Rattle.rsc_look.specs.declared.assertion.Look.{Look};
 ghost use Rattle.rsc_look.specs.Holds.{HoldsFor, IsBefore, IsAfter};
@@ -89,7 +89,7 @@ impl<W: WordClass> LookMatcher<W> {
         Ok(before.is_word() != after.is_word())
     }
 
-    /// Whether no side has bytes that are no character, and a word character is on both sides or on neither.
+    /// Whether neither side is invalid, and a word character is on both sides or on neither.
     ///
     /// It is no mere negation of [`LookMatcher::is_word_unicode`]: that would hold between two bytes of one character too, and a
     /// match of `\B` would split it.
@@ -125,7 +125,7 @@ impl<W: WordClass> LookMatcher<W> {
         Ok(!after.is_invalid() & (before.is_word() == after.is_word()))
     }
 
-    /// Whether the byte after the position is a word byte, and none is before it.
+    /// Whether a word byte is after the position, and none before it.
     #[inline(always)]
     pub fn is_word_start_ascii(&self, haystack: &[u8], at: usize) -> bool
         requires { at ≤ length haystack.now }
@@ -134,7 +134,7 @@ impl<W: WordClass> LookMatcher<W> {
         is_word_neighbor(byte_after(haystack, at)) & !is_word_neighbor(byte_before(haystack, at))
     }
 
-    /// Whether the byte before the position is a word byte, and none is after it.
+    /// Whether a word byte is before the position, and none after it.
     #[inline(always)]
     pub fn is_word_end_ascii(&self, haystack: &[u8], at: usize) -> bool
         requires { at ≤ length haystack.now }
