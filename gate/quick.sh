@@ -9,7 +9,7 @@ trap 'rm -rf "$results"' EXIT
 run() {
   local name=$1 crate=$2 kind=$3
   if [ "$kind" = tests ]; then
-    (cd "$crate" && rt try --test) > "$results/$name" 2>&1
+    (cd "$crate" && rt try --test --seconds 300) > "$results/$name" 2>&1
   elif [ "$kind" = runs ]; then
     gate/stored-runs.py --cases "$(basename "$crate")" "$results/$name.cases"
     (cd "$crate" && rt try --steps 0 --cases "$results/$name.cases") > "$results/$name" 2>&1
