@@ -5,15 +5,18 @@ ghost use Rattle.std.specs.Int.{IsInRange, bit_at};
 ghost use Rattle.rsc_primitives.specs.Utf8.{is_word_byte, IsTail, DecodesTo, DecodesLastTo, IsBoundary};
 ghost use Rattle.rsc_primitives.specs.Utf8Layout.{IsLongNumber, EndsLongNumber, BeginsLong, EndsLong};
 
-// The word bytes below 128: bit b stands for the byte b.
-const ASCII_WORD_BYTES: u128 = 0x07FF_FFFE_87FF_FFFE_03FF_0000_0000_0000;
+// The word bytes from 00 to 7F: bit b stands for the byte b.
+const WORD_BYTES_TO_7F: u128 = 0x07FF_FFFE_87FF_FFFE_03FF_0000_0000_0000;
 
-// The masks for the bytes 00 to 7F and 80 to FF, as four `u64`: one is loaded and shifted in half the time of a `u128`.
+// The word bytes from 80 to FF: bit b stands for the byte 128 + b. There are none.
+const WORD_BYTES_FROM_80: u128 = 0;
+
+// The halves of the two masks: a `u64` is loaded and shifted in about half the time of a `u128`.
 static WORD_BYTES: [u64; 4] = [
-    (ASCII_WORD_BYTES & 0xFFFF_FFFF_FFFF_FFFF) as u64,
-    (ASCII_WORD_BYTES >> 64) as u64,
-    0,
-    0,
+    (WORD_BYTES_TO_7F & 0xFFFF_FFFF_FFFF_FFFF) as u64,
+    (WORD_BYTES_TO_7F >> 64) as u64,
+    (WORD_BYTES_FROM_80 & 0xFFFF_FFFF_FFFF_FFFF) as u64,
+    (WORD_BYTES_FROM_80 >> 64) as u64,
 ];
 
 /// Whether the byte is a digit, a letter of ASCII or the low line: the word characters below 128.
@@ -128,7 +131,7 @@ fn tail_bits(byte: u8) -> u8
     ensures tail { IsTail byte → result ≡ byte - 0x80 }
     ensures other { result ≤ 0x3F → IsTail byte }
 {
-    byte.wrapping_sub(0x80)
+    byte ^ 0x80
 }
 
 // The character past ASCII that begins the bytes. Most bytes that begin none are told by the first alone.

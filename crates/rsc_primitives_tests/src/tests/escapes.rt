@@ -1,3 +1,4 @@
+//! Bytes and haystacks as text; each request for memory refused in turn.
 use linked_list_allocator::LocalHeap;
 use rsc_primitives::escape::{DebugByte, DebugHaystack, byte_text, haystack_text};
 use std::test::Fail;

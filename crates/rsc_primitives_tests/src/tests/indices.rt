@@ -1,3 +1,4 @@
+//! Small indices: limits, conversions, order, bytes, iterators, texts of refusals.
 ghost use Rattle.std.specs.Prelude.{◌≡◌, ◌↔◌, ◌<◌, ◌≤◌, IsTrue, IsOkAnd, IfOk, Ok, length};
 ghost use Rattle.std.specs.List.{range_with_len};
 
