@@ -1,10 +1,10 @@
 -- The boundaries that calls of a class set leave, those of a set's runs and of a range, and the classes between them.
-use Rattle.std.proofs.Common.{◌≡◌, ℕ, zero, suc, ◌+◌, ◌-◌, ◌*◌, ◌<◌, ◌≤◌, Bool, true, not, ◌&&◌, ◌||◌, cond, List, length, refl, sym, ap, ◌∙◌, arith, nat_eq, nat_lt, slice_index, nat_cmp, ne_eqb, ◌≢◌, false, [], ◌∷◌, ap₂, subst, nat_le, ⊎_elim, ◌↔◌, ◌⊎◌, inl, inr, All, Contains}
+use Rattle.std.proofs.Common.{◌≡◌, ℕ, zero, suc, ◌+◌, ◌-◌, ◌^◌, ◌<◌, ◌≤◌, Bool, true, not, ◌&&◌, ◌||◌, cond, List, length, refl, sym, ap, ◌∙◌, arith, nat_eq, nat_lt, slice_index, nat_cmp, ne_eqb, ◌≢◌, false, [], ◌∷◌, ap₂, subst, nat_le, ⊎_elim, ◌↔◌, ◌⊎◌, inl, inr, All, Contains}
 use Rattle.std.specs.Cmp.{nat_cmp_total}
 use Rattle.std.specs.FinSet as sets
 use Rattle.std.specs.FinSet.{contains-empty, same_set, nat_cmp-IsAntisymmetric}
 use Rattle.std.proofs.lemmas.Bool.Decides.{nat_tests}
-use Rattle.rsc_alphabet.proofs.Words.{Numbers, has_bit, ClassesRise, class_of, class_map, edges_of, class_map_is, class_of_more, class_of_none, class_of_same, contains-edges_of, contains-inserted, contains-joined, contains-removed, begins_run, ends_run, runs, edges_of_each, changes_at, Together, holds, treats_alike, are_alike, separates, same_bools, same_class-together}
+use Rattle.rsc_alphabet.proofs.Words.{Numbers, has_bit, masked, contains-masked, is_masked-low, is_masked-high, ClassesRise, class_of, class_map, edges_of, class_map_is, class_of_more, class_of_none, class_of_same, contains-edges_of, contains-inserted, contains-joined, contains-removed, begins_run, ends_run, runs, edges_of_each, changes_at, Together, holds, treats_alike, are_alike, separates, same_bools, same_class-together}
 use Rattle.std.specs.List.{list_any, list_all}
 use Rattle.std.proofs.lemmas.Bool.{cases_lt, cases_Bool, cases_eq, eq-eqb, le-leb}
 use Rattle.std.proofs.Math.Bool.{or-true}
@@ -56,9 +56,23 @@ edges_joined ends before after starts lasts first second bytes k =
         → (not (nat_eq k 255) && ((x || y) || z)) ≡ ((not (nat_eq k 255) && x) || (nat_lt k 255 && (y || z)))
     by_cases x y z f = grind (arith, nat_tests)
 
+-- the boundaries of two sets together
+pub ends_joined : (ends others after : Numbers) → ((b : ℕ) → sets.contains after b ≡ (sets.contains ends b || sets.contains others b)) → (k : ℕ)
+    → sets.contains (sets.remove after 255) k ≡ (sets.contains (sets.remove ends 255) k || sets.contains (sets.remove others 255) k)
+ends_joined ends others after each k =
+    contains-removed after 255 k ∙ rw (each k, contains-removed ends 255 k, contains-removed others 255 k)
+    (by_cases (sets.contains ends k) (sets.contains others k) (not (nat_eq k 255)))
+  where
+    by_cases : (x y z : Bool) → (z && (x || y)) ≡ ((z && x) || (z && y))
+    by_cases x y z = grind (arith, nat_tests)
+
+pub joined_by_boundaries : (old other new : Numbers) → ((k : ℕ) → sets.contains new k ≡ (sets.contains old k || sets.contains other k))
+    → new ≡ sets.union old other
+joined_by_boundaries old other new each = same_set nat_cmp_total nat_cmp-IsAntisymmetric _ _ (λ k. each k ∙ sym (contains-joined old other k))
+
 -- ---- the classes of two halves
 
-pub class_of-parts : (p : ℕ → Bool) (a n : ℕ) → class_of p (a + n) ≡ class_of p a + class_of (λ k. p (a + k)) n
+class_of-parts : (p : ℕ → Bool) (a n : ℕ) → class_of p (a + n) ≡ class_of p a + class_of (λ k. p (a + k)) n
 class_of-parts p a zero = let e : a + zero ≡ a = omega arith in rw (e, class_of_none (λ k. p (a + k))) (omega arith)
 class_of-parts p a (suc n) =
     let e : a + suc n ≡ a + n + 1 = omega arith in
@@ -70,12 +84,23 @@ class_of-parts p a (suc n) =
     regroup : (x y z : ℕ) → x + y + z ≡ x + (y + z)
     regroup x y z = omega arith
 
--- the classes of a word's bytes, by how many boundaries are below the word
-pub classes_of_word : (p : ℕ → Bool) (n word : ℕ) {below : ℕ} → ((i : ℕ) → i < 64 → has_bit word i ≡ p (64 * n + i)) → below ≡ class_of p (64 * n) → (i : ℕ)
-    → i ≤ 64 → below + class_of (has_bit word) i ≡ class_of p (64 * n + i)
-classes_of_word p n word bits below_is i l =
-    let same = class_of_same (has_bit word) (λ k. p (64 * n + k)) i (λ k h. bits k (omega (arith, h, l))) in
-    omega (arith, below_is, same, class_of-parts p (64 * n) i)
+-- how many members of a set that two numbers hold are below a byte of the lower half
+pub class_of-low : (low high b : ℕ) → high < 2 ^ 128 → b < 128 → class_of (has_bit low) b ≡ class_of (sets.contains (masked low high)) b
+class_of-low low high b fits l =
+    class_of_same (has_bit low) (sets.contains (masked low high)) b (λ k h.
+    sym (contains-masked low high fits k ∙ is_masked-low low high k (omega (arith, h, l))))
+
+-- and how many are below one of the upper half
+pub class_of-high : (low high b : ℕ) → high < 2 ^ 128 → 128 ≤ b
+    → class_of (has_bit low) 128 + class_of (has_bit high) (b - 128) ≡ class_of (sets.contains (masked low high)) b
+class_of-high low high b fits from =
+    let s = sets.contains (masked low high) in
+    let below = class_of_same (has_bit low) s 128 (λ k h. sym (contains-masked low high fits k ∙ is_masked-low low high k h)) in
+    let above = class_of_same (has_bit high) (λ k. s (128 + k)) (b - 128) (λ k h.
+    let e : 128 + k - 128 ≡ k = omega arith in
+    sym (contains-masked low high fits (128 + k) ∙ is_masked-high low high (128 + k) (omega arith) ∙ ap (has_bit high) e)) in
+    let whole : 128 + (b - 128) ≡ b = omega (arith, from) in
+    omega (arith, below, above, class_of-parts s 128 (b - 128), ap (class_of s) whole)
 
 -- ---- maps whose classes rise
 

@@ -1,8 +1,11 @@
 -- Bytes that a list of ranges treats alike have one class.
-use Rattle.std.proofs.Common.{◌≡◌, ℕ, zero, suc, ◌+◌, ◌-◌, ◌<◌, ◌≤◌, Bool, true, false, not, ◌&&◌, ◌||◌, cond, List, [], ◌∷◌, length, get_or, min, max, refl, sym, ap, ap₂, ◌∙◌, arith, nat_eq, nat_lt, take, ⊎_elim, slice_index}
+use Rattle.std.proofs.Common.{◌≡◌, ℕ, zero, suc, ◌+◌, ◌-◌, ◌<◌, ◌≤◌, Bool, true, false, not, ◌&&◌, ◌||◌, cond, List, [], ◌∷◌, length, get_or, min, max, refl, sym, ap, ap₂, ◌∙◌, arith, nat_eq, nat_lt, take, ⊎_elim, slice_index, subst, true≢false, ◌++◌, Contains}
 use Rattle.std.specs.List.{list_any, list_all}
 use Rattle.std.specs.FinSet as sets
-use Rattle.std.proofs.lemmas.Bool.{cases_lt, eq-eqb, eqb-true}
+use Rattle.std.proofs.lemmas.Bool.{cases_lt, eq-eqb, eqb-true, or_cases, and_from, false_from_ne_true}
+use Rattle.std.proofs.lemmas.List.Sums.{AllPass-from_list_all}
+use Rattle.std.proofs.lemmas.List.Elements.{Contains-append_right}
+use Rattle.rsc_alphabet.specs.BytesLaws.{any_from_to, length-from_to, get_or-from_to}
 use Rattle.std.proofs.lemmas.Bool.Decides.{nat_tests}
 use Rattle.std.proofs.lemmas.List.{take_more}
 use Rattle.std.proofs.lemmas.List.Folds.{list_all-append, list_any-append}
@@ -122,3 +125,54 @@ separates_more ranges i d k l =
   where
     split : (x y : Bool) → not (x && (y && true)) ≡ (not x || not y)
     split x y = grind (arith, nat_tests)
+
+-- ---- alike bytes are in the same ranges
+
+all_at : (h : ℕ → Bool) (low high k : ℕ) → low ≤ k → k < high → list_all h (from_to low high) ≡ true → h k ≡ true
+all_at h low high k l m a =
+    let i : k - low < length (from_to low high) = omega (arith, length-from_to low high, l, m) in
+    let same : low + (k - low) ≡ k = omega (arith, l) in
+    let at : get_or (from_to low high) (k - low) 0 ≡ k = get_or-from_to low high (k - low) 0 (omega (arith, l, m)) ∙ same in
+    subst (λ x. h x ≡ true) at (AllPass-from_list_all h (from_to low high) a (k - low) 0 i)
+
+both_or_neither : (h : ℕ → Bool) (low high b c : ℕ) → low ≤ b → b < high → low ≤ c → c < high
+    → (list_all h (from_to low high) || not (list_any h (from_to low high))) ≡ true → h b ≡ h c
+both_or_neither h low high b c bl bh cl ch t =
+    ⊎_elim
+    (λ (a : list_all h (from_to low high) ≡ true). all_at h low high b bl bh a ∙ sym (all_at h low high c cl ch a))
+    (λ (n : not (list_any h (from_to low high)) ≡ true). fails b bl bh n ∙ sym (fails c cl ch n))
+    (or_cases _ _ t)
+  where
+    fails : (k : ℕ) → low ≤ k → k < high → not (list_any h (from_to low high)) ≡ true → h k ≡ false
+    fails k l m n = false_from_ne_true (h k) (λ y. true≢false (sym n ∙ ap not (any_from_to h low high k l m y)))
+
+one_holds : (r : ℕ × ℕ) (b c : ℕ) → treats_alike r b c ≡ true → holds r b ≡ holds r c
+one_holds r b c t = both_or_neither (holds r) (min b c) (max b c + 1) b c (omega arith) (omega arith) (omega arith) (omega arith) t
+
+-- each range holds both of two alike bytes, or neither
+pub alike_each : (ranges : List (ℕ × ℕ)) (b c : ℕ) → are_alike ranges b c ≡ true → (r : ℕ × ℕ) → Contains ranges r → holds r b ≡ holds r c
+alike_each ranges b c t r (k, l, e) =
+    one_holds r b c (subst (λ x. treats_alike x b c ≡ true) e (AllPass-from_list_all (λ x. treats_alike x b c) ranges t k r l))
+
+same_any : (part : List (ℕ × ℕ)) (b c : ℕ) → ((r : ℕ × ℕ) → Contains part r → holds r b ≡ holds r c)
+    → list_any (λ r. holds r b) part ≡ list_any (λ r. holds r c) part
+same_any [] b c each = refl
+same_any (r ∷ rest) b c each =
+    ap₂ (λ x y. x || y) (each r (0, omega arith, refl)) (same_any rest b c (λ q in_rest. each q (Contains-append_right (r ∷ []) rest q in_rest)))
+
+-- and so does a list of some of the ranges
+pub alike_some : (ranges part : List (ℕ × ℕ)) (b c : ℕ) → are_alike ranges b c ≡ true → ((r : ℕ × ℕ) → Contains part r → Contains ranges r)
+    → list_any (λ r. holds r b) part ≡ list_any (λ r. holds r c) part
+alike_some ranges part b c t among = same_any part b c (λ r in_part. alike_each ranges b c t r (among r in_part))
+
+-- neighbours that each range holds or leaves out are alike
+pub alike_neighbours : (ranges : List (ℕ × ℕ)) (b : ℕ) → ((r : ℕ × ℕ) → Contains ranges r → holds r b ≡ holds r (b + 1))
+    → are_alike ranges b (b + 1) ≡ true
+alike_neighbours [] b each = refl
+alike_neighbours (r ∷ rest) b each =
+    and_from (treats_alike r b (b + 1)) (are_alike rest b (b + 1))
+    (treats_alike_up r b (b + 1) (omega arith) ∙ pair (holds r) b ∙ by_cases (holds r b) (holds r (b + 1)) (each r (0, omega arith, refl)))
+    (alike_neighbours rest b (λ q in_rest. each q (Contains-append_right (r ∷ []) rest q in_rest)))
+  where
+    by_cases : (x y : Bool) → x ≡ y → ((x && y) || not (x || y)) ≡ true
+    by_cases x y e = grind (arith, nat_tests)

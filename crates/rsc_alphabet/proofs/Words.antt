@@ -2,7 +2,7 @@
 pub use Rattle.rsc_primitives.specs.BitsLaws.{has_bit, same_digit, mask_of}
 pub use Rattle.rsc_alphabet.specs.ByteSetLayout.{members_from, members_left, is_masked, masked}
 pub use Rattle.rsc_alphabet.specs.ByteSets.{Numbers, begins_run, ends_run, runs, members, IsMaximalRun}
-pub use Rattle.rsc_alphabet.specs.ByteSetsLaws.{contains-masked, low_again, high_again}
+pub use Rattle.rsc_alphabet.specs.ByteSetsLaws.{contains-masked, is_masked-low, is_masked-high, low_again, high_again}
 pub use Rattle.rsc_alphabet.specs.Bytes.{from_to, bytes}
 pub use Rattle.rsc_alphabet.specs.BytesLaws.{from_to_none, filter_none, filter_same, filter_parts, filter_at, from_to_first, length-from_to, get_or-from_to, filter_first, from_to_last, filter_skip}
 pub use Rattle.rsc_alphabet.specs.IteratorLayout.{symbols_left, elements_left}

@@ -1,12 +1,10 @@
 //! Partitions of the bytes into intervals, and the class maps that they make.
-ghost use Rattle.std.specs.Prelude.{◌≡◌, ℕ, ◌+◌, ◌*◌, ◌<◌, ◌≤◌, ◌↔◌, ◌==◌, ◌&&◌, ◌||◌, nat_lt, true, false, IsTrue, All, length, slice_index};
+ghost use Rattle.std.specs.Prelude.{◌≡◌, ℕ, ◌+◌, ◌<◌, ◌≤◌, ◌↔◌, ◌==◌, ◌&&◌, ◌||◌, nat_lt, true, false, IsTrue, All, slice_index};
 ghost use Rattle.std.specs.FinSet as sets;
 ghost use Rattle.rsc_alphabet.specs.ByteSets.{runs};
-ghost use Rattle.rsc_alphabet.specs.Partitions.{ClassesRise, changes_at, class_map, class_of, edges_of, edges_of_each};
-ghost use Rattle.rsc_primitives.specs.BitsLaws.{has_bit};
+ghost use Rattle.rsc_alphabet.specs.Partitions.{ClassesRise, changes_at, class_map, edges_of, edges_of_each};
 ghost use Rattle.rsc_alphabet.specs.Ranges.{are_alike, separates};
 
-use crate::masks::{ones, ones_below};
 use crate::{ByteClasses, ByteSet};
 use std::marker::Model;
 
@@ -100,6 +98,27 @@ impl ByteClassSet {
         self.add_edges(&set.run_starts(), &set.run_ends());
     }
 
+    /// Adds the boundaries of another partition: two bytes are together after it if they were, and are in the other one too.
+    ///
+    /// # Examples
+    ///
+    /// ```
+    /// let mut lower = ByteClassSet::empty();
+    /// lower.set_range(b'a', b'z');
+    /// let mut digits = ByteClassSet::empty();
+    /// digits.set_range(b'0', b'9');
+    /// lower.union(&digits);
+    /// let classes = lower.byte_classes();
+    /// assert!(rt; classes.get(b'0') != classes.get(b'A') && classes.get(b'A') != classes.get(b'a'));
+    /// ```
+    #[inline]
+    pub fn union(&mut self, other: &ByteClassSet)
+        ensures set { self.new ≡ sets.union self.old other.now }
+        ensures boundaries { (k : ℕ) → sets.contains self.new k ≡ (sets.contains self.old k || sets.contains other.now k) }
+    {
+        self.ends = self.ends.union(&other.ends);
+    }
+
     // Adds the boundary before each of `starts`, and the one after each of `ends`, where there is a byte on the other side.
     #[inline]
     fn add_edges(&mut self, starts: &ByteSet, ends: &ByteSet)
@@ -111,37 +130,18 @@ impl ByteClassSet {
 
     /// The class map of the partition: the class of a byte is the number of boundaries below it.
     ///
-    /// Classes are intervals, so that the map is made in one pass over the bytes: two bytes that are in the same ranges have
-    /// different classes if a byte between them isn't.
+    /// Classes are intervals: two bytes that are in the same ranges have different classes if a byte between them isn't.
     pub fn byte_classes(&self) -> ByteClasses
         ensures map { result ≡ class_map (sets.contains self.now) }
         ensures below { (k : ℕ) → sets.contains self.now k ≡ true → k < 255 }
         ensures rise { ClassesRise result }
     {
+        // Each class is counted by itself: there is no running number.
         let mut classes = ByteClasses::empty();
-        let mut below = 0;
-        for number in 0..4u8 {
-            let word = self.ends.word(number);
-            set_classes(&mut classes, number, word, below);
-            below += ones(word);
+        for byte in 0..=255u8 {
+            classes.set(byte, self.ends.count_below(byte));
         }
         classes
-    }
-}
-
-// Gives each of the 64 bytes of a word its class: how many boundaries are below the word, and in it below the byte. No class waits
-// for the one before it.
-#[inline(always)]
-fn set_classes(classes: &mut ByteClasses, number: u8, word: u64, below: u32)
-    requires len { length classes.old ≡ 256 }
-    requires number { number < 4 }
-    requires below { below ≤ 64 * number }
-    ensures len { length classes.new ≡ 256 }
-    ensures before { (k : ℕ) → k < 64 * number → slice_index classes.new k ≡ slice_index classes.old k }
-    ensures here { (i : ℕ) → i < 64 → slice_index classes.new (64 * number + i) ≡ below + class_of (has_bit word) i }
-{
-    for bit in 0..64u8 {
-        classes.set(64 * number + bit, (below + ones_below(word, bit)) as u8);
     }
 }
 

@@ -200,6 +200,19 @@ impl ByteSet {
         }
     }
 
+    // How many members are below a byte.
+    #[inline]
+    pub(crate) fn count_below(&self, byte: u8) -> u8
+        ensures count { result ≡ class_of (sets.contains self.now) byte }
+        ensures bytes { (b : ℕ) → sets.contains self.now b ≡ true → b < 256 }
+    {
+        if byte < 128 {
+            ones_below(self.low, byte)
+        } else {
+            ones(self.low) + ones_below(self.high, byte - 128)
+        }
+    }
+
     // The set whose words, as `ByteSet::word` gives them, are these.
     #[inline(always)]
     pub(crate) fn from_words(first: u64, second: u64, third: u64, fourth: u64) -> ByteSet

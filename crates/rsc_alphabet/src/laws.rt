@@ -1,6 +1,6 @@
 //! Laws of sets, partitions, class maps and trait impls that a caller can cite: functions whose contracts are the laws.
 ghost use Rattle.std.specs.Prelude.{true, ◌≡◌, ◌↔◌, ◌⊎◌, ◌+◌, ◌<◌, ◌≤◌, ◌∷◌, ℕ, Bool, List, length, slice_index, slice_get, Some, All, IsTrue, ◌==◌, ◌&&◌, ◌||◌, nat_lt};
-ghost use Rattle.std.specs.List.{Contains, AllAdjacentBelow};
+ghost use Rattle.std.specs.List.{Contains, AllAdjacentBelow, list_any};
 ghost use Rattle.std.specs.List.Sorted.{IsStrictlyIncreasing};
 ghost use Rattle.std.specs.FinSet as sets;
 ghost use Rattle.std.specs.declared.ops.Bound.{Bound};
@@ -95,6 +95,16 @@ pub fn together_is_alike()
     ensures { (p : ℕ → Bool) (ranges : List (ℕ × ℕ)) → All (λ r. r.0 ≤ r.1) ranges →
         ((r : ℕ × ℕ) → Contains ranges r → (k : ℕ) → k < 255 → sets.contains (edges_of r) k ≡ true → p k ≡ true) →
         (b c : ℕ) → b < 256 → c < 256 → Together p b c → IsTrue (are_alike ranges b c) }
+{}
+
+/// Bytes that are alike for a list of ranges are in the same of them: each range holds both or neither, and so does each list of some of the
+/// ranges. For neighbours the converse holds too. [`crate::classes_of_ranges`] gives bytes one class exactly if they are alike.
+pub fn alike_bytes_share_their_ranges()
+    ensures each { (ranges : List (ℕ × ℕ)) (b c : ℕ) → IsTrue (are_alike ranges b c) → (r : ℕ × ℕ) → Contains ranges r → holds r b ≡ holds r c }
+    ensures some { (ranges part : List (ℕ × ℕ)) (b c : ℕ) → IsTrue (are_alike ranges b c) → ((r : ℕ × ℕ) → Contains part r → Contains ranges r) →
+        list_any (λ r. holds r b) part ≡ list_any (λ r. holds r c) part }
+    ensures neighbours { (ranges : List (ℕ × ℕ)) (b : ℕ) → ((r : ℕ × ℕ) → Contains ranges r → holds r b ≡ holds r (b + 1)) →
+        IsTrue (are_alike ranges b (b + 1)) }
 {}
 
 /// A clone has its source's value.

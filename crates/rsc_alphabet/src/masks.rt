@@ -168,20 +168,21 @@ pub(crate) fn word_shifted_right(word: u64, places: u8) -> u64
     word >> places
 }
 
-// How many bits below a place are 1.
+// How many bits below a bit are 1.
 #[inline(always)]
-pub(crate) fn ones_below(word: u64, bit: u8) -> u32
-    requires { bit < 64 }
-    ensures count { result ≡ class_of (has_bit word) bit }
+pub(crate) fn ones_below(mask: u128, bit: u8) -> u8
+    requires { bit < 128 }
+    ensures count { result ≡ class_of (has_bit mask) bit }
     ensures most { result ≤ bit }
 {
-    (word & ((1 << bit) - 1)).count_ones()
+    (mask & ((1 << bit) - 1)).count_ones() as u8
 }
 
+// How many bits are 1.
 #[inline(always)]
-pub(crate) fn ones(word: u64) -> u32
-    ensures count { result ≡ class_of (has_bit word) 64 }
-    ensures most { result ≤ 64 }
+pub(crate) fn ones(mask: u128) -> u8
+    ensures count { result ≡ class_of (has_bit mask) 128 }
+    ensures most { result ≤ 128 }
 {
-    word.count_ones()
+    mask.count_ones() as u8
 }

@@ -1,6 +1,6 @@
 //! Class maps that no set of ranges gives: classes that fall, that are left out, or that come again.
 use super::elements;
-use rsc_alphabet::{ByteClasses, Unit};
+use rsc_alphabet::{ByteClassSet, ByteClasses, Unit};
 use std::alloc::{AllocError, Global};
 use std::ops::Bound;
 use std::test::Fail;
@@ -66,4 +66,16 @@ fn the_first_class_again_at_the_last_byte(rt: HostRuntime) -> Result<(), Fail> {
     let found = elements(rt.alloc(), &classes, Unit::u8(0))?;
     assert!(rt; found.as_slice() == [Unit::u8(0), Unit::u8(255)].as_slice());
     Ok(())
+}
+
+#[test]
+fn a_union_has_the_boundaries_of_both(rt: HostRuntime) {
+    let mut letters = ByteClassSet::empty();
+    letters.set_range(b'a', b'z');
+    let mut all = ByteClassSet::empty();
+    all.set_range(0, 255);
+    all.union(&letters);
+    let classes = all.byte_classes();
+    assert!(rt; classes.get(b'`') != classes.get(b'a') && classes.get(b'z') != classes.get(b'{'));
+    assert!(rt; classes.alphabet_len() == 4 && classes.get(b'{') == classes.get(255));
 }
