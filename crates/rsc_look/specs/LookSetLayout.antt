@@ -29,6 +29,10 @@ place_of WordEndHalfAscii = 15
 place_of WordStartHalfUnicode = 16
 place_of WordEndHalfUnicode = 17
 
+-- two assertions are the same
+abbrev pub is_same : Look → Look → Bool
+is_same l m = place_of l == place_of m
+
 abbrev pub has_bit : ℕ → Look → Bool
 has_bit n l = bit_at n (place_of l) == 1
 

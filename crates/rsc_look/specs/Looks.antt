@@ -69,6 +69,16 @@ is_unicode WordStartHalfUnicode = true
 is_unicode WordEndHalfUnicode = true
 is_unicode _ = false
 
+-- the assertion that asks of bytes what a Unicode one asks of characters; any other is its own
+abbrev pub ascii_of : Look → Look
+ascii_of WordUnicode = WordAscii
+ascii_of WordUnicodeNegate = WordAsciiNegate
+ascii_of WordStartUnicode = WordStartAscii
+ascii_of WordEndUnicode = WordEndAscii
+ascii_of WordStartHalfUnicode = WordStartHalfAscii
+ascii_of WordEndHalfUnicode = WordEndHalfAscii
+ascii_of look = look
+
 -- the assertion's counterpart at the other end
 abbrev pub reversed : Look → Look
 reversed Start = End

@@ -1,5 +1,5 @@
 //! The eighteen assertions.
-ghost use Rattle.std.specs.Prelude.{◌≡◌, ◌↔◌, Some};
+ghost use Rattle.std.specs.Prelude.{◌≡◌, ◌↔◌, Some, false};
 
 /// An assertion about a position of a haystack: what is before it, and what is after it.
 ///
@@ -17,45 +17,45 @@ ghost use Rattle.std.specs.Prelude.{◌≡◌, ◌↔◌, Some};
 #[derive(Clone, Copy, Debug, PartialEq, Eq)]
 pub enum Look {
     /// The start of the haystack.
-    Start,
+    Start = 1 << 0,
     /// The end of the haystack.
-    End,
+    End = 1 << 1,
     /// The start of a line that ends at the line terminator: the start of the haystack, or after a line terminator.
-    StartLF,
+    StartLF = 1 << 2,
     /// The end of a line that ends at the line terminator: the end of the haystack, or before a line terminator.
-    EndLF,
+    EndLF = 1 << 3,
     /// The start of a line that ends at `\r`, `\n` or `\r\n`, and never between `\r` and `\n`.
-    StartCRLF,
+    StartCRLF = 1 << 4,
     /// The end of a line that ends at `\r`, `\n` or `\r\n`, and never between `\r` and `\n`.
-    EndCRLF,
+    EndCRLF = 1 << 5,
     /// A word boundary: a word byte on exactly one side.
-    WordAscii,
+    WordAscii = 1 << 6,
     /// No word boundary: a word byte on both sides, or on neither.
-    WordAsciiNegate,
+    WordAsciiNegate = 1 << 7,
     /// A word boundary: a word character on exactly one side.
-    WordUnicode,
+    WordUnicode = 1 << 8,
     /// No word boundary, and no side whose bytes are no character: a word character on both sides, or on neither.
-    WordUnicodeNegate,
+    WordUnicodeNegate = 1 << 9,
     /// The start of a word: a word byte after the position and none before it.
-    WordStartAscii,
+    WordStartAscii = 1 << 10,
     /// The end of a word: a word byte before the position and none after it.
-    WordEndAscii,
+    WordEndAscii = 1 << 11,
     /// The start of a word: a word character after the position and none before it.
-    WordStartUnicode,
+    WordStartUnicode = 1 << 12,
     /// The end of a word: a word character before the position and none after it.
-    WordEndUnicode,
+    WordEndUnicode = 1 << 13,
     /// The half of a word's start: no word byte before the position.
-    WordStartHalfAscii,
+    WordStartHalfAscii = 1 << 14,
     /// The half of a word's end: no word byte after the position.
-    WordEndHalfAscii,
+    WordEndHalfAscii = 1 << 15,
     /// The half of a word's start: before the position the haystack's start, or a character that is no word character.
-    WordStartHalfUnicode,
+    WordStartHalfUnicode = 1 << 16,
     /// The half of a word's end: after the position the haystack's end, or a character that is no word character.
-    WordEndHalfUnicode,
+    WordEndHalfUnicode = 1 << 17,
 }
 
 impl Look {
-    ghost use Rattle.rsc_look.specs.Looks.{repr_of, char_of, reversed};
+    ghost use Rattle.rsc_look.specs.Looks.{repr_of, char_of, reversed, ascii_of, is_unicode};
 
     /// The assertion's counterpart at the other end: `End` for `Start`, and so on.
     #[inline]
@@ -82,6 +82,33 @@ impl Look {
             Look::WordEndHalfAscii => Look::WordStartHalfAscii,
             Look::WordStartHalfUnicode => Look::WordEndHalfUnicode,
             Look::WordEndHalfUnicode => Look::WordStartHalfUnicode,
+        }
+    }
+
+    /// The assertion that asks of bytes what a Unicode assertion asks of characters; any other assertion itself.
+    ///
+    /// Between neighbours that are absent or below 128 the two hold at the same positions, by [`crate::laws::ascii_neighbours_suffice`]: a table
+    /// over bytes answers for the Unicode assertion there.
+    ///
+    /// # Examples
+    ///
+    /// ```
+    /// assert!(rt; Look::WordUnicode.ascii_counterpart() == Look::WordAscii);
+    /// assert!(rt; Look::StartLF.ascii_counterpart() == Look::StartLF);
+    /// ```
+    #[inline]
+    pub fn ascii_counterpart(self) -> Look
+        ensures value { result ≡ ascii_of self }
+        ensures bytes { is_unicode result ≡ false }
+    {
+        match self {
+            Look::WordUnicode => Look::WordAscii,
+            Look::WordUnicodeNegate => Look::WordAsciiNegate,
+            Look::WordStartUnicode => Look::WordStartAscii,
+            Look::WordEndUnicode => Look::WordEndAscii,
+            Look::WordStartHalfUnicode => Look::WordStartHalfAscii,
+            Look::WordEndHalfUnicode => Look::WordEndHalfAscii,
+            look => look,
         }
     }
 

@@ -2,7 +2,8 @@
 //!
 //! An automaton over bytes needs one column for each class of bytes. The fewer boundaries an assertion adds, the fewer columns there
 //! are: so no more are added than the assertion needs, and those of the word assertions are the ends of the four runs of word bytes.
-ghost use Rattle.std.specs.Prelude.{◌≡◌, ◌≤◌, ◌||◌, true, ℕ};
+ghost use Rattle.std.specs.Prelude.{◌≡◌, ◌<◌, ◌≤◌, ◌&&◌, ◌||◌, nat_le, true, ℕ};
+ghost use Rattle.std.specs.List.{list_any};
 ghost use Rattle.std.specs.FinSet as sets;
 ghost use Rattle.std.specs.Int.{is_in_range};
 ghost use Rattle.rsc_primitives.specs.Utf8.{is_word_byte};
@@ -66,6 +67,50 @@ impl<W: WordClass> LookMatcher<W> {
         }
         set.byte_classes()
     }
+
+    /// The bytes at which a table over bytes must stop for the Unicode assertions of a list: all from 128 on if one is listed, and none else.
+    ///
+    /// Beside other bytes each assertion of the list is its [`Look::ascii_counterpart`], by [`crate::laws::ascii_neighbours_suffice`].
+    ///
+    /// # Examples
+    ///
+    /// ```
+    /// let matcher = LookMatcher::new(UnicodeWord);
+    /// let bytes = matcher.quit_bytes(&[Look::Start, Look::WordUnicode]);
+    /// assert!(rt; bytes.contains(0x80) && !bytes.contains(0x7F));
+    /// assert!(rt; matcher.quit_bytes(&[Look::WordAscii]).is_empty());
+    /// ```
+    pub fn quit_bytes(&self, looks: &[Look]) -> ByteSet
+        ensures { (b : ℕ) → b < 256 → sets.contains result b ≡ (list_any is_unicode looks.now && nat_le 128 b) }
+    {
+        let mut bytes = ByteSet::empty();
+        if has_unicode(looks) {
+            add_run(&mut bytes, 128, 255);
+        }
+        bytes
+    }
+}
+
+// Whether a list has a Unicode assertion.
+fn has_unicode(looks: &[Look]) -> bool
+    ensures { result ≡ list_any is_unicode looks.now }
+{
+    looks.iter().any(|look| is_unicode(*look))
+}
+
+// Whether an assertion looks at characters.
+fn is_unicode(look: Look) -> bool
+    ensures { result ≡ is_unicode look }
+{
+    matches!(
+        look,
+        Look::WordUnicode
+            | Look::WordUnicodeNegate
+            | Look::WordStartUnicode
+            | Look::WordEndUnicode
+            | Look::WordStartHalfUnicode
+            | Look::WordEndHalfUnicode
+    )
 }
 
 // Adds the boundaries of an assertion to a set.

@@ -1,13 +1,13 @@
 //! Laws of assertions that a caller can cite: functions whose contracts are the laws.
-ghost use Rattle.std.specs.Prelude.{true, false, ◌≡◌, ◌↔◌, ◌⊎◌, ◌+◌, ◌<◌, ◌≤◌, ◌++◌, [], ◌∷◌, ℕ, Bool, List, length, slice_index, IsTrue};
+ghost use Rattle.std.specs.Prelude.{true, false, ◌≡◌, ◌↔◌, ◌⊎◌, ◌||◌, ◌+◌, ◌<◌, ◌≤◌, ◌++◌, [], ◌∷◌, ℕ, Bool, List, length, slice_index, IsTrue, IfSome};
 ghost use Rattle.std.specs.List.{Contains};
 ghost use Rattle.std.specs.FinSet as sets;
 ghost use Rattle.rsc_primitives.specs.Utf8.{is_word_byte};
 ghost use Rattle.rsc_look.specs.declared.assertion.Look.{Look};
 ghost use Rattle.rsc_look.specs.declared.side.Side.{Side};
-ghost use Rattle.rsc_look.specs.Looks.{is_unicode, line_feed};
+ghost use Rattle.rsc_look.specs.Looks.{is_unicode, ascii_of, line_feed};
 ghost use Rattle.rsc_look.specs.LookSets.{Looks};
-ghost use Rattle.rsc_look.specs.Holds.{Holds, IsBefore, IsAfter};
+ghost use Rattle.rsc_look.specs.Holds.{Holds, IsBefore, IsAfter, byte_before, byte_after};
 ghost use Rattle.rsc_look.specs.Boundaries.{boundaries_of};
 ghost use Rattle.rsc_look.specs.Keeping.{IsHaystack, DifferInAscii, Keeps, AgreesWithAscii, IsCoarsest, IsCoarsestMap, IsExactFor};
 ghost use Rattle.rsc_look.specs.Words.{is_unicode_word};
@@ -51,12 +51,29 @@ pub fn kept_lists_are_joined()
         Keeps p some t W → Keeps p others t W → Keeps p (some ++ others) t W }
 {}
 
+/// A partition with the boundaries of one that keeps a list keeps it too. The coarsest partition of two lists together has the boundaries of the
+/// coarsest of each, and no others.
+pub fn coarsest_lists_are_joined()
+    ensures finer { (p q : ℕ → Bool) (looks : List Look) (t : ℕ) (W : ℕ → Bool) →
+        ((b : ℕ) → b < 255 → p b ≡ true → q b ≡ true) → Keeps p looks t W → Keeps q looks t W }
+    ensures both { (p q : ℕ → Bool) (some others : List Look) (t : ℕ) (W : ℕ → Bool) →
+        IsCoarsest p some t W → IsCoarsest q others t W → IsCoarsest (λ b. p b || q b) (some ++ others) t W }
+{}
+
 /// A position has exactly one side before it, and exactly one after it.
 pub fn each_position_has_two_sides()
     ensures before { (W : ℕ → Bool) (h : List ℕ) (i : ℕ) → (s : Side) × IsBefore W h i s }
     ensures one_before { (W : ℕ → Bool) (h : List ℕ) (i : ℕ) (s u : Side) → IsBefore W h i s → IsBefore W h i u → s ≡ u }
     ensures after { (W : ℕ → Bool) (h : List ℕ) (i : ℕ) → i ≤ length h → (s : Side) × IsAfter W h i s }
     ensures one_after { (W : ℕ → Bool) (h : List ℕ) (i : ℕ) (s u : Side) → IsAfter W h i s → IsAfter W h i u → s ≡ u }
+{}
+
+/// Between neighbours that are absent or below 128, a Unicode assertion holds exactly where its ASCII counterpart does, if the word characters
+/// below 128 are the word bytes. So a table over bytes that stops at a byte from 128 on answers for Unicode assertions too.
+pub fn ascii_neighbours_suffice()
+    ensures { (l : Look) (t : ℕ) (W : ℕ → Bool) (h : List ℕ) (i : ℕ) → i ≤ length h → AgreesWithAscii W →
+        IfSome (byte_before h i) (λ b. b < 128) → IfSome (byte_after h i) (λ b. b < 128) →
+        Holds l t W h i ↔ Holds (ascii_of l) t W h i }
 {}
 
 /// Below 128 the word characters of [`AsciiWord`] and of [`UnicodeWord`] are the word bytes, which is what

@@ -11,6 +11,7 @@ use crate::{Look, LookSet, UnicodeWord, WordClass};
 use std::alloc::AllocError;
 use std::marker::Model;
 
+mod holding;
 mod lines;
 mod words;
 

@@ -14,7 +14,7 @@ use rsc_primitives::utf8;
 impl<W: WordClass> LookMatcher<W> {
     // What is before a position.
     #[inline(always)]
-    fn side_before(&self, haystack: &[u8], at: usize) -> Side
+    pub(crate) fn side_before(&self, haystack: &[u8], at: usize) -> Side
         requires { at ≤ length haystack.now }
         ensures { IsBefore (W.word_chars self.now.1) haystack.now at result }
     {
@@ -27,7 +27,7 @@ impl<W: WordClass> LookMatcher<W> {
 
     // What is after a position.
     #[inline(always)]
-    fn side_after(&self, haystack: &[u8], at: usize) -> Side
+    pub(crate) fn side_after(&self, haystack: &[u8], at: usize) -> Side
         requires { at ≤ length haystack.now }
         ensures { IsAfter (W.word_chars self.now.1) haystack.now at result }
     {

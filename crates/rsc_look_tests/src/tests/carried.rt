@@ -1,4 +1,4 @@
-//! The tests of lines, text and words that the Rust has, with every value of theirs, as tables.
+//! Where each assertion holds: every value of the original's own tests, as sixteen tests over tables of marks.
 use rsc_look::{AsciiWord, Look, LookMatcher, WordClass};
 use std::process::Abort;
 

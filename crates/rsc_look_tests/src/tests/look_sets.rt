@@ -56,6 +56,10 @@ fn look_set(rt: HostRuntime) {
         assert!(rt; set.contains(look), "{look:?}");
         set.set_remove(look);
         assert!(rt; !set.contains(look), "{look:?}");
+        let with = set.insert(look);
+        assert!(rt; with.contains(look) && !set.contains(look), "{look:?}");
+        let without = with.remove(look);
+        assert!(rt; !without.contains(look) && with.contains(look), "{look:?}");
     }
 }
 

@@ -1,5 +1,6 @@
-//! Where assertions hold: worked rows.
+//! Where assertions hold: line terminators, bytes that are no characters, each call beside `matches`.
 use super::carried::tells;
+use rsc_alphabet::Unit;
 use rsc_look::{AsciiWord, Look, LookMatcher, LookSet};
 use std::test::Fail;
 
@@ -174,4 +175,49 @@ fn mirrors(rt: HostRuntime) {
     assert!(rt; !matcher.matches(Look::StartCRLF, b"\r\na", 1));
     assert!(rt; !matcher.matches(Look::EndCRLF, b"a\r\n", 2));
     assert!(rt; matcher.matches(Look::EndCRLF, b"a\n\r", 2));
+}
+
+#[test]
+fn holding_is_what_each_call_says(rt: HostRuntime) {
+    let matcher = LookMatcher::default();
+    let haystacks: [&[u8]; 6] = [
+        b"",
+        b"a",
+        b"\r\n",
+        "aδ-\n".as_bytes(),
+        b"a\x80b",
+        b"\xE2\x82",
+    ];
+    for haystack in haystacks {
+        for at in 0..haystack.len() + 1 {
+            let holding = matcher.holding(haystack, at);
+            for look in LookSet::full().iter() {
+                let want = matcher.matches(look, haystack, at);
+                assert!(rt; holding.contains(look) == want, "{look:?} at {at}");
+            }
+        }
+    }
+}
+
+#[test]
+fn holding_between_a_byte_and_a_unit(rt: HostRuntime) {
+    let mut matcher = LookMatcher::new(AsciiWord);
+    let between = matcher.holding_between(Some(b'\r'), Unit::u8(b'\n'));
+    assert!(rt; between.contains(Look::EndLF) && !between.contains(Look::StartCRLF));
+    matcher.set_line_terminator(0);
+    let between = matcher.holding_between(None, Unit::eoi(9));
+    assert!(rt; between.contains(Look::Start) && between.contains(Look::EndLF));
+    assert!(rt; between.contains(Look::WordStartHalfAscii) && !between.contains(Look::WordAscii));
+    assert!(rt; !between.contains(Look::WordStartHalfUnicode));
+}
+
+#[test]
+fn quits_at_bytes_of_characters(rt: HostRuntime) {
+    let matcher = LookMatcher::default();
+    for look in LookSet::full().iter() {
+        let bytes = matcher.quit_bytes(&[Look::StartLF, look]);
+        let is_unicode = LookSet::singleton(look).contains_word_unicode();
+        assert!(rt; bytes.contains(0xFF) == is_unicode && bytes.contains(0x80) == is_unicode);
+        assert!(rt; !bytes.contains(0x7F) && is_unicode == (look.ascii_counterpart() != look));
+    }
 }

@@ -17,6 +17,9 @@ returns-clause-classes g c =
     classes_whole c.args.looks.now c.args.self.now.0 c.loop-look.look-index c.loop-look.set c.byte_classes.result c.loop-look-test.false c.loop-look.invariant
     c.byte_classes.ensures.map
 
+-- without the answer above, so that a wrong set is refused here too
 pub returns-clause-coarsest : goal.returns-clause-coarsest
 returns-clause-coarsest g c =
-    IsCoarsestMap-from c.byte_classes.result c.args.looks.now c.args.self.now.0 (g.W.WordClass.word_chars c.args.self.now.1) (returns-clause-classes g c)
+    let classes = classes_whole c.args.looks.now c.args.self.now.0 c.loop-look.look-index c.loop-look.set c.byte_classes.result c.loop-look-test.false
+    c.loop-look.invariant c.byte_classes.ensures.map in
+    IsCoarsestMap-from c.byte_classes.result c.args.looks.now c.args.self.now.0 (g.W.WordClass.word_chars c.args.self.now.1) classes

@@ -1,0 +1,188 @@
+-- The assertions that hold at a position, from the two sides; and those of Unicode beside ASCII.
+use Rattle.std.proofs.Common.{◌≡◌, ◌↔◌, ℕ, zero, suc, ◌+◌, ◌<◌, ◌≤◌, ◌⊎◌, inl, inr, Bool, true, false, not, ◌&&◌, ◌||◌, cond, nat_le, true≢false, List, [], ◌∷◌, length, get_or, refl, sym, ap, ◌∙◌, subst, arith, slice_get, Option, Some, None, is_none, IsTrue, IfSome}
+use Rattle.std.proofs.Math.Bool.{or-false}
+use Rattle.std.proofs.lemmas.Option.{slice_get_within, get_or_from_slice_get}
+use Rattle.rsc_primitives.specs.Utf8Laws.{slice_one}
+use Rattle.rsc_look.specs.Looks.{ascii_of, line_feed, carriage_return}
+use Rattle.std.specs.Int.{is_in_range}
+use Rattle.std.proofs.lemmas.Bool.Decides.{nat_tests}
+use Rattle.rsc_look.proofs.Words.{is_word_byte, EncodedFrom, BeginsAt, EndsAt, Look, Start, WordAscii, WordUnicode, WordUnicodeNegate, WordStartUnicode, WordEndUnicode, WordStartHalfUnicode, WordEndHalfUnicode, End, StartLF, EndLF, StartCRLF, EndCRLF, WordAsciiNegate, WordStartAscii, WordEndAscii, WordStartHalfAscii, WordEndHalfAscii, Side, Absent, Invalid, Word, Other, byte_before, byte_after, is_byte, is_word_neighbor, exactly_one, is_invalid, is_word_side, is_edge_or_non_word, holds_at_bytes, holds_at_sides, IsBefore, IsAfter, HoldsAtSides, Holds, is_unicode, AgreesWithAscii, Looks}
+use Rattle.rsc_look.proofs.SideLayoutLemmas.{at_sides, Holds-bytes, Holds-sides}
+
+-- ---- the assertions that hold at a position
+
+kind : (l : Look) (t : ℕ) (p n : Option ℕ) (a b : Side)
+    → ((is_unicode l ≡ true) × (holds_at_bytes l t p n ≡ false)) ⊎ ((is_unicode l ≡ false) × (holds_at_sides l a b ≡ false))
+kind WordUnicode t p n a b = inl (refl, refl)
+kind WordUnicodeNegate t p n a b = inl (refl, refl)
+kind WordStartUnicode t p n a b = inl (refl, refl)
+kind WordEndUnicode t p n a b = inl (refl, refl)
+kind WordStartHalfUnicode t p n a b = inl (refl, refl)
+kind WordEndHalfUnicode t p n a b = inl (refl, refl)
+kind _ t p n a b = inr (refl, refl)
+
+is_true : (b : Bool) → (b ≡ true) ↔ IsTrue b
+is_true b = ((λ e. e), (λ e. e))
+
+-- both tables together say where an assertion holds
+pub holds_by_tables : (l : Look) (t : ℕ) (W : ℕ → Bool) (h : List ℕ) (i : ℕ) (a b : Side) (has : Bool) → IsBefore W h i a → IsAfter W h i b
+    → has ≡ (holds_at_bytes l t (byte_before h i) (byte_after h i) || holds_at_sides l a b) → (has ≡ true) ↔ Holds l t W h i
+holds_by_tables l t W h i a b has p q is = go (kind l t (byte_before h i) (byte_after h i) a b)
+  where
+    go : ((is_unicode l ≡ true) × (holds_at_bytes l t (byte_before h i) (byte_after h i) ≡ false)) ⊎ ((is_unicode l ≡ false)
+        × (holds_at_sides l a b ≡ false)) → (has ≡ true) ↔ Holds l t W h i
+    go (inl (u, none)) =
+        let same : has ≡ holds_at_sides l a b = is ∙ ap (λ x. x || holds_at_sides l a b) none in
+        let s = at_sides l W h i a b p q in let k = Holds-sides l t W h i u in
+        ((λ e. k.1 (s.0 (sym same ∙ e))), (λ x. same ∙ s.1 (k.0 x)))
+    go (inr (u, none)) =
+        let same : has ≡ holds_at_bytes l t (byte_before h i) (byte_after h i) =
+        is ∙ ap (λ x. holds_at_bytes l t (byte_before h i) (byte_after h i) || x) none ∙ or-false (holds_at_bytes l t (byte_before h i) (byte_after h i)) in
+        let s = is_true (holds_at_bytes l t (byte_before h i) (byte_after h i)) in let k = Holds-bytes l t W h i u in
+        ((λ e. k.1 (s.0 (sym same ∙ e))), (λ x. same ∙ s.1 (k.0 x)))
+
+-- ---- Unicode beside ASCII
+
+-- the side that a byte below 128 is, or no byte
+ascii_side : (ℕ → Bool) → Option ℕ → Side
+ascii_side W None = Absent
+ascii_side W (Some b) = cond (W b) Word Other
+
+one_byte : (h : List ℕ) (i b : ℕ) → slice_get h i ≡ Some b → b < 128 → EncodedFrom h i (i + 1) b
+one_byte h i b e l =
+    let within : i < length h = slice_get_within h i b e in
+    let at : get_or h i 0 ≡ b = get_or_from_slice_get h i b 0 e in record {
+      ordered = omega arith;
+      within = omega (arith, within);
+      encoded = rw (slice_one h i (i + 1) refl within, at) (omega (arith, l), refl);
+    }
+
+side_is : (W : ℕ → Bool) (h : List ℕ) (i b : ℕ) → EndsAt h i b → IsBefore W h i (cond (W b) Word Other)
+side_is W h i b e = go (W b) refl
+  where
+    go : (v : Bool) → W b ≡ v → IsBefore W h i (cond v Word Other)
+    go true f = (b, e, f)
+    go false f = (b, e, f)
+
+side_is_after : (W : ℕ → Bool) (h : List ℕ) (i b : ℕ) → BeginsAt h i b → IsAfter W h i (cond (W b) Word Other)
+side_is_after W h i b e = go (W b) refl
+  where
+    go : (v : Bool) → W b ≡ v → IsAfter W h i (cond v Word Other)
+    go true f = (b, e, f)
+    go false f = (b, e, f)
+
+past_end : (h : List ℕ) (i : ℕ) → slice_get h i ≡ None → length h ≤ i
+past_end [] i e = omega arith
+past_end (x ∷ h) zero e = absurd (cc)
+past_end (x ∷ h) (suc i) e = let l = past_end h i e in omega (arith, l)
+
+ascii_before : (W : ℕ → Bool) (h : List ℕ) (i : ℕ) → i ≤ length h → IfSome (byte_before h i) (λ b. b < 128)
+    → IsBefore W h i (ascii_side W (byte_before h i))
+unfolding ascii_side
+ascii_before W h zero l low = refl
+ascii_before W h (suc i) l low = go (slice_get h i) refl low
+  where
+    next : i + 1 ≡ suc i
+    next = omega arith
+
+    go : (o : Option ℕ) → slice_get h i ≡ o → IfSome o (λ b. b < 128) → IsBefore W h (suc i) (ascii_side W o)
+    go None e x = absurd (omega (arith, l, past_end h i e))
+    go (Some b) e x = side_is W h (suc i) b (i, subst (λ j. EncodedFrom h i j b) next (one_byte h i b e x))
+
+ascii_after : (W : ℕ → Bool) (h : List ℕ) (i : ℕ) → i ≤ length h → IfSome (byte_after h i) (λ b. b < 128)
+    → IsAfter W h i (ascii_side W (byte_after h i))
+unfolding ascii_side
+ascii_after W h i l low = go (slice_get h i) refl low
+  where
+    go : (o : Option ℕ) → slice_get h i ≡ o → IfSome o (λ b. b < 128) → IsAfter W h i (ascii_side W o)
+    go None e x = omega (arith, l, past_end h i e)
+    go (Some b) e x = side_is_after W h i b (i + 1, one_byte h i b e x)
+
+-- what a word assertion makes of whether a word character is before and whether one is after
+by_words : Look → Bool → Bool → Bool
+by_words WordUnicode a b = exactly_one a b
+by_words WordUnicodeNegate a b = not (exactly_one a b)
+by_words WordStartUnicode a b = b && not a
+by_words WordEndUnicode a b = a && not b
+by_words WordStartHalfUnicode a b = not a
+by_words WordEndHalfUnicode a b = not b
+by_words _ a b = false
+
+of_bytes : (l : Look) (t : ℕ) (p n : Option ℕ) → is_unicode l ≡ true → holds_at_bytes (ascii_of l) t p n ≡ by_words l (is_word_neighbor p) (is_word_neighbor n)
+unfolding by_words
+of_bytes WordUnicode t p n u = refl
+of_bytes WordUnicodeNegate t p n u = refl
+of_bytes WordStartUnicode t p n u = refl
+of_bytes WordEndUnicode t p n u = refl
+of_bytes WordStartHalfUnicode t p n u = refl
+of_bytes WordEndHalfUnicode t p n u = refl
+of_bytes _ t p n u = absurd (true≢false (sym u))
+
+-- a side that isn't invalid
+record IsValid (a : Side) (word : Bool) : Type 0 where
+  invalid : is_invalid a ≡ false
+  is_word : is_word_side a ≡ word
+  edge : is_edge_or_non_word a ≡ not word
+
+of_sides : (l : Look) (a b : Side) (x y : Bool) → is_unicode l ≡ true → IsValid a x → IsValid b y → holds_at_sides l a b ≡ by_words l x y
+unfolding by_words
+of_sides WordUnicode a b x y u v w = rw (v.is_word, w.is_word) refl
+of_sides WordUnicodeNegate a b x y u v w = rw (v.invalid, w.invalid, v.is_word, w.is_word) refl
+of_sides WordStartUnicode a b x y u v w = rw (v.is_word, w.is_word) refl
+of_sides WordEndUnicode a b x y u v w = rw (v.is_word, w.is_word) refl
+of_sides WordStartHalfUnicode a b x y u v w = v.edge
+of_sides WordEndHalfUnicode a b x y u v w = w.edge
+of_sides _ a b x y u v w = absurd (true≢false (sym u))
+
+valid : (W : ℕ → Bool) (p : Option ℕ) → AgreesWithAscii W → IfSome p (λ b. b < 128) → IsValid (ascii_side W p) (is_word_neighbor p)
+unfolding ascii_side
+valid W None agrees low = record { invalid = refl; is_word = refl; edge = refl }
+valid W (Some b) agrees low = subst (λ x. IsValid (cond (W b) Word Other) x) (agrees b low) (go (W b))
+  where
+    go : (v : Bool) → IsValid (cond v Word Other) v
+    go true = record { invalid = refl; is_word = refl; edge = refl }
+    go false = record { invalid = refl; is_word = refl; edge = refl }
+
+ascii_is_bytes : (l : Look) → is_unicode (ascii_of l) ≡ false
+ascii_is_bytes WordUnicode = refl
+ascii_is_bytes _ = refl
+
+own : (l : Look) → (is_unicode l ≡ true) ⊎ (ascii_of l ≡ l)
+own WordUnicode = inl refl
+own WordUnicodeNegate = inl refl
+own WordStartUnicode = inl refl
+own WordEndUnicode = inl refl
+own WordStartHalfUnicode = inl refl
+own WordEndHalfUnicode = inl refl
+own _ = inr refl
+
+-- between neighbours that are absent or below 128, a Unicode assertion is its ASCII counterpart
+pub ascii_suffices : (l : Look) (t : ℕ) (W : ℕ → Bool) (h : List ℕ) (i : ℕ) → i ≤ length h → AgreesWithAscii W → IfSome (byte_before h i) (λ b. b < 128)
+    → IfSome (byte_after h i) (λ b. b < 128) → Holds l t W h i ↔ Holds (ascii_of l) t W h i
+ascii_suffices l t W h i low agrees before after = go (own l)
+  where
+    p : Option ℕ
+    p = byte_before h i
+
+    n : Option ℕ
+    n = byte_after h i
+
+    go : (is_unicode l ≡ true) ⊎ (ascii_of l ≡ l) → Holds l t W h i ↔ Holds (ascii_of l) t W h i
+    go (inr e) = subst (λ m. Holds l t W h i ↔ Holds m t W h i) (sym e) ((λ x. x), (λ x. x))
+    go (inl u) =
+        let same : holds_at_sides l (ascii_side W p) (ascii_side W n) ≡ holds_at_bytes (ascii_of l) t p n =
+        of_sides l (ascii_side W p) (ascii_side W n) (is_word_neighbor p) (is_word_neighbor n) u (valid W p agrees before) (valid W n agrees after)
+        ∙ sym (of_bytes l t p n u) in
+        let s = at_sides l W h i (ascii_side W p) (ascii_side W n) (ascii_before W h i low before) (ascii_after W h i low after) in
+        let k = Holds-sides l t W h i u in let b = Holds-bytes (ascii_of l) t W h i (ascii_is_bytes l) in
+        let v = is_true (holds_at_bytes (ascii_of l) t p n) in (
+          (λ x. b.1 (v.0 (sym same ∙ s.1 (k.0 x)))),
+          (λ y. k.1 (s.0 (same ∙ v.1 (b.0 y)))),
+        )
+
+-- ---- the bytes at which a table stops
+
+-- all from 128 on, where there is a Unicode assertion
+pub quit_some : (has : Bool) (b : ℕ) (before after : Bool) → has ≡ true → b < 256 → before ≡ false → after ≡ (is_in_range 128 255 b || before)
+    → after ≡ (has && nat_le 128 b)
+quit_some has b before after e l none is = grind (arith, nat_tests)
