@@ -1,4 +1,5 @@
 pub mod CapturedLemmas  -- the span of a group, the spans of all groups, and the pieces that they cut
+pub mod CapturesLemmas  -- a span that is written into a group's slots is that group's, and leaves the others' as they were
 pub mod FaultsLayoutLemmas  -- the first fault of a list, from the first other fault and the first repeated name before it
 pub mod FaultsLemmas  -- what a place that isn't at fault says
 pub mod GroupsLemmas  -- the groups of a list as it is handed in, and the group of a name

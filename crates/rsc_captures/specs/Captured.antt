@@ -1,5 +1,5 @@
 -- What captures hold: the groups, the pattern that matched, if there is one, and an offset, if it is set, in each slot.
-use Rattle.std.specs.Prelude.{ℕ, ◌+◌, ◌*◌, ◌==◌, List, [], ◌∷◌, ◌++◌, length, take, drop, map, replicate, slice_index_or, Option, Some, None, if◌then◌else◌, option_and_then}
+use Rattle.std.specs.Prelude.{ℕ, ◌+◌, ◌*◌, ◌<◌, ◌==◌, nat_lt, ◌-◌, ◌^◌, List, [], ◌∷◌, ◌++◌, length, take, drop, map, replicate, slice_index_or, slice_set, Option, Some, None, if◌then◌else◌, option_and_then}
 use Rattle.std.specs.Option.{option_map, option_map_or}
 use Rattle.std.specs.List.{filter_map, range_with_len}
 use Rattle.rsc_search.specs.declared.span.Span.{Span}
@@ -24,6 +24,20 @@ first_slot groups q i = if length groups == 1 then Some (2 * i) else slot_of gro
 -- the span of group i; none where no pattern matched
 abbrev pub group_span : Captured → ℕ → Option Span
 group_span c i = option_and_then (λ q. option_and_then (span_at c.offsets) (first_slot c.groups q i)) c.pattern
+
+-- the first slot of group i of the pattern that matched, where both slots of the group are here
+abbrev pub slot_here : Captured → ℕ → Option ℕ
+slot_here c i =
+    option_and_then (λ q. option_and_then (λ slot. if nat_lt (slot + 1) (length c.offsets) then Some slot else None) (first_slot c.groups q i)) c.pattern
+
+-- the offsets with those of a span in a slot and the next, or with neither set
+abbrev pub with_span : List (Option ℕ) → ℕ → Option Span → List (Option ℕ)
+with_span offsets slot span =
+    slice_set (slice_set offsets slot (option_map (λ s. s.start) span)) (slot + 1) (option_map (λ s. s.end) span)
+
+-- both offsets can stand in slots
+abbrev pub FitsSlots : Span → Type 0
+FitsSlots s = (s.start < 2 ^ 64 - 1) × (s.end < 2 ^ 64 - 1)
 
 -- the span of the group that has the name in the pattern that matched
 abbrev pub named_span : Captured → List ℕ → Option Span

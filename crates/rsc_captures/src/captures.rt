@@ -1,10 +1,10 @@
 //! The offsets of a match's groups.
-ghost use Rattle.std.specs.Prelude.{◌≡◌, ℕ, List, Option, ◌+◌, ◌*◌, ◌<◌, ◌≤◌, ◌∷◌, [], map, length, replicate, Some, None, IfOk, IfSome, is_some, option_and_then};
+ghost use Rattle.std.specs.Prelude.{◌≡◌, ◌↔◌, ℕ, List, Option, ◌+◌, ◌*◌, ◌<◌, ◌≤◌, ◌∷◌, [], map, length, replicate, Some, None, IfOk, IfSome, IsTrue, is_some, option_and_then};
 ghost use Rattle.std.specs.Option.{option_map, ForSome};
 ghost use Rattle.std.specs.Borrow.{sem};
 ghost use Rattle.rsc_search.specs.declared.span.Span.{Span};
 ghost use Rattle.rsc_captures.specs.Groups.{all_groups, slots_of};
-ghost use Rattle.rsc_captures.specs.Captured.{Captured, no_offsets, span_at, group_span, matched_groups, matched_spans, named_span, match_of};
+ghost use Rattle.rsc_captures.specs.Captured.{Captured, no_offsets, span_at, group_span, slot_here, with_span, FitsSlots, matched_groups, matched_spans, named_span, match_of};
 
 use crate::group_info::GroupInfo;
 use crate::span_iterator::CapturesPatternIter;
@@ -183,6 +183,76 @@ impl<A: Allocator + Clone + Drop> Captures<A> {
         self.pid = pid;
     }
 
+    /// Sets the span of a group of the pattern that matched, or takes it away, and returns whether it did. The spans of all other groups stay.
+    ///
+    /// It does nothing where no pattern is set, where not both slots of the group are here, or where an offset is `usize::MAX`,
+    /// which no slot holds.
+    ///
+    /// # Examples
+    ///
+    /// ```
+    /// assert!(rt; captures.set_group(2, Some(Span { start: 2, end: 3 })));
+    /// assert!(rt; captures.get_group(2) == Some(Span { start: 2, end: 3 }));
+    /// assert!(rt; captures.set_group(2, None) && captures.get_group(2) == None);
+    /// // There is no group 3, and so no slot for its span.
+    /// assert!(rt; !captures.set_group(3, Some(Span { start: 2, end: 3 })));
+    /// ```
+    #[inline]
+    pub fn set_group(&mut self, index: usize, span: Option<Span>) -> bool
+        ensures done { IsTrue result ↔ (IsTrue (is_some (slot_here self.old index)) × ForSome span FitsSlots) }
+        ensures written { IsTrue result →
+            ForSome (slot_here self.old index) (λ slot. self.new ≡ record self.old { offsets = with_span self.old.offsets slot span }) }
+        ensures refused { ¬ (IsTrue result) → self.new ≡ self.old }
+        ensures span { IsTrue result → group_span self.new index ≡ span }
+        ensures others { (other : ℕ) → ¬ (other ≡ index) → group_span self.new other ≡ group_span self.old other }
+    {
+        self.write_group(index, span)
+    }
+
+    // `set_group`, with what it writes.
+    #[inline]
+    fn write_group(&mut self, index: usize, span: Option<Span>) -> bool
+        ensures done { IsTrue result ↔ (IsTrue (is_some (slot_here self.old index)) × ForSome span FitsSlots) }
+        ensures written { IsTrue result →
+            ForSome (slot_here self.old index) (λ slot. self.new ≡ record self.old { offsets = with_span self.old.offsets slot span }) }
+        ensures refused { ¬ (IsTrue result) → self.new ≡ self.old }
+    {
+        match self.slot_here(index) {
+            None => false,
+            Some(slot) => match offsets_of(span) {
+                None => false,
+                Some((start, end)) => {
+                    self.slots[slot] = start;
+                    self.slots[slot + 1] = end;
+                    true
+                }
+            },
+        }
+    }
+
+    // The first slot of a group of the pattern that matched, where both its slots are here.
+    #[inline]
+    fn slot_here(&self, index: usize) -> Option<usize>
+        ensures slot { result ≡ slot_here self.now index }
+        ensures here { IfSome result (λ slot. slot + 1 < length self.now.offsets) }
+    {
+        let pid = self.pid?;
+        let count = self.slots.len();
+        let patterns = self.group_info.pattern_len();
+        if patterns == 1 {
+            if index >= count / 2 {
+                return None;
+            }
+            Some(2 * index)
+        } else {
+            let slot = self.group_info.slot(pid, index)?;
+            if slot + 1 >= count {
+                return None;
+            }
+            Some(slot)
+        }
+    }
+
     /// The pattern that matched with the span of the whole match, or `None` where either is missing. Needs the span, where
     /// there is one, to have its start at most its end.
     #[inline]
@@ -296,6 +366,22 @@ fn span_at(slots: &[Option<NonMaxUsize>], slot: usize) -> Option<Span>
     let start = slots[slot]?.get();
     let end = slots[slot + 1]?.get();
     Some(Span { start, end })
+}
+
+// The offsets of a span as slots hold them, or `None` where one is `usize::MAX`.
+#[inline]
+fn offsets_of(span: Option<Span>) -> Option<(Option<NonMaxUsize>, Option<NonMaxUsize>)>
+    ensures fits { IsTrue (is_some result) ↔ ForSome span FitsSlots }
+    ensures offsets { IfSome result (λ o. (o.0 ≡ option_map (λ s. s.start) span) × (o.1 ≡ option_map (λ s. s.end) span)) }
+{
+    match span {
+        None => Some((None, None)),
+        Some(span) => {
+            let start = NonMaxUsize::new(span.start)?;
+            let end = NonMaxUsize::new(span.end)?;
+            Some((Some(start), Some(end)))
+        }
+    }
 }
 
 // Empties each slot. `fill` writes the last one apart, which takes longer where they are few.

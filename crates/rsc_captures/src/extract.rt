@@ -64,6 +64,9 @@ impl<A: Allocator + Clone + Drop> Captures<A> {
     /// the next `N`. Any after them are not looked at. `None` exactly if there are fewer than `N + 1` of them, or one of
     /// those doesn't cut the haystack. The parts live as long as the haystack.
     ///
+    /// The checker follows `let (whole, [key, value]) = captures.extract_from::<&str, 2>(text)?;` in a function of its own, and not an array
+    /// pattern in `if let`.
+    ///
     /// # Examples
     ///
     /// ```

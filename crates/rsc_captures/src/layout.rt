@@ -20,8 +20,10 @@ use std::marker::Model;
 // With fewer groups than these a name is compared with each.
 const SCANNED_GROUPS: usize = 10;
 
-// How many slots of the table a name has.
+// How many entries of the table a name has: a power of two, and its exponent.
 const HINTS_OF_A_NAME: usize = 4;
+
+const HINT_BITS: u32 = 2;
 
 /// The names of all groups by pattern and then by group; for each pattern its groups in the order of their names; where each
 /// pattern's names begin, and last how many there are; and a table of hints at groups by name.
@@ -139,11 +141,11 @@ impl<A: Allocator + Clone + Drop> SharedLists<A> {
         requires { p < length self.now }
         ensures { IfSome result (λ g. index_of (groups_of self.now p) name.now ≡ Some g) }
     {
-        let mask = self.hints.len().wrapping_sub(1);
-        let first = first_hint(p, name);
+        let mask = self.hints.len().checked_sub(1)?;
+        let first = first_hint(p, name) & mask;
         let count = self.group_len(p);
         for i in 0..HINTS_OF_A_NAME {
-            let group = *self.hints.get(first.wrapping_add(i) & mask)? as usize;
+            let group = *self.hints.get((first + i) & mask)? as usize;
             if group < count && has_name(self.name_within(p, group), name) {
                 return Some(group);
             }
@@ -242,19 +244,22 @@ pub(crate) fn firsts_of<A: Allocator>(
     Ok(firsts)
 }
 
-// The first of the slots of a name, before it is cut to the table's length.
+// The first of the entries of a name, before it is cut to the table's length. Those of one name in neighbouring patterns are apart.
 #[inline]
 fn first_hint(p: usize, name: &str) -> usize {
     let mut hasher = FoldHasher::default();
     hasher.write(name.as_bytes());
-    (hasher.finish() as usize).wrapping_add(p.wrapping_mul(HINTS_OF_A_NAME))
+    hasher.finish() as usize ^ p.rotate_left(HINT_BITS)
 }
 
-// Puts the group into the first free slot of the name.
+// Puts the group into the first free entry of the name. There is none if there is no table.
 fn add_hint(hints: &mut [u32], first: usize, group: u32) {
-    let mask = hints.len().wrapping_sub(1);
+    let Some(mask) = hints.len().checked_sub(1) else {
+        return;
+    };
+    let first = first & mask;
     for i in 0..HINTS_OF_A_NAME {
-        if let Some(held) = hints.get_mut(first.wrapping_add(i) & mask) {
+        if let Some(held) = hints.get_mut((first + i) & mask) {
             if *held == 0 {
                 *held = group;
                 return;

@@ -1,3 +1,4 @@
+//! Matches, spans, names, `extract`; slots out of order and patterns that no group has.
 use rsc_captures::{Captures, GroupInfo};
 use rsc_primitives::{NonMaxUsize, PatternID};
 use rsc_search::{Match, Span};
@@ -189,5 +190,25 @@ fn whole_of<'h>(alloc: Global, haystack: &'h str) -> Result<Option<&'h str>, Fai
 #[test]
 fn parts_outlive_the_captures(rt: HostRuntime) -> Result<(), Fail> {
     assert!(rt; whole_of(rt.alloc(), "abc")? == Some("b"));
+    Ok(())
+}
+
+#[test]
+fn sets_the_span_of_one_group(rt: HostRuntime) -> Result<(), Fail> {
+    let groups: [&[Option<&str>]; 2] = [&[None, None], &[None, None]];
+    let mut captures = filled(
+        rt.alloc(),
+        &groups,
+        1,
+        &[Some(1), Some(2), Some(3), Some(4)],
+    )?;
+    assert!(rt; captures.set_group(1, span(5, 9)));
+    assert!(rt; captures.get_group(1) == span(5, 9) && captures.get_group(0) == span(3, 4));
+    assert!(rt; captures.set_group(0, None) && captures.get_group(0) == None);
+    // No group 2, and no slot for the greatest offset.
+    assert!(rt; !captures.set_group(2, span(5, 9)));
+    assert!(rt; !captures.set_group(1, span(0, usize::MAX)) && captures.get_group(1) == span(5, 9));
+    captures.set_pattern(None);
+    assert!(rt; !captures.set_group(1, span(5, 9)));
     Ok(())
 }

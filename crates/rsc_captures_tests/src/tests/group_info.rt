@@ -1,4 +1,4 @@
-//! What no contract says: worked values from outside, and shown texts.
+//! Lists with and without faults, slots, names: worked values from outside.
 ghost use Rattle.std.specs.Prelude.{◌≤◌};
 
 use rsc_captures::{GroupInfo, laws};

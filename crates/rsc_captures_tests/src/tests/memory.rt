@@ -5,6 +5,8 @@ use rsc_primitives::{NonMaxUsize, PatternID};
 use std::alloc::Global;
 use std::test::Fail;
 
+const LONG: &str = "a name of seventy bytes, so that a limit on how long names are would show";
+
 /// What a budget gives. With budgets that grow these may only rise, up to an answer.
 #[derive(Clone, Copy, PartialEq, Eq, PartialOrd, Ord)]
 enum Outcome {
@@ -61,17 +63,69 @@ fn empty_within(heap: &LocalHeap) -> Outcome {
     }
 }
 
+// Whether the kind is a repeated name of the first pattern, this one.
+fn is_repeated(kind: &GroupInfoErrorKind<&LocalHeap>, wanted: &str) -> bool {
+    match kind {
+        GroupInfoErrorKind::Duplicate { pattern, name } => *pattern == PatternID::ZERO
+            && name.as_str() == wanted,
+        _ => false,
+    }
+}
+
 // Whether a repeated name of 70 bytes is found, and given whole, or memory runs out.
 fn repeated_name_within(heap: &LocalHeap) -> Outcome {
-    let long = "a name of seventy bytes, so that a limit on how long names are would show";
-    let Err(error) = GroupInfo::new(heap, &[&[None, Some(long), Some(long)]]) else {
+    let Err(error) = GroupInfo::new(heap, &[&[None, Some(LONG), Some(LONG)]]) else {
         return Outcome::Wrong;
     };
     match error.kind() {
         GroupInfoErrorKind::Duplicate { pattern, name }
-            if *pattern == PatternID::ZERO && name.as_str() == long => Outcome::Answered,
+            if *pattern == PatternID::ZERO && name.as_str() == LONG => Outcome::Answered,
         GroupInfoErrorKind::OutOfMemory => Outcome::Refused,
         _ => Outcome::Wrong,
+    }
+}
+
+// The same of a name of one byte.
+fn repeated_letter_within(heap: &LocalHeap) -> Outcome {
+    let Err(error) = GroupInfo::new(heap, &[&[None, Some("x"), Some("x")]]) else {
+        return Outcome::Wrong;
+    };
+    match error.kind() {
+        GroupInfoErrorKind::Duplicate { pattern, name }
+            if *pattern == PatternID::ZERO && name.as_str() == "x" => Outcome::Answered,
+        GroupInfoErrorKind::OutOfMemory => Outcome::Refused,
+        _ => Outcome::Wrong,
+    }
+}
+
+// Whether a clone of an error, or of its kind, is that of the repeated name; `None` if it is refused.
+fn copies_error(error: &GroupInfoError<&LocalHeap>, of_kind: bool) -> Option<bool> {
+    if of_kind {
+        let kind = error.kind().clone().ok()?;
+        return Some(is_repeated(&kind, LONG));
+    }
+    let copy = error.clone().ok()?;
+    Some(is_repeated(copy.kind(), LONG))
+}
+
+// A clone of the error of a repeated name, or of its kind. Whether it is refused or not, its source is as before.
+fn clone_of_error_within(heap: &LocalHeap, of_kind: bool) -> Outcome {
+    // The second pattern is at fault too, so that no memory was taken but for the name.
+    let Err(error) = GroupInfo::new(heap, &[&[None, Some(LONG), Some(LONG)], &[]]) else {
+        return Outcome::Wrong;
+    };
+    if is_out_of_memory(&error) {
+        return Outcome::NotReached;
+    }
+    let used = heap.used();
+    let copied = copies_error(&error, of_kind);
+    if heap.used() != used || !is_repeated(error.kind(), LONG) {
+        return Outcome::Wrong;
+    }
+    match copied {
+        Some(true) => Outcome::Answered,
+        Some(false) => Outcome::Wrong,
+        None => Outcome::Refused,
     }
 }
 
@@ -147,7 +201,10 @@ fn each_call_is_refused_until_there_is_enough(rt: HostRuntime) -> Result<(), Fai
     let alloc = rt.alloc();
     assert!(rt; is_refused_at_first(alloc, |heap| group_info_within(heap, false))?);
     assert!(rt; is_refused_at_first(alloc, |heap| group_info_within(heap, true))?);
+    assert!(rt; is_refused_at_first(alloc, repeated_letter_within)?);
     assert!(rt; is_refused_at_first(alloc, repeated_name_within)?);
+    assert!(rt; is_refused_at_first(alloc, |heap| clone_of_error_within(heap, false))?);
+    assert!(rt; is_refused_at_first(alloc, |heap| clone_of_error_within(heap, true))?);
     assert!(rt; is_refused_at_first(alloc, empty_within)?);
     assert!(rt; is_refused_at_first(alloc, |heap| captures_within(heap, true))?);
     assert!(rt; is_refused_at_first(alloc, |heap| captures_within(heap, false))?);
@@ -173,5 +230,21 @@ fn faults_come_before_any_request(rt: HostRuntime) -> Result<(), Fail> {
     assert!(rt; missing.starts_with("no capturing groups found for pattern 1 "));
     let missing = refusal_without_memory(alloc, &[&[], &[None, Some("x"), Some("x")]])?;
     assert!(rt; missing.starts_with("no capturing groups found for pattern 0 "));
+    Ok(())
+}
+
+// A clone of an error without a name, and of its kind, is made where there is no memory at all.
+#[test]
+fn clones_of_other_errors_take_no_memory(rt: HostRuntime) -> Result<(), Fail> {
+    let heap = LocalHeap::new(rt.alloc(), 0)?;
+    let lists: [&[&[Option<&str>]]; 3] = [&[&[]], &[&[Some("x")]], &[&[None]]];
+    for list in lists {
+        match GroupInfo::new(&heap, list) {
+            Ok(_) => assert!(rt; false),
+            Err(error) => {
+                assert!(rt; error.clone().is_ok() && error.kind().clone().is_ok());
+            }
+        }
+    }
     Ok(())
 }

@@ -45,6 +45,28 @@ fn captures_are_shown(rt: HostRuntime) -> Result<(), Fail> {
     Ok(())
 }
 
+#[test]
+fn captures_with_a_named_group_are_shown(rt: HostRuntime) -> Result<(), Fail> {
+    let alloc = rt.alloc();
+    let mut captures = Captures::all(alloc, GroupInfo::new(alloc, &[&[None, Some("x")]])?)?;
+    captures.set_pattern(Some(PatternID::ZERO));
+    for (slot, offset) in [(0, 0), (1, 3)] {
+        if slot < captures.slots().len() {
+            captures.slots_mut()[slot] = NonMaxUsize::new(offset);
+        }
+    }
+    assert_eq!(rt;
+        format!(in alloc; "{captures:?}")?.as_str(),
+        "Captures { pid: Some(PatternID(0)), spans: {0: 0..3, 1/\"x\": None} }"
+    );
+    captures.clear();
+    assert_eq!(rt;
+        format!(in alloc; "{captures:?}")?.as_str(),
+        "Captures { pid: None }"
+    );
+    Ok(())
+}
+
 // The kinds at their least and greatest numbers.
 fn kinds(alloc: Global, err: PatternIDError) -> Result<[GroupInfoErrorKind; 7], Fail> {
     Ok([
