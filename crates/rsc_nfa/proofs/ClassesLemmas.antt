@@ -25,8 +25,8 @@ use Rattle.rsc_nfa.specs.Steps.{is_between, StepsTo, IsStep, IsRun, place, IsWit
 use Rattle.std.proofs.lemmas.Bool.Decides.{nat_tests}
 use Rattle.std.proofs.lemmas.Bool.{true_from_ne_false}
 use Rattle.rsc_captures.specs.Groups.{GroupLists}
-use Rattle.rsc_nfa.specs.Faults.{fault_in, target_fault, IsFaultless}
-use Rattle.rsc_nfa.specs.declared.error.BuildError.TheVariants.{EmptyRange, UnknownState}
+use Rattle.rsc_nfa.specs.Faults.{fault_in, IsFaultless}
+use Rattle.rsc_nfa.proofs.FaultsLemmas.{fault-none}
 
 -- ---- a set that gathers the boundaries of states, one after the other
 
@@ -109,7 +109,8 @@ HasEdges p state t = (q : ℕ) → sets.contains (boundaries_of_state state t) q
 
 -- ---- a step
 
-AreInterchangedBy-sym : (m : List ℕ) (u : Bool) (h k : List ℕ) → AreInterchangedBy m u h k → AreInterchangedBy m u k h
+-- the two haystacks may change places
+pub AreInterchangedBy-sym : (m : List ℕ) (u : Bool) (h k : List ℕ) → AreInterchangedBy m u h k → AreInterchangedBy m u k h
 AreInterchangedBy-sym m u h k s = record {
   first = s.second;
   second = s.first;
@@ -208,9 +209,9 @@ HasEdgesOfAll-from states t s state e q m =
 
 -- ---- one state
 
--- one of two, and not the other
-abbrev ExactlyOne : Type 0 → Type 0 → Type 0
-ExactlyOne A B = (A × ¬ B) ⊎ (¬ A × B)
+-- of two, one leads to `next` and the other nowhere
+abbrev ExactlyOne : (ℕ × ℕ → Type 0) → (ℕ × ℕ → Type 0) → ℕ × ℕ → Type 0
+ExactlyOne A B next = (A next × ((to : ℕ × ℕ) → ¬ (B to))) ⊎ (((to : ℕ × ℕ) → ¬ (A to)) × B next)
 
 -- a step from the state, one of n, tells the byte b from the next one
 record StepTells (n : ℕ) (state : State) (t : ℕ) (W : ℕ → Bool) (b : ℕ) : Type 0 where
@@ -219,7 +220,7 @@ record StepTells (n : ℕ) (state : State) (t : ℕ) (W : ℕ → Bool) (b : ℕ
   at_an_end : position ≤ 1
   known : next.0 < n
   arrives : next.1 ≤ 1
-  tells : ExactlyOne (StepsTo state t W (b ∷ []) 1 position next) (StepsTo state t W ((b + 1) ∷ []) 1 position next)
+  tells : ExactlyOne (StepsTo state t W (b ∷ []) 1 position) (StepsTo state t W ((b + 1) ∷ []) 1 position) next
 
 -- the boundaries of a range are before its first byte and after its last
 abbrev pub RangesHaveEdges : Type 0
@@ -235,41 +236,26 @@ above : (a e x : ℕ) → e < x → IsTrue (nat_le a x && nat_le x e) → ⊥
 above a e x l t = let h : x ≤ e = grind (arith, nat_tests) in absurd (omega arith)
 
 range-tells : (a e next t : ℕ) (W : ℕ → Bool) (b : ℕ) → a ≤ e → ((b + 1) ≡ a) ⊎ (b ≡ e)
-    → ExactlyOne (StepsTo (ByteRange a e next) t W (b ∷ []) 1 0 (next, 1)) (StepsTo (ByteRange a e next) t W ((b + 1) ∷ []) 1 0 (next, 1))
+    → ExactlyOne (StepsTo (ByteRange a e next) t W (b ∷ []) 1 0) (StepsTo (ByteRange a e next) t W ((b + 1) ∷ []) 1 0) (next, 1)
 range-tells a e next t W b ordered (inl q) =
-    inr ((λ x. below a e b (omega arith) x.1), (omega arith, inside a e (b + 1) (omega arith) (omega arith), refl, refl))
+    inr ((λ to x. below a e b (omega arith) x.1), (omega arith, inside a e (b + 1) (omega arith) (omega arith), refl, refl))
 range-tells a e next t W b ordered (inr q) =
-    inl ((omega arith, inside a e b (omega arith) (omega arith), refl, refl), (λ x. above a e (b + 1) (omega arith) x.1))
+    inl ((omega arith, inside a e b (omega arith) (omega arith), refl, refl), (λ to x. above a e (b + 1) (omega arith) x.1))
 
 assert-tells : (l : Look) (next t : ℕ) (W : ℕ → Bool) (b : ℕ) (m : Look) (i : ℕ) → l ≡ m → Tells m t W (b ∷ []) ((b + 1) ∷ []) i
-    → ExactlyOne (StepsTo (Assert l next) t W (b ∷ []) 1 i (next, i)) (StepsTo (Assert l next) t W ((b + 1) ∷ []) 1 i (next, i))
+    → ExactlyOne (StepsTo (Assert l next) t W (b ∷ []) 1 i) (StepsTo (Assert l next) t W ((b + 1) ∷ []) 1 i) (next, i)
 assert-tells l next t W b m i e told = go (subst (λ x. Tells x t W (b ∷ []) ((b + 1) ∷ []) i) (sym e) told)
   where
     go : Tells l t W (b ∷ []) ((b + 1) ∷ []) i
-        → ExactlyOne (StepsTo (Assert l next) t W (b ∷ []) 1 i (next, i)) (StepsTo (Assert l next) t W ((b + 1) ∷ []) 1 i (next, i))
-    go (inl x) = inl ((x.0, refl, refl), (λ y. x.1 y.0))
-    go (inr x) = inr ((λ y. x.0 y.0), (x.1, refl, refl))
-
--- what a state without a fault names is a state
-target-known : (n s target : ℕ) → target_fault n s target ≡ None → target < n
-target-known n s target q = go (nat_lt target n) refl q
-  where
-    go : (x : Bool) → nat_lt target n ≡ x → cond x None (Some (UnknownState s target)) ≡ None → target < n
-    go true f z = grind (arith, nat_tests)
-    go false f z = absurd (cc)
-
-range-ordered : (groups : GroupLists) (n s a e next : ℕ) → fault_in groups n s (Some (ByteRange a e next)) ≡ None → (a ≤ e) × (next < n)
-range-ordered groups n s a e next q = go (nat_lt e a) refl q
-  where
-    go : (x : Bool) → nat_lt e a ≡ x → cond x (Some (EmptyRange s)) (target_fault n s next) ≡ None → (a ≤ e) × (next < n)
-    go true f z = absurd (cc)
-    go false f z = (grind (arith, nat_tests), target-known n s next z)
+        → ExactlyOne (StepsTo (Assert l next) t W (b ∷ []) 1 i) (StepsTo (Assert l next) t W ((b + 1) ∷ []) 1 i) (next, i)
+    go (inl x) = inl ((x.0, refl, refl), (λ to y. x.1 y.0))
+    go (inr x) = inr ((λ to y. x.0 y.0), (x.1, refl, refl))
 
 state-tells : RangesHaveEdges → (groups : GroupLists) (n s : ℕ) (state : State) (t : ℕ) (W : ℕ → Bool) (b : ℕ) → b < 255
     → fault_in groups n s (Some state) ≡ None → (asks_characters state ≡ true → AgreesWithAscii W) → AreExact t W
     → sets.contains (boundaries_of_state state t) b ≡ true → StepTells n state t W b
 state-tells edges groups n s (ByteRange a e next) t W b lt faultless g exact m =
-    let r : (a ≤ e) × (next < n) = range-ordered groups n s a e next faultless in
+    let r : (a ≤ e) × (next < n) = fault-none groups n s (ByteRange a e next) faultless in
     record {
       position = 0;
       next = (next, 1);
@@ -284,7 +270,7 @@ state-tells edges groups n s (Assert l next) t W b lt faultless g exact m =
       position = y.position;
       next = (next, y.position);
       at_an_end = y.at_an_end;
-      known = target-known n s next faultless;
+      known = fault-none groups n s (Assert l next) faultless;
       arrives = y.at_an_end;
       tells = assert-tells l next t W b y.look y.position (only l y.look y.listed) y.tells;
     }
@@ -301,8 +287,8 @@ step-needed states t W b s state lt e told = record {
   there = lt;
   at_an_end = told.at_an_end;
   arrives = (told.known, omega arith, told.arrives);
-  tells = subst (λ o. ExactlyOne (MatchOption o ⊥ (λ x. StepsTo x t W (b ∷ []) 1 told.position told.next))
-      (MatchOption o ⊥ (λ x. StepsTo x t W ((b + 1) ∷ []) 1 told.position told.next))) (sym e) told.tells;
+  tells = subst (λ o. ExactlyOne (λ to. MatchOption o ⊥ (λ x. StepsTo x t W (b ∷ []) 1 told.position to))
+      (λ to. MatchOption o ⊥ (λ x. StepsTo x t W ((b + 1) ∷ []) 1 told.position to)) told.next) (sym e) told.tells;
 }
 
 -- each boundary is needed by a state
@@ -341,7 +327,7 @@ needed-parts q states t W b lt keeps n = true_from_ne_false (q b) (λ e.
     not_told _ _ (
       (λ s. (same.0 (two states t W (b ∷ []) from n.next u n.arrives s)).steps 0 (omega arith)),
       (λ s. (same.1 (two states t W ((b + 1) ∷ []) from n.next u n.arrives s)).steps 0 (omega arith)),
-    ) n.tells)
+    ) (elim n.tells [ inl x ↦ inl (x.0, x.1 n.next) | inr x ↦ inr (x.0 n.next, x.1) ]))
   where
     from : ℕ × ℕ
     from = (n.state, n.position)

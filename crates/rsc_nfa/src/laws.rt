@@ -1,8 +1,12 @@
 //! Laws of runs and of states that a caller can cite: functions whose contracts are the laws.
-ghost use Rattle.std.specs.Prelude.{true, ◌≡◌, ◌↔◌, ℕ, List, Some};
+ghost use Rattle.std.specs.Prelude.{true, false, ◌≡◌, ◌↔◌, ◌⊎◌, ◌+◌, ◌-◌, ◌<◌, ◌≤◌, ◌++◌, [], ◌∷◌, ℕ, Bool, List, length, slice_get, Some};
+ghost use Rattle.rsc_captures.specs.Groups.{GroupLists};
+ghost use Rattle.rsc_look.specs.Holds.{byte_before, byte_after};
 ghost use Rattle.rsc_nfa.specs.declared.state.State.{State};
 ghost use Rattle.rsc_nfa.specs.declared.error.BuildError.{BuildError};
-ghost use Rattle.rsc_nfa.specs.Steps.{recorded, IsLastRecord};
+ghost use Rattle.rsc_nfa.specs.Classes.{has_unicode, KeepsRuns, AreInterchangedBy, IsFiner};
+ghost use Rattle.rsc_nfa.specs.Faults.{IsFaultless, NamesWithin};
+ghost use Rattle.rsc_nfa.specs.Steps.{IsStep, IsRun, IsWithin, place, recorded, IsLastRecord, AreClosed};
 
 use crate::{BuildError, State};
 
@@ -10,6 +14,62 @@ use crate::{BuildError, State};
 /// equal runs record the same.
 pub fn last_record_counts()
     ensures { (states : List State) (run : List (ℕ × ℕ)) (slot i : ℕ) → (recorded states run slot ≡ Some i) ↔ IsLastRecord states run slot i }
+{}
+
+/// A step is local. One that stays looks at the byte before its position and the byte after it alone, where no state asserts something of
+/// characters; one that goes past a byte looks at that byte alone. So a haystack with the same neighbours has the same steps.
+pub fn a_step_is_local()
+    ensures stays { (states : List State) (t : ℕ) (W : ℕ → Bool) (h k : List ℕ) (end last i j s u : ℕ) → has_unicode states ≡ false →
+        byte_before h i ≡ byte_before k j → byte_after h i ≡ byte_after k j →
+        IsStep states t W h end (s, i) (u, i) → IsStep states t W k last (s, j) (u, j) }
+    ensures advances { (states : List State) (t : ℕ) (W : ℕ → Bool) (h k : List ℕ) (end last i j s u : ℕ) →
+        byte_after h i ≡ byte_after k j → (i < end → j < last) →
+        IsStep states t W h end (s, i) (u, i + 1) → IsStep states t W k last (s, j) (u, j + 1) }
+{}
+
+/// Replacing bytes within classes that keep runs makes or unmakes no step to a state of the list.
+pub fn a_step_is_kept()
+    ensures { (classes : List ℕ) (states : List State) (t : ℕ) (W : ℕ → Bool) (h k : List ℕ) (end : ℕ) (p q : ℕ × ℕ) →
+        KeepsRuns classes states t W → AreInterchangedBy classes (has_unicode states) h k → end ≤ length h → p.1 ≤ end → q.0 < length states →
+        IsStep states t W h end p q ↔ IsStep states t W k end p q }
+{}
+
+/// A step leads from a state of the list, and stays or goes one byte on. In a list without a fault, what a state names is there, and so a step
+/// leads to a state of the list.
+pub fn where_a_step_leads()
+    ensures from { (states : List State) (t : ℕ) (W : ℕ → Bool) (h : List ℕ) (end : ℕ) (p q : ℕ × ℕ) →
+        IsStep states t W h end p q → p.0 < length states }
+    ensures position { (states : List State) (t : ℕ) (W : ℕ → Bool) (h : List ℕ) (end : ℕ) (p q : ℕ × ℕ) →
+        IsStep states t W h end p q → (q.1 ≡ p.1) ⊎ ((q.1 ≡ p.1 + 1) × (p.1 < end)) }
+    ensures names { (groups : GroupLists) (states : List State) → IsFaultless groups states →
+        (s : ℕ) (state : State) → slice_get states s ≡ Some state → NamesWithin groups (length states) state }
+    ensures to { (groups : GroupLists) (states : List State) (t : ℕ) (W : ℕ → Bool) (h : List ℕ) (end : ℕ) (p q : ℕ × ℕ) →
+        IsFaultless groups states → IsStep states t W h end p q → q.0 < length states }
+{}
+
+/// A place is a run, and so are a run and a step from its last place to a state of the list. Positions along a run never fall.
+pub fn runs_grow()
+    ensures one { (states : List State) (t : ℕ) (W : ℕ → Bool) (h : List ℕ) (start end : ℕ) (p : ℕ × ℕ) →
+        IsWithin states start end p → IsRun states t W h start end (p ∷ []) }
+    ensures more { (states : List State) (t : ℕ) (W : ℕ → Bool) (h : List ℕ) (start end : ℕ) (run : List (ℕ × ℕ)) (p : ℕ × ℕ) →
+        IsRun states t W h start end run → 0 < length run → p.0 < length states → IsStep states t W h end (place run (length run - 1)) p →
+        IsRun states t W h start end (run ++ p ∷ []) }
+    ensures positions { (states : List State) (t : ℕ) (W : ℕ → Bool) (h : List ℕ) (start end : ℕ) (run : List (ℕ × ℕ)) →
+        IsRun states t W h start end run → (j k : ℕ) → j ≤ k → k < length run → (place run j).1 ≤ (place run k).1 }
+{}
+
+/// A finer class map keeps the runs that a coarser one keeps.
+pub fn finer_classes_keep_runs()
+    ensures { (classes finer : List ℕ) (states : List State) (t : ℕ) (W : ℕ → Bool) →
+        KeepsRuns classes states t W → IsFiner finer classes → KeepsRuns finer states t W }
+{}
+
+/// Where each record of a run in one slot is followed by one in another, what it records in the first is at most what it records in the
+/// second: with the slots of a match's start and end this is what [`rsc_captures::Captures::get_match`] needs.
+pub fn records_are_in_order()
+    ensures { (states : List State) (t : ℕ) (W : ℕ → Bool) (h : List ℕ) (start end : ℕ) (run : List (ℕ × ℕ)) →
+        IsRun states t W h start end run → (first second i j : ℕ) → AreClosed states run first second →
+        recorded states run first ≡ Some i → recorded states run second ≡ Some j → i ≤ j }
 {}
 
 /// A clone of a state is that state, a clone of a fault is that fault, and none is refused.

@@ -1,19 +1,23 @@
 //! Automata over bytes.
-ghost use Rattle.std.specs.Prelude.{◌≡◌, ◌≤◌, ◌<◌, ◌⊎◌, ◌↔◌, ℕ, true, false, IsTrue, length, IfOk, IfErr, OnOk};
+ghost use Rattle.std.specs.Prelude.{◌≡◌, ◌≤◌, ◌<◌, ◌+◌, ◌⊎◌, ◌↔◌, ◌||◌, ℕ, true, false, IsTrue, All, None, length, slice_get, slice_index, slice_index_or, IfOk, IfErr, OnOk};
+ghost use Rattle.std.specs.List.{list_any};
 ghost use Rattle.std.specs.FinSet as sets;
 ghost use Rattle.rsc_alphabet.specs.Partitions.{ClassesRise, class_map};
 ghost use Rattle.rsc_look.specs.Keeping.{AgreesWithAscii};
 ghost use Rattle.rsc_nfa.specs.Automata.{Automaton};
-ghost use Rattle.rsc_nfa.specs.Classes.{IsOrdered, boundaries_of_state, boundaries_of_states, has_unicode, KeepsRuns, IsEachNeeded, IsCoarsestForRuns};
+ghost use Rattle.rsc_nfa.specs.Classes.{IsOrdered, IsFiner, asserts, boundaries_of_state, boundaries_of_states, has_unicode, KeepsRuns, IsEachNeeded, IsCoarsestForRuns};
 ghost use Rattle.rsc_nfa.specs.Faults.{target_fault, fault_of, IsFaultless, IsFirstFault};
-ghost use Rattle.rsc_nfa.specs.Steps.{IsStep, IsRun, IsWithin};
+ghost use Rattle.rsc_look.specs.declared.assertion.Look.{Look};
+ghost use Rattle.rsc_look.specs.LookSets.{has_one_of, unicode_words};
+ghost use Rattle.rsc_nfa.specs.Steps.{IsStep, IsRun, IsWithin, recorded};
+ghost use Rattle.rsc_nfa.specs.StepsLayout.{put_offset, slot_recorded};
 ghost use Rattle.rsc_nfa.specs.declared.error.BuildError.TheVariants.{OutOfMemory};
 
 use crate::{BuildError, State};
 use rsc_alphabet::{ByteClassSet, ByteClasses};
-use rsc_captures::GroupInfo;
-use rsc_look::{LookMatcher, WordClass};
-use rsc_primitives::StateID;
+use rsc_captures::{Captures, GroupInfo};
+use rsc_look::{LookMatcher, LookSet, WordClass};
+use rsc_primitives::{NonMaxUsize, StateID};
 use rsc_search::Input;
 use std::alloc::{Allocator, Global};
 use std::marker::Model;
@@ -139,6 +143,32 @@ fn add_state<W: WordClass>(matcher: &LookMatcher<W>, state: State, set: &mut Byt
     }
 }
 
+// Adds the assertion of a state to a set, if it has one.
+fn add_look(state: State, set: &mut LookSet)
+    ensures { (look : Look) → sets.contains set.new look ≡ (sets.contains set.old look || asserts look state) }
+{
+    match state {
+        State::Assert { look, .. } => set.set_insert(look),
+        State::ByteRange { .. }
+        | State::Fork { .. }
+        | State::Capture { .. }
+        | State::Accept { .. } => {}
+    }
+}
+
+// Writes a position into a slot, if there is one to write and captures have it.
+#[inline]
+fn put<A: Allocator + Clone + Drop>(captures: &mut Captures<A>, slot: Option<usize>, at: usize)
+    requires { at < usize.MAX }
+    ensures { captures.new ≡ record captures.old { offsets = put_offset captures.old.offsets slot at } }
+{
+    if let Some(slot) = slot {
+        if slot < captures.slots().len() {
+            captures.slots_mut()[slot] = NonMaxUsize::new(at);
+        }
+    }
+}
+
 impl<W: WordClass, A: Allocator + Clone + Drop> Nfa<W, A> {
     /// An automaton of these states: the state at index i is the one numbered i.
     ///
@@ -211,11 +241,66 @@ impl<W: WordClass, A: Allocator + Clone + Drop> Nfa<W, A> {
         rsc_alphabet::laws::each_class_comes_once();
         rsc_alphabet::laws::edges_part_a_range();
         rsc_look::laws::boundaries_are_exact();
+        let set = self.boundaries();
+        set.byte_classes()
+    }
+
+    // The boundaries of the ranges and the assertions of the states.
+    fn boundaries(&self) -> ByteClassSet
+        ensures set { result ≡ boundaries_of_states self.now.states self.now.matcher.0 }
+        ensures faultless { IsFaultless self.now.groups self.now.states }
+    {
         let mut set = ByteClassSet::empty();
         for state in &self.states {
             add_state(&self.matcher, *state, &mut set);
         }
-        set.byte_classes()
+        set
+    }
+
+    /// The classes of [`Nfa::classes`] with more boundaries than the states need: those of a set of the caller's own, which for instance
+    /// separate the bytes at which a table stops. Takes no memory.
+    ///
+    /// # Examples
+    ///
+    /// ```
+    /// let mut stop = ByteClassSet::empty();
+    /// stop.set_range(128, 255);
+    /// let classes = nfa.classes_with(&stop);
+    /// assert!(rt; classes.get(b'a') == classes.get(b'z') && classes.get(127) != classes.get(128));
+    /// assert!(rt; nfa.classes().get(127) == nfa.classes().get(128));
+    /// ```
+    pub fn classes_with(&self, more: &ByteClassSet) -> ByteClasses
+        ensures classes { result ≡ class_map (sets.contains (sets.union (boundaries_of_states self.now.states self.now.matcher.0) more.now)) }
+        ensures rise { ClassesRise result }
+        ensures parted { (b : ℕ) → b < 255 → sets.contains more.now b ≡ true → ¬ (slice_index result b ≡ slice_index result (b + 1)) }
+        ensures finer { IsFiner result (class_map (sets.contains (boundaries_of_states self.now.states self.now.matcher.0))) }
+        ensures kept { (has_unicode self.now.states ≡ true → AgreesWithAscii (W.word_chars self.now.matcher.1)) →
+            KeepsRuns result self.now.states self.now.matcher.0 (W.word_chars self.now.matcher.1) }
+    {
+        rsc_alphabet::laws::one_class_is_together();
+        rsc_alphabet::laws::edges_part_a_range();
+        rsc_look::laws::boundaries_are_exact();
+        let mut joined = self.boundaries();
+        joined.union(more);
+        joined.byte_classes()
+    }
+
+    /// The assertions of the states.
+    ///
+    /// # Examples
+    ///
+    /// ```
+    /// assert!(rt; nfa.looks().is_empty());
+    /// ```
+    pub fn looks(&self) -> LookSet
+        ensures looks { (look : Look) → sets.contains result look ≡ list_any (asserts look) self.now.states }
+        ensures unicode { has_one_of result unicode_words ≡ has_unicode self.now.states }
+    {
+        let mut looks = LookSet::empty();
+        for state in self.states.iter() {
+            add_look(*state, &mut looks);
+        }
+        looks
     }
 
     // Whether a state is the automaton's, and a position within the span.
@@ -268,5 +353,68 @@ impl<W: WordClass, A: Allocator + Clone + Drop> Nfa<W, A> {
             }
         }
         true
+    }
+
+    // The slot in which a state records, if it is there and records.
+    fn slot_recorded(&self, state: StateID) -> Option<usize>
+        ensures { result ≡ slot_recorded (slice_get self.now.states state) }
+    {
+        match self.states.get(state.as_usize()) {
+            Some(State::Capture { slot, .. }) => Some(slot.as_usize()),
+            Some(_) => None,
+            None => None,
+        }
+    }
+
+    /// Writes into each slot of captures what a run records there, and sets no other slot. The pattern stays.
+    ///
+    /// Needs positions below `usize::MAX`, which no slot holds; those of a run on an input are.
+    ///
+    /// # Examples
+    ///
+    /// ```
+    /// let info = GroupInfo::new(rt.alloc(), &[&[None]])?;
+    /// let mut captures = Captures::all(rt.alloc(), info.clone()?)?;
+    /// let states = [
+    ///     State::Capture {
+    ///         slot: SmallIndex::ZERO,
+    ///         next: StateID::must(1),
+    ///     },
+    ///     State::Capture {
+    ///         slot: SmallIndex::must(1),
+    ///         next: StateID::must(2),
+    ///     },
+    ///     State::Accept {
+    ///         pattern: PatternID::ZERO,
+    ///     },
+    /// ];
+    /// let nfa = Nfa::new(rt.alloc(), info, LookMatcher::new(AsciiWord), &states)?;
+    /// let run = [
+    ///     (StateID::ZERO, 3),
+    ///     (StateID::must(1), 3),
+    ///     (StateID::must(2), 3),
+    /// ];
+    /// nfa.record(&run, &mut captures);
+    /// captures.set_pattern(Some(PatternID::ZERO));
+    /// assert!(rt; captures.get_group(0) == Some(Span { start: 3, end: 3 }));
+    /// // The empty run records nothing.
+    /// nfa.record(&[], &mut captures);
+    /// assert!(rt; captures.get_group(0) == None && captures.is_match());
+    /// ```
+    pub fn record(&self, run: &[(StateID, usize)], captures: &mut Captures<A>)
+        requires { All (λ place. place.1 < usize.MAX) run.now }
+        ensures groups { captures.new.groups ≡ captures.old.groups }
+        ensures pattern { captures.new.pattern ≡ captures.old.pattern }
+        ensures count { length captures.new.offsets ≡ length captures.old.offsets }
+        ensures slots { (slot : ℕ) → slot < length captures.old.offsets →
+            slice_index_or captures.new.offsets slot None ≡ recorded self.now.states run.now slot }
+    {
+        let pattern = captures.pattern();
+        captures.clear();
+        captures.set_pattern(pattern);
+        for k in 1..run.len() {
+            let left = run[k - 1];
+            put(captures, self.slot_recorded(left.0), left.1);
+        }
     }
 }

@@ -1,4 +1,4 @@
-//! A slow model of runs, read off the table of steps, beside `check_run` and `classes`.
+//! A slow model of runs, read off the table of steps, beside `check_run` and `classes`, for twelve automata.
 use rsc_captures::GroupInfo;
 use rsc_look::{AsciiWord, Look, LookMatcher};
 use rsc_nfa::{Nfa, State};

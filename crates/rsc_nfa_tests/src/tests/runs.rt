@@ -1,6 +1,7 @@
 //! The example of the README, and worked rows.
+use rsc_alphabet::ByteClassSet;
 use rsc_captures::GroupInfo;
-use rsc_look::{AsciiWord, Look, LookMatcher, UnicodeWord};
+use rsc_look::{AsciiWord, Look, LookMatcher, LookSet, UnicodeWord};
 use rsc_nfa::{BuildError, Nfa, State};
 use rsc_primitives::{PatternID, SmallIndex, StateID};
 use rsc_search::{Input, Span};
@@ -177,5 +178,30 @@ fn letters_at_the_start_of_a_line(rt: HostRuntime) -> Result<(), Fail> {
     assert!(rt; nfa.check_run(&Input::new(b"\na"), &run));
     assert!(rt; nfa.check_run(&Input::new(b"\nq"), &run));
     assert!(rt; !nfa.check_run(&Input::new(b"-a"), &run));
+    Ok(())
+}
+
+#[test]
+fn asserts_what_its_states_assert(rt: HostRuntime) -> Result<(), Fail> {
+    let states = [
+        assertion(Look::WordUnicode),
+        assertion(Look::Start),
+        accept(),
+    ];
+    let looks = built(rt.alloc(), &states)?.looks();
+    assert!(rt; looks == LookSet::singleton(Look::Start).insert(Look::WordUnicode));
+    assert!(rt; built(rt.alloc(), &[accept()])?.looks().is_empty());
+    Ok(())
+}
+
+#[test]
+fn parts_classes_further(rt: HostRuntime) -> Result<(), Fail> {
+    let states = [range(b'a', b'z', 1), accept()];
+    let nfa = built(rt.alloc(), &states)?;
+    let mut more = ByteClassSet::empty();
+    more.set_range(128, 255);
+    let (coarse, fine) = (nfa.classes(), nfa.classes_with(&more));
+    assert!(rt; coarse.get(127) == coarse.get(128) && fine.get(127) != fine.get(128));
+    assert!(rt; fine.get(b'a') == fine.get(b'z') && fine.get(b'z') != fine.get(127));
     Ok(())
 }

@@ -1,7 +1,9 @@
-//! Refusals, running out of memory, and what is lent.
+//! The states that an automaton refuses, running out of memory, and what is lent or dropped.
+ghost use Rattle.std.specs.Prelude.{true};
+
 use linked_list_allocator::LocalHeap;
 use rsc_captures::GroupInfo;
-use rsc_look::{AsciiWord, LookMatcher};
+use rsc_look::{AsciiWord, LookMatcher, WordClass};
 use rsc_nfa::{BuildError, Nfa, State};
 use rsc_primitives::{PatternID, SmallIndex, StateID};
 use std::alloc::Global;
@@ -93,5 +95,47 @@ fn what_was_handed_in_is_lent(rt: HostRuntime) -> Result<(), Fail> {
     assert!(rt; nfa.states()[0] == state);
     assert_eq!(rt; nfa.group_info().slot_len(), 4);
     assert_eq!(rt; nfa.matcher().get_line_terminator(), b'\n');
+    Ok(())
+}
+
+// Word characters that hold memory.
+#[derive(Drop)]
+struct HeldWords<'a> {
+    characters: Vec<char, &'a LocalHeap>,
+}
+
+impl WordClass for HeldWords<'_> {
+    ghost word_chars = { λ _ _. true };
+
+    fn is_word(&self, _c: char) -> bool {
+        true
+    }
+}
+
+// What a list of accepting states is refused for, with the states in one heap and all that is handed in in another.
+fn refusal_over(
+    states: &LocalHeap,
+    handed_in: &LocalHeap,
+    pattern: PatternID,
+) -> Result<Option<BuildError>, Fail> {
+    let info = GroupInfo::new(handed_in, &[&[None]])?;
+    let mut characters = Vec::new(handed_in);
+    characters.push('x')?;
+    let matcher = LookMatcher::new(HeldWords { characters });
+    let accepting = [State::Accept { pattern }; 64];
+    Ok(Nfa::new(states, info, matcher, &accepting).err())
+}
+
+#[test]
+fn what_was_handed_in_is_dropped_after_a_refusal(rt: HostRuntime) -> Result<(), Fail> {
+    let none = LocalHeap::new(rt.alloc(), 0)?;
+    let handed_in = LocalHeap::new(rt.alloc(), 4096)?;
+    let pattern = PatternID::must(1);
+    let fault = BuildError::UnknownPattern { state: 0, pattern };
+    assert!(rt; refusal_over(&handed_in, &handed_in, pattern)? == Some(fault));
+    assert_eq!(rt; handed_in.used(), 0);
+    let refused = refusal_over(&none, &handed_in, PatternID::ZERO)?;
+    assert!(rt; refused == Some(BuildError::OutOfMemory));
+    assert_eq!(rt; handed_in.used(), 0);
     Ok(())
 }

@@ -1,0 +1,31 @@
+use Rattle.std.proofs.Common.{sym, ap, ◌∙◌}
+use Rattle.std.specs.FinSet as sets
+use Rattle.std.proofs.lemmas.Bool.{or_left, or_right}
+use Rattle.rsc_alphabet.specs.Partitions.{class_map}
+use Rattle.rsc_alphabet.specs.PartitionsLaws.{contains-joined}
+use Rattle.rsc_nfa.specs.Classes.{boundaries_of_states}
+use Rattle.rsc_nfa.proofs.ClassesLemmas.{KeepsRuns-from}
+use Rattle.rsc_nfa.proofs.NfaLemmas.{HasEdgesOfAll-joined, parts_neighbours, finer_from}
+use Rattle.rsc_nfa.proofs.nfa.Nfa.classes_with.Goals as goal
+
+pub returns-clause-classes : goal.returns-clause-classes
+returns-clause-classes g c =
+    c.byte_classes.ensures.map
+    ∙ ap (λ s. class_map (sets.contains s)) (c.union.ensures.set ∙ ap (λ s. sets.union s c.args.more.now) c.boundaries-joined.ensures.set)
+
+pub returns-clause-parted : goal.returns-clause-parted
+returns-clause-parted g c = λ b l marked.
+    parts_neighbours _ c.byte_classes.result b (c.one_class_is_together.ensures _) (returns-clause-classes g c) l
+    (contains-joined (boundaries_of_states c.args.self.now.states c.args.self.now.matcher.0) c.args.more.now b ∙ or_right _ _ marked)
+
+pub returns-clause-finer : goal.returns-clause-finer
+returns-clause-finer g c =
+    finer_from _ _ c.byte_classes.result (c.one_class_is_together.ensures _) (c.one_class_is_together.ensures _) (returns-clause-classes g c)
+    (λ k marked. contains-joined (boundaries_of_states c.args.self.now.states c.args.self.now.matcher.0) c.args.more.now k ∙ or_left _ _ marked)
+
+pub returns-clause-kept : goal.returns-clause-kept
+returns-clause-kept g c = λ a.
+    KeepsRuns-from _ c.args.self.now.states c.args.self.now.matcher.0 (g.W.WordClass.word_chars c.args.self.now.matcher.1)
+    (c.edges_part_a_range.ensures.together _)
+    (λ l. c.boundaries_are_exact.ensures l _ _) (HasEdgesOfAll-joined c.args.self.now.states c.args.self.now.matcher.0 c.args.more.now) a
+    c.byte_classes.result (c.one_class_is_together.ensures _) (returns-clause-classes g c)
