@@ -1,0 +1,444 @@
+-- Which match is next, as the search's start moves on.
+use Rattle.std.proofs.Common.{◌≡◌, ◌≢◌, zero, suc, true, true≢false, slice_get, MatchOption, ℕ, ◌+◌, ◌-◌, ◌<◌, ◌≤◌, ◌⊎◌, inl, inr, ⊎_elim, Bool, List, length, refl, sym, subst, ap, ◌∙◌, arith, Option, Some, None}
+use Rattle.std.proofs.lemmas.Bool.{cases_lt, cases_eq, cases_order}
+use Rattle.std.proofs.lemmas.List.{ext_get_or}
+use Rattle.rsc_nfa.specs.declared.state.State.{State}
+use Rattle.rsc_nfa.specs.declared.state.State.TheVariants.{ByteRange, Assert, Fork, Capture, Accept}
+use Rattle.rsc_nfa.specs.Steps.{place, StepsTo}
+use Rattle.rsc_captures.specs.Captured.{Captured}
+use Rattle.rsc_primitives.specs.Utf8.{IsBoundary}
+use Rattle.rsc_search.specs.Inputs.{InputParts}
+use Rattle.rsc_search.specs.Matches.{Matched}
+use Rattle.rsc_search.specs.declared.anchored.Anchored.TheVariants.{No}
+use Rattle.rsc_search.specs.Modes.{pattern_of}
+use Rattle.rsc_engine.specs.Searches.{Search, Compiled, search_in}
+use Rattle.rsc_engine.specs.Runs.{Leads, accepts, is_accepting, IsMatchRun, IsMatchOf, HasNoMatch}
+use Rattle.rsc_engine.specs.Preferred.{IsBefore, IsPreferred, IsLeftmostFirst, MayBegin, HasNone, IsOf}
+use Rattle.rsc_engine.specs.NextMatches.{IsRepeat, IsSplit, IsRepeated, IsPassed, IsOpen, IsNext, IsOver, from_start}
+use Rattle.rsc_engine.proofs.WalksLemmas.{run-rises}
+use Rattle.rsc_engine.proofs.BacktrackLemmas.{is_no}
+
+-- ---- there is one preferred match
+
+-- no step leads on from a match
+accepts_stops : (e : Search) (p q : ℕ × ℕ) → accepts e p ≡ true → Leads e p q → ⊥
+accepts_stops e p q accepted leads = go (slice_get e.states p.0) accepted leads
+  where
+    go : (o : Option State) → is_accepting (pattern_of e.mode) o ≡ true
+        → MatchOption o ⊥ (λ (state : State). StepsTo state e.terminator e.words e.haystack e.end p.1 q) → ⊥
+    go None h x = x
+    go (Some (ByteRange a b next)) h x = true≢false (sym h)
+    go (Some (Assert l next)) h x = true≢false (sym h)
+    go (Some (Fork a b)) h x = true≢false (sym h)
+    go (Some (Capture slot next)) h x = true≢false (sym h)
+    go (Some (Accept pattern)) h x = x
+
+same_place : (p q : ℕ × ℕ) → p.0 ≡ q.0 → p.1 ≡ q.1 → p ≡ q
+same_place p q a b = ap (λ (n : ℕ). (n, p.1)) a ∙ ap (λ (n : ℕ). (q.0, n)) b
+
+-- the place is a fork, of whose steps one goes the first way and the other doesn't
+IsForkOf : Search → ℕ × ℕ → ℕ × ℕ → ℕ × ℕ → Type 0
+IsForkOf e p one other = (a : ℕ) × (b : ℕ) × (slice_get e.states p.0 ≡ Some (Fork a b)) × (one.0 ≡ a) × (other.0 ≢ a)
+
+-- two steps from a place lead to one place, or go the two ways of a fork
+two_steps : (e : Search) (p q r : ℕ × ℕ) → Leads e p q → Leads e p r → (q ≡ r) ⊎ (IsForkOf e p q r ⊎ IsForkOf e p r q)
+unfolding IsForkOf
+two_steps e p q r x y = go (slice_get e.states p.0) refl x y
+  where
+    go : (o : Option State) → slice_get e.states p.0 ≡ o
+        → MatchOption o ⊥ (λ (state : State). StepsTo state e.terminator e.words e.haystack e.end p.1 q)
+        → MatchOption o ⊥ (λ (state : State). StepsTo state e.terminator e.words e.haystack e.end p.1 r)
+        → (q ≡ r) ⊎ (IsForkOf e p q r ⊎ IsForkOf e p r q)
+    go None is x y = absurd x
+    go (Some (ByteRange a b next)) is x y = inl (same_place q r (x.2 ∙ sym y.2) (x.3 ∙ sym y.3))
+    go (Some (Assert l next)) is x y = inl (same_place q r (x.1 ∙ sym y.1) (x.2 ∙ sym y.2))
+    go (Some (Capture slot next)) is x y = inl (same_place q r (x.0 ∙ sym y.0) (x.1 ∙ sym y.1))
+    go (Some (Accept pattern)) is x y = absurd x
+    go (Some (Fork a b)) is x y = ⊎_elim
+        (λ (q_first : q.0 ≡ a). ⊎_elim
+        (λ (r_first : r.0 ≡ a). inl (same_place q r (q_first ∙ sym r_first) (x.1 ∙ sym y.1)))
+        (λ (r_apart : (r.0 ≡ a) → ⊥). inr (inl (a, b, is, q_first, r_apart)))
+        (cases_eq r.0 a))
+        (λ (q_apart : (q.0 ≡ a) → ⊥). ⊎_elim
+        (λ (r_first : r.0 ≡ a). inr (inr (a, b, is, r_first, q_apart)))
+        (λ (r_apart : (r.0 ≡ a) → ⊥). inl (same_place q r (second q.0 a b x.0 q_apart ∙ sym (second r.0 a b y.0 r_apart)) (x.1 ∙ sym y.1)))
+        (cases_eq r.0 a))
+        (cases_eq q.0 a)
+      where
+        second : (n a b : ℕ) → (n ≡ a) ⊎ (n ≡ b) → ((n ≡ a) → ⊥) → n ≡ b
+        second n a b way apart = ⊎_elim (λ (h : n ≡ a). absurd (apart h)) (λ (h : n ≡ b). h) way
+
+forked : (e : Search) (one other : List (ℕ × ℕ)) (m : ℕ) → ((k : ℕ) → k ≤ m → place one k ≡ place other k) → m + 1 < length one → m + 1 < length other
+    → IsForkOf e (place one m) (place one (m + 1)) (place other (m + 1)) → IsBefore e one other
+unfolding IsForkOf
+forked e one other m together within other_within f = record {
+  at = m;
+  a = f.0;
+  b = f.1;
+  within = within;
+  other_within = other_within;
+  together = together;
+  fork = f.2;
+  first = f.3;
+  apart = f.4;
+}
+
+-- two preferred runs from a place go together as far as both go
+together : (e : Search) (from : ℕ × ℕ) (one other : List (ℕ × ℕ)) → IsPreferred e from one → IsPreferred e from other
+    → (n k : ℕ) → k < n → k < length one → k < length other → place one k ≡ place other k
+together e from one other x y zero k l here there = absurd (omega (arith, l))
+together e from one other x y (suc n) zero l here there = x.is_match.begins ∙ sym y.is_match.begins
+together e from one other x y (suc n) (suc m) l here there =
+    let same : suc m ≡ m + 1 = omega arith in
+    let before : (k : ℕ) → k ≤ m → place one k ≡ place other k =
+    λ k le. together e from one other x y n k (omega (arith, le, l)) (omega (arith, le, here)) (omega (arith, le, there)) in
+    let back : (k : ℕ) → k ≤ m → place other k ≡ place one k = λ k le. sym (before k le) in
+    let h : m + 1 < length one = omega (arith, here) in
+    let t : m + 1 < length other = omega (arith, there) in
+    let there_from : Leads e (place one m) (place other (m + 1)) =
+    subst (λ (p : ℕ × ℕ). Leads e p (place other (m + 1))) (sym (before m (omega arith))) (y.is_match.is_run.steps m t) in
+    rw same (⊎_elim
+    (λ (eq : place one (m + 1) ≡ place other (m + 1)). eq)
+    (λ (f : IsForkOf e (place one m) (place one (m + 1)) (place other (m + 1)) ⊎ IsForkOf e (place one m) (place other (m + 1)) (place one (m + 1))). ⊎_elim
+    (λ (g : IsForkOf e (place one m) (place one (m + 1)) (place other (m + 1))).
+    absurd (y.first one x.is_match x.once (forked e one other m before h t g)))
+    (λ (g : IsForkOf e (place one m) (place other (m + 1)) (place one (m + 1))).
+    absurd (x.first other y.is_match y.once (forked e other one m back t h
+    (subst (λ (p : ℕ × ℕ). IsForkOf e p (place other (m + 1)) (place one (m + 1))) (before m (omega arith)) g))))
+    f)
+    (two_steps e (place one m) (place one (m + 1)) (place other (m + 1)) (x.is_match.is_run.steps m h) there_from))
+
+not_longer : (e : Search) (from : ℕ × ℕ) (one other : List (ℕ × ℕ)) → IsPreferred e from one → IsPreferred e from other → length other ≤ length one
+not_longer e from one other x y = ⊎_elim
+    (λ (l : length one < length other).
+    let last : length one - 1 + 1 < length other = omega (arith, l, x.is_match.some) in
+    let same : place one (length one - 1) ≡ place other (length one - 1) =
+    together e from one other x y (length one) (length one - 1) (omega (arith, x.is_match.some)) (omega (arith, x.is_match.some)) (omega (arith, last)) in
+    absurd (accepts_stops e (place other (length one - 1)) (place other (length one - 1 + 1))
+    (subst (λ (p : ℕ × ℕ). accepts e p ≡ true) same x.is_match.ends) (y.is_match.is_run.steps (length one - 1) last)))
+    (λ (le : length other ≤ length one). le)
+    (cases_lt (length one) (length other))
+
+-- from a place there is one preferred run
+pub one_preferred : (e : Search) (from : ℕ × ℕ) (one other : List (ℕ × ℕ)) → IsPreferred e from one → IsPreferred e from other → one ≡ other
+one_preferred e from one other x y =
+    let long : length one ≡ length other = omega (arith, not_longer e from one other x y, not_longer e from other one y x) in
+    ext_get_or (0, 0) one other long (λ k l. together e from one other x y (k + 1) k (omega arith) l (omega (arith, l, long)))
+
+-- ---- the search's start
+
+-- a run to a match is one in a search with another start, if it begins there or later
+pub match_shift : (e : Search) (i j : ℕ) (from : ℕ × ℕ) (run : List (ℕ × ℕ)) → j ≤ from.1 → IsMatchRun (record e { start = i }) from run
+    → IsMatchRun (record e { start = j }) from run
+match_shift e i j from run low m = record {
+  is_run = record {
+    places = λ k l. (
+      (m.is_run.places k l).0,
+      omega (arith, low, begins, run-rises (record e { start = i }) run k m.is_run l),
+      (m.is_run.places k l).2,
+    );
+    steps = m.is_run.steps;
+  };
+  some = m.some;
+  begins = m.begins;
+  ends = m.ends;
+}
+  where
+    begins : (place run 0).1 ≡ from.1
+    begins = ap (λ (p : ℕ × ℕ). p.1) m.begins
+
+before_shift : (e : Search) (i j : ℕ) (one other : List (ℕ × ℕ)) → IsBefore (record e { start = i }) one other → IsBefore (record e { start = j }) one other
+before_shift e i j one other b = record {
+  at = b.at;
+  a = b.a;
+  b = b.b;
+  within = b.within;
+  other_within = b.other_within;
+  together = b.together;
+  fork = b.fork;
+  first = b.first;
+  apart = b.apart;
+}
+
+-- and so the preferred run is the same
+pub preferred_shift : (e : Search) (i j : ℕ) (from : ℕ × ℕ) (run : List (ℕ × ℕ)) → i ≤ from.1 → j ≤ from.1 → IsPreferred (record e { start = i }) from run
+    → IsPreferred (record e { start = j }) from run
+preferred_shift e i j from run here there r = record {
+  is_match = match_shift e i j from run there r.is_match;
+  once = r.once;
+  first = λ other m once before. r.first other (match_shift e j i from other here m) once (before_shift e j i other run before);
+}
+
+pub none_shift : (e : Search) (i j at : ℕ) → i ≤ at → HasNoMatch (record e { start = i }) at → HasNoMatch (record e { start = j }) at
+none_shift e i j at here none run m = none run (match_shift e j i (e.first, at) run here m)
+
+-- ---- the positions before a search's start
+
+-- the search's start has moved on to i: each free position before it is passed, and it's free itself, if it's in the span
+pub record IsMoved (e : Search) (last : Option ℕ) (i : ℕ) : Type 0 where
+  pub up : e.start ≤ i
+  pub passed : (at : ℕ) → at < i → IsOpen e last at → IsPassed e last at
+  pub opens : i ≤ e.end → IsOpen e last i
+
+module _ (e : Search) (i start : ℕ) (last : Option ℕ) (run : List (ℕ × ℕ)) (v : IsMoved (record e { start = start }) last i)
+    (f : IsLeftmostFirst (record e { start = i }) run) where
+  -- up to the leftmost match from i on, each free position is passed
+  up_to : (at : ℕ) → at < (place run 0).1 → IsOpen (record e { start = start }) last at → IsPassed (record e { start = start }) last at
+  up_to at high o = ⊎_elim
+      (λ (l : at < i). v.passed at l o)
+      (λ (le : i ≤ at). inl (none_shift e i start at le (f.leftmost at le high)))
+      (cases_lt at i)
+
+  from_there : IsPreferred (record e { start = start }) (e.first, (place run 0).1) run
+  from_there = preferred_shift e i start (e.first, (place run 0).1) run f.begins.start (omega (arith, f.begins.start, v.up)) f.preferred
+
+  opens_there : IsOpen (record e { start = start }) last (place run 0).1
+  opens_there = record {
+    start = omega (arith, v.up, f.begins.start);
+    end = f.begins.end;
+    anchored = λ anchored earlier from before. (v.opens (omega (arith, f.begins.start, f.begins.end))).anchored anchored earlier from
+        (omega (arith, before, f.begins.anchored anchored));
+  }
+
+  -- the leftmost match from i on is the next, unless it's a repeat or splits a character
+  pub next_is : ¬ (IsRepeat last run) → ¬ (IsSplit (record e { start = start }) run) → IsNext (record e { start = start }) last run
+  next_is no_repeat no_split = record {
+    opens = opens_there;
+    preferred = from_there;
+    no_repeat = no_repeat;
+    splits_none = no_split;
+    passed = up_to;
+  }
+
+  -- after a repeat the start moves on by one
+  pub moved_repeat : IsRepeat last run → IsMoved (record e { start = start }) last ((place run 0).1 + 1)
+  moved_repeat repeats = record {
+    up = omega (arith, v.up, f.begins.start);
+    passed = λ at high o. ⊎_elim
+        (λ (l : at < (place run 0).1). up_to at l o)
+        (λ (le : (place run 0).1 ≤ at). let same : at ≡ (place run 0).1 = omega (arith, le, high) in inr (inl (rw same repeated)))
+        (cases_lt at (place run 0).1);
+    opens = λ within. record {
+      start = omega (arith, v.up, f.begins.start);
+      end = within;
+      anchored = λ anchored earlier from before. ⊎_elim
+          (λ (l : earlier < (place run 0).1). opens_there.anchored anchored earlier from l)
+          (λ (le : (place run 0).1 ≤ earlier). let same : earlier ≡ (place run 0).1 = omega (arith, le, before) in rw same repeated)
+          (cases_lt earlier (place run 0).1);
+    };
+  }
+    where
+      repeated : IsRepeated (record e { start = start }) last (place run 0).1
+      repeated = record { run = run; preferred = from_there; repeats = repeats }
+
+  -- after a match that splits a character, by one too, if the search isn't anchored
+  pub moved_split : IsSplit (record e { start = start }) run → e.mode ≡ No → IsMoved (record e { start = start }) last ((place run 0).1 + 1)
+  moved_split splits free = record {
+    up = omega (arith, v.up, f.begins.start);
+    passed = λ at high o. ⊎_elim
+        (λ (l : at < (place run 0).1). up_to at l o)
+        (λ (le : (place run 0).1 ≤ at). let same : at ≡ (place run 0).1 = omega (arith, le, high) in
+        inr (inr (rw same (record { run = run; preferred = from_there; splits = splits }))))
+        (cases_lt at (place run 0).1);
+    opens = λ within. record {
+      start = omega (arith, v.up, f.begins.start);
+      end = within;
+      anchored = λ anchored. absurd (anchored free);
+    };
+  }
+
+  -- and if it's anchored, no later position is free
+  pub moved_over : IsSplit (record e { start = start }) run → ¬ (IsRepeat last run) → ¬ (e.mode ≡ No) → IsMoved (record e { start = start }) last (e.end + 1)
+  moved_over splits no_repeat anchored = record {
+    up = omega (arith, v.up, f.begins.start, f.begins.end);
+    passed = λ at high o. ⊎_elim
+        (λ (l : at < (place run 0).1). up_to at l o)
+        (λ (le : (place run 0).1 ≤ at). ⊎_elim
+        (λ (same : at ≡ (place run 0).1). inr (inr (rw same (record { run = run; preferred = from_there; splits = splits }))))
+        (λ (apart : (at ≡ (place run 0).1) → ⊥).
+        let r : IsRepeated (record e { start = start }) last (place run 0).1 =
+        o.anchored anchored (place run 0).1 (omega (arith, v.up, f.begins.start)) (omega (arith, le, apart)) in
+        absurd (no_repeat (subst (λ (x : List (ℕ × ℕ)). IsRepeat last x)
+        (one_preferred (record e { start = start }) (e.first, (place run 0).1) r.run run r.preferred from_there) r.repeats)))
+        (cases_eq at (place run 0).1))
+        (cases_lt at (place run 0).1);
+    opens = λ within. absurd (omega (arith, within));
+  }
+
+-- and if there is none, the iteration is over
+pub none_next : (e : Search) (i start : ℕ) (last : Option ℕ) → IsMoved (record e { start = start }) last i
+    → HasNone (record e { start = i }) → IsOver (record e { start = start }) last
+none_next e i start last v none at o = ⊎_elim
+    (λ (l : at < i). v.passed at l o)
+    (λ (le : i ≤ at). inl (none_shift e i start at le (none at (record {
+      start = le;
+      end = o.end;
+      anchored = λ anchored. ⊎_elim
+          (λ (here : at ≡ i). here)
+          (λ (apart : (at ≡ i) → ⊥). absurd (barred anchored (omega (arith, le, apart))))
+          (cases_eq at i);
+    }))))
+    (cases_lt at i)
+  where
+    barred : ¬ (e.mode ≡ No) → i < at → ⊥
+    barred anchored l =
+        let r : IsRepeated (record e { start = start }) last i = o.anchored anchored i v.up l in
+        none_shift e i start i (omega arith) (none i (record {
+          start = omega arith;
+          end = omega (arith, l, o.end);
+          anchored = λ _. refl;
+        })) r.run r.preferred.is_match
+
+-- ---- the loop, from search to search
+
+-- the match is empty and where the last one ended, and that of its run
+repeat_run : (e : Search) (last : Option ℕ) (run : List (ℕ × ℕ)) (m : Matched) → IsMatchOf e run m
+    → (m.span.start ≡ m.span.end) × (last ≡ Some m.span.end) → IsRepeat last run
+repeat_run e last run m ends r =
+    let here : m.span.end ≡ (place run 0).1 = sym r.0 ∙ ends.start in
+    record { empty = sym here ∙ ends.end; there = r.1 ∙ ap (λ (n : ℕ). Some n) here }
+
+no_repeat_run : (e : Search) (last : Option ℕ) (run : List (ℕ × ℕ)) (m : Matched) → IsMatchOf e run m
+    → (m.span.start ≡ m.span.end → ¬ (last ≡ Some m.span.end)) → ¬ (IsRepeat last run)
+no_repeat_run e last run m ends apart r =
+    let empty : m.span.start ≡ m.span.end = ends.start ∙ r.empty ∙ sym ends.end in
+    let here : (place run 0).1 ≡ m.span.end = sym ends.start ∙ empty in
+    apart empty (r.there ∙ ap (λ (n : ℕ). Some n) here)
+
+split_run : (e f : Search) (run : List (ℕ × ℕ)) (m : Matched) → IsMatchOf f run m
+    → (e.utf8 ≡ true) × (m.span.start ≡ m.span.end) × (¬ (IsBoundary e.haystack m.span.end)) → IsSplit e run
+split_run e f run m ends s =
+    let here : m.span.end ≡ (place run 0).1 = sym s.1 ∙ ends.start in
+    record {
+      utf8 = s.0;
+      empty = sym here ∙ ends.end;
+      within = subst (λ (n : ℕ). ¬ (IsBoundary e.haystack n)) here s.2;
+    }
+
+no_split_run : (e f : Search) (run : List (ℕ × ℕ)) (m : Matched) → IsMatchOf f run m
+    → (e.utf8 ≡ true → m.span.start ≡ m.span.end → IsBoundary e.haystack m.span.end) → ¬ (IsSplit e run)
+no_split_run e f run m ends whole s =
+    let empty : m.span.start ≡ m.span.end = ends.start ∙ s.empty ∙ sym ends.end in
+    let here : (place run 0).1 ≡ m.span.end = sym ends.start ∙ empty in
+    subst (λ (n : ℕ). ¬ (IsBoundary e.haystack n)) here s.within (whole s.utf8 empty)
+
+-- a start is set again
+on_more : (input now next : InputParts) (a b : ℕ) → now ≡ from_start input a → next ≡ from_start now b → next ≡ from_start input next.span.start
+on_more input now next a b on at =
+    let there : next ≡ from_start input b = at ∙ ap (λ (x : InputParts). from_start x b) on in
+    there ∙ ap (λ (s : ℕ). from_start input s) (sym (ap (λ (x : InputParts). x.span.start) there))
+
+-- what stands in the loop: the program as it was, the input from a later start on, and the positions before passed
+pub record IsTurn {W : Type 0} (chars : W → ℕ → Bool) (p q : Compiled W) (input now : InputParts) (last before : Option ℕ) : Type 0 where
+  pub program : q ≡ p
+  pub input_on : now ≡ from_start input now.span.start
+  pub last_end : before ≡ last
+  pub moved : IsMoved (search_in chars p input) last now.span.start
+
+module _ {W : Type 0} (chars : W → ℕ → Bool) (p q : Compiled W) (input now : InputParts) (last before : Option ℕ)
+    (t : IsTurn chars p q input now last before) where
+  there : search_in chars q now ≡ record (search_in chars p input) { start = now.span.start }
+  there = ap (λ x. search_in chars x now) t.program ∙ ap (λ x. search_in chars p x) t.input_on
+
+  pub turn_none : HasNone (search_in chars q now) → IsOver (search_in chars p input) last
+  turn_none none = none_next (search_in chars p input) now.span.start input.span.start last t.moved (subst HasNone there none)
+
+  module _ (run : List (ℕ × ℕ)) (m : Matched) (c : Captured) (first : IsLeftmostFirst (search_in chars q now) run)
+      (is_of : IsOf (search_in chars q now) run m c)
+      (mid : InputParts) (after : Compiled W) (ended : Option ℕ) (on : mid ≡ from_start now m.span.end) (kept : after ≡ q) (same : ended ≡ before) where
+    first_there : IsLeftmostFirst (record (search_in chars p input) { start = now.span.start }) run
+    first_there = subst (λ (e : Search). IsLeftmostFirst e run) there first
+
+    same_parts : mid ≡ from_start input mid.span.start
+    same_parts = on_more input now mid now.span.start m.span.end t.input_on on
+
+    not_again : (m.span.start ≡ m.span.end → ¬ (ended ≡ Some m.span.end)) → ¬ (IsRepeat last run)
+    not_again apart = no_repeat_run (search_in chars q now) last run m is_of.ends (λ empty h. apart empty (same ∙ t.last_end ∙ h))
+
+    -- the search goes on at b
+    turn_to : (next : InputParts) (b : ℕ) → next ≡ from_start mid b → IsMoved (search_in chars p input) last b → IsTurn chars p after input next last ended
+    turn_to next b at moved = record {
+      program = kept ∙ t.program;
+      input_on = on_more input mid next mid.span.start b same_parts at;
+      last_end = same ∙ t.last_end;
+      moved = let start : next.span.start ≡ b = ap (λ (x : InputParts). x.span.start) at in rw start moved;
+    }
+
+    pub turn_next : (m.span.start ≡ m.span.end → ¬ (ended ≡ Some m.span.end))
+        → (after.utf8 ≡ true → m.span.start ≡ m.span.end → IsBoundary mid.haystack m.span.end) → IsNext (search_in chars p input) last run
+    turn_next apart whole =
+        next_is (search_in chars p input) now.span.start input.span.start last run t.moved first_there (not_again apart)
+        (no_split_run (search_in chars p input) (search_in chars q now) run m is_of.ends
+        (λ text empty. subst (λ (x : List ℕ). IsBoundary x m.span.end) (ap (λ (x : InputParts). x.haystack) same_parts)
+        (whole (ap (λ x. x.utf8) (kept ∙ t.program) ∙ text) empty)))
+
+    pub turn_repeat : (next : InputParts) → (m.span.start ≡ m.span.end) × (ended ≡ Some m.span.end) → next ≡ from_start mid (m.span.end + 1)
+        → IsTurn chars p after input next last ended
+    turn_repeat next r at =
+        let here : m.span.end + 1 ≡ (place run 0).1 + 1 = ap (λ (n : ℕ). n + 1) (sym r.0 ∙ is_of.ends.start) in
+        turn_to next (m.span.end + 1) at
+        (rw here (moved_repeat (search_in chars p input) now.span.start input.span.start last run t.moved first_there
+        (repeat_run (search_in chars q now) last run m is_of.ends (r.0, sym t.last_end ∙ sym same ∙ r.1))))
+
+    pub turn_split : (next : InputParts) (b : ℕ) → (after.utf8 ≡ true) × (m.span.start ≡ m.span.end) × (¬ (IsBoundary mid.haystack m.span.end))
+        → (m.span.start ≡ m.span.end → ¬ (ended ≡ Some m.span.end))
+        → (¬ (mid.anchored ≡ No) → b ≡ mid.span.end + 1) → (mid.anchored ≡ No → b ≡ m.span.end + 1) → next ≡ from_start mid b
+        → IsTurn chars p after input next last ended
+    turn_split next b s apart anchored free at = turn_to next b at (go (is_no input.anchored))
+      where
+        mode : mid.anchored ≡ input.anchored
+        mode = ap (λ (x : InputParts). x.anchored) same_parts
+
+        splits : IsSplit (search_in chars p input) run
+        splits = split_run (search_in chars p input) (search_in chars q now) run m is_of.ends (
+          sym (ap (λ x. x.utf8) (kept ∙ t.program)) ∙ s.0,
+          s.1,
+          subst (λ (x : List ℕ). ¬ (IsBoundary x m.span.end)) (ap (λ (x : InputParts). x.haystack) same_parts) s.2,
+        )
+
+        go : (input.anchored ≡ No) ⊎ (¬ (input.anchored ≡ No)) → IsMoved (search_in chars p input) last b
+        go (inl h) =
+            let here : b ≡ (place run 0).1 + 1 = free (mode ∙ h) ∙ ap (λ (n : ℕ). n + 1) (sym s.1 ∙ is_of.ends.start) in
+            rw here (moved_split (search_in chars p input) now.span.start input.span.start last run t.moved first_there splits h)
+        go (inr h) =
+            let here : b ≡ input.span.end + 1 = anchored (λ no_mode. h (sym mode ∙ no_mode)) ∙ ap (λ (x : InputParts). x.span.end + 1) same_parts in
+            rw here (moved_over (search_in chars p input) now.span.start input.span.start last run t.moved first_there splits (not_again apart) h)
+
+-- ---- there is one next match
+
+-- the next match is not passed
+next_not_passed : (e : Search) (last : Option ℕ) (run : List (ℕ × ℕ)) → IsNext e last run → IsPassed e last (place run 0).1 → ⊥
+next_not_passed e last run x (inl none) = none run x.preferred.is_match
+next_not_passed e last run x (inr (inl r)) =
+    x.no_repeat (subst (λ (y : List (ℕ × ℕ)). IsRepeat last y) (one_preferred e (e.first, (place run 0).1) r.run run r.preferred x.preferred) r.repeats)
+next_not_passed e last run x (inr (inr s)) =
+    x.splits_none (subst (λ (y : List (ℕ × ℕ)). IsSplit e y) (one_preferred e (e.first, (place run 0).1) s.run run s.preferred x.preferred) s.splits)
+
+pub next_not_over : (e : Search) (last : Option ℕ) (run : List (ℕ × ℕ)) → IsOver e last → ¬ (IsNext e last run)
+next_not_over e last run over x = next_not_passed e last run x (over (place run 0).1 x.opens)
+
+-- two preferred runs that begin at one position are one
+same_start : (e : Search) (one other : List (ℕ × ℕ)) → IsPreferred e (e.first, (place one 0).1) one → IsPreferred e (e.first, (place other 0).1) other
+    → (place one 0).1 ≡ (place other 0).1 → one ≡ other
+same_start e one other x y same =
+    one_preferred e (e.first, (place other 0).1) one other (subst (λ (n : ℕ). IsPreferred e (e.first, n) one) same x) y
+
+-- there is one next match at most
+pub one_next : (e : Search) (last : Option ℕ) (one other : List (ℕ × ℕ)) → IsNext e last one → IsNext e last other → one ≡ other
+one_next e last one other x y = ⊎_elim
+    (λ (same : (place one 0).1 ≡ (place other 0).1). same_start e one other x.preferred y.preferred same)
+    (λ (h : ((place one 0).1 < (place other 0).1) ⊎ ((place other 0).1 < (place one 0).1)). ⊎_elim
+    (λ (l : (place one 0).1 < (place other 0).1). absurd (next_not_passed e last one x (y.passed (place one 0).1 l x.opens)))
+    (λ (l : (place other 0).1 < (place one 0).1). absurd (next_not_passed e last other y (x.passed (place other 0).1 l y.opens)))
+    h)
+    (cases_order (place one 0).1 (place other 0).1)
+
+-- and one leftmost-first
+pub one_first : (e : Search) (one other : List (ℕ × ℕ)) → IsLeftmostFirst e one → IsLeftmostFirst e other → one ≡ other
+one_first e one other x y = ⊎_elim
+    (λ (same : (place one 0).1 ≡ (place other 0).1). same_start e one other x.preferred y.preferred same)
+    (λ (h : ((place one 0).1 < (place other 0).1) ⊎ ((place other 0).1 < (place one 0).1)). ⊎_elim
+    (λ (l : (place one 0).1 < (place other 0).1). absurd (y.leftmost (place one 0).1 x.begins.start l one x.preferred.is_match))
+    (λ (l : (place other 0).1 < (place one 0).1). absurd (x.leftmost (place other 0).1 y.begins.start l other y.preferred.is_match))
+    h)
+    (cases_order (place one 0).1 (place other 0).1)

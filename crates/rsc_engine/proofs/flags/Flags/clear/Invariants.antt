@@ -1,0 +1,11 @@
+use Rattle.std.proofs.Common.{◌≡◌, ◌≤◌, ◌<◌, ℕ, length, false}
+use Rattle.rsc_engine.specs.Flags.{flag_in}
+use Rattle.rsc_engine.proofs.flags.Flags.clear.Given as goal
+
+abbrev pub invariant-clears : goal.invariant-clears
+invariant-clears l = record {
+  count : l.self-inside.count ≡ l.initial.self-inside.count;
+  room : length l.self-inside.blocks.items ≡ length l.initial.self-inside.blocks.items;
+  out : (k : ℕ) → l.first ≤ k → k < l.n → flag_in l.self-inside.blocks.items k ≡ false;
+  kept : (k : ℕ) → k < l.first → flag_in l.self-inside.blocks.items k ≡ flag_in l.initial.self-inside.blocks.items k;
+}

@@ -1,0 +1,81 @@
+use Rattle.std.proofs.Common.{◌≡◌, ◌+◌, ◌≤◌, ◌∙◌, ap, refl, arith}
+use Rattle.rsc_search.specs.Inputs.{InputParts}
+use Rattle.rsc_engine.specs.Searches.{search_in}
+use Rattle.rsc_engine.specs.NextMatches.{from_start}
+use Rattle.rsc_engine.specs.Walks.{is_flagged}
+use Rattle.rsc_engine.proofs.BacktrackLemmas.{even_later, fewer_flags}
+use Rattle.rsc_engine.proofs.NextMatchesLemmas.{turn_none, turn_next, turn_repeat, turn_split}
+use Rattle.rsc_engine.proofs.iterate.Rest.next.Goals as goal
+
+pub returns-in-Ok-None-clause-none : goal.returns-in-Ok-None-clause-none
+returns-in-Ok-None-clause-none g c =
+    let none = rw c.in-Ok-None.field-0-is at c.in-Ok-None.ensures.none in
+    turn_none g.W.WordClass.word_chars c.args.self.now.program.now c.matches.self.program.now c.args.self.now.input c.matches.self.input
+    c.args.self.now.last_end c.matches.self.last_end c.matches.invariant.turn none
+
+pub returns-else-splits-clause-next : goal.returns-else-splits-clause-next
+returns-else-splits-clause-next g c =
+    let e = c.in-Ok-Some.ensures in
+    turn_next g.W.WordClass.word_chars c.args.self.now.program.now c.matches.self.program.now c.args.self.now.input c.matches.self.input
+    c.args.self.now.last_end c.matches.self.last_end c.matches.invariant.turn
+    c.advance.new.self.walk.run.items c.in-Ok-Some.found c.advance.new.captures
+    (rw c.in-Ok-Some.field-0-is at e.first) (rw c.in-Ok-Some.field-0-is at e.is_of)
+    c.advance.new.self.input c.advance.new.self.program.now c.advance.new.self.last_end
+    (rw c.in-Ok-Some.field-0-is at e.on) (ap (λ x. x.now) e.program) e.last
+    (c.repeats.ensures.no c.if-repeats.false) (c.splits.ensures.no c.if-splits.false)
+
+pub matches-preserved-then-repeats : goal.matches-preserved-then-repeats
+matches-preserved-then-repeats g c =
+    let e = c.in-Ok-Some.ensures in
+    let next : c.end-end-in-Ok-Some.result + 1 ≡ c.in-Ok-Some.found.span.end + 1 = ap (λ n. n + 1) c.end-end-in-Ok-Some.ensures.end in
+    record {
+      turn = turn_repeat g.W.WordClass.word_chars c.args.self.now.program.now c.matches.self.program.now c.args.self.now.input c.matches.self.input
+          c.args.self.now.last_end c.matches.self.last_end c.matches.invariant.turn
+          c.advance.new.self.walk.run.items c.in-Ok-Some.found c.advance.new.captures
+          (rw c.in-Ok-Some.field-0-is at e.first) (rw c.in-Ok-Some.field-0-is at e.is_of)
+          c.advance.new.self.input c.advance.new.self.program.now c.advance.new.self.last_end
+          (rw c.in-Ok-Some.field-0-is at e.on) (ap (λ x. x.now) e.program) e.last
+          c.set_start-then-repeats.new.self (c.repeats.ensures.yes c.if-repeats.true)
+          (c.set_start-then-repeats.ensures ∙ ap (λ n. from_start c.advance.new.self.input n) next);
+      program = e.program ∙ c.matches.invariant.program;
+      size = e.size ∙ c.matches.invariant.size;
+      groups = e.groups ∙ c.matches.invariant.groups;
+      slots = e.slots ∙ c.matches.invariant.slots;
+    }
+
+pub matches-preserved : goal.matches-preserved
+matches-preserved g c =
+    let e = c.in-Ok-Some.ensures in
+    let on : c.advance.new.self.input ≡ from_start c.matches.self.input c.in-Ok-Some.found.span.end = rw c.in-Ok-Some.field-0-is at e.on in
+    record {
+      turn = turn_split g.W.WordClass.word_chars c.args.self.now.program.now c.matches.self.program.now c.args.self.now.input c.matches.self.input
+          c.args.self.now.last_end c.matches.self.last_end c.matches.invariant.turn
+          c.advance.new.self.walk.run.items c.in-Ok-Some.found c.advance.new.captures
+          (rw c.in-Ok-Some.field-0-is at e.first) (rw c.in-Ok-Some.field-0-is at e.is_of)
+          c.advance.new.self.input c.advance.new.self.program.now c.advance.new.self.last_end
+          on (ap (λ x. x.now) e.program) e.last
+          c.set_start-then-splits.new.self c.after_split-next.result (c.splits.ensures.yes c.if-splits.true) (c.repeats.ensures.no c.if-repeats.false)
+          c.after_split-next.ensures.anchored
+          (λ mode. c.after_split-next.ensures.free mode ∙ ap (λ n. n + 1) c.end-end-in-Ok-Some.ensures.end)
+          c.set_start-then-splits.ensures;
+      program = e.program ∙ c.matches.invariant.program;
+      size = e.size ∙ c.matches.invariant.size;
+      groups = e.groups ∙ c.matches.invariant.groups;
+      slots = e.slots ∙ c.matches.invariant.slots;
+    }
+
+pub invariant_of-self-then-splits : goal.invariant_of-self-then-splits
+invariant_of-self-then-splits g c =
+    let e = search_in g.W.WordClass.word_chars c.advance.new.self.program.now c.advance.new.self.input in
+    let seen = is_flagged e c.advance.new.self.walk.visited in
+    let next = c.after_split-next.result in
+    let on : c.advance.new.self.input ≡ from_start c.matches.self.input c.in-Ok-Some.found.span.end =
+    rw c.in-Ok-Some.field-0-is at c.in-Ok-Some.ensures.on in
+    let at : c.advance.new.self.input.span.start ≡ c.in-Ok-Some.found.span.end = ap (λ (x : InputParts). x.span.start) on in
+    let up : c.advance.new.self.input.span.start ≤ next = omega (arith, at, c.end-end-in-Ok-Some.ensures.end, c.after_split-next.ensures.on) in
+    let start : c.set_start-then-splits.new.self.span.start ≡ next = ap (λ (x : InputParts). x.span.start) c.set_start-then-splits.ensures in
+    record {
+      room = rw c.set_start-then-splits.ensures (fewer_flags e next c.advance.new.self.walk.visited up c.advance.new.self.room);
+      closed = rw c.set_start-then-splits.ensures (even_later e next seen up c.advance.new.self.closed);
+      order = λ x is. omega (arith, c.advance.new.self.order x is, up, start);
+    }

@@ -1,0 +1,50 @@
+-- Runs that are matches.
+use Rattle.std.specs.Prelude.{◌≡◌, ℕ, ◌-◌, ◌<◌, ◌==◌, Bool, true, false, List, length, slice_get, slice_index_or, Option, Some, None}
+use Rattle.rsc_nfa.specs.declared.state.State.{State}
+use Rattle.rsc_nfa.specs.declared.state.State.TheVariants.{Accept}
+use Rattle.rsc_search.specs.Modes.{pattern_of}
+use Rattle.rsc_search.specs.Matches.{Matched}
+use Rattle.rsc_nfa.specs.Steps.{IsStep, IsRun, IsWithin, place, recorded}
+use Rattle.rsc_engine.specs.Searches.{Search}
+
+-- a step leads from the one state and position to the other
+abbrev pub Leads : Search → ℕ × ℕ → ℕ × ℕ → Type 0
+Leads e p q = IsStep e.states e.terminator e.words e.haystack e.end p q
+
+-- the state is there, and the position is in the span
+abbrev pub IsPlace : Search → ℕ × ℕ → Type 0
+IsPlace e p = IsWithin e.states e.start e.end p
+
+-- the pattern may match
+abbrev pub is_wanted : Option ℕ → ℕ → Bool
+is_wanted None q = true
+is_wanted (Some p) q = p == q
+
+-- the state accepts a pattern that may match
+abbrev pub is_accepting : Option ℕ → Option State → Bool
+is_accepting wanted (Some (Accept q)) = is_wanted wanted q
+is_accepting wanted _ = false
+
+abbrev pub accepts : Search → ℕ × ℕ → Bool
+accepts e p = is_accepting (pattern_of e.mode) (slice_get e.states p.0)
+
+-- the list is a run from a place to a match
+pub record IsMatchRun (e : Search) (from : ℕ × ℕ) (run : List (ℕ × ℕ)) : Type 0 where
+  pub is_run : IsRun e.states e.terminator e.words e.haystack e.start e.end run
+  pub some : 0 < length run
+  pub begins : place run 0 ≡ from
+  pub ends : accepts e (place run (length run - 1)) ≡ true
+
+-- no run leads to a match from the state at which matches begin, at the position
+abbrev pub HasNoMatch : Search → ℕ → Type 0
+HasNoMatch e at = (run : List (ℕ × ℕ)) → ¬ (IsMatchRun e (e.first, at) run)
+
+-- the match has the ends of the run and the pattern of its last state
+pub record IsMatchOf (e : Search) (run : List (ℕ × ℕ)) (found : Matched) : Type 0 where
+  pub pattern : slice_get e.states (place run (length run - 1)).0 ≡ Some (Accept found.pattern)
+  pub start : found.span.start ≡ (place run 0).1
+  pub end : found.span.end ≡ (place run (length run - 1)).1
+
+-- each slot holds what the run records in it
+abbrev pub AreRecords : Search → List (ℕ × ℕ) → List (Option ℕ) → Type 0
+AreRecords e run slots = (s : ℕ) → s < length slots → slice_index_or slots s None ≡ recorded e.states run s

@@ -1,0 +1,60 @@
+//! Why there is no program, or no answer.
+ghost use Rattle.std.specs.Prelude.{◌≡◌};
+ghost use Rattle.rsc_engine.specs.declared.error.Error.TheVariants.{OutOfMemory, Faulty};
+
+use rsc_nfa::BuildError;
+use std::alloc::{AllocError, AllocFailed};
+use std::fmt;
+
+/// Why there is no program, or no answer.
+#[derive(Debug, Drop)]
+pub enum Error {
+    /// Out of memory.
+    OutOfMemory,
+    /// A class of bytes without a range.
+    EmptyClass,
+    /// Group names that no pattern may have, as one name twice.
+    Names,
+    /// A state that no automaton may have, as one with a range whose first byte is above its last.
+    Faulty,
+    /// More states, or states times positions, than there are numbers for.
+    TooLarge,
+}
+
+impl fmt::Display for Error {
+    fn fmt<W: fmt::Write>(&self, f: &mut fmt::Formatter<W>) -> fmt::Result {
+        match self {
+            Error::OutOfMemory => write!(f, "out of memory"),
+            Error::EmptyClass => write!(f, "a class of bytes without a range"),
+            Error::Names => write!(f, "faulty group names"),
+            Error::Faulty => write!(f, "a faulty state"),
+            Error::TooLarge => write!(f, "too large"),
+        }
+    }
+}
+
+impl std::error::Error for Error {}
+
+impl From<AllocError> for Error {
+    ghost from_gives = { λ _ e. e ≡ OutOfMemory };
+
+    fn from(_error: AllocError) -> Error {
+        Error::OutOfMemory
+    }
+}
+
+impl<T: Drop> From<AllocFailed<T>> for Error {
+    ghost from_gives = { λ _ e. e ≡ OutOfMemory };
+
+    fn from(_error: AllocFailed<T>) -> Error {
+        Error::OutOfMemory
+    }
+}
+
+impl From<BuildError> for Error {
+    ghost from_gives = { λ _ e. e ≡ Faulty };
+
+    fn from(_fault: BuildError) -> Error {
+        Error::Faulty
+    }
+}

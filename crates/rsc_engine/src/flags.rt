@@ -1,0 +1,116 @@
+//! A list of flags, 64 to a block.
+ghost use Rattle.std.specs.Prelude.{◌≡◌, ◌≢◌, ◌+◌, ◌<◌, ◌≤◌, ◌==◌, ℕ, IfOk, false, true, length, replicate, slice_index_or, slice_set};
+ghost use Rattle.std.specs.Int.{bit_at};
+
+use crate::Error;
+use std::alloc::Global;
+use std::marker::Model;
+
+const BITS: usize = 64;
+
+/// A list of flags, of as many as it was made with.
+#[derive(Drop)]
+pub struct Flags {
+    blocks: Vec<u64>,
+    count: usize,
+}
+
+impl Model for Flags {
+    ghost use Rattle.std.specs.Prelude.{◌*◌, ◌≤◌, List, Bool, length};
+    ghost use Rattle.rsc_engine.specs.Flags.{flags_of};
+
+    ghost Value = { List Bool };
+
+    ghost view = { λ f. flags_of f.count f.blocks.items };
+
+    ghost invariant = { λ f. f.count ≤ 64 * length f.blocks.items };
+}
+
+impl Flags {
+    /// That many flags, none of them set.
+    pub fn new(alloc: Global, count: usize) -> Result<Flags, Error>
+        ensures length { IfOk result (λ flags. length flags ≡ count) }
+        ensures none { IfOk result (λ flags. (n : ℕ) → slice_index_or flags n false ≡ false) }
+    {
+        Ok(Flags {
+            blocks: no_blocks(alloc, count.div_ceil(BITS))?,
+            count,
+        })
+    }
+
+    /// How many flags there are.
+    #[inline(always)]
+    pub fn len(&self) -> usize
+        ensures { result ≡ length self.now }
+    {
+        self.count
+    }
+
+    /// Whether a flag is set.
+    #[inline(always)]
+    pub fn get(&self, n: usize) -> bool
+        requires { n < length self.now }
+        ensures { result ≡ slice_index_or self.now n false }
+    {
+        has_bit(self.blocks[n / BITS], n % BITS)
+    }
+
+    /// Sets a flag.
+    #[inline(always)]
+    pub fn set(&mut self, n: usize)
+        requires { n < length self.old }
+        ensures { self.new ≡ slice_set self.old n true }
+    {
+        let at = n / BITS;
+        self.blocks[at] = with_bit(self.blocks[at], n % BITS);
+    }
+
+    /// Clears the flags from one number up to another.
+    pub fn clear(&mut self, first: usize, end: usize)
+        requires { end ≤ length self.old }
+        ensures length { length self.new ≡ length self.old }
+        ensures out { (n : ℕ) → first ≤ n → n < end → slice_index_or self.new n false ≡ false }
+        ensures kept { (n : ℕ) → n < first → slice_index_or self.new n false ≡ slice_index_or self.old n false }
+    {
+        'clears: for n in first..end {
+            let at = n / BITS;
+            self.blocks[at] = without_bit(self.blocks[at], n % BITS);
+        }
+    }
+}
+
+// That many blocks of zero.
+fn no_blocks(alloc: Global, count: usize) -> Result<Vec<u64>, Error>
+    ensures { IfOk result (λ blocks. blocks.items ≡ replicate count 0) }
+{
+    Ok(vec![in alloc; 0; count]?)
+}
+
+// Whether a bit is set.
+#[inline(always)]
+fn has_bit(block: u64, i: usize) -> bool
+    requires { i < 64 }
+    ensures { result ≡ (bit_at block i == 1) }
+{
+    (block >> i) & 1 == 1
+}
+
+// The block with a bit set.
+#[inline(always)]
+fn with_bit(block: u64, i: usize) -> u64
+    requires { i < 64 }
+    ensures set { bit_at result i ≡ 1 }
+    ensures kept { (j : ℕ) → j ≢ i → bit_at result j ≡ bit_at block j }
+{
+    block | (1 << i)
+}
+
+// The block with a bit cleared.
+#[inline(always)]
+fn without_bit(block: u64, i: usize) -> u64
+    requires { i < 64 }
+    ensures out { bit_at result i ≡ 0 }
+    ensures kept { (j : ℕ) → j < 64 → j ≢ i → bit_at result j ≡ bit_at block j }
+{
+    block & !(1 << i)
+}

@@ -1,0 +1,241 @@
+//! The first match, and all matches one after the other.
+ghost use Rattle.std.specs.Prelude.{◌≡◌, ◌+◌, ◌*◌, ◌^◌, ◌<◌, ◌≤◌, ◌⊎◌, ℕ, IfOk, IfErr, IfSome, IfNone, OnErr, MatchOption, None, Some, false, true, length, slice_index_or};
+ghost use Rattle.std.specs.Option.{ForSome};
+ghost use Rattle.rsc_captures.specs.Captured.{no_offsets};
+ghost use Rattle.rsc_search.specs.declared.anchored.Anchored.TheVariants.{No};
+ghost use Rattle.rsc_primitives.specs.Utf8.{IsBoundary};
+ghost use Rattle.rsc_engine.specs.declared.error.Error.TheVariants.{OutOfMemory, TooLarge};
+ghost use Rattle.rsc_engine.specs.Searches.{search_in};
+ghost use Rattle.rsc_engine.specs.Groups.{IsInSpan};
+ghost use Rattle.rsc_engine.specs.Preferred.{IsLeftmostFirst, IsFirstMatch, IsOf, HasNone};
+ghost use Rattle.rsc_engine.specs.NextMatches.{IsNext, IsOver, IsNextMatch, from_start};
+ghost use Rattle.rsc_engine.specs.Walks.{HasFlags, IsClosed, is_flagged};
+
+use crate::backtrack::Walk;
+use crate::groups::write_match;
+use crate::{Error, Program};
+use rsc_captures::Captures;
+use rsc_look::WordClass;
+use rsc_search::{Input, Match};
+use std::alloc::Global;
+use std::marker::Model;
+
+/// The leftmost-first match in an input's span: of the matches that begin first, the one that the forks prefer. Its groups are in
+/// the captures afterwards; without a match no slot is set.
+///
+/// An anchored input's match begins at the span's start, and with `Anchored::Pattern` only that pattern may match.
+///
+/// # Errors
+///
+/// Out of memory, or `TooLarge` where the span has too many positions for the number of states.
+pub fn find<W: WordClass>(
+    alloc: Global,
+    program: &Program<W>,
+    input: &Input<'_>,
+    captures: &mut Captures,
+) -> Result<Option<Match>, Error>
+    ensures found { IfOk result (λ found. IfSome found (IsFirstMatch (search_in W.word_chars program.now input.now) captures.new)) }
+    ensures none { IfOk result (λ found. IfNone found (HasNone (search_in W.word_chars program.now input.now))) }
+    ensures groups { captures.new.groups ≡ captures.old.groups }
+    ensures slots { length captures.new.offsets ≡ length captures.old.offsets }
+    ensures unset { IfOk result (λ found. IfNone found (captures.new ≡ no_offsets captures.old.groups (length captures.old.offsets))) }
+{
+    captures.clear();
+    let mut walk = Walk::new(alloc, program, input)?;
+    if !walk.search(program, input)? {
+        return Ok(None);
+    }
+    Ok(Some(write_match(program, input, walk.run.as_slice(), captures)))
+}
+
+/// The matches in an input that are left, in order.
+///
+/// One walk serves all searches: a state is tried at a position again only where a match ended.
+#[derive(Drop)]
+pub struct Matches<'p, 'h, W: WordClass> {
+    rest: Rest<'p, 'h, W>,
+}
+
+impl<'p, 'h, W: WordClass> Model for Matches<'p, 'h, W> {
+    ghost use Rattle.rsc_engine.specs.NextMatches.{Left};
+
+    ghost Value = { Left W };
+
+    ghost view = { λ m. record { program = m.rest.program.now; input = m.rest.input; last = m.rest.last_end } };
+}
+
+impl<'p, 'h, W: WordClass> Matches<'p, 'h, W> {
+    /// All matches in an input's span.
+    ///
+    /// # Errors
+    ///
+    /// Out of memory, or `TooLarge` where the span has too many positions for the number of states.
+    pub fn new(
+        alloc: Global,
+        program: &'p Program<W>,
+        input: Input<'h>,
+    ) -> Result<Matches<'p, 'h, W>, Error>
+        ensures { IfOk result (λ m. m ≡ record { program = program.now; input = input.entry; last = None }) }
+    {
+        let walk = Walk::new(alloc, program, &input)?;
+        Ok(Matches {
+            rest: Rest {
+                program,
+                input,
+                walk,
+                last_end: None,
+            },
+        })
+    }
+
+    /// The next match, whose groups are in the captures afterwards; without one no slot is set. As in the original, a match is left
+    /// out that is empty and where the last one ended; and if the program's haystacks are text, one that is empty and within a
+    /// character. After the last one it is `None` for good.
+    ///
+    /// # Errors
+    ///
+    /// Out of memory. The next call looks for the same match.
+    pub fn next(&mut self, captures: &mut Captures) -> Result<Option<Match>, Error>
+        ensures found { IfOk result (λ found. IfSome found (IsNextMatch (search_in W.word_chars self.old.program self.old.input) self.old.last captures.new)) }
+        ensures none { IfOk result (λ found. IfNone found (IsOver (search_in W.word_chars self.old.program self.old.input) self.old.last)) }
+        ensures on { IfOk result (λ found. IfSome found (λ m.
+            self.new ≡ record self.old { input = from_start self.old.input m.span.end; last = Some m.span.end })) }
+        ensures over { IfOk result (λ found. IfNone found (self.new ≡ record self.old { input = from_start self.old.input (self.old.input.span.end + 1) })) }
+        ensures kept { OnErr result (self.new ≡ self.old) }
+        ensures memory { IfErr result (λ e. e ≡ OutOfMemory) }
+        ensures later { IfOk result (λ found. IfSome found (λ m. ForSome self.old.last (λ end. end < m.span.end))) }
+        ensures groups { captures.new.groups ≡ captures.old.groups }
+        ensures slots { length captures.new.offsets ≡ length captures.old.offsets }
+        ensures unset { IfOk result (λ found. IfNone found (captures.new ≡ no_offsets captures.old.groups (length captures.old.offsets))) }
+    {
+        self.rest.next(captures)
+    }
+}
+
+// What is left of an iteration.
+#[derive(Drop)]
+struct Rest<'p, 'h, W: WordClass> {
+    program: &'p Program<W>,
+    input: Input<'h>,
+    walk: Walk,
+    last_end: Option<usize>,
+    ghost room: { HasFlags (search_in W.word_chars program.now input) walk.visited },
+    ghost closed: { IsClosed (search_in W.word_chars program.now input) (is_flagged (search_in W.word_chars program.now input) walk.visited) },
+    ghost order: { ForSome last_end (λ end. end ≤ input.span.start) },
+}
+
+impl<'p, 'h, W: WordClass> Rest<'p, 'h, W> {
+    // The next match.
+    fn next(&mut self, captures: &mut Captures) -> Result<Option<Match>, Error>
+        ensures next { IfOk result (λ found. IfSome found (λ m.
+            IsNext (search_in W.word_chars self.old.program.now self.old.input) self.old.last_end self.new.walk.run.items)) }
+        ensures is_of { IfOk result (λ found. IfSome found (λ m.
+            IsOf (search_in W.word_chars self.old.program.now self.old.input) self.new.walk.run.items m captures.new)) }
+        ensures none { IfOk result (λ found. IfNone found (IsOver (search_in W.word_chars self.old.program.now self.old.input) self.old.last_end)) }
+        ensures on { IfOk result (λ found. IfSome found (λ m. self.new.input ≡ from_start self.old.input m.span.end)) }
+        ensures over { IfOk result (λ found. IfNone found (self.new.input ≡ from_start self.old.input (self.old.input.span.end + 1))) }
+        ensures kept { OnErr result (self.new.input ≡ self.old.input) }
+        ensures program { self.new.program ≡ self.old.program }
+        ensures memory { IfErr result (λ e. e ≡ OutOfMemory) }
+        ensures later { IfOk result (λ found. IfSome found (λ m. ForSome self.old.last_end (λ end. end < m.span.end))) }
+        ensures last { IfOk result (λ found. MatchOption found (self.new.last_end ≡ self.old.last_end) (λ m. self.new.last_end ≡ Some m.span.end)) }
+        ensures last_kept { OnErr result (self.new.last_end ≡ self.old.last_end) }
+        ensures groups { captures.new.groups ≡ captures.old.groups }
+        ensures slots { length captures.new.offsets ≡ length captures.old.offsets }
+        ensures unset { IfOk result (λ found. IfNone found (captures.new ≡ no_offsets captures.old.groups (length captures.old.offsets))) }
+    {
+        let start = self.input.start();
+        'matches: loop {
+            match self.advance(captures) {
+                Err(error) => {
+                    self.input.set_start(start);
+                    return Err(error);
+                }
+                Ok(None) => {
+                    let end = self.input.end();
+                    self.input.set_start(end + 1);
+                    return Ok(None);
+                }
+                Ok(Some(found)) => {
+                    let end = found.end();
+                    if self.repeats(&found) {
+                        self.input.set_start(end + 1);
+                    } else if self.splits(&found) {
+                        let next = self.after_split(end);
+                        self.input.set_start(next);
+                    } else {
+                        self.last_end = Some(end);
+                        return Ok(Some(found));
+                    }
+                }
+            }
+        }
+    }
+
+    // The leftmost-first match from the input's start on. The next one is looked for from its end on.
+    fn advance(&mut self, captures: &mut Captures) -> Result<Option<Match>, Error>
+        ensures first { IfOk result (λ found. IfSome found (λ m.
+            IsLeftmostFirst (search_in W.word_chars self.old.program.now self.old.input) self.new.walk.run.items)) }
+        ensures is_of { IfOk result (λ found. IfSome found (λ m.
+            IsOf (search_in W.word_chars self.old.program.now self.old.input) self.new.walk.run.items m captures.new)) }
+        ensures none { IfOk result (λ found. IfNone found (HasNone (search_in W.word_chars self.old.program.now self.old.input))) }
+        ensures within { IfOk result (λ found. IfSome found (IsInSpan self.old.input)) }
+        ensures on { IfOk result (λ found. IfSome found (λ m. self.new.input ≡ from_start self.old.input m.span.end)) }
+        ensures over { IfOk result (λ found. IfNone found (self.new.input ≡ self.old.input)) }
+        ensures kept { OnErr result (self.new.input ≡ self.old.input) }
+        ensures forgets { OnErr result ((n : ℕ) → slice_index_or self.new.walk.visited n false ≡ false) }
+        ensures size { length self.new.walk.visited ≡ length self.old.walk.visited }
+        ensures program { self.new.program ≡ self.old.program }
+        ensures memory { IfErr result (λ e. e ≡ OutOfMemory) }
+        ensures last { self.new.last_end ≡ self.old.last_end }
+        ensures groups { captures.new.groups ≡ captures.old.groups }
+        ensures slots { length captures.new.offsets ≡ length captures.old.offsets }
+        ensures unset { IfOk result (λ found. IfNone found (captures.new ≡ no_offsets captures.old.groups (length captures.old.offsets))) }
+    {
+        captures.clear();
+        if !self.walk.search(self.program, &self.input)? {
+            return Ok(None);
+        }
+        let found = write_match(
+            self.program,
+            &self.input,
+            self.walk.run.as_slice(),
+            captures,
+        );
+        self.input.set_start(found.end());
+        Ok(Some(found))
+    }
+
+    // Whether a match is empty, and where the last one ended.
+    fn repeats(&self, found: &Match) -> bool
+        ensures yes { result ≡ true → (found.now.span.start ≡ found.now.span.end) × (self.now.last_end ≡ Some found.now.span.end) }
+        ensures no { result ≡ false → found.now.span.start ≡ found.now.span.end → ¬ (self.now.last_end ≡ Some found.now.span.end) }
+    {
+        found.is_empty() && self.last_end == Some(found.end())
+    }
+
+    // Whether the haystack is text, and a match is empty and within a character.
+    fn splits(&self, found: &Match) -> bool
+        ensures yes { result ≡ true → (self.now.program.now.utf8 ≡ true) × (found.now.span.start ≡ found.now.span.end)
+            × (¬ (IsBoundary self.now.input.haystack found.now.span.end)) }
+        ensures no { result ≡ false → self.now.program.now.utf8 ≡ true → found.now.span.start ≡ found.now.span.end →
+            IsBoundary self.now.input.haystack found.now.span.end }
+    {
+        self.program.is_utf8() && found.is_empty() && !self.input.is_char_boundary(found.end())
+    }
+
+    // Where the search goes on after an empty match within a character: as in the original, nowhere if it's anchored.
+    fn after_split(&self, end: usize) -> usize
+        requires { end ≤ self.now.input.span.end }
+        ensures on { end < result }
+        ensures anchored { ¬ (self.now.input.anchored ≡ No) → result ≡ self.now.input.span.end + 1 }
+        ensures free { self.now.input.anchored ≡ No → result ≡ end + 1 }
+    {
+        let last = self.input.end();
+        if self.input.get_anchored().is_anchored() {
+            last + 1
+        } else {
+            end + 1
+        }
+    }
+}

@@ -1,0 +1,83 @@
+//! A program: an automaton, and where a match begins in it.
+ghost use Rattle.std.specs.Prelude.{◌≡◌, ◌<◌, ◌≤◌, IfSome, IfNone, Some, length, slice_get};
+ghost use Rattle.rsc_nfa.specs.Automata.{Automaton};
+ghost use Rattle.rsc_engine.specs.Searches.{Compiled, IsStateOf};
+
+use rsc_look::WordClass;
+use rsc_nfa::{Nfa, State};
+use rsc_primitives::StateID;
+use std::marker::Model;
+
+/// An automaton, the state at which each match begins, and whether haystacks are text.
+#[derive(Drop)]
+pub struct Program<W: WordClass> {
+    nfa: Nfa<W>,
+    start: StateID,
+    utf8: bool,
+}
+
+impl<W: WordClass> Model for Program<W> {
+    ghost Value = { Compiled W };
+
+    ghost view = { λ p. record { automaton = p.nfa; start = p.start; utf8 = p.utf8 } };
+
+    ghost invariant = { λ p. p.start < length p.nfa.states };
+}
+
+impl<W: WordClass> Program<W> {
+    /// The program of an automaton whose matches begin at the state, or `None` if it has no such state. If haystacks are text, an
+    /// iteration leaves out empty matches within characters.
+    pub fn new(nfa: Nfa<W>, start: StateID, utf8: bool) -> Option<Program<W>>
+        ensures made { IfSome result (λ p. p ≡ record { automaton = nfa; start = start; utf8 = utf8 }) }
+        ensures none { IfNone result (length nfa.states ≤ start) }
+    {
+        if start.as_usize() < nfa.states().len() {
+            Some(Program { nfa, start, utf8 })
+        } else {
+            None
+        }
+    }
+
+    /// The automaton.
+    #[inline]
+    pub fn nfa(&self) -> &Nfa<W>
+        ensures { result.now ≡ self.now.automaton }
+    {
+        &self.nfa
+    }
+
+    /// The state at which each match begins.
+    #[inline]
+    pub fn start(&self) -> StateID
+        ensures start { result ≡ self.now.start }
+        ensures there { result < length self.now.automaton.states }
+    {
+        self.start
+    }
+
+    /// Whether haystacks are text, so that an iteration leaves out empty matches within characters.
+    #[inline]
+    pub fn is_utf8(&self) -> bool
+        ensures { result ≡ self.now.utf8 }
+    {
+        self.utf8
+    }
+
+    /// How many states there are.
+    #[inline]
+    pub fn len(&self) -> usize
+        ensures { result ≡ length self.now.automaton.states }
+    {
+        self.nfa.states().len()
+    }
+
+    /// A state by its number.
+    #[inline]
+    pub fn state(&self, sid: StateID) -> State
+        requires { sid < length self.now.automaton.states }
+        ensures state { slice_get self.now.automaton.states sid ≡ Some result }
+        ensures sound { IsStateOf self.now.automaton.groups (length self.now.automaton.states) result }
+    {
+        self.nfa.states()[sid.as_usize()]
+    }
+}

@@ -1,0 +1,5 @@
+mod build;
+mod made;
+mod matches;
+mod model;
+mod rows;

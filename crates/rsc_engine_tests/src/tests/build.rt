@@ -1,0 +1,184 @@
+//! What the builder makes.
+use super::made::{all, first};
+use rsc_captures::Captures;
+use rsc_engine::{Builder, Error, Part, Program, find};
+use rsc_look::{AsciiWord, Look};
+use rsc_primitives::PatternID;
+use rsc_search::{Anchored, Input, Span};
+use std::alloc::Global;
+use std::test::Fail;
+
+// `(?P<both>a(b)?)+`
+fn groups(alloc: Global) -> Result<Program<AsciiWord>, Error> {
+    let mut builder = Builder::new(alloc)?;
+    let one = builder.literal(b"a")?;
+    let other = builder.range(b'b', b'b')?;
+    let other = builder.group(None, other)?;
+    let other = builder.optional(other)?;
+    let both = builder.then(one, other);
+    let both = builder.group(Some("both"), both)?;
+    let whole = builder.plus(both)?;
+    builder.build(AsciiWord, true, whole)
+}
+
+#[test]
+fn groups_of_the_last_round_count(rt: HostRuntime) -> Result<(), Fail> {
+    let program = groups(rt.alloc())?;
+    let mut captures = Captures::all(rt.alloc(), program.nfa().group_info().clone()?)?;
+    let found = find(rt.alloc(), &program, &Input::new(b"-aba"), &mut captures)?;
+    assert!(rt; found.map(|m| m.span()) == Some(Span { start: 1, end: 4 }));
+    assert!(rt; captures.get_group_by_name("both") == Some(Span { start: 3, end: 4 }));
+    assert!(rt; captures.get_group(1) == Some(Span { start: 2, end: 3 }));
+    Ok(())
+}
+
+// `[ab]|c` of classes
+fn class(alloc: Global) -> Result<Program<AsciiWord>, Error> {
+    let mut builder = Builder::new(alloc)?;
+    let class = builder.class(&[(b'a', b'a'), (b'b', b'b')])?;
+    let other = builder.literal(b"c")?;
+    let either = builder.either(class, other)?;
+    let whole = builder.concat(&[either])?;
+    builder.build(AsciiWord, true, whole)
+}
+
+#[test]
+fn classes_take_one_byte(rt: HostRuntime) -> Result<(), Fail> {
+    let program = class(rt.alloc())?;
+    let found = all(rt.alloc(), &program, Input::new(b"bdca"))?;
+    assert!(rt; found.as_slice() == [(0, 1), (2, 3), (3, 4)].as_slice());
+    assert!(rt; first(rt.alloc(), &program, &Input::new(b"d"))? == None);
+    Ok(())
+}
+
+#[test]
+fn refuses_a_class_without_a_range(rt: HostRuntime) -> Result<(), Fail> {
+    let mut builder = Builder::new(rt.alloc())?;
+    assert!(rt; matches!(builder.class(&[]), Err(Error::EmptyClass)));
+    Ok(())
+}
+
+// `(?:^|a)*` of lines: what is repeated can match nothing.
+fn repeated_nothing(alloc: Global) -> Result<Program<AsciiWord>, Error> {
+    let mut builder = Builder::new(alloc)?;
+    let start = builder.look(Look::StartLF)?;
+    let a = builder.literal(b"a")?;
+    let either = builder.either(start, a)?;
+    let whole = builder.star(either)?;
+    builder.build(AsciiWord, true, whole)
+}
+
+#[test]
+fn a_star_of_what_can_be_empty_is_a_plus_or_nothing(rt: HostRuntime) -> Result<(), Fail> {
+    let program = repeated_nothing(rt.alloc())?;
+    let found = all(rt.alloc(), &program, Input::new(b"a\naaa\n"))?;
+    let want = [(0, 0), (1, 1), (2, 2), (3, 5), (6, 6)];
+    assert!(rt; found.as_slice() == want.as_slice(), "{found:?}");
+    Ok(())
+}
+
+// A repetition of `a`, by its number.
+fn repetition(builder: &mut Builder<'_>, number: usize, part: Part) -> Result<Part, Error> {
+    match number {
+        0 => builder.star(part),
+        1 => builder.star_lazy(part),
+        2 => builder.plus(part),
+        3 => builder.plus_lazy(part),
+        4 => builder.optional(part),
+        5 => builder.optional_lazy(part),
+        6 => builder.repeat(part, 2, Some(3)),
+        7 => builder.repeat_lazy(part, 2, Some(3)),
+        8 => builder.repeat(part, 2, None),
+        9 => builder.repeat_lazy(part, 0, None),
+        10 => builder.repeat(part, 3, Some(1)),
+        _ => builder.repeat(part, 0, Some(0)),
+    }
+}
+
+#[test]
+fn repeats_as_often_as_is_asked(rt: HostRuntime) -> Result<(), Fail> {
+    for (number, end) in [
+        (0, 4),
+        (1, 0),
+        (2, 4),
+        (3, 1),
+        (4, 1),
+        (5, 0),
+        (6, 3),
+        (7, 2),
+        (8, 4),
+        (9, 0),
+        (10, 3),
+        (11, 0),
+    ] {
+        let mut builder = Builder::new(rt.alloc())?;
+        let part = builder.literal(b"a")?;
+        let whole = repetition(&mut builder, number, part)?;
+        let program = builder.build(AsciiWord, true, whole)?;
+        let found = first(rt.alloc(), &program, &Input::new(b"aaaa"))?;
+        assert!(rt; found == Some((0, end)), "{number}: {found:?}");
+    }
+    Ok(())
+}
+
+// `((a)|\xFF|never)`, whose outer group is opened first
+fn nested(alloc: Global) -> Result<Program<AsciiWord>, Error> {
+    let mut builder = Builder::new(alloc)?;
+    let outer = builder.open(Some("outer"))?;
+    let inner = builder.open(Some("inner"))?;
+    let a = builder.literal(b"a")?;
+    let a = builder.close(inner, a)?;
+    let last = builder.literal(b"\xFF")?;
+    let never = builder.never()?;
+    let either = builder.either(a, last)?;
+    let either = builder.either(either, never)?;
+    let whole = builder.close(outer, either)?;
+    builder.build(AsciiWord, false, whole)
+}
+
+#[test]
+fn groups_are_numbered_where_they_open(rt: HostRuntime) -> Result<(), Fail> {
+    let program = nested(rt.alloc())?;
+    let info = program.nfa().group_info();
+    assert!(rt; info.to_index(PatternID::ZERO, "outer") == Some(1));
+    assert!(rt; info.to_index(PatternID::ZERO, "inner") == Some(2));
+    let found = all(rt.alloc(), &program, Input::new(b"a\xFFb"))?;
+    assert!(rt;
+        found.as_slice() == [(0, 1), (1, 2)].as_slice(),
+        "{found:?}"
+    );
+    Ok(())
+}
+
+// `(?P<x>ab)` and `(?P<x>a)`
+fn patterns(alloc: Global) -> Result<Program<AsciiWord>, Error> {
+    let mut builder = Builder::new(alloc)?;
+    let one = builder.literal(b"ab")?;
+    let one = builder.group(Some("x"), one)?;
+    builder.pattern(one)?;
+    let other = builder.literal(b"a")?;
+    let other = builder.group(Some("x"), other)?;
+    builder.build(AsciiWord, true, other)
+}
+
+#[test]
+fn builds_several_patterns(rt: HostRuntime) -> Result<(), Fail> {
+    let program = patterns(rt.alloc())?;
+    let mut captures = Captures::all(rt.alloc(), program.nfa().group_info().clone()?)?;
+    for (mode, pattern, end) in [
+        (Anchored::No, 0, 2),
+        (Anchored::Pattern(PatternID::must(1)), 1, 1),
+    ] {
+        let input = Input::new(b"ab").anchored(mode);
+        let found = find(rt.alloc(), &program, &input, &mut captures)?;
+        assert!(rt;
+            found.map(|m| (m.pattern().as_usize(), m.end())) == Some((pattern, end)),
+            "{mode:?}"
+        );
+        assert!(rt;
+            captures.get_group_by_name("x") == Some(Span { start: 0, end }),
+            "{mode:?}"
+        );
+    }
+    Ok(())
+}

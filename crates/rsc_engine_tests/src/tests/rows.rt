@@ -1,0 +1,138 @@
+//! Worked rows of `find`.
+use super::made::{accept, assertion, byte, capture, first, fork, program};
+use rsc_captures::Captures;
+use rsc_engine::{Program, find};
+use rsc_look::{AsciiWord, Look};
+use rsc_nfa::State;
+use rsc_primitives::{PatternID, StateID};
+use rsc_search::{Anchored, Input, Span};
+use std::alloc::Global;
+use std::test::Fail;
+
+// `a|ab`, `ab|a` and `b|ab`
+fn alternatives(number: usize) -> [State; 6] {
+    match number {
+        0 => [
+            fork(1, 3),
+            byte(b'a', 2),
+            accept(0),
+            byte(b'a', 4),
+            byte(b'b', 2),
+            accept(0),
+        ],
+        1 => [
+            fork(1, 4),
+            byte(b'a', 2),
+            byte(b'b', 3),
+            accept(0),
+            byte(b'a', 5),
+            accept(0),
+        ],
+        _ => [
+            fork(1, 3),
+            byte(b'b', 2),
+            accept(0),
+            byte(b'a', 4),
+            byte(b'b', 5),
+            accept(0),
+        ],
+    }
+}
+
+#[test]
+fn prefers_the_first_way_of_the_leftmost(rt: HostRuntime) -> Result<(), Fail> {
+    for (number, text, expected) in [
+        (0, "xab", Some((1, 2))),
+        (1, "xab", Some((1, 3))),
+        (2, "xab", Some((1, 3))),
+        (2, "xa", None),
+    ] {
+        let program = program(rt.alloc(), &alternatives(number), true)?;
+        let found = first(rt.alloc(), &program, &Input::new(text.as_bytes()))?;
+        assert!(rt; found == expected, "{number}: {found:?}");
+    }
+    Ok(())
+}
+
+#[test]
+fn searches_the_span_and_looks_beyond_it(rt: HostRuntime) -> Result<(), Fail> {
+    // \bb
+    let states = [assertion(Look::WordAscii, 1), byte(b'b', 2), accept(0)];
+    let program = program(rt.alloc(), &states, true)?;
+    for (start, end, mode, expected) in [
+        (0, 4, Anchored::No, Some((3, 4))),
+        (1, 3, Anchored::No, None),
+        (2, 4, Anchored::Yes, None),
+        (3, 4, Anchored::Yes, Some((3, 4))),
+        (4, 3, Anchored::No, None),
+    ] {
+        let input = Input::new(b"ab b").span(Span { start, end }).anchored(mode);
+        let found = first(rt.alloc(), &program, &input)?;
+        assert!(rt; found == expected, "{start}..{end}: {found:?}");
+    }
+    Ok(())
+}
+
+// Two patterns, `ab` and `a`: the first is preferred.
+fn two_patterns(alloc: Global) -> Result<Program<AsciiWord>, Fail> {
+    let states = [
+        fork(1, 6),
+        capture(0, 2),
+        byte(b'a', 3),
+        byte(b'b', 4),
+        capture(1, 5),
+        accept(0),
+        capture(2, 7),
+        byte(b'a', 8),
+        capture(3, 9),
+        accept(1),
+    ];
+    program(alloc, &states, true)
+}
+
+#[test]
+fn finds_one_pattern_of_several(rt: HostRuntime) -> Result<(), Fail> {
+    let program = two_patterns(rt.alloc())?;
+    let mut captures = Captures::all(rt.alloc(), program.nfa().group_info().clone()?)?;
+    for (mode, pattern, end) in [
+        (Anchored::No, 0, 2),
+        (Anchored::Yes, 0, 2),
+        (Anchored::Pattern(PatternID::ZERO), 0, 2),
+        (Anchored::Pattern(PatternID::must(1)), 1, 1),
+    ] {
+        let found = find(
+            rt.alloc(),
+            &program,
+            &Input::new(b"ab").anchored(mode),
+            &mut captures,
+        )?;
+        assert!(rt;
+            found.map(|m| (m.pattern().as_usize(), m.start(), m.end())) == Some((pattern, 0, end)),
+            "{mode:?}"
+        );
+        assert!(rt;
+            captures.get_group(0) == Some(Span { start: 0, end }),
+            "{mode:?}"
+        );
+    }
+    Ok(())
+}
+
+#[test]
+fn clears_the_captures_without_a_match(rt: HostRuntime) -> Result<(), Fail> {
+    let program = two_patterns(rt.alloc())?;
+    let mut captures = Captures::all(rt.alloc(), program.nfa().group_info().clone()?)?;
+    captures.set_pattern(Some(PatternID::ZERO));
+    let input = Input::new(b"ab").anchored(Anchored::Pattern(PatternID::must(2)));
+    let found = find(rt.alloc(), &program, &input, &mut captures)?;
+    assert!(rt; found == None && !captures.is_match());
+    Ok(())
+}
+
+#[test]
+fn a_program_knows_where_it_begins(rt: HostRuntime) -> Result<(), Fail> {
+    let program = two_patterns(rt.alloc())?;
+    assert!(rt; program.start() == StateID::ZERO && program.len() == 10 && program.is_utf8());
+    assert!(rt; program.state(StateID::must(9)) == accept(1));
+    Ok(())
+}
