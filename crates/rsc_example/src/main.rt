@@ -1,26 +1,27 @@
-//! An example, not part of the search core: a small regex engine over the contracts of the libraries, and a program that runs it.
+//! An example: a program over `rsc_engine`, which prints the matches of several patterns.
 #![tactic(auto)]
 
-pub mod backtrack;
-pub mod builder;
-pub mod dfa;
-pub mod error;
-pub mod iterate;
+mod calls;
 mod patterns;
-pub mod program;
 mod texts;
 
-pub use builder::{Builder, Part};
-pub use dfa::Dfa;
-pub use error::Error;
-pub use iterate::Matches;
-pub use program::Program;
 use rsc_captures::Captures;
+use rsc_engine::{Builder, Error, Matches};
 use rsc_look::UnicodeWord;
 use rsc_search::Input;
+use std::env;
 use std::process::ExitCode;
 
 fn main(rt: HostRuntime) -> ExitCode {
+    // With an argument it answers lines of calls instead.
+    if let Ok(arguments) = env::args(&rt) {
+        if arguments.len() > 1 {
+            return match calls::answer_all(&rt) {
+                Ok(()) => ExitCode::SUCCESS,
+                Err(_) => ExitCode::FAILURE,
+            };
+        }
+    }
     if let Err(error) = pairs(&rt, "größe=3, λόγος=слово; 漢字=字") {
         let _ = rt.println(error);
         return ExitCode::FAILURE;
@@ -37,17 +38,17 @@ fn pairs(rt: &HostRuntime, text: &str) -> Result<(), Error> {
     let word = builder.class(&patterns::WORD)?;
     let word = builder.plus(word)?;
     let key = builder.group(None, word)?;
-    let equals = builder.literal("=")?;
+    let equals = builder.literal(b"=")?;
     let word = builder.class(&patterns::WORD)?;
     let word = builder.plus(word)?;
     let value = builder.group(Some("value"), word)?;
     let whole = builder.concat(&[key, equals, value])?;
-    let program = builder.build(rt.alloc(), UnicodeWord, whole)?;
+    let program = builder.build(UnicodeWord, true, whole)?;
 
     let mut captures = Captures::all(rt.alloc(), program.nfa().group_info().clone()?)?;
-    let mut matches = Matches::new(Dfa::new(rt.alloc(), program)?, Input::new(text.as_bytes()));
+    let mut matches = Matches::new(rt.alloc(), &program, Input::new(text.as_bytes()))?;
     for _ in 0..=text.len() {
-        if matches.next(rt.alloc(), &mut captures)?.is_none() {
+        if matches.next(&mut captures)?.is_none() {
             break;
         }
         if let Some(value) = captures.get_group_by_name("value") {
