@@ -1,9 +1,9 @@
 -- Tables that are filled unit by unit.
-use Rattle.std.proofs.Common.{◌≡◌, ◌⊎◌, inl, inr, ⊎_elim, ℕ, zero, suc, ◌+◌, ◌<◌, ◌≤◌, Some, List, [], ◌∷◌, length, slice_index, slice_set, refl, sym, subst, ap, ◌∙◌, arith, slice_get, Contains, get_or-set_same, get_or-set_other}
+use Rattle.std.proofs.Common.{◌≡◌, ◌≢◌, ◌⊎◌, inl, inr, ⊎_elim, ℕ, zero, suc, ◌+◌, ◌<◌, ◌≤◌, Some, List, [], ◌∷◌, length, slice_index, slice_set, refl, sym, subst, ap, ◌∙◌, arith, slice_get, Contains, get_or-set_same, get_or-set_other}
 use Rattle.std.proofs.lemmas.Bool.{cases_eq, cases_lt}
 use Rattle.std.proofs.lemmas.Option.{slice_get_within, get_or_from_slice_get}
 use Rattle.rsc_alphabet.specs.Symbols.{Symbol, byte, number_of}
-use Rattle.rsc_uses.specs.Leads.{lead_of}
+use Rattle.rsc_uses.specs.Leads.{lead_of, lead_in}
 use Rattle.rsc_alphabet.specs.Iterators.{class_at, end_of, symbols}
 
 -- each unit is still to come, or its entry has its value
@@ -95,3 +95,17 @@ class_within classes u is rises =
     (λ (b : (b : ℕ) × ((b < 256) × (u ≡ byte b))). let most = rises b.0 b.1.0 in rw (b.1.1) (omega (arith, most)))
     (λ (e : u ≡ end_of classes). rw e (omega arith))
     is
+
+-- ---- a row of leads, one byte after the other
+
+-- one byte more
+pub lead_more : (leads : List ℕ) (ranges : List (ℕ × ℕ)) (n lead : ℕ) → n < length leads
+    → ((b : ℕ) → b < n → slice_index leads b ≡ lead_in ranges b) → lead ≡ lead_in ranges n
+    → (b : ℕ) → b < n + 1 → slice_index (slice_set leads n lead) b ≡ lead_in ranges b
+lead_more leads ranges n lead room so_far is b l =
+    ⊎_elim
+    (λ (low : b < n). let differ : b ≢ n = omega (arith, low) in get_or-set_other leads n b lead 0 differ ∙ so_far b low)
+    (λ (high : n ≤ b).
+    let here : b ≡ n = omega (arith, high, l) in
+    subst (λ x. slice_index (slice_set leads n lead) x ≡ lead_in ranges x) (sym here) (get_or-set_same leads n lead 0 room ∙ is))
+    (cases_lt b n)

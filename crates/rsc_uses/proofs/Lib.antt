@@ -4,3 +4,4 @@ mod LookLemmas  -- slices of bytes as lists of numbers below 256
 mod PrimitivesLemmas  -- how many bytes a character takes
 mod ReplacedLemmas  -- spans that are replaced by what they have already
 mod SearchLemmas  -- sums of a table's entries, modulo a number
+mod TokensLemmas  -- runs grow byte by byte, and a byte of another kind bounds them

@@ -1,8 +1,18 @@
 -- Where the units of an alphabet lead from a state.
-use Rattle.std.specs.Prelude.{ℕ, List, slice_index}
+use Rattle.std.specs.Prelude.{ℕ, Bool, List, slice_index, if◌then◌else◌}
+use Rattle.std.specs.List.{list_any}
+use Rattle.rsc_alphabet.specs.Ranges.{holds}
 use Rattle.rsc_alphabet.specs.Symbols.{Symbol, byte, end_of_input}
 
 -- a byte leads where its entry says, the end of the input to `end`
 abbrev pub lead_of : List ℕ → ℕ → Symbol → ℕ
 lead_of leads end (byte b) = slice_index leads b
 lead_of leads end (end_of_input n) = end
+
+-- one of the ranges holds the byte
+abbrev pub in_ranges : List (ℕ × ℕ) → ℕ → Bool
+in_ranges ranges b = list_any (λ r. holds r b) ranges
+
+-- a byte leads to 1 if one of the ranges holds it, and else to 0
+abbrev pub lead_in : List (ℕ × ℕ) → ℕ → ℕ
+lead_in ranges b = if in_ranges ranges b then 1 else 0

@@ -1,11 +1,13 @@
 //! Tables whose columns are the classes of bytes.
-ghost use Rattle.std.specs.Prelude.{◌≡◌, ◌↔◌, ◌+◌, ◌*◌, ◌^◌, ◌<◌, ◌≤◌, ℕ, IsTrue, IfSome, is_none, length, slice_get, slice_index, true};
+ghost use Rattle.std.specs.Prelude.{◌≡◌, ◌↔◌, ◌+◌, ◌*◌, ◌^◌, ◌<◌, ◌≤◌, ℕ, All, IsTrue, IfSome, is_none, length, slice_get, slice_index, true, if◌then◌else◌};
 ghost use Rattle.std.specs.FinSet as sets;
 ghost use Rattle.rsc_alphabet.specs.ByteSets.{members, runs};
 ghost use Rattle.rsc_alphabet.specs.Partitions.{ClassesRise, Together, class_map, edges_of_each};
 ghost use Rattle.std.specs.declared.ops.Bound.TheVariants.{Unbounded};
 ghost use Rattle.rsc_alphabet.specs.Iterators.{stride2_of, symbol_count, symbols, elements_of, representatives_of};
-ghost use Rattle.rsc_uses.specs.Leads.{lead_of};
+ghost use Rattle.std.specs.List.{Contains};
+ghost use Rattle.rsc_alphabet.specs.Ranges.{separates};
+ghost use Rattle.rsc_uses.specs.Leads.{lead_of, in_ranges, lead_in};
 
 use rsc_alphabet::{ByteClassSet, ByteClasses, ByteSet, Unit, classes_of_ranges, laws};
 use std::ops::Bound;
@@ -182,4 +184,62 @@ pub fn elements_have_the_class(map: &ByteClasses, class: u8) -> bool
         }
     }
     true
+}
+
+/// The classes of two partitions together: two bytes have one class exactly if neither partition parts them.
+pub fn joined_classes(some: &mut ByteClassSet, others: &ByteClassSet) -> ByteClasses
+    ensures classes { result ≡ class_map (sets.contains (sets.union some.old others.now)) }
+    ensures rise { ClassesRise result }
+{
+    some.union(others);
+    some.byte_classes()
+}
+
+/// Whether one of the ranges holds a byte.
+pub fn in_ranges(ranges: &[(u8, u8)], byte: u8) -> bool
+    ensures { result ≡ in_ranges ranges.now byte }
+{
+    ranges.iter().any(|r| r.0 <= byte && byte <= r.1)
+}
+
+// A row of 256 entries.
+fn no_leads() -> [u32; 256]
+    ensures { length result ≡ 256 }
+{
+    [0; 256]
+}
+
+// Where a byte leads that a range holds, or that none does.
+fn lead(is_held: bool) -> u32
+    ensures { result ≡ (if is_held then 1 else 0) }
+{
+    if is_held { 1 } else { 0 }
+}
+
+/// Where each byte leads: to 1 if one of the ranges holds it, and else to 0.
+pub fn leads_of(ranges: &[(u8, u8)]) -> [u32; 256]
+    ensures { (b : ℕ) → b < 256 → slice_index result b ≡ lead_in ranges.now b }
+{
+    let mut leads = no_leads();
+    for number in 0..256u16 {
+        leads[number as usize] = lead(in_ranges(ranges, number as u8));
+    }
+    leads
+}
+
+/// Classes for a list of ranges, and a row for some of the ranges, filled by one byte of each class alone: the entry of a byte's class is 1
+/// exactly if one of these ranges holds the byte.
+pub fn fill_from_ranges(all: &[(u8, u8)], part: &[(u8, u8)], row: &mut [u32]) -> ByteClasses
+    requires order { All (λ r. r.0 ≤ r.1) all.now }
+    requires among { (r : ℕ × ℕ) → Contains part.now r → Contains all.now r }
+    requires room { 257 ≤ length row.old }
+    ensures classes { result ≡ class_map (separates all.now) }
+    ensures entries { (b : ℕ) → b < 256 → slice_index row.new (slice_index result b) ≡ lead_in part.now b }
+{
+    laws::alike_bytes_share_their_ranges();
+    let map = classes_of_ranges(all);
+    let _count = map.alphabet_len();
+    let leads = leads_of(part);
+    fill_by_representatives(&map, &leads, 0, row);
+    map
 }

@@ -214,3 +214,15 @@ pub fn replace_all(
     text.extend_from_slice(&haystack[from..])?;
     Ok(text)
 }
+
+/// Sets a whole match and two groups, and leaves the spans of all other groups; whether it could.
+pub fn set_pair(captures: &mut Captures, whole: Span, name: Span, value: Span) -> bool
+    ensures whole { IsTrue result → group_span captures.new 0 ≡ Some whole }
+    ensures name { IsTrue result → group_span captures.new 1 ≡ Some name }
+    ensures value { IsTrue result → group_span captures.new 2 ≡ Some value }
+    ensures others { (other : ℕ) → 2 < other → group_span captures.new other ≡ group_span captures.old other }
+{
+    captures.set_group(0, Some(whole))
+        && captures.set_group(1, Some(name))
+        && captures.set_group(2, Some(value))
+}

@@ -15,3 +15,4 @@ pub mod search;
 #[cfg(test)]
 mod tests;
 pub mod threads;
+pub mod tokens;

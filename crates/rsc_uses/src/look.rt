@@ -1,18 +1,20 @@
 //! Assertions: words and lines of a haystack, words of one's own, and one partition for ranges and assertions.
-ghost use Rattle.std.specs.Prelude.{◌≡◌, ◌↔◌, ◌<◌, ◌≤◌, ◌∷◌, [], ℕ, Bool, List, All, IsTrue, IfOk, ◌==◌, ◌||◌, true, false, ◌+◌, length, slice_index};
+ghost use Rattle.std.specs.Prelude.{◌≡◌, ◌↔◌, ◌<◌, ◌≤◌, ◌∷◌, [], ℕ, Bool, List, All, IsTrue, IfOk, IfSome, ◌==◌, ◌||◌, ◌&&◌, nat_le, true, false, ◌+◌, length, slice_index};
+ghost use Rattle.std.specs.List.{list_any};
 ghost use Rattle.std.specs.FinSet as sets;
 ghost use Rattle.std.specs.Int.{is_in_range};
 ghost use Rattle.rsc_alphabet.specs.Partitions.{Together};
 ghost use Rattle.rsc_alphabet.specs.Ranges.{are_alike};
 ghost use Rattle.rsc_look.specs.declared.assertion.Look.{Look};
-ghost use Rattle.rsc_look.specs.Looks.{is_unicode};
+ghost use Rattle.rsc_look.specs.Looks.{is_unicode, repr_of};
 ghost use Rattle.rsc_look.specs.LookSets.{members};
-ghost use Rattle.rsc_look.specs.Holds.{Holds};
+ghost use Rattle.rsc_alphabet.specs.Symbols.{byte_of};
+ghost use Rattle.rsc_look.specs.Holds.{Holds, holds_at_bytes, byte_before, byte_after};
 ghost use Rattle.rsc_look.specs.Keeping.{IsCoarsestMap, Keeps, AgreesWhereAsked, AgreesWithAscii};
 ghost use Rattle.rsc_uses.specs.Listed.{IsListed};
 ghost use Rattle.rsc_uses.specs.declared.look.Letters.{Letters};
 
-use rsc_alphabet::{ByteClassSet, ByteClasses};
+use rsc_alphabet::{ByteClassSet, ByteClasses, Unit};
 use rsc_look::{Look, LookMatcher, LookSet, UnicodeWord, WordClass, laws};
 use rsc_search::Span;
 use std::alloc::{AllocError, Global};
@@ -182,4 +184,60 @@ pub fn agree<W: WordClass>(
 {
     laws::same_classes_change_nothing();
     matcher.matches(look, haystack, at) == matcher.matches(look, other, at)
+}
+
+/// Whether a word starts at a position, and whether a line does: each side of the position is read once.
+pub fn starts<W: WordClass>(matcher: &LookMatcher<W>, haystack: &[u8], at: usize) -> (bool, bool)
+    requires { at ≤ length haystack.now }
+    ensures word { IsTrue result.0 ↔ Holds Look.WordStartUnicode matcher.now.0 (W.word_chars matcher.now.1) haystack.now at }
+    ensures line { IsTrue result.1 ↔ Holds Look.StartLF matcher.now.0 (W.word_chars matcher.now.1) haystack.now at }
+{
+    let holding = matcher.holding(haystack, at);
+    (
+        holding.contains(Look::WordStartUnicode),
+        holding.contains(Look::StartLF),
+    )
+}
+
+/// What an entry of a table says of an assertion about bytes: whether it holds after the byte of the row, before the unit of the column.
+pub fn holds_in_entry<W: WordClass>(
+    matcher: &LookMatcher<W>,
+    look: Look,
+    row: Option<u8>,
+    column: Unit,
+) -> bool
+    ensures { result ≡ holds_at_bytes look matcher.now.0 row (byte_of column) }
+{
+    matcher.holding_between(row, column).contains(look)
+}
+
+/// Whether an assertion holds between ASCII neighbours, asked of its ASCII counterpart.
+pub fn holds_beside_ascii<W: WordClass>(
+    matcher: &LookMatcher<W>,
+    look: Look,
+    haystack: &[u8],
+    at: usize,
+) -> bool
+    requires at { at ≤ length haystack.now }
+    requires agrees { AgreesWithAscii (W.word_chars matcher.now.1) }
+    requires before { IfSome (byte_before haystack.now at) (λ b. b < 128) }
+    requires after { IfSome (byte_after haystack.now at) (λ b. b < 128) }
+    ensures { IsTrue result ↔ Holds look matcher.now.0 (W.word_chars matcher.now.1) haystack.now at }
+{
+    laws::ascii_neighbours_suffice();
+    matcher.matches(look.ascii_counterpart(), haystack, at)
+}
+
+/// Whether a table for a list of assertions must stop at a byte.
+pub fn must_stop<W: WordClass>(matcher: &LookMatcher<W>, looks: &[Look], byte: u8) -> bool
+    ensures { result ≡ (list_any is_unicode looks.now && nat_le 128 byte) }
+{
+    matcher.quit_bytes(looks).contains(byte)
+}
+
+/// The number that stands for an assertion, by a cast: the one that [`Look::as_repr`] returns.
+pub fn number_by_cast(look: Look) -> u32
+    ensures { result ≡ repr_of look }
+{
+    look as u32
 }

@@ -1,9 +1,14 @@
 //! Runs of an automaton.
-ghost use Rattle.std.specs.Prelude.{◌≡◌, ◌<◌, ◌≤◌, ◌+◌, ℕ, IsTrue, Some, length, slice_get, slice_index};
+ghost use Rattle.std.specs.Prelude.{◌≡◌, ◌<◌, ◌≤◌, ◌+◌, ℕ, All, IsTrue, IfSome, Some, not, true, length, slice_get, slice_index};
+ghost use Rattle.rsc_look.specs.Keeping.{AgreesWithAscii};
+ghost use Rattle.rsc_nfa.specs.Classes.{has_unicode, KeepsRuns};
+ghost use Rattle.rsc_nfa.specs.Steps.{IsRun, recorded, AreClosed};
 ghost use Rattle.rsc_nfa.specs.declared.state.State.TheVariants.{ByteRange};
 
+use rsc_alphabet::{ByteClassSet, ByteClasses};
+use rsc_captures::Captures;
 use rsc_look::WordClass;
-use rsc_nfa::Nfa;
+use rsc_nfa::{Nfa, laws};
 use rsc_primitives::StateID;
 use rsc_search::Input;
 
@@ -26,4 +31,46 @@ pub fn accepts_one_byte<W: WordClass>(
 {
     let start = input.start();
     nfa.check_run(input, &[(from, start), (next, start + 1)])
+}
+
+/// Whether an automaton asserts nothing of characters, so that a table over bytes can follow it everywhere.
+pub fn looks_at_bytes_alone<W: WordClass>(nfa: &Nfa<W>) -> bool
+    ensures { result ≡ not (has_unicode nfa.now.states) }
+{
+    !nfa.looks().contains_word_unicode()
+}
+
+/// Classes for a table that stops at every byte from 128 on: they keep the runs, and no class has bytes on both sides of 128.
+pub fn classes_to_stop<W: WordClass>(nfa: &Nfa<W>) -> ByteClasses
+    ensures kept { (has_unicode nfa.now.states ≡ true → AgreesWithAscii (W.word_chars nfa.now.matcher.1)) →
+        KeepsRuns result nfa.now.states nfa.now.matcher.0 (W.word_chars nfa.now.matcher.1) }
+    ensures apart { ¬ (slice_index result 127 ≡ slice_index result 128) }
+{
+    let mut stop = ByteClassSet::empty();
+    stop.set_range(128, 255);
+    nfa.classes_with(&stop)
+}
+
+/// Writes what a run records into captures, and reads the offsets of a match back: both are what the run records, and they are in order where each
+/// record of a start is followed by one of an end.
+pub fn record_match<W: WordClass>(
+    nfa: &Nfa<W>,
+    input: &Input<'_>,
+    run: &[(StateID, usize)],
+    captures: &mut Captures,
+) -> Option<(usize, usize)>
+    requires is_run { IsRun nfa.now.states nfa.now.matcher.0 (W.word_chars nfa.now.matcher.1)
+        input.now.haystack input.now.span.start input.now.span.end run.now }
+    requires closed { AreClosed nfa.now.states run.now 0 1 }
+    requires positions { All (λ place. place.1 < usize.MAX) run.now }
+    requires room { 2 ≤ length captures.old.offsets }
+    ensures start { IfSome result (λ offsets. recorded nfa.now.states run.now 0 ≡ Some offsets.0) }
+    ensures end { IfSome result (λ offsets. recorded nfa.now.states run.now 1 ≡ Some offsets.1) }
+    ensures order { IfSome result (λ offsets. offsets.0 ≤ offsets.1) }
+{
+    laws::records_are_in_order();
+    nfa.record(run, captures);
+    let start = captures.slots()[0]?;
+    let end = captures.slots()[1]?;
+    Some((start.get(), end.get()))
 }

@@ -1,13 +1,13 @@
 //! Each caller, run on values.
 ghost use Rattle.std.specs.Prelude.{◌≡◌, ◌<◌, ℕ, slice_index};
 
-use crate::{alphabet, captures, look, nfa, primitives, search, threads};
-use rsc_alphabet::{ByteClassSet, ByteSet, Unit, laws};
+use crate::{alphabet, captures, look, nfa, primitives, search, threads, tokens};
+use rsc_alphabet::{ByteClassSet, ByteSet, Unit, classes_of_ranges, laws};
 use rsc_captures::{Captures, GroupInfo};
 use rsc_look::{AsciiWord, Look, LookMatcher, LookSet, UnicodeWord};
 use rsc_nfa::{Nfa, State};
 use rsc_primitives::{NonMaxUsize, PatternID, StateID};
-use rsc_search::{Input, Match, PatternSet, Span};
+use rsc_search::{Input, Match, MatchError, MatchKind, PatternSet, Span};
 use std::test::Fail;
 
 fn are_positions(found: &[usize], want: &[usize]) -> bool {
@@ -102,6 +102,12 @@ fn entries_of_rows(rt: HostRuntime) -> Result<(), Fail> {
     }
     assert!(rt; row == [7, 7, 7, 9, 0, 0, 0, 0]);
     assert_eq!(rt; alphabet::lead_of(&all_lead_to(7), 9, map.eoi()), 9);
+    let mut row = [9; 257];
+    let ranges = [(b'a', b'z'), (b'0', b'9')];
+    let map = alphabet::fill_from_ranges(&ranges, &ranges, &mut row);
+    assert!(rt; row[usize::from(map.get(b'q'))] == 1 && row[usize::from(map.get(b'-'))] == 0);
+    let leads = alphabet::leads_of(&ranges);
+    assert!(rt; leads[usize::from(b'5')] == 1 && !alphabet::in_ranges(&ranges, b'A'));
     Ok(())
 }
 
@@ -125,6 +131,18 @@ fn words_and_lines(rt: HostRuntime) -> Result<(), Fail> {
     let classes = look::unicode_classes(&matcher, &[Look::WordUnicode]);
     assert!(rt; classes.get(b'a') != classes.get(b' '));
     assert!(rt; look::insert_and_remove(Look::Start, Look::End));
+    let own = LookMatcher::new(UnicodeWord);
+    assert!(rt; look::starts(&own, b"a\nb", 2) == (true, true));
+    assert!(rt; look::starts(&own, b"a b", 2) == (true, false));
+    assert!(rt; look::holds_in_entry(&own, Look::End, Some(b'a'), Unit::eoi(2)));
+    assert!(rt; !look::holds_in_entry(&own, Look::End, Some(b'a'), Unit::u8(b'a')));
+    assert!(rt; look::holds_beside_ascii(&own, Look::WordEndUnicode, b"a b", 1));
+    assert!(rt; look::must_stop(&own, &[Look::WordUnicode], 128));
+    for look in LookSet::full().iter() {
+        assert!(rt; look::number_by_cast(look) == look.as_repr());
+    }
+    assert_eq!(rt; Look::EndLF as u32, 8);
+    assert!(rt; !look::must_stop(&own, &[Look::WordAscii], 128));
     Ok(())
 }
 
@@ -306,6 +324,8 @@ fn spans_of_groups(rt: HostRuntime) -> Result<(), Fail> {
         assert!(rt; found.get_group(0) == Some(whole));
         assert_eq!(rt; captures::spans(rt.alloc(), &found)?.len(), 2);
         assert_eq!(rt; captures::count_names(found.group_info()), 3);
+        // The one pattern's group 2 isn't there.
+        assert!(rt; !captures::set_pair(&mut found, whole, whole, whole));
     }
     Ok(())
 }
@@ -327,11 +347,105 @@ fn one_step(rt: HostRuntime) -> Result<(), Fail> {
     let automaton = Nfa::new(rt.alloc(), info, LookMatcher::new(AsciiWord), &states)?;
     assert!(rt; nfa::accepts_one_byte(&automaton, &Input::new(b"q"), from, (b'a', b'z'), next));
     assert!(rt; !automaton.check_run(&Input::new(b"Q"), &[(from, 0), (next, 1)]));
+    assert!(rt; nfa::looks_at_bytes_alone(&automaton));
+    let classes = nfa::classes_to_stop(&automaton);
+    assert!(rt; classes.get(127) != classes.get(128) && classes.get(b'a') == classes.get(b'z'));
+    let mut ranges = ByteClassSet::empty();
+    ranges.set_range(b'a', b'z');
+    let mut digits = ByteClassSet::empty();
+    digits.set_range(b'0', b'9');
+    assert_eq!(rt;
+        alphabet::joined_classes(&mut ranges, &digits).alphabet_len(),
+        6
+    );
     Ok(())
 }
 
 #[test]
 fn values_are_shared_by_threads(rt: HostRuntime) -> Result<(), Fail> {
     assert!(rt; threads::are_shared_by_threads());
+    Ok(())
+}
+
+#[test]
+fn casts_give_the_numbers_of_the_original(rt: HostRuntime) {
+    assert!(rt; Look::Start as u32 == 1 && Look::WordEndHalfUnicode as u32 == 131072);
+    assert!(rt; MatchKind::All as u32 == 0 && MatchKind::LeftmostFirst as u32 == 1);
+    // A range becomes a span, as in the original.
+    let span: Span = (1..4).into();
+    assert!(rt; span == Span { start: 1, end: 4 });
+}
+
+// What compiles here as in the original and gives another answer.
+#[test]
+fn answers_that_differ_from_the_original(rt: HostRuntime) -> Result<(), Fail> {
+    let alloc = rt.alloc();
+    assert!(rt; LookSet::full().len() == 18);
+    let mut set = PatternSet::new(alloc, 10)?;
+    set.insert(PatternID::must(3));
+    assert!(rt; set.iter().size_hint() == (1, Some(1)));
+    assert_eq!(rt;
+        format!(in alloc; "{set:?}")?.as_str(),
+        "PatternSet { words: [8], capacity: 10, count: 1 }"
+    );
+    let (bytes, error) = (ByteSet::empty(), MatchError::gave_up(9));
+    assert_eq!(rt;
+        format!(in alloc; "{bytes:?} {error:?}")?.as_str(),
+        "ByteSet { low: 0, high: 0 } MatchError { kind: GaveUp { offset: 9 } }"
+    );
+    if let Err(error) = PatternID::new(2147483647) {
+        assert_eq!(rt;
+            format!(in alloc; "{error:?}")?.as_str(),
+            "PatternIDError { attempted: 2147483647 }"
+        );
+    }
+    if let Err(error) = StateID::new(2147483647) {
+        assert_eq!(rt;
+            format!(in alloc; "{error:?}")?.as_str(),
+            "StateIDError { attempted: 2147483647 }"
+        );
+    }
+    Ok(())
+}
+
+#[test]
+fn tokens_of_a_text(rt: HostRuntime) -> Result<(), Fail> {
+    let alloc = rt.alloc();
+    let ranges = [(b'0', b'9'), (b'a', b'z'), (b' ', b' ')];
+    let classes = classes_of_ranges(&ranges);
+    // The row of each kind accepts the class of its range alone.
+    let mut table = Vec::new(alloc);
+    for (start, _) in ranges {
+        let accepted = usize::from(classes.get(start));
+        for class in 0..1usize << classes.stride2() {
+            table.push(u32::from(class == accepted))?;
+        }
+    }
+    let table = table.as_slice();
+    if !tokens::has_rows(&classes, table) {
+        assert!(rt; false);
+        return Ok(());
+    }
+    let text: &[u8] = b"ab 12!c";
+    let found = tokens::tokens(alloc, &classes, table, text)?;
+    let want = [(1, 0, 2), (2, 2, 3), (0, 3, 5), (1, 6, 7)];
+    assert_eq!(rt; found.len(), want.len());
+    for (token, (kind, start, end)) in found.iter().zip(want.iter()) {
+        let span = Span {
+            start: *start,
+            end: *end,
+        };
+        assert!(rt; token.pattern().as_usize() == *kind && token.span() == span);
+    }
+    assert!(rt; tokens::token_at(&classes, table, text, 5).is_none());
+    assert!(rt; tokens::run_end(&classes, table, 1, text, 0) == 2);
+    assert!(rt; tokens::accepts(&classes, table, 2, b' '));
+    let few = [
+        Match::must(2, Span { start: 0, end: 1 }),
+        Match::must(0, Span { start: 1, end: 2 }),
+    ];
+    let kinds = tokens::kinds_of(alloc, &few)?;
+    assert!(rt; kinds.contains(PatternID::ZERO) && kinds.contains(PatternID::must(2)));
+    assert!(rt; !kinds.contains(PatternID::must(1)) && kinds.len() == 2);
     Ok(())
 }

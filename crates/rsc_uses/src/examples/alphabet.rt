@@ -46,6 +46,15 @@ fn byte_class_set(rt: HostRuntime) -> Result<(), Fail> {
     partition.add_set(&letters);
     let classes = partition.byte_classes();
     assert!(rt; classes.get(b'a') == classes.get(b'b') && classes.get(b'b') != classes.get(b'c'));
+
+    // `ByteClassSet::union`
+    let mut lower = ByteClassSet::empty();
+    lower.set_range(b'a', b'z');
+    let mut digits = ByteClassSet::empty();
+    digits.set_range(b'0', b'9');
+    lower.union(&digits);
+    let classes = lower.byte_classes();
+    assert!(rt; classes.get(b'0') != classes.get(b'A') && classes.get(b'A') != classes.get(b'a'));
     Ok(())
 }
 

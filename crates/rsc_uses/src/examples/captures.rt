@@ -57,6 +57,13 @@ fn captures(rt: HostRuntime) -> Result<(), Fail> {
     // The slots of the last group aren't set.
     assert!(rt; captures.get_group(2) == None);
 
+    // `Captures::set_group`
+    assert!(rt; captures.set_group(2, Some(Span { start: 2, end: 3 })));
+    assert!(rt; captures.get_group(2) == Some(Span { start: 2, end: 3 }));
+    assert!(rt; captures.set_group(2, None) && captures.get_group(2) == None);
+    // There is no group 3, and so no slot for its span.
+    assert!(rt; !captures.set_group(3, Some(Span { start: 2, end: 3 })));
+
     // `Captures::extract_from`
     assert!(rt; captures.extract_from::<&str, 1>("abc") == Some(("abc", ["b"])));
     // Two groups participate, and three are asked for.

@@ -1,4 +1,4 @@
-use rsc_alphabet::ByteClassSet;
+use rsc_alphabet::{ByteClassSet, Unit};
 use rsc_look::{AsciiWord, Look, LookMatcher, LookSet, UnicodeWord, WordClass};
 use std::test::Fail;
 
@@ -8,6 +8,10 @@ fn assertion(rt: HostRuntime) -> Result<(), Fail> {
     assert!(rt; Look::StartLF.reversed() == Look::EndLF);
     assert!(rt; Look::from_repr(Look::End.as_repr()) == Some(Look::End));
     assert!(rt; Look::WordUnicode.as_char() == '𝛃');
+
+    // `Look::ascii_counterpart`
+    assert!(rt; Look::WordUnicode.ascii_counterpart() == Look::WordAscii);
+    assert!(rt; Look::StartLF.ascii_counterpart() == Look::StartLF);
     Ok(())
 }
 
@@ -74,5 +78,28 @@ fn word(rt: HostRuntime) -> Result<(), Fail> {
 
     // `UnicodeWord`
     assert!(rt; UnicodeWord.is_word('ß') && UnicodeWord.is_word('_') && !UnicodeWord.is_word('-'));
+    Ok(())
+}
+
+#[test]
+fn holding(rt: HostRuntime) -> Result<(), Fail> {
+    // `LookMatcher::holding`
+    let matcher = LookMatcher::new(UnicodeWord);
+    let holding = matcher.holding("aδ b".as_bytes(), 3);
+    assert!(rt; holding.contains(Look::WordEndUnicode) && !holding.contains(Look::End));
+    // `δ` is no word byte.
+    assert!(rt; !holding.contains(Look::WordEndAscii));
+
+    // `LookMatcher::holding_between`
+    let matcher = LookMatcher::new(AsciiWord);
+    let holding = matcher.holding_between(Some(b'a'), Unit::eoi(3));
+    assert!(rt; holding.contains(Look::End) && holding.contains(Look::WordEndAscii));
+    assert!(rt; !holding.contains(Look::WordEndUnicode));
+
+    // `LookMatcher::quit_bytes`
+    let matcher = LookMatcher::new(UnicodeWord);
+    let bytes = matcher.quit_bytes(&[Look::Start, Look::WordUnicode]);
+    assert!(rt; bytes.contains(0x80) && !bytes.contains(0x7F));
+    assert!(rt; matcher.quit_bytes(&[Look::WordAscii]).is_empty());
     Ok(())
 }
