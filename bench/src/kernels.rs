@@ -33,9 +33,9 @@ pub unsafe extern "C" fn original(
     match kernel {
         WORD_BYTES..=PATTERN_ITER => primitives(kernel, data, param, reps),
         BYTE_CLASSES..=BYTESET_RANGES => alphabet(kernel, data, param, reps),
-        LOOK_AT..=LOOKSET_ITER => look(kernel, data, param, reps),
+        LOOK_AT..=HOLDING => look(kernel, data, param, reps),
         PSET_FILL..=PSET_TRY => pattern_set(kernel, data, param, reps),
-        GI_NEW..=CAPS_CLONE => captures(kernel, data, reps),
+        GI_NEW..=CAPS_SET_SLOTS => captures(kernel, data, reps),
         _ => engine::run(kernel, data, param, reps),
     }
 }
@@ -211,6 +211,16 @@ fn look(kernel: u32, data: &[u8], param: u64, reps: u64) -> u64 {
             let (set, h) = (black_box(LookSet { bits }), black_box(data));
             (0..=h.len()).filter(|&at| matcher.matches_set(set, h, at)).count() as u64
         }),
+        // The original has no call for it, so it asks each assertion.
+        HOLDING => repeat(reps, || {
+            let h = black_box(data);
+            let all: Vec<Look> = (0..18).filter_map(|i| Look::from_repr(1 << i)).collect();
+            let holding = |at| {
+                let looks = all.iter().filter(|&&look| matcher.matches(look, h, at));
+                looks.fold(LookSet::empty(), |set, &look| set.insert(look))
+            };
+            (0..=h.len()).map(|at| u64::from(holding(at).bits)).sum()
+        }),
         LOOKSET_UNION => {
             let sets = sets();
             repeat(reps, || {
@@ -347,6 +357,19 @@ fn captures(kernel: u32, data: &[u8], reps: u64) -> u64 {
         CAPS_ITER => repeat(reps, || {
             let spans = black_box(&caps).iter().flatten();
             spans.map(|s| (s.start + s.end) as u64).sum()
+        }),
+        // The original has no call for a group's span, so both write its slots.
+        CAPS_SET_GROUP | CAPS_SET_SLOTS => repeat(reps, || {
+            let caps = black_box(&mut caps);
+            let mut written = 0;
+            for g in 0..lists[0].len() {
+                if let Some((start, end)) = caps.group_info().slots(first, g) {
+                    caps.slots_mut()[start] = NonMaxUsize::new(g % 8);
+                    caps.slots_mut()[end] = NonMaxUsize::new(g % 8 + 1);
+                    written += 1;
+                }
+            }
+            written
         }),
         CAPS_EXTRACT => repeat(reps, || {
             let (whole, groups) = black_box(&caps).extract::<3>(black_box(EXTRACT_HAYSTACK));

@@ -33,6 +33,7 @@ pub const LOOK_AT: u32 = 30;
 pub const SET_AT: u32 = 31;
 pub const LOOKSET_UNION: u32 = 32;
 pub const LOOKSET_ITER: u32 = 33;
+pub const HOLDING: u32 = 34;
 pub const PSET_FILL: u32 = 40;
 pub const PSET_CLEAR: u32 = 41;
 pub const PSET_AGAIN: u32 = 42;
@@ -57,6 +58,8 @@ pub const CAPS_EXTRACT: u32 = 64;
 pub const CAPS_EXTRACT_BYTES: u32 = 65;
 pub const CAPS_CLEAR: u32 = 66;
 pub const CAPS_CLONE: u32 = 67;
+pub const CAPS_SET_GROUP: u32 = 68;
+pub const CAPS_SET_SLOTS: u32 = 69;
 pub const SCAN: u32 = 70;
 pub const STEPS: u32 = 71;
 pub const PATTERN_CLASSES: u32 = 72;
@@ -380,6 +383,7 @@ pub fn all() -> Vec<Workload> {
             let name = format!("matches_set_4_{name}_{text_name}");
             add(&name, SET_AT, &text, newline | set, positions);
         }
+        add(&format!("holding_{text_name}"), HOLDING, &text, newline, positions);
     }
     let mut numbers = Numbers(8);
     let sets: Vec<u32> = (0..4096).map(|_| numbers.below(1 << 18) as u32).collect();
@@ -433,6 +437,8 @@ pub fn all() -> Vec<Workload> {
         add("captures_get_group", CAPS_GET, own);
         add("captures_get_group_by_name", CAPS_BY_NAME, own - 1);
         add("captures_iter", CAPS_ITER, own);
+        add("captures_set_group", CAPS_SET_GROUP, own);
+        add("captures_set_slots", CAPS_SET_SLOTS, own);
         add("captures_extract_3", CAPS_EXTRACT, 1);
         add("captures_extract_bytes_3", CAPS_EXTRACT_BYTES, 1);
     }

@@ -96,6 +96,7 @@ fn answers_assertions_at_positions(rt: HostRuntime) -> Result<(), Fail> {
         ("look StartLF 00 0a61 1", "false\n"),
         ("look StartCRLF 00 0a61 1", "true\n"),
         ("look WordUnicode 0a f09d9b83f0908680 4", "true\n"),
+        ("look WordUnicodeNegate 0a f09d9b83f0908680 5", "false\n"),
         ("look WordUnicodeNegate 0a F09D9B83F0908680 5", "false\n"),
         ("look WordUnicodeNegate 0a f09d9b83f0908680 8", "true\n"),
         ("look WordUnicode 0a 6180 2", "false\n"),
@@ -197,6 +198,29 @@ fn refuses_more_groups_than_the_limit(rt: HostRuntime) -> Result<(), Fail> {
             "too many capture groups (at least {minimum}) were found for pattern {pattern}\n"
         )?;
         assert_eq!(rt; answer.as_str(), want.as_str(), "at {input:?}");
+    }
+    Ok(())
+}
+
+// Lines that aren't UTF-8, among others.
+#[test]
+fn answers_any_bytes_by_bad_line(rt: HostRuntime) -> Result<(), Fail> {
+    let lines: [&[u8]; 6] = [
+        b"\xff",
+        b"ranges \x80",
+        b"look \xc3\xa9 0a - 0",
+        b"groups -,\xff",
+        b"limited \xf0\x9d -",
+        b"\xed\xa0\x80 61-7a",
+    ];
+    for line in lines {
+        let mut input = Vec::from_slice(rt.alloc(), b"ranges\n".as_slice())?;
+        input.extend_from_slice(line)?;
+        input.extend_from_slice(b"\nranges 61-7a")?;
+        let mut writer = Vec::new(rt.alloc());
+        run(rt.alloc(), &mut input.as_slice(), &mut writer)?;
+        let want = b"alphabet 2: 00\nbad line\nalphabet 4: 00 61 7b\n";
+        assert!(rt; writer.as_slice() == want.as_slice(), "at {line:?}");
     }
     Ok(())
 }

@@ -3,12 +3,13 @@
 use crate::groups;
 use crate::numbers::{
     CAPS_ALL, CAPS_BY_NAME, CAPS_CLEAR, CAPS_CLONE, CAPS_EXTRACT, CAPS_EXTRACT_BYTES, CAPS_GET,
-    CAPS_ITER, GI_NEW, GI_REFUSED,
+    CAPS_ITER, CAPS_SET_GROUP, CAPS_SET_SLOTS, GI_NEW, GI_REFUSED,
 };
 use crate::repeat::repeat;
 use crate::request::Request;
 use rsc_captures::{Captures, GroupInfo};
 use rsc_primitives::{NonMaxUsize, PatternID};
+use rsc_search::Span;
 use std::alloc::{AllocError, Global};
 
 // What the two kernels of extraction cut.
@@ -59,6 +60,20 @@ fn over_captures(
             let mut sum = 0u64;
             for _ in 0..reps {
                 sum = cleared(&mut captures, sum);
+            }
+            sum
+        }
+        CAPS_SET_GROUP => {
+            let mut sum = 0u64;
+            for _ in 0..reps {
+                sum = groups_set(&mut captures, first.len(), sum);
+            }
+            sum
+        }
+        CAPS_SET_SLOTS => {
+            let mut sum = 0u64;
+            for _ in 0..reps {
+                sum = slots_set(&mut captures, first.len(), sum);
             }
             sum
         }
@@ -219,4 +234,29 @@ fn cleared(captures: &mut Captures, sum: u64) -> u64 {
     write_slot(captures, 0, 1);
     captures.clear();
     sum.wrapping_add(u64::from(captures.is_match()))
+}
+
+// How many spans are written by the numbers of their groups.
+#[inline(never)]
+fn groups_set(captures: &mut Captures, groups: usize, sum: u64) -> u64 {
+    let mut sum = sum;
+    for g in 0..groups {
+        let (start, end) = (g % 8, g % 8 + 1);
+        sum = sum.wrapping_add(u64::from(captures.set_group(g, Some(Span { start, end }))));
+    }
+    sum
+}
+
+// The same by the two slots of each group.
+#[inline(never)]
+fn slots_set(captures: &mut Captures, groups: usize, sum: u64) -> u64 {
+    let mut sum = sum;
+    for g in 0..groups {
+        if let Some((start, end)) = captures.group_info().slots(PatternID::ZERO, g) {
+            write_slot(captures, start, g % 8);
+            write_slot(captures, end, g % 8 + 1);
+            sum = sum.wrapping_add(1);
+        }
+    }
+    sum
 }

@@ -13,7 +13,7 @@ mod request;
 mod search;
 
 use crate::numbers::{
-    BYTE_CLASSES, BYTESET_RANGES, CAPS_CLONE, GI_NEW, LOOK_AT, LOOKSET_ITER, MATCH_SETS,
+    BYTE_CLASSES, BYTESET_RANGES, CAPS_SET_SLOTS, GI_NEW, HOLDING, LOOK_AT, MATCH_SETS,
     PATTERN_ITER, PSET_FILL, PSET_TRY, SCAN, WORD_BYTES,
 };
 use crate::request::Request;
@@ -40,9 +40,9 @@ pub extern "C" fn rsc_kernel(
     let sum = match kernel {
         WORD_BYTES..=PATTERN_ITER => primitives::run(alloc, request),
         BYTE_CLASSES..=BYTESET_RANGES => alphabet::run(alloc, request),
-        LOOK_AT..=LOOKSET_ITER => look::run(alloc, request),
+        LOOK_AT..=HOLDING => look::run(alloc, request),
         PSET_FILL..=PSET_TRY => search::run(alloc, request),
-        GI_NEW..=CAPS_CLONE => captures::run(alloc, request),
+        GI_NEW..=CAPS_SET_SLOTS => captures::run(alloc, request),
         SCAN..=MATCH_SETS => engine::run(alloc, request),
         _ => Ok(0),
     };

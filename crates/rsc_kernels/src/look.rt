@@ -1,7 +1,7 @@
 //! Kernels over assertions, and sets of them.
 
 use crate::alphabet::last;
-use crate::numbers::{LOOK_AT, LOOKSET_UNION, SET_AT};
+use crate::numbers::{HOLDING, LOOK_AT, LOOKSET_UNION, SET_AT};
 use crate::repeat::repeat;
 use crate::request::Request;
 use rsc_look::{Look, LookMatcher, LookSet, UnicodeWord};
@@ -23,6 +23,7 @@ pub fn run(alloc: Global, request: Request<'_>) -> Result<u64, AllocError> {
             Some(set) => repeat(reps, |sum| places_of_set(&matcher, set, data, sum)),
             None => 0,
         },
+        HOLDING => repeat(reps, |sum| holding_at_places(&matcher, data, sum)),
         LOOKSET_UNION => {
             let sets = sets_of(alloc, data)?;
             repeat(reps, |sum| unions(&sets, sum))
@@ -99,6 +100,16 @@ fn places_of_set(
         sum = sum.wrapping_add(u64::from(matcher.matches_set(set, haystack, at)));
     }
     sum.wrapping_add(u64::from(matcher.matches_set(set, haystack, haystack.len())))
+}
+
+// The bits of the sets of assertions that hold at each place.
+#[inline(never)]
+fn holding_at_places(matcher: &LookMatcher<UnicodeWord>, haystack: &[u8], sum: u64) -> u64 {
+    let mut sum = sum;
+    for at in 0..haystack.len() {
+        sum = sum.wrapping_add(u64::from(matcher.holding(haystack, at).bits()));
+    }
+    sum.wrapping_add(u64::from(matcher.holding(haystack, haystack.len()).bits()))
 }
 
 // The bits of the union of each two neighbouring sets.

@@ -49,6 +49,8 @@ pub const LOOKSET_UNION: u32 = 32;
 
 pub const LOOKSET_ITER: u32 = 33;
 
+pub const HOLDING: u32 = 34;
+
 // rsc_search
 pub const PSET_FILL: u32 = 40;
 
@@ -98,6 +100,10 @@ pub const CAPS_EXTRACT_BYTES: u32 = 65;
 pub const CAPS_CLEAR: u32 = 66;
 
 pub const CAPS_CLONE: u32 = 67;
+
+pub const CAPS_SET_GROUP: u32 = 68;
+
+pub const CAPS_SET_SLOTS: u32 = 69;
 
 // what engines do
 pub const SCAN: u32 = 70;

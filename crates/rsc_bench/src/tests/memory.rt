@@ -27,43 +27,68 @@ const ROWS: [(&str, &str); 7] = [
     ),
 ];
 
-// What a budget gives: `None` is out of memory after whole answers of earlier lines, and otherwise whether both answers are there.
-fn run_within(alloc: Global, heap: &LocalHeap, lines: &str, answer: &str) -> Option<bool> {
+/// What stands in the writer. With budgets that grow it may only grow.
+#[derive(Clone, Copy, PartialEq, Eq, PartialOrd, Ord)]
+enum Written {
+    /// Nothing, and memory ran out.
+    Nothing,
+    /// The first answer alone, and memory ran out.
+    First,
+    /// Both answers.
+    Both,
+    /// Anything else.
+    Wrong,
+}
+
+// What a run over two lines writes within a budget.
+fn run_within(alloc: Global, heap: &LocalHeap, lines: &str, answer: &str) -> Written {
     let mut reader = lines.as_bytes();
     let mut writer = Vec::new(alloc);
-    match run(heap, &mut reader, &mut writer) {
-        Ok(()) => Some(writer.as_slice().strip_prefix(FIRST_ANSWER) == Some(answer.as_bytes())),
-        Err(BenchError::OutOfMemory) => {
-            if writer.is_empty() || writer.as_slice() == FIRST_ANSWER {
-                None
-            } else {
-                Some(false)
-            }
-        }
-        Err(_) => Some(false),
+    let ended = run(heap, &mut reader, &mut writer);
+    match (ended, writer.as_slice().strip_prefix(FIRST_ANSWER)) {
+        (Ok(()), Some(rest)) if rest == answer.as_bytes() => Written::Both,
+        (Err(BenchError::OutOfMemory), Some([])) => Written::First,
+        (Err(BenchError::OutOfMemory), None) if writer.is_empty() => Written::Nothing,
+        _ => Written::Wrong,
     }
 }
 
 #[test]
 fn each_request_may_be_refused(rt: HostRuntime) -> Result<(), Fail> {
     for (lines, answer) in ROWS {
-        let mut is_refused = false;
-        let mut is_answered = false;
+        let mut so_far = Written::Nothing;
+        let mut was_first = false;
         for size in 0..768usize {
             let heap = LocalHeap::new(rt.alloc(), 8 * size)?;
-            match run_within(rt.alloc(), &heap, lines, answer) {
-                Some(as_wanted) => {
-                    assert!(rt; as_wanted && is_refused);
-                    is_answered = true;
-                }
-                None => {
-                    assert!(rt; !is_answered);
-                    is_refused = true;
-                }
-            }
-            assert!(rt; heap.used() == 0);
+            let next = run_within(rt.alloc(), &heap, lines, answer);
+            assert!(rt; so_far <= next && heap.used() == 0);
+            was_first = was_first || next == Written::First;
+            so_far = next;
         }
-        assert!(rt; is_answered);
+        assert!(rt; was_first && so_far == Written::Both, "at {lines:?}");
     }
+    Ok(())
+}
+
+#[test]
+fn each_growth_of_a_long_input_may_be_refused(rt: HostRuntime) -> Result<(), Fail> {
+    let mut input = Vec::new(rt.alloc());
+    for _ in 0..20_000 {
+        input.push(b'x')?;
+    }
+    let mut refused = 0;
+    for size in 0..160usize {
+        let heap = LocalHeap::new(rt.alloc(), 512 * size)?;
+        let mut writer = Vec::new(rt.alloc());
+        match run(&heap, &mut input.as_slice(), &mut writer) {
+            Ok(()) => assert!(rt; writer.as_slice() == b"bad line\n".as_slice()),
+            Err(error) => {
+                assert!(rt; error == BenchError::OutOfMemory && writer.is_empty());
+                refused = size;
+            }
+        }
+    }
+    // A growth after the first was refused, and the greatest budget is enough.
+    assert!(rt; 16 < refused && refused < 159);
     Ok(())
 }

@@ -1,5 +1,6 @@
-//! Lists of groups of sizes on both sides of any limit.
+//! Lines, lists, names, haystacks and inputs of sizes on both sides of any limit: ten times past each power of two that a buffer might have.
 use super::answer_to;
+use crate::run::run;
 use std::alloc::{AllocError, Global};
 use std::fmt::Write;
 use std::test::Fail;
@@ -50,5 +51,122 @@ fn names_of_any_length_are_answered(rt: HostRuntime) -> Result<(), Fail> {
             "{length}"
         );
     }
+    Ok(())
+}
+
+// What a line of a command and this many times the same argument, and then another, is answered.
+fn answer_to_many(
+    alloc: Global,
+    command: &str,
+    argument: &str,
+    count: usize,
+    last: &str,
+) -> Result<String, Fail> {
+    let mut line = String::from_str(alloc, command)?;
+    for _ in 0..count {
+        line.push_str(argument)?;
+    }
+    line.push_str(last)?;
+    answer_to(alloc, &line)
+}
+
+#[test]
+fn lists_of_any_length_are_answered(rt: HostRuntime) -> Result<(), Fail> {
+    let alloc = rt.alloc();
+    for count in [17usize, 18, 255, 256, 1_000, 40_000] {
+        let answer = answer_to_many(alloc, "ranges", " 61-7a", count, " 30-39")?;
+        assert!(rt;
+            answer.as_str() == "alphabet 6: 00 30 3a 61 7b\n",
+            "{count}"
+        );
+        let answer = answer_to_many(alloc, "looks 0a", " Start", count, " StartLF")?;
+        assert!(rt; answer.as_str() == "alphabet 4: 00 0a 0b\n", "{count}");
+        let answer = answer_to_many(alloc, "looks 0a", " StartLF", count, " none")?;
+        assert!(rt; answer.as_str() == "bad line\n", "{count}");
+    }
+    Ok(())
+}
+
+// Each byte is a class of its own.
+#[test]
+fn all_classes_are_answered(rt: HostRuntime) -> Result<(), Fail> {
+    let mut line = String::from_str(rt.alloc(), "ranges")?;
+    let mut want = String::from_str(rt.alloc(), "alphabet 257:")?;
+    for byte in 0..256u32 {
+        write!(line, " {byte:02x}-{byte:02x}")?;
+        write!(want, " {byte:02x}")?;
+    }
+    want.push('\n')?;
+    assert!(rt; answer_to(rt.alloc(), &line)?.as_str() == want.as_str());
+    Ok(())
+}
+
+#[test]
+fn patterns_of_many_groups_are_answered(rt: HostRuntime) -> Result<(), Fail> {
+    let alloc = rt.alloc();
+    for count in [63usize, 64, 255, 256, 1_000, 40_000] {
+        let slots = count.saturating_mul(2).saturating_add(4);
+        let mut want = format!(in alloc; "slots {slots}: 0")?;
+        for g in 1..=count {
+            write!(want, ",{}", g.saturating_mul(2))?;
+        }
+        writeln!(want, ",{}", count.saturating_mul(2).saturating_add(2))?;
+        let answer = answer_to_many(alloc, "groups -", ",-", count, ",x")?;
+        assert!(rt; answer.as_str() == want.as_str(), "{count}");
+        let limited = format!(in alloc; "limited {slots} -")?;
+        let answer = answer_to_many(alloc, &limited, ",-", count, ",x")?;
+        assert!(rt; answer.as_str() == want.as_str(), "{count}");
+    }
+    Ok(())
+}
+
+#[test]
+fn haystacks_of_any_length_are_answered(rt: HostRuntime) -> Result<(), Fail> {
+    let alloc = rt.alloc();
+    for count in [1_024usize, 2_048, 65_535, 65_536, 700_000] {
+        let mut hay = String::from_str(alloc, "look WordAscii 0a ")?;
+        for _ in 0..count {
+            hay.push_str("61")?;
+        }
+        for (at, want) in [
+            (0, "true\n"),
+            (count / 2, "false\n"),
+            (count, "true\n"),
+            (count.saturating_add(1), "bad line\n"),
+        ] {
+            let line = format!(in alloc; "{hay} {at}")?;
+            let answer = answer_to(alloc, &line)?;
+            assert!(rt; answer.as_str() == want, "{at} of {count}");
+        }
+    }
+    Ok(())
+}
+
+#[test]
+fn inputs_of_any_length_are_answered(rt: HostRuntime) -> Result<(), Fail> {
+    let alloc = rt.alloc();
+    // Of 40,000 lines each is answered.
+    let mut input = String::new(alloc);
+    let mut want = String::new(alloc);
+    for byte in 0..40_000u32 {
+        let byte = byte % 255;
+        writeln!(input, "looks {byte:02x} StartLF")?;
+        if byte == 0 {
+            writeln!(want, "alphabet 3: 00 01")?;
+        } else {
+            let next = byte.saturating_add(1);
+            writeln!(want, "alphabet 4: 00 {byte:02x} {next:02x}")?;
+        }
+    }
+    assert!(rt; answer_to(alloc, &input)?.as_str() == want.as_str());
+    // A line of 20 MiB is read whole.
+    let mut input = Vec::new(alloc);
+    for _ in 0..20 * 1024 * 1024 {
+        input.push(b'x')?;
+    }
+    input.extend_from_slice(b"\nranges\n".as_slice())?;
+    let mut writer = Vec::new(alloc);
+    run(alloc, &mut input.as_slice(), &mut writer)?;
+    assert!(rt; writer.as_slice() == b"bad line\nalphabet 2: 00\n".as_slice());
     Ok(())
 }

@@ -8,11 +8,12 @@ const LINES: &[u8] = b"ranges\nranges 61-7a\n";
 
 const ANSWERS: &[u8] = b"alphabet 2: 00\nalphabet 4: 00 61 7b\n";
 
-// Gives the bytes that are left, one a call; after that many calls, if a number is set, it fails once.
+// Gives the bytes that are left, one a call; after that many calls, if a number is set, it fails once, in that way.
 #[derive(Drop)]
 struct ByteReader<'a> {
     left: &'a [u8],
     fails_after: Option<u32>,
+    kind: io::ErrorKind,
 }
 
 impl<'a> Read for ByteReader<'a> {
@@ -20,7 +21,7 @@ impl<'a> Read for ByteReader<'a> {
         match self.fails_after {
             Some(0) => {
                 self.fails_after = None;
-                return Err(io::Error::from(io::ErrorKind::BrokenPipe));
+                return Err(io::Error::from(self.kind));
             }
             Some(calls) => self.fails_after = Some(calls - 1),
             None => {}
@@ -56,6 +57,26 @@ impl Read for EndlessReader {
     }
 }
 
+// Counts its calls: it gives one byte a call up to the call that tells the end.
+#[derive(Drop)]
+struct CountingReader {
+    calls: u32,
+    ends_at: u32,
+}
+
+impl Read for CountingReader {
+    fn read(&mut self, buf: &mut [u8]) -> io::Result<usize> {
+        self.calls = self.calls.saturating_add(1);
+        match buf.first_mut() {
+            Some(place) if self.calls < self.ends_at => {
+                *place = b'x';
+                Ok(1)
+            }
+            _ => Ok(0),
+        }
+    }
+}
+
 // Takes one byte a call, as long as there is room, and then fails.
 #[derive(Drop)]
 struct ByteWriter {
@@ -82,14 +103,21 @@ impl Write for ByteWriter {
 
 #[test]
 fn a_read_that_fails_once_writes_nothing(rt: HostRuntime) {
-    for calls in 0..=20u32 {
-        let mut reader = ByteReader {
-            left: LINES,
-            fails_after: Some(calls),
-        };
-        let mut writer = Vec::new(rt.alloc());
-        let ended = run(rt.alloc(), &mut reader, &mut writer);
-        assert!(rt; ended == Err(BenchError::Read) && writer.is_empty());
+    for kind in [
+        io::ErrorKind::BrokenPipe,
+        io::ErrorKind::Interrupted,
+        io::ErrorKind::UnexpectedEof,
+    ] {
+        for calls in 0..=20u32 {
+            let mut reader = ByteReader {
+                left: LINES,
+                fails_after: Some(calls),
+                kind,
+            };
+            let mut writer = Vec::new(rt.alloc());
+            let ended = run(rt.alloc(), &mut reader, &mut writer);
+            assert!(rt; ended == Err(BenchError::Read) && writer.is_empty());
+        }
     }
 }
 
@@ -101,10 +129,32 @@ fn an_input_without_end_is_refused(rt: HostRuntime) {
 }
 
 #[test]
+fn at_most_1048576_reads_are_made(rt: HostRuntime) {
+    let mut reader = CountingReader {
+        calls: 0,
+        ends_at: 1_048_576,
+    };
+    let mut writer = Vec::new(rt.alloc());
+    let ended = run(rt.alloc(), &mut reader, &mut writer);
+    assert!(rt; ended == Ok(()) && reader.calls == 1_048_576);
+    assert!(rt; writer.as_slice() == b"bad line\n".as_slice());
+
+    let mut reader = CountingReader {
+        calls: 0,
+        ends_at: 1_048_577,
+    };
+    let mut writer = Vec::new(rt.alloc());
+    let ended = run(rt.alloc(), &mut reader, &mut writer);
+    assert!(rt; ended == Err(BenchError::Read) && reader.calls == 1_048_576);
+    assert!(rt; writer.is_empty());
+}
+
+#[test]
 fn short_reads_and_writes_give_the_full_answer(rt: HostRuntime) {
     let mut reader = ByteReader {
         left: LINES,
         fails_after: None,
+        kind: io::ErrorKind::BrokenPipe,
     };
     let mut writer = ByteWriter {
         taken: Vec::new(rt.alloc()),
