@@ -7,6 +7,13 @@
 set -eu
 cd "$(dirname "$0")"
 
+kit=$(rt version)
+if grep -qF "\`${kit%% *}\`" README.md && grep -qF "\`${kit#* }\`" README.md; then
+  echo "$kit, on which it has passed (README.md)"
+else
+  echo "$kit, which README.md doesn't name"
+fi
+
 step() {
   printf '\n[after %d min] %s\n' $((SECONDS / 60)) "$1"
 }

@@ -30,6 +30,20 @@ def functions(text):
             lines = None
 
 
+# The ghost items of a trait's impl that say what its methods promise.
+PROMISES = "next_gives next_back_gives remaining eq cmp partial_cmp hash_input is_default output debug_output word_chars from_gives try_from_gives".split()
+
+
+def promises(text):
+    """Yields each impl of a trait in a file, with the ghost items that say what its methods promise."""
+    for head, body in re.findall(r"^impl(?:<[^\n]*?>)? ?(\S[^\n{]* for [^\n{]*?)(?: \{|\n)(.*?)^\}", text, flags=re.M | re.S):
+        items = re.findall(r"^    ghost (\w+) = (\{.*?\});$", body, flags=re.M | re.S)
+        kept = [f"{name} = {promise}" for name, promise in items if name in PROMISES]
+        of = re.match(r"\w*", head.rpartition(" for ")[2])[0]
+        if kept and not re.search(rf"pub\(crate\) (?:struct|enum) {of}\b", text):
+            yield head, kept
+
+
 def sources(crate):
     """Yields each source file of a crate but its tests: its path below src, and its text."""
     for file in sorted((ROOT / "crates" / crate / "src").glob("**/*.rt")):
@@ -64,9 +78,11 @@ def shortened(owner, signature):
 
 
 def contracts(crate):
-    parts = ["## Contracts", "", f"Quoted from `crates/{crate}/src`; `specs/` defines the names, and the `ghost use` lines of the quoted file say where.", ""]
+    head = "`specs/` defines the names, and the `ghost use` lines of the quoted file say where. Below `impl TRAIT for TYPE` is what its methods promise."
+    parts = ["## Contracts", "", f"Quoted from `crates/{crate}/src`; {head}", ""]
     for path, text in sources(crate):
         shown = [shortened(owner, it) for owner, is_public, it in functions(text) if is_public]
+        shown += ["\n    ".join([f"impl {head}", *kept]) for head, kept in promises(text)]
         if shown:
             parts += [f"### `{path}`", "", "```text", *shown, "```", ""]
     return "\n".join(parts)
@@ -76,23 +92,27 @@ def words(crate):
     """Returns the definitions of specs/, each with the comment above it; those of lemmas and layout come last."""
     believed, others = [], []
     for file in sorted((ROOT / "crates" / crate / "specs").glob("**/*.antt")):
-        comment = ""
+        comment, is_taken = "", False
         lines = file.read_text(encoding="utf-8").splitlines()
         for k, line in enumerate(lines):
-            name = re.match(r"(?:abbrev |unfoldable )*pub (?:record |data |class )?([^\s:]+)", line)
-            if line.startswith("-- "):
-                comment = f"{comment} {line[3:]}".strip()
-            elif name and not line.startswith("pub mod") and not line.startswith("  "):
+            # A definition within a section is indented; so is a field of a record, which is no definition.
+            name = re.match(r"(?:  (?=abbrev ))?(?:abbrev |unfoldable )*pub (?:record |data |class )?([^\s:]+)", line)
+            if line.startswith(("-- ", "  -- ")):
+                comment, is_taken = f"{'' if is_taken else comment} {line.strip()[3:]}".strip(), False
+            elif name and not line.startswith("pub mod"):
                 rows = others if re.search(r"Laws|Layout|Same", file.stem) else believed
                 if " record " in line:
                     fields = itertools.takewhile(lambda it: it.startswith("  "), lines[k + 1 :])
                     names = [f"`{found[1]}`" for it in fields if (found := re.match(r"  pub (\S+) :", it))]
-                    comment = f"{comment} (a record: {', '.join(names)})".strip()
+                    fields = f" (a record: {', '.join(names)})"
+                else:
+                    fields = ""
                 if comment or rows is believed:
-                    rows.append(f"| `{file.stem}.{name[1]}` | {comment.replace('|', chr(92) + '|')} |")
-                comment = ""
+                    rows.append(f"| `{file.stem}.{name[1]}` | {(comment + fields).strip().replace('|', chr(92) + '|')} |")
+                # Of several definitions in a row the comment is that of each.
+                is_taken = True
             elif not line.strip():
-                comment = ""
+                comment, is_taken = "", False
     parts = ["## Names of `specs/`", "", "| Name | What it says |", "|---|---|", *believed, ""]
     if others:
         parts += ["These serve proofs and the layout, and need no trust:", "", "| Name | What it says |", "|---|---|", *others, ""]

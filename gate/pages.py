@@ -5,13 +5,15 @@
 
 - The lower part of each library's CALLING.md: below the line `<!-- callers: FILE FUNCTION .. -->`, which names the functions of
   crates/rsc_uses/src/FILE to show, come those callers, the contract of each public call, and the words of specs/ with their comments.
-- The first Rust block of a README.md: of a library, its file in crates/rsc_uses/src/readmes, a test; of the repository, a function of
-  crates/rsc_example. README.md also gets the line counts of the definitions to believe.
+- The first Rust block of a library's README.md: its file in crates/rsc_uses/src/readmes, a test. In the README.md of the repository, each
+  block below a line `<!-- quoted: FILE [FUNCTION] -->`. README.md also gets how many definitions are to be believed
+  and what is proved by hand, and docs/TRUSTED.md each of those definitions.
 - The examples of doc comments: what is in a test of crates/rsc_uses/src/examples below the comment that names the item.
 - The table of docs/WRONG_BODIES.md: for each edit that it names, the function and the goal that refuse it.
-- The comments of each Lib.antt: the first sentence of each module's head.
+- The comments of each Lib.antt: the first sentence of each module's head. The table of test modules of each README.md of tests, likewise.
 
-It compares the numbers that the code decides, and asks that docs/DEFINITIONS.md has each definition that a public contract cites, in
+It compares the numbers that the code decides, asks that the forms under 'Forms that are asked for' of docs/DECISIONS.md are there, that no library
+calls a function whose sums wrap, and that docs/DEFINITIONS.md has each definition that a public contract or the promise of a trait's methods cites, in
 backquotes, alone or after its module, as `Holds` or `Holds.Holds`. A definition is a name of a crate's specs/ that a `ghost use` line brings
 into a file.
 
@@ -24,10 +26,21 @@ import pathlib
 import re
 import sys
 
-from calling import ROOT, functions, page, sources
+from calling import ROOT, functions, page, promises, sources
 from edits import blocks
 
 MOST_COLUMNS = 160
+# The forms that are asked for, however plain another is: a source, and a text that stands in it once. docs/DECISIONS.md names them.
+FORMS = (
+    ("rsc_alphabet/src/byte_class_set.rt", "// Each class is counted by itself: there is no running number."),
+    ("rsc_alphabet/src/byte_class_set.rt", "classes.set(byte, self.ends.count_below(byte));"),
+    ("rsc_alphabet/src/byte_set.rt", "    low: u128,\n"),
+    ("rsc_alphabet/src/byte_set.rt", "    high: u128,\n"),
+    ("rsc_look/src/boundaries.rt", "    set.add_set(&word_bytes());\n"),
+    ("rsc_primitives/src/utf8.rt", "const WORD_BYTES_TO_7F: u128 = 0x07FF_FFFE_87FF_FFFE_03FF_0000_0000_0000;\n"),
+    ("rsc_primitives/src/utf8.rt", "const WORD_BYTES_FROM_80: u128 = 0;\n"),
+    ("rsc_search/src/pattern_set.rt", "    words: Vec<u64, A>,\n    capacity: usize,\n    count: usize,\n}"),
+)
 LIBRARIES = ("rsc_primitives", "rsc_alphabet", "rsc_look", "rsc_search", "rsc_captures", "rsc_nfa")
 
 
@@ -36,21 +49,112 @@ def readme(shown, text):
     return re.sub(r"```rust\n.*?```", lambda _: f"```rust\n{shown}```", text, count=1, flags=re.S)
 
 
-def engine_example():
-    """Returns the function of rsc_example that README.md shows."""
-    text = (ROOT / "crates/rsc_example/src/main.rt").read_text(encoding="utf-8")
-    return re.search(r"^// Prints the values.*?^}\n", text, flags=re.M | re.S)[0]
+def with_quotes(text):
+    """Returns README.md with each Rust block below a line `<!-- quoted: FILE [FUNCTION] -->`: the file, or that function with the comment above it."""
+
+    def block(found):
+        shown = (ROOT / found[2]).read_text(encoding="utf-8")
+        if found[3]:
+            shown = re.search(rf"(?:^//[^\n]*\n)*^(?:pub )?fn {found[3]}\b.*?^}}\n", shown, flags=re.M | re.S)[0]
+        return f"{found[1]}```rust\n{shown}```"
+
+    return re.sub(r"(<!-- quoted: (\S+)(?: (\w+))? -->\n)```rust\n.*?```", block, text, flags=re.S)
+
+
+def imports_of(text, ghost):
+    """Returns what the `use` lines of a source or a definition file bring in: each name or sign, with its module and the name there."""
+    found = {}
+    for module, names, alias in re.findall(rf"^\s*{ghost}use Rattle\.([\w.]+?)(?:\.\{{([^}}]*)\}}| as (\w+))", text, flags=re.M):
+        if alias:
+            found[alias] = (module.rpartition(".")[0], module.rpartition(".")[2])
+        for name in filter(None, map(str.strip, names.split(","))):
+            found[name.replace("◌", " ").split()[0] if name != "◌" else name] = (module, name)
+    return found
+
+
+def definitions(text):
+    """Returns the definitions of a file of specs/, each with its text."""
+    found, name = {}, None
+    for line in text.splitlines():
+        begins = re.match(r"(?:  (?=abbrev ))?(?:abbrev |unfoldable )*(?:pub )?(?:record |data |class )?([^\s:({]+)", line)
+        if re.match(r"  abbrev |\S", line) and not line.startswith(("--", "use ", "unfolding")):
+            name = name if name and begins[1] == name else begins[1]
+        if name and line.strip():
+            found[name] = found.get(name, "") + line + "\n"
+        elif not line.strip():
+            name = None
+    return found
+
+
+def tokens(text):
+    return set(re.findall(r"[^\s(){}\[\],;.]+", re.sub(r"--.*", "", text)))
+
+
+# The headline: the clauses of these functions, and what the two choices of word characters mean.
+HEADLINE = (("rsc_look/src/matcher.rt", r"pub fn matches\(.*?\n    \{"), ("rsc_look/src/boundaries.rt", r"pub fn classes_of\(.*?\n    \{"),
+            ("rsc_look/src/word.rt", r"ghost word_chars = .*?;"), ("rsc_look/src/matcher.rt", r"impl<W: WordClass> Model for .*?^\}"),
+            ("rsc_alphabet/src/byte_classes.rt", r"impl Model for ByteClasses .*?^\}"))
+
+
+def reached():
+    """Returns the definitions that the headline's clauses reach, by their files, and the types and toolchain names that they use."""
+    left, own, outside = [], collections.defaultdict(set), collections.defaultdict(set)
+    for file, pattern in HEADLINE:
+        text = (ROOT / "crates" / file).read_text(encoding="utf-8")
+        for part in re.findall(pattern, text, flags=re.M | re.S):
+            brought = imports_of(text, "ghost ")
+            left += [brought[it] for it in tokens(part) if it in brought]
+    while left:
+        module, name = left.pop()
+        crate, _, rest = module.partition(".specs.")
+        file = ROOT / "crates" / crate / "specs" / f"{rest}.antt"
+        if not file.exists():
+            outside[module].add(name)
+        elif name not in own[crate, rest]:
+            text = file.read_text(encoding="utf-8")
+            found, brought = definitions(text), imports_of(text, "(?:pub )?")
+            if name not in found:
+                raise ValueError(f"{module} has no definition {name}")
+            own[crate, rest].add(name)
+            used = tokens(found[name])
+            left += [brought[it] for it in used if it in brought] + [(module, it) for it in used if it in found and it not in brought]
+    return own, outside
+
+
+def trusted():
+    """Returns docs/TRUSTED.md: what is to be believed for the headline, definition by definition."""
+    own, outside = reached()
+    lines = ["# What the headline rests on", "", "Written by `gate/pages.py --write`: the definitions that the clauses of `classes_of` and `matches` of `rsc_look` reach, with all that",
+             "these use, and the meaning of `AsciiWord` and `UnicodeWord`. Whoever trusts the toolchain need believe these alone; [DEFINITIONS.md](DEFINITIONS.md)", "says each in words.", "",
+             "| File | Lines | Definitions |", "|---|---|---|"]
+    count = total = 0
+    order = {crate: k for k, crate in enumerate(LIBRARIES)}
+    for (crate, module), names in sorted(own.items(), key=lambda it: (order[it[0][0]], it[0][1])):
+        text = (ROOT / "crates" / crate / "specs" / f"{module}.antt").read_text(encoding="utf-8")
+        found = definitions(text)
+        size = sum(len(found[it].splitlines()) for it in names)
+        count, total = count + len(names), total + size
+        lines.append(f"| `{crate}/specs/{module}.antt` | {size} | {', '.join(f'`{it}`' for it in found if it in names)} |")
+    lines += ["", f"Together {count} definitions, {total} lines. They use types of the libraries, and names of the toolchain:", "", "| Module | Names |", "|---|---|"]
+    lines += [f"| `{module}` | {', '.join(f'`{it}`' for it in sorted(names))} |" for module, names in sorted(outside.items())]
+    return "\n".join(lines) + "\n", count, total, len(own)
 
 
 def believed(text):
-    """Returns README.md with the files of definitions that its comment names, and how many lines each has."""
-    found = re.search(r"<!-- believed: (.*?) -->\n(?:.*?\n)?(?=<!-- end -->)", text, flags=re.S)
-    files = []
-    for name in found[1].split():
-        crate, _, module = name.partition("/")
-        count = len((ROOT / "crates" / crate / "specs" / f"{module}.antt").read_text(encoding="utf-8").splitlines())
-        files.append(f"`{module}` of `{crate}` ({count} lines)")
-    return text.replace(found[0], f"<!-- believed: {found[1]} -->\n{', '.join(files)}.\n")
+    """Returns README.md with how many definitions the headline reaches."""
+    _, count, total, files = trusted()
+    return re.sub(r"<!-- believed -->.*?<!-- end -->", f"<!-- believed -->{count} definitions ({total} lines, in {files} files of `crates/*/specs`)<!-- end -->", text)
+
+
+def by_hand(text):
+    """Returns README.md with how much is taken without a proof, and what is proved by hand."""
+    found = [it for it in sorted((ROOT / "crates").glob("*/**/*")) if it.suffix in (".antt", ".rt") and "out" not in it.parts]
+    texts = [re.sub(r"//.*|--.*", "", it.read_text(encoding="utf-8")) for it in found]
+    words = {"axioms": r"^\s*(?:pub )?axiom ", "holes": r"= \?(?:\s|$)", "`unsafe` blocks": r"\bunsafe \{"}
+    counts = [f"{sum(len(re.findall(word, it, flags=re.M)) for it in texts)} {name}" for name, word in words.items()]
+    hands = [f"`{'::'.join(it.parts[-3:-1])}`" for it in found if it.name == "Proof.antt"]
+    said = f"{', '.join(counts)}; {len(hands)} proofs by hand ({', '.join(hands)})"
+    return re.sub(r"<!-- by hand -->.*?<!-- end -->", lambda _: f"<!-- by hand -->{said}<!-- end -->", text, flags=re.S)
 
 
 def examples(crate):
@@ -103,6 +207,17 @@ def module_list(path):
     return "\n".join(made) + "\n"
 
 
+def test_modules(crate, text):
+    """Returns the README.md of a crate of tests with its table: each module by its own words."""
+    rows = []
+    for file in sorted((ROOT / "crates" / crate / "src").glob("**/*.rt")):
+        module = file.relative_to(ROOT / "crates" / crate / "src").with_suffix("").as_posix().replace("/", "::")
+        head = re.match(r"//! (.*)", file.read_text(encoding="utf-8"))
+        if head and module != "lib":
+            rows.append(f"| `{module}` | {head[1]} |")
+    return re.sub(r"(\| Module \| What is there \|\n\|---\|---\|\n)(?:\|.*\n)*", lambda it: it[1] + "\n".join(rows) + "\n", text)
+
+
 def pages():
     """Yields each page with what it should be."""
     for crate in LIBRARIES:
@@ -117,14 +232,17 @@ def pages():
         file = ROOT / "crates" / crate / "README.md"
         example = ROOT / "crates/rsc_uses/src/readmes" / f"{crate.removeprefix('rsc_')}.rt"
         yield file, readme(example.read_text(encoding="utf-8"), file.read_text(encoding="utf-8"))
+        file = ROOT / "crates" / f"{crate}_tests" / "README.md"
+        yield file, test_modules(file.parent.name, file.read_text(encoding="utf-8"))
     for file in sorted((ROOT / "crates").glob("*/*/Lib.antt")):
         yield file, module_list(file)
     file = ROOT / "README.md"
-    yield file, believed(readme(engine_example(), file.read_text(encoding="utf-8")))
+    yield file, by_hand(believed(with_quotes(file.read_text(encoding="utf-8"))))
+    yield ROOT / "docs/TRUSTED.md", trusted()[0]
 
 
 def cited():
-    """Returns, for each crate, each definition that a public function's clauses cite, with those functions."""
+    """Returns, for each crate, each definition that a public function's clauses cite, or what a trait's methods promise, with those functions or impls."""
     found = collections.defaultdict(lambda: collections.defaultdict(set))
     for crate in LIBRARIES:
         for _, text in sources(crate):
@@ -138,6 +256,12 @@ def cited():
                 for word in set(re.findall(r"[\w-]+", signature)) & set(imported) if named else ():
                     of, module = imported[word]
                     found[of][f"{module}.{word}"].add(f"{crate}::{of_type[0] + '::' if of_type else ''}{named[1]}")
+            for head, kept in promises(text):
+                for word in set(re.findall(r"[\w-]+", " ".join(kept))) & set(imported):
+                    of, module = imported[word]
+                    # Equality as a `bool` needs no trust: its laws tie it to equality.
+                    if not word.startswith("same_"):
+                        found[of][f"{module}.{word}"].add(f"the impl of {head} in {crate}")
     return found
 
 
@@ -166,6 +290,16 @@ def numbers():
     yield "docs/DECISIONS.md", f"blocks of {table:,} groups are sorted by name in a table of {4 * table // 1024} KiB"
     yield "docs/DECISIONS.md", f"n²/{2 * table} look-ups"
     yield "crates/rsc_captures_tests/src/tests/repeats.rt", f"has room for {table:,} groups"
+
+
+def form_faults():
+    """Yields for each form that is asked for, and for each source of a library, what is wrong with it."""
+    for file, words in FORMS:
+        count = (ROOT / "crates" / file).read_text(encoding="utf-8").count(words)
+        yield [] if count == 1 else [f"{file} has {count} times the form that is asked for: {words.strip()!r}"]
+    for crate in LIBRARIES:
+        for path, text in sources(crate):
+            yield [f"{crate}/src/{path} calls `{it}`: no number may wrap" for it in re.findall(r"\bwrapping_\w+", text)]
 
 
 def serves_nothing(crate, below):
@@ -202,6 +336,9 @@ def source_faults():
 def main():
     made, failures, count = dict(pages()), [], 0
     for _, faults in source_faults():
+        count += 1
+        failures += faults
+    for faults in form_faults():
         count += 1
         failures += faults
     for file, words in numbers():

@@ -4,6 +4,8 @@
 # crates/NAME/must-not-compile/*.snippet is misuse that the borrow checker must refuse: at the end of the crate's root file the
 # check must fail with the words of each of the snippet's lines `// refused: WORDS`.
 #
+# It also makes a repository by own/new-repository.sh and runs its test.
+#
 # crates/NAME/must-run/*.snippet is tests of calls whose callers the checker doesn't cover: at the end of the file that the first
 # line names, `// added to: FILE`, they are compiled and run without a proof, and each must pass.
 set -u
@@ -66,5 +68,9 @@ for snippet in crates/*/must-run/*.snippet; do
   is_passed "$snippet" "$answer"
   count "$snippet" passed "$answer"
 done
+# The repository of one's own that own/new-repository.sh makes: the test of its first function.
+answer=$(own/new-repository.sh "$copy/own" first && cd "$copy/own/crates/first" && rt try --test 2>&1)
+printf '%s\n' "$answer" | grep -q '^test result: ok. 1 passed'
+count own/new-repository.sh passed "$answer"
 echo "snippets: $passed passed, $failed failed"
 [ "$failed" -eq 0 ] && [ "$passed" -gt 0 ]

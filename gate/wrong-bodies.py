@@ -7,7 +7,8 @@
 
 wrong-bodies/FILE.edits has the edits of src/FILE.rt; gate/edits.py explains the format. The fields of an edit are
 
-    refused: span::Span::len: returns    the function that must be refused, without the crate's name, and how the goal begins that must stay unproved
+    refused: span::Span::len: returns    the function that must be refused, without the crate's name, and how the goal begins that must stay unproved;
+                                         several goals are joined by ` and `
     apart: extract_from                  if there: functions on whose proof this one's rests, so that their edits are tried apart from this
     also: set                            if there: functions besides the refused one that the edit changes
 
@@ -116,9 +117,12 @@ def refusals(crate, folder, said):
 
 
 def function_at(path, line):
-    """Returns the name of the function that a line of a source file is in, if there is one."""
+    """Returns the name of the function that a line of a source file is in, or is an attribute of, if there is one."""
     with open(path, encoding="utf-8") as file:
-        names = re.findall(r"^\s*(?:pub(?:\(crate\))? )?(?:const )?fn (\w+)", "".join(file.readlines()[:line]), flags=re.M)
+        lines = file.readlines()
+    while line < len(lines) and lines[line - 1].lstrip().startswith("#["):
+        line += 1
+    names = re.findall(r"^\s*(?:pub(?:\(crate\))? )?(?:const )?fn (\w+)", "".join(lines[:line]), flags=re.M)
     return names[-1] if names else ""
 
 
@@ -144,7 +148,7 @@ def judge(crate, folder, batch, texts):
             file.write(text)
     for it in batch:
         goals = sorted({*found.get(it.function, ()), *found.get((it.file, it.function.rpartition("::")[2]), ())})
-        if status == 1 and any(goal.startswith(it.goal) for goal in goals):
+        if status == 1 and all(any(goal.startswith(wanted) for goal in goals) for wanted in it.goal.split(" and ")):
             results.append((True, f"{crate}/{it.name}: refused by {it.function}, {', '.join(goals)[:120]}"))
         elif not found:
             results.append((False, f"{crate}/{it.name}: NOT JUDGED, the check stopped before the proofs: {said.strip().splitlines()[-1][:200]}"))

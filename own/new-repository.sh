@@ -1,0 +1,24 @@
+#!/usr/bin/env bash
+# Makes a Rattle repository whose crate may call the libraries.
+#   own/new-repository.sh FOLDER CRATE
+# FOLDER must not be there yet. It gets the six libraries, crates.txt, HANDLES, and the crate CRATE with a function that calls rsc_look and a test.
+set -euo pipefail
+here=$(cd "$(dirname "${BASH_SOURCE[0]}")/.." && pwd)
+if [ $# -ne 2 ] || [ -e "$1" ]; then
+  echo "usage: own/new-repository.sh FOLDER CRATE, where FOLDER is not there yet" >&2
+  exit 2
+fi
+libraries=(rsc_primitives rsc_alphabet rsc_look rsc_search rsc_captures rsc_nfa)
+
+mkdir -p "$1/crates/$2/src"
+git init -q "$1"
+for library in "${libraries[@]}"; do
+  tar -C "$here/crates" --exclude=out --exclude=wrong-bodies --exclude=must-not-compile -cf - "$library" | tar -C "$1/crates" -xf -
+  grep "^$library:" "$here/crates.txt" >> "$1/crates.txt"
+done
+echo "$2: ${libraries[*]}" >> "$1/crates.txt"
+echo 'Handles allowed: none.' > "$1/HANDLES"
+echo 'out/' > "$1/.gitignore"
+cp "$here/own/first.txt" "$1/crates/$2/src/lib.rt"
+echo "In $1/crates/$2: 'rt try --test' runs the test without a proof; 'rt check' proves the crate. The first one proves the libraries too, which"
+echo "takes some 10 minutes on an idle machine, so start it now and write meanwhile."
