@@ -1,5 +1,9 @@
 //! Lists of patterns with the names of their groups.
-ghost use Rattle.std.specs.Prelude.{◌≡◌, map, IfOk};
+ghost use Rattle.std.specs.Prelude.{◌≡◌, ◌==◌, map, IfOk};
+ghost use Rattle.std.specs.List.{list_all, slice_split};
+ghost use Rattle.std.specs.Option.{option_map};
+ghost use Rattle.rsc_primitives.specs.Utf8.{is_word_byte};
+ghost use Rattle.rsc_notation.specs.GroupTexts.{group_of, groups_of, patterns_of};
 
 use rsc_primitives::utf8::is_word_byte;
 use std::alloc::{AllocError, Allocator};
@@ -32,10 +36,14 @@ pub fn slices_of<'a, 'b, A: Allocator + Copy + Drop>(
 pub fn parse_patterns<'a, A: Allocator + Copy + Drop>(
     alloc: A,
     text: &'a [u8],
-) -> Result<Option<Vec<Vec<Option<&'a str>, A>, A>>, AllocError> {
+) -> Result<Option<Vec<Vec<Option<&'a str>, A>, A>>, AllocError>
+    ensures { IfOk result (λ patterns. option_map (λ ps. map (λ groups. map (option_map (λ name. name.now)) groups.items) ps.items) patterns
+        ≡ patterns_of text.now) }
+{
+    let parts = parts_between(alloc, text, b';')?;
     let mut patterns = Vec::new(alloc);
-    for pattern in text.split(|byte| *byte == b';') {
-        match parse_groups(alloc, pattern)? {
+    for part in parts.as_slice() {
+        match parse_groups(alloc, part)? {
             Some(groups) => patterns.push(groups)?,
             None => return Ok(None),
         }
@@ -47,13 +55,16 @@ pub fn parse_patterns<'a, A: Allocator + Copy + Drop>(
 fn parse_groups<'a, A: Allocator + Copy + Drop>(
     alloc: A,
     pattern: &'a [u8],
-) -> Result<Option<Vec<Option<&'a str>, A>>, AllocError> {
+) -> Result<Option<Vec<Option<&'a str>, A>>, AllocError>
+    ensures { IfOk result (λ groups. option_map (λ gs. map (option_map (λ name. name.now)) gs.items) groups ≡ groups_of pattern.now) }
+{
     let mut groups = Vec::new(alloc);
     if pattern.is_empty() {
         return Ok(Some(groups));
     }
-    for group in pattern.split(|byte| *byte == b',') {
-        match parse_group(group) {
+    let parts = parts_between(alloc, pattern, b',')?;
+    for part in parts.as_slice() {
+        match parse_group(part) {
             Some(name) => groups.push(name)?,
             None => return Ok(None),
         }
@@ -61,24 +72,36 @@ fn parse_groups<'a, A: Allocator + Copy + Drop>(
     Ok(Some(groups))
 }
 
+// The parts of a text between bytes.
+fn parts_between<'a, A: Allocator + Copy + Drop>(
+    alloc: A,
+    text: &'a [u8],
+    separator: u8,
+) -> Result<Vec<&'a [u8], A>, AllocError>
+    ensures { IfOk result (λ parts. map (λ part. part.now) parts.items ≡ slice_split (λ b. b == separator) text.now) }
+{
+    text.split(|byte| *byte == separator).collect(alloc)
+}
+
 // The optional name of a group, or `None` where it isn't written rightly.
-fn parse_group(group: &[u8]) -> Option<Option<&str>> {
-    match group {
-        [] => None,
-        b"-" => Some(None),
-        _ => {
-            if !all_word_bytes(group) {
-                return None;
-            }
-            match std::str::from_utf8(group) {
-                Ok(name) => Some(Some(name)),
-                Err(_) => None,
-            }
-        }
+fn parse_group(group: &[u8]) -> Option<Option<&str>>
+    ensures { option_map (option_map (λ name. name.now)) result ≡ group_of group.now }
+{
+    if group == b"-".as_slice() {
+        return Some(None);
+    }
+    if group.is_empty() || !all_word_bytes(group) {
+        return None;
+    }
+    match std::str::from_utf8(group) {
+        Ok(name) => Some(Some(name)),
+        Err(_) => None,
     }
 }
 
-fn all_word_bytes(name: &[u8]) -> bool {
+fn all_word_bytes(name: &[u8]) -> bool
+    ensures { result ≡ list_all is_word_byte name.now }
+{
     for byte in name {
         if !is_word_byte(*byte) {
             return false;

@@ -1,4 +1,4 @@
-use Rattle.std.proofs.Common.{◌≡◌, ◌∷◌, [], refl, sym, ap, arith, slice_index_or, true, false, true≢false}
+use Rattle.std.proofs.Common.{◌∷◌, [], refl, sym, ap, arith, slice_index_or, true≢false}
 use Rattle.hex.proofs.HexLemmas.{decode_of-ok, decode_of-same}
 use Rattle.rsc_notation.proofs.RangeTextsLemmas.{written}
 use Rattle.rsc_notation.proofs.bytes.parse_range.Goals as goal
