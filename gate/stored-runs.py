@@ -9,6 +9,7 @@ The runs of a crate are in crates/CRATE/runs/*.txt, which read as a session does
     # a comment
     $ CRATE looks StartLF -             the arguments, as a shell splits them; \xHH in them is a byte
     @ input a\n                         standard input, with \n and \xHH for bytes
+    @ later b\n                         more of it, which comes a little later
     @ terminal                          what is unusual: standard output is a terminal; a variable NAME=VALUE; `output full`,
                                         which takes no byte; `output closed`, which nobody reads; `input unreadable`
     ..                                  any lines
@@ -24,6 +25,7 @@ import re
 import shlex
 import subprocess
 import sys
+import time
 
 ROOT = os.path.dirname(os.path.dirname(os.path.realpath(__file__)))
 UNREADABLE = "@ input unreadable"
@@ -45,8 +47,8 @@ def runs_of(crate):
                 if re.match(rf"\$ {crate}( |$)", line):
                     args = [unescaped(it) for it in shlex.split(line)[2:]]
                     found.append(Run(f"{crate}/{os.path.basename(path)}:{number}", args, [], [], [], [], [0]))
-                elif line.startswith("@ input ") and line != UNREADABLE:
-                    found[-1].stdin.append(unescaped(line[8:]))
+                elif line.startswith(("@ input ", "@ later ")) and line != UNREADABLE:
+                    found[-1].stdin.append((line[2:7] == "later", unescaped(line[8:])))
                 elif line.startswith("@ "):
                     found[-1].unusual.append(line)
                 elif line.startswith("! "):
@@ -91,14 +93,18 @@ def read_to_end(file):
 
 def answer_of(program, run):
     writer, reader = output_to(run.unusual)
-    variables = dict(it[2:].split("=", 1) for it in run.unusual if "=" in it)
+    variables = dict(unescaped(it[2:]).split(b"=", 1) for it in run.unusual if "=" in it)
     unreadable = os.open("/", os.O_RDONLY) if UNREADABLE in run.unusual else None
     child = subprocess.Popen([program, *run.args], env=variables, stdout=writer, stderr=subprocess.PIPE,
                              stdin=subprocess.PIPE if unreadable is None else unreadable)
     os.close(writer)
     if unreadable is None:
         try:
-            child.stdin.write(b"".join(run.stdin))
+            for is_late, part in run.stdin:
+                if is_late:
+                    time.sleep(0.2)
+                child.stdin.write(part)
+                child.stdin.flush()
             child.stdin.close()
         except BrokenPipeError:
             pass
@@ -131,7 +137,7 @@ def write_cases(crate, folder):
     for run in runs_of(crate):
         if not run.unusual and b".." not in run.stdout and all(it.isascii() for it in run.args):
             path = os.path.join(folder, run.name.replace("/", "-").replace(".txt:", "-"))
-            for ending, text in (("", b"".join(run.stdin)), (".args", b"".join(it + b"\n" for it in run.args)),
+            for ending, text in (("", b"".join(part for _, part in run.stdin)), (".args", b"".join(it + b"\n" for it in run.args)),
                                  (".stdout", b"".join(it + b"\n" for it in run.stdout))):
                 with open(path + ending, "wb") as file:
                     file.write(text)

@@ -5,8 +5,11 @@
     gate/tested-bodies.py --texts [CRATE ..]      # runs nothing: says which edits don't fit the sources
 
 A contract says nothing of whether memory is there, of the texts that only tests show, and of what a program reads and writes.
-gate/edits.py explains the format of an edit; its fields are `file`, the source file that it changes, `tests`, the crate whose tests must fail, and
-where it needs a private field of another file `also`, as `src/span.rt: start: usize ⇒ pub(crate) start: usize`.
+gate/edits.py explains the format of an edit; its fields are `file`, the source file that it changes, and one of
+    tests    the crate whose tests must fail
+    runs     `all`: of the crate's plain stored runs (gate/stored-runs.py) one must print something else, or end with another status;
+             or the arguments of one run, with \\xHH for bytes, of which standard error counts too
+and where it needs a private field of another file `also`, as `src/span.rt: start: usize ⇒ pub(crate) start: usize`.
 Each is compiled and run without a proof, in a copy of the repository. It passes if a test fails, or
 if the tests don't compile because a type lacks a trait.
 """
@@ -15,12 +18,16 @@ import os
 import pathlib
 import queue
 import re
+import shlex
 import shutil
 import subprocess
 import sys
 import tempfile
 
 from edits import ROOT, blocks, replaced
+
+# What the unchanged program answers, by crate and runs.
+UNCHANGED = {}
 
 
 def edits(crates):
@@ -29,7 +36,7 @@ def edits(crates):
     for crate in sorted(os.listdir(f"{ROOT}/crates")):
         path = f"{ROOT}/crates/{crate}/tested-bodies.edits"
         if os.path.exists(path) and (not crates or crate in crates):
-            found += [(crate, *it) for it in blocks(path, ("file", "tests", "also"))]
+            found += [(crate, *it) for it in blocks(path, ("file", "tests", "runs", "also"))]
     return found
 
 
@@ -52,24 +59,63 @@ def misfits(wanted):
     return found
 
 
+def rt_try(folder, *words):
+    ran = subprocess.run(["rt", "try", *words], cwd=folder, stdin=subprocess.DEVNULL, stdout=subprocess.PIPE, stderr=subprocess.STDOUT, errors="replace")
+    return ran.stdout
+
+
+def answers_of(copy, crate, runs):
+    """Returns what the program of a copy answers in the runs: for all runs a line each, for one run what it prints."""
+    folder = f"{copy}/crates/{crate}"
+    if runs != "all":
+        words = [re.sub(rb"\\x([0-9a-f]{2})", lambda it: bytes([int(it[1], 16)]), it.encode()) for it in shlex.split(runs)]
+        return rt_try(folder, "--steps", "0", "--", *words).splitlines()
+    with tempfile.TemporaryDirectory(prefix="cases-") as cases:
+        subprocess.run([f"{ROOT}/gate/stored-runs.py", "--cases", crate, cases], check=True)
+        return re.findall(r"^case=.*", rt_try(folder, "--steps", "0", "--cases", cases), flags=re.M)
+
+
+def judge_runs(copy, crate, name, runs, unchanged):
+    """Runs the program of a copy, and returns whether an answer isn't that of the unchanged program, with a line that says which."""
+    found = answers_of(copy, crate, runs)
+    differing = [it for it in found if it not in unchanged]
+    if len(found) != len(unchanged) or not found:
+        return False, f"{crate}/{name}: NOT JUDGED: {found[-1][:200] if found else 'no output'}"
+    if differing:
+        return True, f"{crate}/{name}: fails {differing[0][:150]}"
+    return False, f"{crate}/{name}: NO RUN FAILS"
+
+
+def judge_tests(copy, crate, name, tests):
+    """Runs the tests of a copy, and returns whether one fails, with a line that says which."""
+    said = rt_try(f"{copy}/crates/{tests}", "--test")
+    failed = re.findall(r"^test (\S+) \.\.\. FAILED", said, flags=re.M)
+    if failed:
+        return True, f"{crate}/{name}: fails {', '.join(failed)[:150]}"
+    bound = re.search(r"error\[unsatisfied-bound\]: (.*)", said)
+    if bound:
+        return True, f"{crate}/{name}: its tests don't compile: {bound[1]}"
+    if re.search(r"^test result: ok", said, flags=re.M):
+        return False, f"{crate}/{name}: NO TEST FAILS"
+    last = said.strip().splitlines()
+    return False, f"{crate}/{name}: NOT JUDGED: {last[-1][:200] if last else 'no output'}"
+
+
 def judge(copy, crate, name, fields, pairs):
-    """Runs the tests over one edit in a copy, and returns whether a test fails, with a line that says which."""
+    """Tries one edit in a copy, and returns whether a test or a run fails, with a line that says which."""
+    key = crate, fields.get("runs")
+    if "runs" in fields and key not in UNCHANGED:
+        UNCHANGED[key] = answers_of(copy, *key)
     texts = changed(copy, crate, fields, pairs)
     for source, (_, after) in texts.items():
         pathlib.Path(copy, "crates", crate, source).write_text(after, encoding="utf-8")
-    ran = subprocess.run(["rt", "try", "--test"], cwd=f"{copy}/crates/{fields['tests']}", stdin=subprocess.DEVNULL, stdout=subprocess.PIPE, stderr=subprocess.STDOUT, errors="replace")
-    for source, (before, _) in texts.items():
-        pathlib.Path(copy, "crates", crate, source).write_text(before, encoding="utf-8")
-    failed = re.findall(r"^test (\S+) \.\.\. FAILED", ran.stdout, flags=re.M)
-    if failed:
-        return True, f"{crate}/{name}: fails {', '.join(failed)[:150]}"
-    bound = re.search(r"error\[unsatisfied-bound\]: (.*)", ran.stdout)
-    if bound:
-        return True, f"{crate}/{name}: its tests don't compile: {bound[1]}"
-    if re.search(r"^test result: ok", ran.stdout, flags=re.M):
-        return False, f"{crate}/{name}: NO TEST FAILS"
-    last = ran.stdout.strip().splitlines()
-    return False, f"{crate}/{name}: NOT JUDGED: {last[-1][:200] if last else 'no output'}"
+    try:
+        if "runs" in fields:
+            return judge_runs(copy, crate, name, fields["runs"], UNCHANGED[key])
+        return judge_tests(copy, crate, name, fields["tests"])
+    finally:
+        for source, (before, _) in texts.items():
+            pathlib.Path(copy, "crates", crate, source).write_text(before, encoding="utf-8")
 
 
 def main():

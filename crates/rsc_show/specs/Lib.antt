@@ -7,3 +7,4 @@ pub mod Pointers  -- where the group at fault is, and where it is written in a t
 pub mod PointersLayout  -- what the search for a name from one group on answers
 pub mod Ranges  -- partitions that keep assertions and part ranges of bytes
 pub mod Sides  -- what is beside a position of a haystack
+pub mod Statuses  -- the status with which the program ends

@@ -1,8 +1,9 @@
 //! What stops the program.
+ghost use Rattle.std.specs.Prelude.{◌≡◌};
+ghost use Rattle.rsc_show.specs.Statuses.{status_of};
 
 use crate::text::Page;
 use std::alloc::{AllocError, AllocFailed, Global};
-use std::fmt::Write;
 
 /// What stops the program, or makes it end with a status of its own.
 #[derive(Drop)]
@@ -40,7 +41,9 @@ impl ShowError {
     }
 
     /// The status with which the program ends: 3 for a refused list, 2 for arguments, and 1 for what failed.
-    pub fn status(&self) -> u8 {
+    pub fn status(&self) -> u8
+        ensures { result ≡ status_of self.now }
+    {
         match self {
             ShowError::ListRefused => 3,
             ShowError::Usage(_) | ShowError::NotUtf8 => 2,
@@ -74,23 +77,13 @@ pub fn refused_value(alloc: Global, option: &str, value: &str, expected: &str) -
         page.push_str(option);
         page.push(' ');
     }
-    push_argument(&mut page, value);
+    for c in value.chars() {
+        page.push_char(c);
+    }
     page.push_str("`: expected ");
     page.push_str(expected);
     match page.finish() {
         Ok(message) => ShowError::Usage(message),
         Err(_) => ShowError::OutOfMemory,
-    }
-}
-
-// An argument, in which control characters are shown by their numbers, so that they can't move the terminal's cursor.
-fn push_argument(page: &mut Page, argument: &str) {
-    for c in argument.chars() {
-        if c.is_control() {
-            let number = c as u32;
-            let _ = write!(page, "\\x{number:02X}");
-        } else {
-            page.push(c);
-        }
     }
 }

@@ -5,8 +5,8 @@ use crate::arguments::{Haystack, Request, parse};
 use crate::choices::Color;
 use crate::error::{ShowError, refused};
 use crate::positions::{Side, after, before, marks_at};
-use crate::text::Page;
-use rsc_look::{Look, UnicodeWord, WordClass};
+use crate::text::{Page, prints};
+use rsc_look::Look;
 use rsc_notation::looks::{every_look, name_of};
 use std::alloc::Global;
 use std::fmt::Write;
@@ -153,7 +153,7 @@ fn push_side(page: &mut Page, byte: Option<u8>, edge: &str, side: Side) {
     page.push_cell(&cell, SIDE_WIDTH);
 }
 
-// A character: of ASCII as a byte is shown, any other by its number, and by itself if it is a word character.
+// A character: of ASCII as a byte is shown, any other by its number, and by itself if that prints.
 fn push_character(cell: &mut Page, byte: u8, c: char) {
     if c.is_ascii() {
         cell.push_shown(byte);
@@ -161,7 +161,7 @@ fn push_character(cell: &mut Page, byte: u8, c: char) {
     }
     let number = c as u32;
     let _ = write!(cell, "U+{number:04X}");
-    if UnicodeWord.is_word(c) {
+    if prints(c) {
         cell.push(' ');
         cell.push(c);
     }

@@ -1,13 +1,15 @@
 //! Text that is put together from the cells of aligned tables.
-ghost use Rattle.std.specs.Prelude.{◌≡◌, chars, false};
+ghost use Rattle.std.specs.Prelude.{◌≡◌, ◌<◌, ◌≤◌, IfOk, chars, false, true};
 ghost use Rattle.std.specs.String.{string_bytes};
 ghost use Rattle.unicode_width.specs.Width.{str_width};
+ghost use Rattle.rsc_look.specs.Words.{is_unicode_word};
 
+use rsc_look::{UnicodeWord, WordClass};
 use rsc_primitives::escape::DebugByte;
 use std::alloc::{AllocError, Global};
 use std::fmt;
 use std::fmt::Write;
-use unicode_width::UnicodeWidthStr;
+use unicode_width::{UnicodeWidthChar, UnicodeWidthStr};
 
 /// A text that grows, and remembers that memory ran out, so that this is asked once, at its end.
 #[derive(Drop)]
@@ -53,6 +55,18 @@ impl Page {
         let _ = write!(self, "{:?}", DebugByte(byte));
     }
 
+    /// Appends a character by itself, or by its number if a terminal might not show it as one sign.
+    pub fn push_char(&mut self, c: char) {
+        let number = c as u32;
+        if prints(c) {
+            self.push(c);
+        } else if c.is_ascii() {
+            let _ = write!(self, "\\x{number:02X}");
+        } else {
+            let _ = write!(self, "\\u{{{number:X}}}");
+        }
+    }
+
     /// Appends spaces.
     pub fn push_spaces(&mut self, count: usize) {
         for _ in 0..count {
@@ -73,9 +87,14 @@ impl Page {
         self.push(' ');
     }
 
-    fn push_page(&mut self, page: &Page) {
+    // Appends a page. What it lacks is missing here as well.
+    fn push_page(&mut self, page: &Page)
+        ensures { page.now.is_refused ≡ true → self.new.is_refused ≡ true }
+    {
         self.push_str(page.text.as_str());
-        self.is_refused = self.is_refused || page.is_refused;
+        if page.is_refused {
+            self.is_refused = true;
+        }
     }
 
     // How many columns it takes in a terminal.
@@ -98,7 +117,9 @@ impl Page {
     /// # Errors
     ///
     /// [`AllocError`] where memory for a part of it was refused.
-    pub fn finish(self) -> Result<String, AllocError> {
+    pub fn finish(self) -> Result<String, AllocError>
+        ensures { IfOk result (λ text. self.is_refused ≡ false) }
+    {
         if self.is_refused {
             return Err(AllocError);
         }
@@ -115,5 +136,18 @@ impl fmt::Write for Page {
                 Err(fmt::Error)
             }
         }
+    }
+}
+
+/// Whether a character is shown by itself: a printing one of ASCII, or a word character that takes a column. A control character, a mark that
+/// joins its neighbour and a change of direction are none, so that no text moves a terminal's cursor.
+pub fn prints(c: char) -> bool
+    ensures ascii { result ≡ true → c < 0x80 → (0x20 ≤ c) × (c < 0x7F) }
+    ensures word { result ≡ true → 0x80 ≤ c → is_unicode_word c ≡ true }
+{
+    if c.is_ascii() {
+        (' '..='~').contains(&c)
+    } else {
+        UnicodeWord.is_word(c) && c.width() != Some(0)
     }
 }
