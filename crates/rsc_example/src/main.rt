@@ -10,6 +10,7 @@ use rsc_engine::{Builder, Error, Matches};
 use rsc_look::UnicodeWord;
 use rsc_search::Input;
 use std::env;
+use std::fmt::Display;
 use std::process::ExitCode;
 
 fn main(rt: HostRuntime) -> ExitCode {
@@ -18,18 +19,23 @@ fn main(rt: HostRuntime) -> ExitCode {
         if arguments.len() > 1 {
             return match calls::answer_all(&rt) {
                 Ok(()) => ExitCode::SUCCESS,
-                Err(_) => ExitCode::FAILURE,
+                Err(error) => failure(&rt, &error),
             };
         }
     }
     if let Err(error) = pairs(&rt, "größe=3, λόγος=слово; 漢字=字") {
-        let _ = rt.println(error);
-        return ExitCode::FAILURE;
+        return failure(&rt, &error);
     }
     match texts::show_all(&rt) {
         Ok(()) => ExitCode::SUCCESS,
-        Err(_) => ExitCode::FAILURE,
+        Err(error) => failure(&rt, &error),
     }
+}
+
+// Says what stopped the program on standard error.
+fn failure<E: Display>(rt: &HostRuntime, error: &E) -> ExitCode {
+    let _ = rt.eprintln(error);
+    ExitCode::FAILURE
 }
 
 // Prints the values of all matches of `(\w+)=(?P<value>\w+)`, where each byte of a character above ASCII counts as a word byte.
