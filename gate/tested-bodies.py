@@ -6,7 +6,8 @@
 
 A contract says nothing of whether memory is there, of the texts that only tests show, and of what a program reads and writes.
 gate/edits.py explains the format of an edit; its fields are `file`, the source file that it changes, `tests`, the crate whose tests must fail, and
-where it needs a private field of another file `also`, as `src/span.rt: start: usize ⇒ pub(crate) start: usize`.
+where it needs a private field of another file `also`, as `src/span.rt: start: usize ⇒ pub(crate) start: usize`. Where the tests are those of
+a snippet of that crate's must-run, `snippet` is its name. `seconds` is the time that each test has, if it isn't the usual minute.
 Each is compiled and run without a proof, in a copy of the repository. It passes if a test fails, or
 if the tests don't compile because a type lacks a trait.
 """
@@ -29,7 +30,7 @@ def edits(crates):
     for crate in sorted(os.listdir(f"{ROOT}/crates")):
         path = f"{ROOT}/crates/{crate}/tested-bodies.edits"
         if os.path.exists(path) and (not crates or crate in crates):
-            found += [(crate, *it) for it in blocks(path, ("file", "tests", "also"))]
+            found += [(crate, *it) for it in blocks(path, ("file", "tests", "also", "snippet", "seconds"))]
     return found
 
 
@@ -55,11 +56,20 @@ def misfits(wanted):
 def judge(copy, crate, name, fields, pairs):
     """Runs the tests over one edit in a copy, and returns whether a test fails, with a line that says which."""
     texts = changed(copy, crate, fields, pairs)
+    tests = pathlib.Path(copy, "crates", fields["tests"])
+    if "snippet" in fields:
+        snippet = pathlib.Path(ROOT, "crates", fields["tests"], "must-run", fields["snippet"] + ".snippet").read_text(encoding="utf-8")
+        added_to = tests / snippet.splitlines()[0].removeprefix("// added to: ")
+        before = added_to.read_text(encoding="utf-8")
+        added_to.write_text(before + snippet, encoding="utf-8")
     for source, (_, after) in texts.items():
         pathlib.Path(copy, "crates", crate, source).write_text(after, encoding="utf-8")
-    ran = subprocess.run(["rt", "try", "--test"], cwd=f"{copy}/crates/{fields['tests']}", stdin=subprocess.DEVNULL, stdout=subprocess.PIPE, stderr=subprocess.STDOUT, errors="replace")
-    for source, (before, _) in texts.items():
-        pathlib.Path(copy, "crates", crate, source).write_text(before, encoding="utf-8")
+    words = ["rt", "try", "--test"] + (["--seconds", fields["seconds"]] if "seconds" in fields else [])
+    ran = subprocess.run(words, cwd=tests, stdin=subprocess.DEVNULL, stdout=subprocess.PIPE, stderr=subprocess.STDOUT, errors="replace")
+    if "snippet" in fields:
+        added_to.write_text(before, encoding="utf-8")
+    for source, (text, _) in texts.items():
+        pathlib.Path(copy, "crates", crate, source).write_text(text, encoding="utf-8")
     failed = re.findall(r"^test (\S+) \.\.\. FAILED", ran.stdout, flags=re.M)
     if failed:
         return True, f"{crate}/{name}: fails {', '.join(failed)[:150]}"
