@@ -6,7 +6,8 @@
 
 A contract says nothing of whether memory is there, of the texts that only tests show, and of what a program reads and writes.
 gate/edits.py explains the format of an edit; its fields are `file`, the source file that it changes, and one of
-    tests    the crate whose tests must fail
+    tests    the crate whose tests must fail; with `snippet`, the name of a snippet of its must-run, those of the snippet too; with
+             `seconds`, the time that each test has, if it isn't the usual minute
     runs     `all`: of the crate's plain stored runs (gate/stored-runs.py) one must print something else, or end with another status;
              or the arguments of one run, with \\xHH for bytes, of which standard error counts too
 and where it needs a private field of another file `also`, as `src/span.rt: start: usize ⇒ pub(crate) start: usize`.
@@ -36,7 +37,7 @@ def edits(crates):
     for crate in sorted(os.listdir(f"{ROOT}/crates")):
         path = f"{ROOT}/crates/{crate}/tested-bodies.edits"
         if os.path.exists(path) and (not crates or crate in crates):
-            found += [(crate, *it) for it in blocks(path, ("file", "tests", "runs", "also"))]
+            found += [(crate, *it) for it in blocks(path, ("file", "tests", "snippet", "seconds", "runs", "also"))]
     return found
 
 
@@ -86,9 +87,17 @@ def judge_runs(copy, crate, name, runs, unchanged):
     return False, f"{crate}/{name}: NO RUN FAILS"
 
 
-def judge_tests(copy, crate, name, tests):
+def judge_tests(copy, crate, name, fields):
     """Runs the tests of a copy, and returns whether one fails, with a line that says which."""
-    said = rt_try(f"{copy}/crates/{tests}", "--test")
+    tests = pathlib.Path(copy, "crates", fields["tests"])
+    if "snippet" in fields:
+        snippet = pathlib.Path(ROOT, "crates", fields["tests"], "must-run", fields["snippet"] + ".snippet").read_text(encoding="utf-8")
+        added_to = tests / snippet.splitlines()[0].removeprefix("// added to: ")
+        before = added_to.read_text(encoding="utf-8")
+        added_to.write_text(before + snippet, encoding="utf-8")
+    said = rt_try(tests, "--test", *(["--seconds", fields["seconds"]] if "seconds" in fields else []))
+    if "snippet" in fields:
+        added_to.write_text(before, encoding="utf-8")
     failed = re.findall(r"^test (\S+) \.\.\. FAILED", said, flags=re.M)
     if failed:
         return True, f"{crate}/{name}: fails {', '.join(failed)[:150]}"
@@ -112,7 +121,7 @@ def judge(copy, crate, name, fields, pairs):
     try:
         if "runs" in fields:
             return judge_runs(copy, crate, name, fields["runs"], UNCHANGED[key])
-        return judge_tests(copy, crate, name, fields["tests"])
+        return judge_tests(copy, crate, name, fields)
     finally:
         for source, (before, _) in texts.items():
             pathlib.Path(copy, "crates", crate, source).write_text(before, encoding="utf-8")

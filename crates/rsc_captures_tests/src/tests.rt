@@ -1,7 +1,10 @@
 //! Group lists and captures: worked rows, shown texts, and running out of memory.
 mod captures;
+mod cost;
+mod forms;
 mod group_info;
 mod memory;
 mod repeats;
+mod requests;
 mod shown;
 mod sizes;

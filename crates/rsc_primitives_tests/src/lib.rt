@@ -1,7 +1,9 @@
 //! The tests of `rsc_primitives`, by its public calls alone. They are a crate above it because a crate that has tests is proved twice.
-//! The slow reader is public because the tests of `rsc_look` use it too.
+//! The other modules are public because the tests of other libraries use them too.
 #![tactic(auto)]
 
+pub mod forms;
+pub mod requests;
 pub mod slow_reader;
 #[cfg(test)]
 mod tests;

@@ -1,5 +1,8 @@
 //! What no contract says: worked values from outside, and shown texts.
+mod cost;
+mod forms;
 mod memory;
+mod requests;
 mod shown;
 
 ghost use Rattle.std.specs.Prelude.{◌≡◌};

@@ -3,6 +3,7 @@ use rsc_alphabet::{
     ByteClassElements, ByteClassIter, ByteClassRepresentatives, ByteClassSet, ByteClasses, ByteSet,
     ByteSetIter, ByteSetRangeIter, Unit,
 };
+use rsc_primitives_tests::forms::is_shown;
 use std::fmt;
 use std::test::Fail;
 
@@ -48,6 +49,45 @@ fn each_range_of_each_class_is_shown(rt: HostRuntime) -> Result<(), Fail> {
     assert_eq!(rt;
         format!(in alloc; "{classes:?}")?.as_str(),
         "ByteClasses(0 => [\\x00-Y[-`d-\\xFE], 1 => [Za-c], 2 => [], 3 => [\\xFF], 4 => [EOI])"
+    );
+    Ok(())
+}
+
+// As the original gives them.
+#[test]
+fn fixed_texts_are_shown_in_each_form(rt: HostRuntime) -> Result<(), Fail> {
+    let alloc = rt.alloc();
+    for (unit, want) in [
+        (Unit::u8(b' '), "' '"),
+        (Unit::u8(b'a'), "a"),
+        (Unit::u8(0xFF), "\\xFF"),
+        (Unit::eoi(0), "EOI"),
+        (Unit::eoi(256), "EOI"),
+    ] {
+        assert!(rt; is_shown(alloc, &unit, want), "{want}");
+    }
+    let mut classes = ByteClasses::empty();
+    assert!(rt;
+        is_shown(
+            alloc,
+            &classes,
+            "ByteClasses(0 => [\\x00-\\xFF], 1 => [EOI])"
+        )
+    );
+    classes.set(b'Z', 1);
+    assert!(rt;
+        is_shown(
+            alloc,
+            &classes,
+            "ByteClasses(0 => [\\x00-Y[-\\xFF], 1 => [EOI])"
+        )
+    );
+    assert!(rt;
+        is_shown(
+            alloc,
+            &ByteClasses::singletons(),
+            "ByteClasses({singletons})"
+        )
     );
     Ok(())
 }

@@ -10,10 +10,16 @@ use std::fmt;
 use std::fmt::Write;
 use std::test::Fail;
 
-// Counts the bytes that are written.
+/// Counts the bytes that are written.
 #[derive(Drop)]
-struct Counter {
-    count: u64,
+pub(super) struct Counter {
+    pub(super) count: u64,
+}
+
+impl Counter {
+    pub(super) fn new() -> Counter {
+        Counter { count: 0 }
+    }
 }
 
 impl fmt::Write for Counter {
@@ -111,7 +117,7 @@ fn each_kind_is_displayed(rt: HostRuntime) -> Result<(), Fail> {
     };
     let kinds = kinds(alloc, err)?;
     for (kind, want) in kinds.iter().zip(wanted.iter()) {
-        let mut counter = Counter { count: 0 };
+        let mut counter = Counter::new();
         assert!(rt; write!(counter, "{kind}").is_ok() && counter.count == want.len() as u64);
         assert_eq!(rt; format!(in alloc; "{kind}")?.as_str(), *want);
         assert_eq!(rt; format!(in alloc; "{kind:#}")?.as_str(), *want);

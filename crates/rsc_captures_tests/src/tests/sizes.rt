@@ -147,6 +147,50 @@ fn slots_are_in_the_memory_that_is_handed_in(rt: HostRuntime) -> Result<(), Fail
     Ok(())
 }
 
+// What captures over two heaps and a clone of them use of these: the heap of the group info before and after, that of the slots
+// before and after. `None` where the clone is refused.
+fn used_by_a_clone(
+    of_info: &LocalHeap,
+    of_slots: &LocalHeap,
+    with_all: bool,
+) -> Result<Option<[usize; 4]>, Fail> {
+    let info = GroupInfo::new(of_info, &[&[None, Some("x")], &[None]])?;
+    let captures = if with_all {
+        Captures::all(of_slots, info)?
+    } else {
+        Captures::matches(of_slots, info)?
+    };
+    let (info_before, slots_before) = (of_info.used(), of_slots.used());
+    match captures.clone() {
+        Ok(_copy) => Ok(Some([info_before, of_info.used(), slots_before, of_slots.used()])),
+        Err(_) if of_info.used() == info_before && of_slots.used() == slots_before => Ok(None),
+        Err(_) => Ok(Some([0; 4])),
+    }
+}
+
+// A clone's slots are in the memory of its source's slots, not in that of the group info.
+#[test]
+fn a_clone_is_in_the_memory_of_its_source(rt: HostRuntime) -> Result<(), Fail> {
+    for with_all in [false, true] {
+        let of_info = LocalHeap::new(rt.alloc(), 4096)?;
+        let ample = LocalHeap::new(rt.alloc(), 4096)?;
+        let used = used_by_a_clone(&of_info, &ample, with_all)?.unwrap_or([0; 4]);
+        assert!(rt;
+            used[0] == used[1] && used[2] > 0 && used[3] / 2 == used[2],
+            "{used:?}"
+        );
+        assert!(rt; of_info.used() == 0 && ample.used() == 0);
+        // There is room for one, and none for its clone.
+        let scarce = LocalHeap::new(rt.alloc(), used[2].saturating_add(8))?;
+        assert!(rt; used_by_a_clone(&of_info, &scarce, with_all)?.is_none());
+        // The group info's memory has no room: the clone takes none of it.
+        let exact = LocalHeap::new(rt.alloc(), used[0])?;
+        assert!(rt; used_by_a_clone(&exact, &ample, with_all)?.is_some());
+        assert!(rt; exact.used() == 0 && scarce.used() == 0 && ample.used() == 0);
+    }
+    Ok(())
+}
+
 // The bytes that the group info of that many patterns takes, each with a group that has a name of four bytes; `None` where it isn't answered.
 fn bytes_of(heap: &LocalHeap, count: usize) -> usize {
     let groups: [Option<&str>; 2] = [None, Some("name")];

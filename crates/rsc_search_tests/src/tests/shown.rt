@@ -11,10 +11,16 @@ use std::hash::Hash;
 use std::ops::Range;
 use std::test::Fail;
 
-// Counts the bytes that are written.
+/// Counts the bytes that are written.
 #[derive(Drop)]
-struct Counter {
-    count: u64,
+pub(super) struct Counter {
+    pub(super) count: u64,
+}
+
+impl Counter {
+    pub(super) fn new() -> Counter {
+        Counter { count: 0 }
+    }
 }
 
 impl fmt::Write for Counter {
@@ -130,7 +136,7 @@ fn errors_are_shown(rt: HostRuntime) -> Result<(), Fail> {
 
 // How many bytes an error displays, and whether it was displayed.
 fn displayed(error: &MatchError) -> (u64, bool) {
-    let mut counter = Counter { count: 0 };
+    let mut counter = Counter::new();
     let is_ok = write!(counter, "{error}").is_ok();
     (counter.count, is_ok)
 }

@@ -1,0 +1,108 @@
+//! Runs so long that a call whose time grows with the groups, the names or the patterns doesn't end within the time that a test has.
+use super::requests::names_of;
+use rsc_captures::{Captures, GroupInfo};
+use rsc_primitives::PatternID;
+use rsc_search::Span;
+use std::alloc::Global;
+use std::test::Fail;
+
+const NAMES: usize = 50_000;
+
+const GROUPS: usize = 200_000;
+
+// A pattern of a group without a name, and one for each text.
+fn named(alloc: Global, texts: &[String]) -> Result<GroupInfo, Fail> {
+    let mut groups: Vec<Option<&str>> = vec![in alloc; None]?;
+    for text in texts {
+        groups.push(Some(text.as_str()))?;
+    }
+    Ok(GroupInfo::new(alloc, &[&groups])?)
+}
+
+#[test]
+fn a_name_is_found_without_a_look_at_all(rt: HostRuntime) -> Result<(), Fail> {
+    let alloc = rt.alloc();
+    let texts = names_of(alloc, NAMES)?;
+    let mut captures = Captures::all(alloc, named(alloc, &texts)?)?;
+    captures.set_pattern(Some(PatternID::ZERO));
+    for (i, text) in texts.iter().enumerate() {
+        let info = captures.group_info();
+        let is_found = info.to_index(PatternID::ZERO, text) == Some(i + 1)
+            && info.to_name(PatternID::ZERO, i + 1) == Some(text.as_str());
+        // No name is the first seven bytes of another.
+        let is_missing = info.to_index(PatternID::ZERO, text.get(..7).unwrap_or("")) == None;
+        let is_unset = captures.get_group_by_name(text) == None;
+        assert!(rt; is_found && is_missing && is_unset, "{i}");
+    }
+    Ok(())
+}
+
+// Captures of one pattern of that many groups, or of that many patterns of two.
+fn captures_of(alloc: Global, are_patterns: bool) -> Result<Captures, Fail> {
+    let groups: Vec<Option<&str>> = vec![in alloc; None; GROUPS]?;
+    let pair: &[Option<&str>] = &[None, Some("x")];
+    let patterns: Vec<&[Option<&str>]> = vec![in alloc; pair; GROUPS / 2]?;
+    let info = if are_patterns {
+        GroupInfo::new(alloc, &patterns)?
+    } else {
+        GroupInfo::new(alloc, &[&groups])?
+    };
+    Ok(Captures::all(alloc, info)?)
+}
+
+#[test]
+fn each_group_takes_the_same_time_in_any_pattern(rt: HostRuntime) -> Result<(), Fail> {
+    let mut captures = captures_of(rt.alloc(), false)?;
+    captures.set_pattern(Some(PatternID::ZERO));
+    for g in 0..GROUPS {
+        let span = Some(Span { start: g, end: g });
+        let is_set = captures.set_group(g, span) && captures.get_group(g) == span;
+        let info = captures.group_info();
+        let is_there = info.slots(PatternID::ZERO, g) == Some((2 * g, 2 * g + 1))
+            && info.group_len(PatternID::ZERO) == GROUPS
+            && info.slot_len() == 2 * GROUPS
+            && info.to_name(PatternID::ZERO, g) == None;
+        let is_counted = captures.group_len() == GROUPS && captures.slots().len() == 2 * GROUPS;
+        assert!(rt; is_set && is_there && is_counted, "{g}");
+    }
+    Ok(())
+}
+
+#[test]
+fn each_pattern_takes_the_same_time_among_any(rt: HostRuntime) -> Result<(), Fail> {
+    let mut captures = captures_of(rt.alloc(), true)?;
+    for p in 0..GROUPS / 2 {
+        let pid = PatternID::must(p);
+        captures.set_pattern(Some(pid));
+        let span = Some(Span { start: p, end: p });
+        let is_set = captures.set_group(1, span) && captures.get_group_by_name("x") == span;
+        let mut spans = captures.iter();
+        let is_walked = spans.next() == Some(None) && spans.next() == Some(span);
+        let info = captures.group_info();
+        let mut names = info.pattern_names(pid);
+        let is_named = names.next() == Some(None) && names.next() == Some(Some("x"));
+        let is_counted = info.pattern_len() == GROUPS / 2 && info.all_names().next().is_some();
+        assert!(rt; is_set && is_walked && is_named && is_counted, "{p}");
+    }
+    Ok(())
+}
+
+#[test]
+fn each_step_takes_the_same_time_among_any_groups(rt: HostRuntime) -> Result<(), Fail> {
+    for are_patterns in [false, true] {
+        let mut captures = captures_of(rt.alloc(), are_patterns)?;
+        captures.set_pattern(Some(PatternID::ZERO));
+        let info = captures.group_info();
+        let mut all = info.all_names();
+        let mut of_pattern = info.pattern_names(PatternID::ZERO);
+        let mut spans = captures.iter();
+        for g in 0..GROUPS {
+            let is_within = g < captures.group_len();
+            let is_next = of_pattern.next().is_some() == is_within
+                && spans.next().is_some() == is_within;
+            assert!(rt; is_next && all.next().is_some(), "{g}");
+        }
+        assert!(rt; all.next().is_none());
+    }
+    Ok(())
+}

@@ -1,0 +1,65 @@
+//! Runs so long that a call whose time grows with the set doesn't end within the time that a test has.
+use rsc_primitives::PatternID;
+use rsc_search::PatternSet;
+use std::alloc::Global;
+use std::test::Fail;
+
+const COUNT: usize = 500_000;
+
+// The set of all patterns below the count. Whether each was new, and then not.
+fn filled(alloc: Global) -> Result<(PatternSet, bool), Fail> {
+    let mut set = PatternSet::new(alloc, COUNT)?;
+    let mut is_well = true;
+    for p in 0..COUNT {
+        if p < set.capacity() {
+            is_well = is_well && set.insert(PatternID::must(p)) && !set.is_empty();
+        }
+    }
+    Ok((set, is_well))
+}
+
+#[test]
+fn each_call_on_a_set_takes_the_same_time_in_any_set(rt: HostRuntime) -> Result<(), Fail> {
+    let (mut set, is_well) = filled(rt.alloc())?;
+    assert!(rt; is_well && set.is_full());
+    let past = PatternID::must(COUNT);
+    for p in 0..COUNT {
+        let pid = PatternID::must(p);
+        let is_there = set.contains(pid) && !set.contains(past);
+        let is_again = set.try_insert(pid).is_ok() && set.try_insert(past).is_err();
+        let is_counted = set.len() == set.capacity();
+        let is_full = set.is_full() && set.iter().len() == COUNT;
+        assert!(rt; is_there && is_again && is_counted && is_full, "{p}");
+    }
+    Ok(())
+}
+
+#[test]
+fn each_step_takes_the_same_time_in_any_set(rt: HostRuntime) -> Result<(), Fail> {
+    let (set, _) = filled(rt.alloc())?;
+    let (mut forward, mut back) = (set.iter(), set.iter());
+    for p in 0..COUNT {
+        let is_next = forward.next() == Some(PatternID::must(p));
+        let is_last = back.next_back() == Some(PatternID::must(COUNT - 1 - p));
+        let is_left = forward.len() == COUNT - 1 - p;
+        assert!(rt; is_next && is_last && is_left, "{p}");
+    }
+    assert!(rt; forward.next() == None && back.next_back() == None);
+    Ok(())
+}
+
+// The first and the last number of the words between are found from where the last step was.
+#[test]
+fn a_sparse_set_is_walked_once(rt: HostRuntime) -> Result<(), Fail> {
+    let mut set = PatternSet::new(rt.alloc(), 32 * COUNT)?;
+    for k in 0..COUNT / 8 {
+        let _ = set.try_insert(PatternID::must(256 * k));
+    }
+    let (mut forward, mut back) = (set.iter(), set.iter());
+    for k in 0..COUNT / 8 {
+        let is_next = forward.next() == Some(PatternID::must(256 * k));
+        let is_last = back.next_back() == Some(PatternID::must(256 * (COUNT / 8 - 1 - k)));
+        assert!(rt; is_next && is_last, "{k}");
+    }
+    Ok(())
+}

@@ -1,0 +1,64 @@
+//! Calls on pattern sets that take no memory, over an arena that shows each request. No other call of the library is handed an allocator.
+use super::shown::Counter;
+use bumpalo::Bump;
+use rsc_primitives::PatternID;
+use rsc_primitives_tests::requests::Watch;
+use rsc_search::PatternSet;
+use std::fmt::Write;
+use std::test::Fail;
+
+// Notes each call that reads a set of the member 319 alone. Whether each answered as it should.
+fn read(watch: &mut Watch<'_>, set: &PatternSet<&Bump>) -> bool {
+    let last = PatternID::must(319);
+    let has_last = set.contains(last);
+    watch.note("contains a member");
+    let has_first = set.contains(PatternID::ZERO) || set.contains(PatternID::must(320));
+    watch.note("contains");
+    let counts = (set.len(), set.capacity(), set.is_empty(), set.is_full());
+    watch.note("len, capacity, is_empty, is_full");
+    let mut members = set.iter();
+    let walked = (members.next(), members.next(), members.len());
+    watch.note("iter, next, len");
+    let mut back = set.iter();
+    let last_ones = (back.size_hint().0, back.next_back(), back.next_back());
+    watch.note("size_hint, next_back");
+    let mut counter = Counter::new();
+    let is_shown = write!(counter, "{set:?}").is_ok();
+    watch.note("fmt");
+    has_last
+        && !has_first
+        && counts == (1, 320, false, false)
+        && walked == (Some(last), None, 0)
+        && last_ones == (1, Some(last), None)
+        && is_shown
+}
+
+#[test]
+fn calls_on_a_set_ask_for_no_memory(rt: HostRuntime) -> Result<(), Fail> {
+    let arena = Bump::new(rt.alloc());
+    let mut set = PatternSet::new(&arena, 320)?;
+    let other = PatternSet::new(&arena, 320)?;
+    let mut watch = Watch::new(rt.alloc(), &arena);
+    let (last, past) = (PatternID::must(319), PatternID::must(320));
+    let is_new = set.insert(last);
+    watch.note("insert");
+    let is_again = set.insert(last);
+    watch.note("insert a member");
+    let is_refused = set.try_insert(past).is_err();
+    watch.note("a refused try_insert");
+    let is_tried = set.try_insert(last).is_ok_and(|new| !new);
+    watch.note("try_insert a member");
+    assert!(rt; is_new && !is_again && is_refused && is_tried);
+    assert!(rt; read(&mut watch, &set));
+    let are_equal = set == other;
+    watch.note("eq of different sets");
+    set.clear();
+    watch.note("clear");
+    let are_then = set == other;
+    watch.note("eq");
+    let is_tried = set.try_insert(last).is_ok_and(|new| new);
+    watch.note("try_insert");
+    assert!(rt; !are_equal && are_then && is_tried);
+    assert_eq!(rt; watch.asking(), "");
+    Ok(())
+}
