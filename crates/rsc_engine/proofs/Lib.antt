@@ -3,3 +3,7 @@ pub mod FlagsLemmas  -- flags, by the bits of their blocks
 pub mod WalksLemmas  -- a trail grows by a place and goes back to one
 pub mod BacktrackLemmas  -- what is known of the places that were seen, from visit to visit
 pub mod NextMatchesLemmas  -- which match is next, as the search's start moves on
+pub mod RowsLemmas  -- a row at a position is exact, and so is the next one
+pub mod LawfulLemmas  -- what follows from the laws of steps: the bytes on both sides, or others of their classes, stand for a position
+pub mod DfaLemmas  -- a closure as it grows
+pub mod TablesLemmas  -- what the table of a DFA says is so, and stays so as it grows

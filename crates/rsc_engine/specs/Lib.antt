@@ -6,3 +6,7 @@ pub mod Preferred  -- which match is first
 pub mod NextMatches  -- which match is next; `last` is where the last one ended, if there was one
 pub mod Moves  -- what a state does at a position
 pub mod Walks  -- what a backtracker has on hand
+pub mod Ends  -- where matches end, and what a DFA answers
+pub mod Rows  -- the rows of a DFA, and where a byte leads from one
+pub mod Tables  -- the table of a DFA
+pub mod Lawful  -- the laws of steps and runs that the proof of `dfa` rests on, as one record: each is a law of a library below

@@ -5,6 +5,7 @@
 
 mod backtrack;
 mod builder;
+mod dfa;
 mod error;
 mod flags;
 mod groups;
@@ -13,8 +14,11 @@ mod iterate;
 pub mod laws;
 mod moves;
 mod program;
+mod words;
 
 pub use builder::{Builder, Group, Part};
+pub use dfa::{Answer, Dfa};
 pub use error::Error;
 pub use iterate::{Matches, find};
 pub use program::Program;
+pub use words::AsciiWords;

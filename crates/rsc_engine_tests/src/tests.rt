@@ -1,4 +1,5 @@
 mod build;
+mod dfa;
 mod made;
 mod matches;
 mod model;

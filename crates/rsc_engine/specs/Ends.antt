@@ -1,0 +1,35 @@
+-- Where matches end, and what a DFA answers.
+use Rattle.std.specs.Prelude.{◌≡◌, ℕ, ◌-◌, ◌<◌, ◌≤◌, true, List, length, slice_index}
+use Rattle.rsc_nfa.specs.Classes.{has_unicode}
+use Rattle.rsc_nfa.specs.Steps.{place}
+use Rattle.rsc_engine.specs.Searches.{Search}
+use Rattle.rsc_engine.specs.Runs.{IsMatchRun}
+use Rattle.rsc_engine.specs.Preferred.{MayBegin, HasNone}
+use Rattle.rsc_engine.specs.declared.dfa.Answer.{Answer}
+use Rattle.rsc_engine.specs.declared.dfa.Answer.TheVariants.{End, NoMatch, Quit}
+
+-- a match run that begins where a match may begin ends at the position
+pub record IsMatchEnd (e : Search) (i : ℕ) : Type 0 where
+  pub from : ℕ
+  pub run : List (ℕ × ℕ)
+  pub begins : MayBegin e from
+  pub is_match : IsMatchRun e (e.first, from) run
+  pub ends : (place run (length run - 1)).1 ≡ i
+
+-- some match run ends at the position, and none ends earlier
+pub record IsEarliestEnd (e : Search) (i : ℕ) : Type 0 where
+  pub ends : IsMatchEnd e i
+  pub none_before : (j : ℕ) → j < i → ¬ (IsMatchEnd e j)
+
+-- an assertion looks at characters, the byte at the position is above 7F, and no match ends earlier
+pub record IsQuit (e : Search) (i : ℕ) : Type 0 where
+  pub unicode : has_unicode e.states ≡ true
+  pub within : i < length e.haystack
+  pub beyond : 128 ≤ slice_index e.haystack i
+  pub none_before : (j : ℕ) → j < i → ¬ (IsMatchEnd e j)
+
+-- what an answer says
+abbrev pub IsAnswer : Search → Answer → Type 0
+IsAnswer e (End i) = IsEarliestEnd e i
+IsAnswer e NoMatch = HasNone e
+IsAnswer e (Quit i) = IsQuit e i

@@ -1,0 +1,197 @@
+//! A lazy DFA: a table of rows that searches fill as they go, and that answers without a run of the backtracker where it can.
+ghost use Rattle.std.specs.Prelude.{◌≡◌, IfOk, IfErr, IfSome, IfNone, true, false, length};
+ghost use Rattle.rsc_captures.specs.Captured.{no_offsets};
+ghost use Rattle.rsc_engine.specs.declared.error.Error.TheVariants.{OutOfMemory};
+ghost use Rattle.rsc_engine.specs.Searches.{search_in};
+ghost use Rattle.rsc_engine.specs.Preferred.{HasNone, IsFirstMatch};
+ghost use Rattle.rsc_engine.specs.Ends.{IsAnswer};
+ghost use Rattle.rsc_engine.specs.Rows.{machine, IsPlan};
+ghost use Rattle.rsc_engine.specs.Tables.{IsExact};
+
+mod entries;
+mod lawful;
+mod plan;
+mod successor;
+mod table;
+
+use crate::backtrack::Walk;
+use crate::{AsciiWords, Error, Program, iterate};
+use entries::Step;
+use lawful::steps_are_lawful;
+use plan::{Plan, after_of, before_of};
+use rsc_captures::Captures;
+use rsc_look::WordClass;
+use rsc_search::{Input, Match};
+use std::alloc::Global;
+use std::marker::Model;
+use table::Table;
+
+/// Where the first match to end ends.
+#[derive(Clone, Copy, Debug, PartialEq, Eq)]
+pub enum Answer {
+    /// A match ends at the position, and none ends earlier.
+    End(usize),
+    /// No match begins where one may.
+    NoMatch,
+    /// The search has not gone past the position: an assertion looks at characters, and the byte there isn't ASCII. No match ends earlier.
+    Quit(usize),
+}
+
+/// A DFA of a program. It makes a row when a search first comes to it, and keeps it for later searches.
+///
+/// A search takes time in proportion to the bytes that it reads, once the rows that it comes to are there. It ends where the first match to
+/// end does, which is not where the leftmost-first match ends.
+#[derive(Drop)]
+pub struct Dfa<'p, W: WordClass> {
+    alloc: Global,
+    plan: Plan<'p, W>,
+    table: Table,
+}
+
+impl<'p, W: WordClass> Model for Dfa<'p, W> {
+    ghost use Rattle.rsc_engine.specs.Searches.{Compiled};
+    ghost use Rattle.rsc_engine.specs.Rows.{machine, IsPlan};
+    ghost use Rattle.rsc_engine.specs.Tables.{IsExact};
+
+    ghost Value = { Compiled W };
+
+    ghost view = { λ d. d.plan.program.now };
+
+    ghost invariant = { λ d. IsPlan (machine W.word_chars d.plan.program.now) d.plan.classes d.plan.stride d.plan.unicode
+        × IsExact (machine W.word_chars d.plan.program.now) d.plan.classes d.plan.stride d.table.rows.items d.table.leads.items };
+}
+
+impl<'p, W: WordClass + AsciiWords> Dfa<'p, W> {
+    /// The DFA of a program, with no rows. It keeps at most that many rows, and one at least: when it has as many and a search needs
+    /// another, it drops them all and goes on from the new one.
+    pub fn new(alloc: Global, program: &'p Program<W>, most_rows: usize) -> Dfa<'p, W>
+        ensures { result ≡ program.now }
+    {
+        Dfa {
+            alloc,
+            plan: Plan::new(program, most_rows),
+            table: Table::new(alloc),
+        }
+    }
+
+    /// The least position at which a match ends that begins where one may, in the span of the input.
+    ///
+    /// # Errors
+    ///
+    /// Out of memory. The next search is answered all the same.
+    pub fn earliest_end(&mut self, input: &Input<'_>) -> Result<Answer, Error>
+        ensures program { self.new ≡ self.old }
+        ensures answer { IfOk result (IsAnswer (search_in W.word_chars self.old input.now)) }
+        ensures memory { IfErr result (λ e. e ≡ OutOfMemory) }
+    {
+        search(self.alloc, &self.plan, &mut self.table, input)
+    }
+
+    /// Whether a match begins where one may, in the span of the input. Where the DFA quits, the backtracker answers.
+    ///
+    /// # Errors
+    ///
+    /// Out of memory, or of the backtracker `TooLarge`, where the span has too many positions for the number of states.
+    pub fn is_match(&mut self, input: &Input<'_>) -> Result<bool, Error>
+        ensures program { self.new ≡ self.old }
+        ensures some { IfOk result (λ found. found ≡ true → ¬ (HasNone (search_in W.word_chars self.old input.now))) }
+        ensures none { IfOk result (λ found. found ≡ false → HasNone (search_in W.word_chars self.old input.now)) }
+    {
+        match self.earliest_end(input)? {
+            Answer::End(_) => Ok(true),
+            Answer::NoMatch => Ok(false),
+            Answer::Quit(_) => is_match_by_walk(self.alloc, self.plan.program, input),
+        }
+    }
+
+    /// The leftmost-first match in an input's span, as [`find`](crate::find) answers it. Where there is none, the DFA mostly says so, and the
+    /// backtracker isn't asked.
+    ///
+    /// # Errors
+    ///
+    /// Out of memory, or of the backtracker `TooLarge`, where the span has too many positions for the number of states.
+    pub fn find(
+        &mut self,
+        input: &Input<'_>,
+        captures: &mut Captures,
+    ) -> Result<Option<Match>, Error>
+        ensures program { self.new ≡ self.old }
+        ensures found { IfOk result (λ found. IfSome found (IsFirstMatch (search_in W.word_chars self.old input.now) captures.new)) }
+        ensures none { IfOk result (λ found. IfNone found (HasNone (search_in W.word_chars self.old input.now))) }
+        ensures groups { captures.new.groups ≡ captures.old.groups }
+        ensures slots { length captures.new.offsets ≡ length captures.old.offsets }
+        ensures unset { IfOk result (λ found. IfNone found (captures.new ≡ no_offsets captures.old.groups (length captures.old.offsets))) }
+    {
+        match self.earliest_end(input)? {
+            Answer::NoMatch => {
+                captures.clear();
+                Ok(None)
+            }
+            Answer::End(_) | Answer::Quit(_) => {
+                iterate::find(self.alloc, self.plan.program, input, captures)
+            }
+        }
+    }
+}
+
+// Whether a match begins where one may, as the backtracker answers it.
+fn is_match_by_walk<W: WordClass>(
+    alloc: Global,
+    program: &Program<W>,
+    input: &Input<'_>,
+) -> Result<bool, Error>
+    ensures some { IfOk result (λ found. found ≡ true → ¬ (HasNone (search_in W.word_chars program.now input.now))) }
+    ensures none { IfOk result (λ found. found ≡ false → HasNone (search_in W.word_chars program.now input.now)) }
+{
+    crate::laws::there_is_one_first_match();
+    let mut walk = Walk::new(alloc, program, input)?;
+    let found = walk.search(program, input)?;
+    Ok(found)
+}
+
+// The same, over a table.
+fn search<W: WordClass>(
+    alloc: Global,
+    plan: &Plan<'_, W>,
+    table: &mut Table,
+    input: &Input<'_>,
+) -> Result<Answer, Error>
+    requires plan { IsPlan (machine W.word_chars plan.now.program.now) plan.now.classes plan.now.stride plan.now.unicode }
+    requires exact { IsExact (machine W.word_chars plan.now.program.now) plan.now.classes plan.now.stride table.old.rows.items table.old.leads.items }
+    ensures exact { IsExact (machine W.word_chars plan.now.program.now) plan.now.classes plan.now.stride table.new.rows.items table.new.leads.items }
+    ensures answer { IfOk result (IsAnswer (search_in W.word_chars plan.now.program.now input.now)) }
+    ensures memory { IfErr result (λ e. e ≡ OutOfMemory) }
+{
+    steps_are_lawful();
+    let start = input.start();
+    let end = input.end();
+    if start > end {
+        return Ok(Answer::NoMatch);
+    }
+    let haystack = input.haystack();
+    let before = before_of(haystack, start);
+    if plan.quits_at(before) {
+        return Ok(Answer::Quit(start - 1));
+    }
+    let mode = input.get_anchored();
+    let mut first = Vec::new(alloc);
+    first.push(plan.program.start())?;
+    let found = table.row_of(plan, &mode, before, first)?;
+    let mut row = found.0;
+    let mut at = start;
+    'rows: loop {
+        let (here, position) = table.follow(plan, input, row, at);
+        let step = table.step(plan, here, after_of(haystack, position))?;
+        match step {
+            Step::Matches => return Ok(Answer::End(position)),
+            Step::Quits => return Ok(Answer::Quit(position)),
+            Step::Goes(next) => {
+                if position == end {
+                    return Ok(Answer::NoMatch);
+                }
+                row = next;
+                at = position + 1;
+            }
+        }
+    }
+}

@@ -1,0 +1,123 @@
+//! What a DFA is made from: a program, and the classes of bytes that its steps tell apart.
+ghost use Rattle.std.specs.Prelude.{◌≡◌, ◌<◌, ◌≤◌, IfSome, Some, true, false, length};
+ghost use Rattle.std.specs.FinSet as sets;
+ghost use Rattle.rsc_look.specs.Holds.{byte_before, byte_after};
+ghost use Rattle.rsc_engine.specs.Rows.{IsPlan, IsPlainUnit, machine};
+ghost use Rattle.rsc_engine.specs.Tables.{IsBeyond, column};
+
+use crate::{AsciiWords, Program};
+use rsc_alphabet::{ByteClassSet, ByteClasses};
+use rsc_look::WordClass;
+
+/// The first byte that is not ASCII.
+const PAST_ASCII: u8 = 0x80;
+
+/// What a DFA is made from.
+#[derive(Drop)]
+pub struct Plan<'p, W: WordClass> {
+    /// The program.
+    pub program: &'p Program<W>,
+    /// Bytes of one class lead to the same rows.
+    pub classes: ByteClasses,
+    /// How many classes there are, with one for the end of the input.
+    pub stride: usize,
+    /// Whether an assertion looks at characters.
+    pub unicode: bool,
+    /// How many rows are kept at most.
+    pub most_rows: usize,
+}
+
+impl<'p, W: WordClass + AsciiWords> Plan<'p, W> {
+    /// The plan of a program.
+    pub fn new(program: &'p Program<W>, most_rows: usize) -> Plan<'p, W>
+        ensures program { result.program.now ≡ program.now }
+        ensures plan { IsPlan (machine W.word_chars program.now) result.classes result.stride result.unicode }
+    {
+        W::agrees_with_ascii();
+        let _start = program.start();
+        let nfa = program.nfa();
+        let _states = nfa.states();
+        let unicode = nfa.looks().contains_word_unicode();
+        let classes = nfa.classes_with(&past_ascii(unicode));
+        let stride = classes.alphabet_len();
+        Plan {
+            program,
+            classes,
+            stride,
+            unicode,
+            most_rows,
+        }
+    }
+}
+
+impl<'p, W: WordClass> Plan<'p, W> {
+    /// The column of a byte, or of the end of the input.
+    #[inline(always)]
+    pub fn column(&self, unit: Option<u8>) -> usize
+        requires { IsPlan (machine W.word_chars self.now.program.now) self.now.classes self.now.stride self.now.unicode }
+        ensures column { result ≡ column self.now.classes unit }
+        ensures within { result < self.now.stride }
+    {
+        match unit {
+            Some(byte) => usize::from(self.classes.get(byte)),
+            None => self.stride - 1,
+        }
+    }
+
+    /// Whether a search quits at a unit.
+    pub fn quits_at(&self, unit: Option<u8>) -> bool
+        requires { IsPlan (machine W.word_chars self.now.program.now) self.now.classes self.now.stride self.now.unicode }
+        ensures yes { result ≡ true → IsBeyond (machine W.word_chars self.now.program.now) unit }
+        ensures no { result ≡ false → IsPlainUnit (machine W.word_chars self.now.program.now) unit }
+    {
+        match unit {
+            Some(byte) => self.unicode && byte >= PAST_ASCII,
+            None => false,
+        }
+    }
+}
+
+// The boundary between ASCII and other bytes, if there is to be one.
+fn past_ascii(wanted: bool) -> ByteClassSet
+    ensures { wanted ≡ true → sets.contains result 127 ≡ true }
+{
+    let mut boundaries = ByteClassSet::empty();
+    if wanted {
+        boundaries.set_range(PAST_ASCII, 0xFF);
+    }
+    boundaries
+}
+
+/// The byte before a position.
+pub fn before_of(haystack: &[u8], at: usize) -> Option<u8>
+    requires { at ≤ length haystack.now }
+    ensures before { result ≡ byte_before haystack.now at }
+    ensures byte { IfSome result (λ b. b < 256) }
+{
+    if at == 0 {
+        None
+    } else {
+        Some(haystack[at - 1])
+    }
+}
+
+/// The byte after a position.
+pub fn after_of(haystack: &[u8], at: usize) -> Option<u8>
+    ensures after { result ≡ byte_after haystack.now at }
+    ensures byte { IfSome result (λ b. b < 256) }
+{
+    if at < haystack.len() {
+        Some(haystack[at])
+    } else {
+        None
+    }
+}
+
+/// The byte at a position.
+#[inline(always)]
+pub fn byte_at(haystack: &[u8], at: usize) -> u8
+    requires { at < length haystack.now }
+    ensures after { byte_after haystack.now at ≡ Some result }
+{
+    haystack[at]
+}
