@@ -1,4 +1,5 @@
 //! Runs so long that a call whose time grows with the groups, the names or the patterns doesn't end within the time that a test has.
+use super::group_info::groups_of;
 use super::requests::names_of;
 use rsc_captures::{Captures, GroupInfo};
 use rsc_primitives::PatternID;
@@ -10,30 +11,39 @@ const NAMES: usize = 50_000;
 
 const GROUPS: usize = 200_000;
 
-// A pattern of a group without a name, and one for each text.
-fn named(alloc: Global, texts: &[String]) -> Result<GroupInfo, Fail> {
-    let mut groups: Vec<Option<&str>> = vec![in alloc; None]?;
-    for text in texts {
-        groups.push(Some(text.as_str()))?;
+// The group info of one pattern.
+fn info_of(alloc: Global, groups: &[Option<&str>]) -> Result<GroupInfo, Fail> {
+    let mut lists: Vec<&[Option<&str>]> = Vec::new(alloc);
+    lists.push(groups)?;
+    Ok(GroupInfo::new(alloc, &lists)?)
+}
+
+// Whether each of the names is found in captures of these groups, and the first seven bytes of it aren't.
+fn are_found(captures: &Captures, groups: &[Option<&str>]) -> bool {
+    let info = captures.group_info();
+    for (group, name) in groups.iter().enumerate() {
+        if info.to_name(PatternID::ZERO, group) != *name {
+            return false;
+        }
+        if let Some(name) = name {
+            let is_found = info.to_index(PatternID::ZERO, name) == Some(group);
+            let other = name.get(..7).unwrap_or("");
+            let is_other = info.to_index(PatternID::ZERO, other).is_some();
+            if !is_found || is_other || captures.get_group_by_name(name).is_some() {
+                return false;
+            }
+        }
     }
-    Ok(GroupInfo::new(alloc, &[&groups])?)
+    true
 }
 
 #[test]
 fn a_name_is_found_without_a_look_at_all(rt: HostRuntime) -> Result<(), Fail> {
-    let alloc = rt.alloc();
-    let texts = names_of(alloc, NAMES)?;
-    let mut captures = Captures::all(alloc, named(alloc, &texts)?)?;
+    let names = names_of(rt.alloc(), NAMES)?;
+    let groups = groups_of(rt.alloc(), &names)?;
+    let mut captures = Captures::all(rt.alloc(), info_of(rt.alloc(), &groups)?)?;
     captures.set_pattern(Some(PatternID::ZERO));
-    for (i, text) in texts.iter().enumerate() {
-        let info = captures.group_info();
-        let is_found = info.to_index(PatternID::ZERO, text) == Some(i + 1)
-            && info.to_name(PatternID::ZERO, i + 1) == Some(text.as_str());
-        // No name is the first seven bytes of another.
-        let is_missing = info.to_index(PatternID::ZERO, text.get(..7).unwrap_or("")) == None;
-        let is_unset = captures.get_group_by_name(text) == None;
-        assert!(rt; is_found && is_missing && is_unset, "{i}");
-    }
+    assert!(rt; are_found(&captures, &groups));
     Ok(())
 }
 

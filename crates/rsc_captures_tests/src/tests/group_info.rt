@@ -96,8 +96,8 @@ fn iterates_over_names(rt: HostRuntime) -> Result<(), Fail> {
     Ok(())
 }
 
-// Groups with the names of a text that are parted by commas, and without one for "-".
-fn groups_of<'a>(alloc: Global, names: &'a str) -> Result<Vec<Option<&'a str>>, Fail> {
+/// Groups with the names of a text that are parted by commas, and without one for "-".
+pub(super) fn groups_of<'a>(alloc: Global, names: &'a str) -> Result<Vec<Option<&'a str>>, Fail> {
     let mut groups = Vec::new(alloc);
     for name in names.split(',') {
         groups.push(if name == "-" { None } else { Some(name) })?;

@@ -1,4 +1,5 @@
 //! Calls on group infos, captures and errors that take no memory, over an arena that shows each request.
+use super::group_info::groups_of;
 use super::shown::Counter;
 use bumpalo::Bump;
 use rsc_captures::{Captures, GroupInfo, GroupInfoError};
@@ -156,14 +157,6 @@ fn read(watch: &mut Watch<'_>, captures: &Captures<&Bump>) -> bool {
         && patterns == 2
 }
 
-// Whether `extract_from` gives the match and its one group.
-fn is_extracted(captures: &Captures<&Bump>) -> bool {
-    match captures.extract_from::<&str, 1>("abcde") {
-        Some(found) => found.0 == "d" && found.1[0] == "d",
-        None => false,
-    }
-}
-
 #[test]
 fn calls_on_captures_ask_for_no_memory(rt: HostRuntime) -> Result<(), Fail> {
     let arena = Bump::new(rt.alloc());
@@ -171,7 +164,7 @@ fn calls_on_captures_ask_for_no_memory(rt: HostRuntime) -> Result<(), Fail> {
     let mut watch = Watch::new(rt.alloc(), &arena);
     assert!(rt; write(&mut watch, &mut captures));
     assert!(rt; read(&mut watch, &captures));
-    let is_extracted = is_extracted(&captures);
+    let is_extracted = captures.extract_from::<&str, 1>("abcde") == Some(("d", ["d"]));
     watch.note("extract_from");
     let mut counter = Counter::new();
     let is_shown = write!(counter, "{captures:?}").is_ok();
@@ -254,27 +247,35 @@ fn checks_of_lists_ask_for_no_memory(rt: HostRuntime) -> Result<(), Fail> {
     Ok(())
 }
 
-// A list of many names that is refused for another fault after them.
+// Notes what a pattern of 5,001 groups asks for whose fault is found after all of them.
+fn is_long_refused(
+    alloc: Global,
+    watch: &mut Watch<'_>,
+    arena: &Bump,
+    groups: &[Option<&str>],
+) -> Result<bool, Fail> {
+    let mut lists: Vec<&[Option<&str>]> = Vec::new(alloc);
+    lists.push(groups)?;
+    let made = GroupInfo::new_limited(arena, 10_001, &lists);
+    Ok(note_refused(watch, "new_limited, a fault after many names", made))
+}
+
 #[test]
 fn checks_of_a_long_list_ask_for_no_memory(rt: HostRuntime) -> Result<(), Fail> {
-    let (alloc, arena) = (rt.alloc(), Bump::new(rt.alloc()));
-    let texts = names_of(alloc, 5_000)?;
-    let mut groups: Vec<Option<&str>> = vec![in alloc; None]?;
-    for text in &texts {
-        groups.push(Some(text.as_str()))?;
-    }
-    let mut watch = Watch::new(alloc, &arena);
-    let made = GroupInfo::new(&arena, &[&groups, &[Some("x")]]);
-    assert!(rt; note_refused(&mut watch, "new, a fault after many names", made));
+    let names = names_of(rt.alloc(), 5_000)?;
+    let groups = groups_of(rt.alloc(), &names)?;
+    let arena = Bump::new(rt.alloc());
+    let mut watch = Watch::new(rt.alloc(), &arena);
+    assert!(rt; is_long_refused(rt.alloc(), &mut watch, &arena, &groups)?);
     assert_eq!(rt; watch.asking(), "");
     Ok(())
 }
 
-/// That many different names of eight bytes.
-pub(super) fn names_of(alloc: Global, count: usize) -> Result<Vec<String>, Fail> {
-    let mut names = Vec::new(alloc);
+/// A dash and that many different names of eight bytes, parted by commas.
+pub(super) fn names_of(alloc: Global, count: usize) -> Result<String, Fail> {
+    let mut names = String::from_str(alloc, "-")?;
     for i in 0..count {
-        names.push(format!(in alloc; "n{i:07}")?)?;
+        names.push_str(format!(in alloc; ",n{i:07}")?.as_str())?;
     }
     Ok(names)
 }

@@ -8,30 +8,30 @@ use std::test::Fail;
 
 const ALL: &str = "Az^$rRbB𝛃𝚩<>〈〉◁▷◀▶";
 
+// Whether a set is shown in each form by the characters of its members.
+fn is_shown_by_members(alloc: Global, set: LookSet) -> bool {
+    if set.is_empty() {
+        return is_shown(alloc, &set, "∅");
+    }
+    match text_of(alloc, set.bits()) {
+        Ok(text) => is_shown(alloc, &set, &text),
+        Err(_) => false,
+    }
+}
+
 #[test]
 fn sets_of_each_size_are_shown_in_each_form(rt: HostRuntime) -> Result<(), Fail> {
-    let alloc = rt.alloc();
-    assert!(rt; is_shown(alloc, &LookSet::empty(), "∅"));
     let (mut first, mut last) = (LookSet::empty(), LookSet::full());
-    let (mut text, mut rest) = (String::new(alloc), ALL);
     let mut repr: u32 = 1;
-    for c in ALL.chars() {
-        assert!(rt; is_shown(alloc, &last, rest), "{rest}");
-        let look = Look::from_repr(repr).ok_or("no assertion")?;
-        repr = repr.saturating_mul(2);
-        first.set_insert(look);
-        text.push(c)?;
-        assert!(rt; is_shown(alloc, &first, &text), "{text}");
-        last.set_remove(look);
-        rest = rest.strip_prefix(c).ok_or("no such text")?;
-        assert!(rt;
-            is_shown(
-                alloc,
-                &LookSet::singleton(look),
-                c.encode_utf8(&mut [0u8; 4])
-            ),
-            "{c}"
-        );
+    for size in 0..=18 {
+        assert!(rt; is_shown_by_members(rt.alloc(), first), "{size}");
+        assert!(rt; is_shown_by_members(rt.alloc(), last), "{size}");
+        if size < 18 {
+            let look = Look::from_repr(repr).ok_or("no assertion")?;
+            repr = repr.saturating_mul(2);
+            first.set_insert(look);
+            last.set_remove(look);
+        }
     }
     assert!(rt; first == LookSet::full() && last.is_empty());
     Ok(())

@@ -44,6 +44,18 @@ fn states() -> [State; 7] {
     ]
 }
 
+// The run of `a` in a haystack that begins with it.
+fn run() -> [(StateID, usize); 6] {
+    [
+        (StateID::ZERO, 0),
+        (StateID::must(1), 0),
+        (StateID::must(2), 0),
+        (StateID::must(3), 1),
+        (StateID::must(5), 1),
+        (StateID::must(6), 1),
+    ]
+}
+
 // Notes each call that reads an automaton. Whether each answered as it should.
 fn read(watch: &mut Watch<'_>, nfa: &Nfa<UnicodeWord, &Bump>, run: &[(StateID, usize)]) -> bool {
     let counts = (nfa.states().len(), nfa.group_info().slot_len());
@@ -71,24 +83,31 @@ fn read(watch: &mut Watch<'_>, nfa: &Nfa<UnicodeWord, &Bump>, run: &[(StateID, u
         && !is_none
 }
 
+// `(a)\b|b` over an arena.
+fn built(arena: &Bump) -> Result<Nfa<UnicodeWord, &Bump>, Fail> {
+    let info = GroupInfo::new(arena, &[&[None]])?;
+    Ok(Nfa::new(arena, info, LookMatcher::new(UnicodeWord), &states())?)
+}
+
 #[test]
 fn calls_on_an_automaton_ask_for_no_memory(rt: HostRuntime) -> Result<(), Fail> {
     let arena = Bump::new(rt.alloc());
-    let info = GroupInfo::new(&arena, &[&[None]])?;
-    let mut captures = Captures::all(&arena, info.clone()?)?;
-    let nfa = Nfa::new(&arena, info, LookMatcher::new(UnicodeWord), &states())?;
+    let nfa = built(&arena)?;
     let mut watch = Watch::new(rt.alloc(), &arena);
-    // The run of `a` in a haystack that begins with it.
-    let run = [
-        (StateID::ZERO, 0),
-        (StateID::must(1), 0),
-        (StateID::must(2), 0),
-        (StateID::must(3), 1),
-        (StateID::must(5), 1),
-        (StateID::must(6), 1),
-    ];
-    assert!(rt; read(&mut watch, &nfa, &run));
+    assert!(rt; read(&mut watch, &nfa, &run()));
+    assert_eq!(rt; watch.asking(), "");
+    Ok(())
+}
+
+#[test]
+fn records_ask_for_no_memory(rt: HostRuntime) -> Result<(), Fail> {
+    let arena = Bump::new(rt.alloc());
+    let nfa = built(&arena)?;
+    let mut captures = Captures::all(&arena, nfa.group_info().clone()?)?;
     captures.set_pattern(Some(PatternID::ZERO));
+    let mut watch = Watch::new(rt.alloc(), &arena);
+    let end = StateID::must(5);
+    let run = [(StateID::ZERO, 0), (end, 1), (StateID::must(6), 1)];
     nfa.record(&run, &mut captures);
     watch.note("record");
     assert!(rt; captures.get_group(0) == Some(Span { start: 0, end: 1 }));

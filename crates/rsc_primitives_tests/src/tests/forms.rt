@@ -4,24 +4,30 @@ use rsc_primitives::escape::{DebugByte, DebugHaystack};
 use rsc_primitives::{PatternID, SmallIndex, StateID};
 use std::alloc::Global;
 
-// Whether the refusals of a number are displayed in each form.
-fn are_displayed(alloc: Global, number: u64) -> bool {
+// Whether the refusal of a number as a SmallIndex is displayed in each form.
+fn is_small_displayed(alloc: Global, number: u64) -> bool {
     let text = format!(in alloc;
         "failed to create small index from {number}, which exceeds SmallIndex(2147483646)"
     );
     match SmallIndex::try_from(number) {
-        Err(error) if is_error(alloc, &error, text) => {}
-        Ok(_) => return false,
-        Err(_) => return false,
+        Err(error) => is_error(alloc, &error, text),
+        Ok(_) => false,
     }
+}
+
+// Whether the refusal of a number as a PatternID is displayed in each form.
+fn is_pattern_displayed(alloc: Global, number: u64) -> bool {
     let text = format!(in alloc;
         "failed to create PatternID from {number}, which exceeds PatternID(2147483646)"
     );
     match PatternID::try_from(number) {
-        Err(error) if is_error(alloc, &error, text) => {}
-        Ok(_) => return false,
-        Err(_) => return false,
+        Err(error) => is_error(alloc, &error, text),
+        Ok(_) => false,
     }
+}
+
+// Whether the refusal of a number as a StateID is displayed in each form.
+fn is_state_displayed(alloc: Global, number: u64) -> bool {
     let text = format!(in alloc;
         "failed to create StateID from {number}, which exceeds StateID(2147483646)"
     );
@@ -35,7 +41,9 @@ fn are_displayed(alloc: Global, number: u64) -> bool {
 fn refusals_are_displayed_in_each_form(rt: HostRuntime) {
     let mut number: u64 = 2147483647;
     for _ in 0..34 {
-        assert!(rt; are_displayed(rt.alloc(), number), "{number}");
+        assert!(rt; is_small_displayed(rt.alloc(), number), "{number}");
+        assert!(rt; is_pattern_displayed(rt.alloc(), number), "{number}");
+        assert!(rt; is_state_displayed(rt.alloc(), number), "{number}");
         number = number.saturating_mul(2);
     }
     assert_eq!(rt; number, u64::MAX);

@@ -64,12 +64,9 @@ fn unsupported_modes_are_displayed_in_each_form(rt: HostRuntime) {
     }
 }
 
-// Whether the kind of an error is that of its clone, and of a clone of it.
+// Whether a clone of an error is its source, and its kind can be cloned.
 fn is_kept(error: &MatchError) -> bool {
-    let Ok(copy) = error.clone() else {
-        return false;
-    };
-    copy == *error && error.kind().clone().is_ok_and(|kind| kind == *copy.kind())
+    error.clone().is_ok_and(|copy| copy == *error) && error.kind().clone().is_ok()
 }
 
 #[test]
