@@ -100,7 +100,7 @@ pub record IsSuccessor (m : Machine) (mode : Anchored) (near : List ℕ) (at : �
 abbrev pub AreStates : ℕ → List ℕ → Type 0
 AreStates n set = All (λ s. s < n) set
 
--- the states of the list are those that are marked
+-- exactly the marked states are in the list
 pub record Gathers (seen : List Bool) (list : List ℕ) : Type 0 where
   pub marked : (s : ℕ) → slice_index_or seen s false ≡ true → Contains list s
   pub listed : (s : ℕ) → Contains list s → (s < length seen) × (slice_index_or seen s false ≡ true)

@@ -1,8 +1,8 @@
 -- Finer partitions keep what coarser ones do, and two lists together have the boundaries of both.
-use Rattle.std.proofs.Common.{◌≡◌, ◌↔◌, ℕ, ◌<◌, ◌≤◌, Bool, true, false, ◌||◌, max, min, List, [], ◌++◌, length, get_or, refl, arith, ⊎_elim, Contains}
+use Rattle.std.proofs.Common.{◌≡◌, ℕ, ◌<◌, Bool, true, ◌||◌, List, ◌++◌, arith, ⊎_elim, Contains}
 use Rattle.std.proofs.lemmas.Bool.{or_cases, or_right, or_left}
 use Rattle.std.proofs.lemmas.List.Elements.{Contains-append_cases, Contains-append_left, Contains-append_right}
-use Rattle.rsc_look.proofs.Words.{Look, Together, Holds, is_unicode, AreInterchanged, DifferInAscii, Keeps, IsCoarsest}
+use Rattle.rsc_look.proofs.Words.{Look, AreInterchanged, Keeps, IsCoarsest}
 
 -- the one has the boundaries of the other
 abbrev pub HasBoundariesOf : (ℕ → Bool) → (ℕ → Bool) → Type 0

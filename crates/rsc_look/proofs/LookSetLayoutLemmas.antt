@@ -1,5 +1,5 @@
 -- What the operations on eighteen bits do to the set that they stand for, and what an iterator takes.
-use Rattle.std.proofs.Common.{◌≡◌, ◌≢◌, ◌↔◌, ℕ, zero, suc, ◌-◌, ◌*◌, ◌^◌, ◌<◌, ◌≤◌, Bool, true, false, not, ◌&&◌, ◌||◌, cond, List, length, get_or, map, filter, Some, None, min, max, refl, sym, ap, ap₂, ◌∙◌, arith, nat_eq, bit_and, bit_or, w32, ⊎_elim, count_ones, IsTrue, ◌+◌, ◌%◌, [], ◌∷◌, ◌++◌, Option, subst, MatchOption, ◌⊎◌, inl, inr, true≢false}
+use Rattle.std.proofs.Common.{◌≡◌, ◌≢◌, ◌↔◌, ℕ, zero, suc, ◌-◌, ◌*◌, ◌^◌, ◌<◌, ◌≤◌, Bool, true, false, not, ◌&&◌, ◌||◌, cond, List, length, get_or, map, filter, flat_map, Some, None, min, max, refl, sym, ap, ap₂, ◌∙◌, arith, nat_eq, bit_and, bit_or, w32, ⊎_elim, count_ones, IsTrue, ◌+◌, ◌%◌, [], ◌∷◌, ◌++◌, Option, subst, MatchOption, ◌⊎◌, inl, inr, true≢false}
 use Rattle.std.specs.List.{list_any}
 use Rattle.std.specs.Int.{bit_at, trailing_zeros}
 use Rattle.std.specs.FinSet as sets
@@ -16,6 +16,7 @@ use Rattle.std.proofs.lemmas.Option.{same_Some, none-some}
 use lib.Lanes.{mask_l}
 use Rattle.rsc_look.proofs.Words.{Look, Start, look_cmp, Looks, members, bits_of, look_cmp_total, look_cmp-IsAntisymmetric, same_looks, repr_of-injective, repr_of-pow, place_of-look_at, place_of-lt, contains-looks_of, bits_of-looks_of, looks_of-bits_of, bits_of-lt, every_look_has, tied, same_members, same_bools, same_from, same_to, from_to, from_to_parts, filter_none, filter_first, filter_same, repr_of-look_at, every_look-is, contains-filtered}
 use Rattle.rsc_look.specs.Looks.{repr_of, every_look}
+use Rattle.rsc_look.specs.LookSets.{look_text, text_of_looks}
 use Rattle.rsc_look.specs.LookSetLayout.{place_of, has_bit, looks_of, look_at, look_at-place_of}
 use Rattle.std.proofs.lemmas.List.Elements.{filter-append}
 use Rattle.std.specs.Cmp.{unsigned_tied}
@@ -303,6 +304,17 @@ pub record HasAsked (s : Looks) (rest : List Look) (P : Look → Type 0) : Type 
 
 contains-members : (s : Looks) (l : Look) → sets.contains (sets.from_list {R = look_cmp} (members s)) l ≡ sets.contains s l
 contains-members s l = contains-filtered (λ m. sets.contains s m) l
+
+-- a set with members is shown by their characters
+pub text_of_some : (s : Looks) → (s ≡ sets.empty → IsTrue false) → text_of_looks (members s) ≡ flat_map look_text (members s)
+text_of_some s some = go (members s) refl
+  where
+    go : (looks : List Look) → members s ≡ looks → text_of_looks looks ≡ flat_map look_text looks
+    go [] e =
+        let same : s ≡ sets.empty =
+        same_looks s sets.empty (λ l. sym (contains-members s l) ∙ ap (λ (looks : List Look). sets.contains (sets.from_list {R = look_cmp} looks) l) e) in
+        absurd (true≢false (sym (some same)))
+    go (look ∷ looks) e = refl
 
 -- nothing is asked yet
 pub HasAsked-none : (s : Looks) (rest : List Look) (P : Look → Type 0) → rest ≡ members s → HasAsked s rest P

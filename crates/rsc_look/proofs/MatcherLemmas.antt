@@ -1,12 +1,12 @@
 -- The assertions that hold at a position, from the two sides; and those of Unicode beside ASCII.
-use Rattle.std.proofs.Common.{◌≡◌, ◌↔◌, ℕ, zero, suc, ◌+◌, ◌<◌, ◌≤◌, ◌⊎◌, inl, inr, Bool, true, false, not, ◌&&◌, ◌||◌, cond, nat_le, true≢false, List, [], ◌∷◌, length, get_or, refl, sym, ap, ◌∙◌, subst, arith, slice_get, Option, Some, None, is_none, IsTrue, IfSome}
+use Rattle.std.proofs.Common.{◌≡◌, ◌↔◌, ℕ, zero, suc, ◌+◌, ◌<◌, ◌≤◌, ◌⊎◌, inl, inr, Bool, true, false, not, ◌&&◌, ◌||◌, cond, nat_le, true≢false, List, [], ◌∷◌, length, get_or, refl, sym, ap, ◌∙◌, subst, arith, slice_get, Option, Some, None, IsTrue, IfSome}
 use Rattle.std.proofs.Math.Bool.{or-false}
 use Rattle.std.proofs.lemmas.Option.{slice_get_within, get_or_from_slice_get}
 use Rattle.rsc_primitives.specs.Utf8Laws.{slice_one}
-use Rattle.rsc_look.specs.Looks.{ascii_of, line_feed, carriage_return}
+use Rattle.rsc_look.specs.Looks.{ascii_of}
 use Rattle.std.specs.Int.{is_in_range}
 use Rattle.std.proofs.lemmas.Bool.Decides.{nat_tests}
-use Rattle.rsc_look.proofs.Words.{is_word_byte, EncodedFrom, BeginsAt, EndsAt, Look, Start, WordAscii, WordUnicode, WordUnicodeNegate, WordStartUnicode, WordEndUnicode, WordStartHalfUnicode, WordEndHalfUnicode, End, StartLF, EndLF, StartCRLF, EndCRLF, WordAsciiNegate, WordStartAscii, WordEndAscii, WordStartHalfAscii, WordEndHalfAscii, Side, Absent, Invalid, Word, Other, byte_before, byte_after, is_byte, is_word_neighbor, exactly_one, is_invalid, is_word_side, is_edge_or_non_word, holds_at_bytes, holds_at_sides, IsBefore, IsAfter, HoldsAtSides, Holds, is_unicode, AgreesWithAscii, Looks}
+use Rattle.rsc_look.proofs.Words.{EncodedFrom, BeginsAt, EndsAt, Look, WordUnicode, WordUnicodeNegate, WordStartUnicode, WordEndUnicode, WordStartHalfUnicode, WordEndHalfUnicode, Side, Absent, Word, Other, byte_before, byte_after, is_word_neighbor, exactly_one, is_invalid, is_word_side, is_edge_or_non_word, holds_at_bytes, holds_at_sides, IsBefore, IsAfter, Holds, is_unicode, AgreesWithAscii}
 use Rattle.rsc_look.proofs.SideLayoutLemmas.{at_sides, Holds-bytes, Holds-sides}
 
 -- ---- the assertions that hold at a position
@@ -76,18 +76,25 @@ past_end [] i e = omega arith
 past_end (x ∷ h) zero e = absurd (cc)
 past_end (x ∷ h) (suc i) e = let l = past_end h i e in omega (arith, l)
 
+-- a byte below 128 is a character that ends, or begins, at its end or start
+pub EndsAt-ascii : (h : List ℕ) (i b : ℕ) → byte_before h i ≡ Some b → b < 128 → EndsAt h i b
+EndsAt-ascii h zero b e l = absurd (cc)
+EndsAt-ascii h (suc i) b e l =
+    let next : i + 1 ≡ suc i = omega arith in
+    (i, subst (λ j. EncodedFrom h i j b) next (one_byte h i b e l))
+
+pub BeginsAt-ascii : (h : List ℕ) (i b : ℕ) → byte_after h i ≡ Some b → b < 128 → BeginsAt h i b
+BeginsAt-ascii h i b e l = (i + 1, one_byte h i b e l)
+
 ascii_before : (W : ℕ → Bool) (h : List ℕ) (i : ℕ) → i ≤ length h → IfSome (byte_before h i) (λ b. b < 128)
     → IsBefore W h i (ascii_side W (byte_before h i))
 unfolding ascii_side
 ascii_before W h zero l low = refl
 ascii_before W h (suc i) l low = go (slice_get h i) refl low
   where
-    next : i + 1 ≡ suc i
-    next = omega arith
-
     go : (o : Option ℕ) → slice_get h i ≡ o → IfSome o (λ b. b < 128) → IsBefore W h (suc i) (ascii_side W o)
     go None e x = absurd (omega (arith, l, past_end h i e))
-    go (Some b) e x = side_is W h (suc i) b (i, subst (λ j. EncodedFrom h i j b) next (one_byte h i b e x))
+    go (Some b) e x = side_is W h (suc i) b (EndsAt-ascii h (suc i) b e x)
 
 ascii_after : (W : ℕ → Bool) (h : List ℕ) (i : ℕ) → i ≤ length h → IfSome (byte_after h i) (λ b. b < 128)
     → IsAfter W h i (ascii_side W (byte_after h i))
@@ -96,7 +103,7 @@ ascii_after W h i l low = go (slice_get h i) refl low
   where
     go : (o : Option ℕ) → slice_get h i ≡ o → IfSome o (λ b. b < 128) → IsAfter W h i (ascii_side W o)
     go None e x = omega (arith, l, past_end h i e)
-    go (Some b) e x = side_is_after W h i b (i + 1, one_byte h i b e x)
+    go (Some b) e x = side_is_after W h i b (BeginsAt-ascii h i b e x)
 
 -- what a word assertion makes of whether a word character is before and whether one is after
 by_words : Look → Bool → Bool → Bool

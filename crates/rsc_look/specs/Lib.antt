@@ -1,5 +1,6 @@
 pub mod Boundaries  -- the boundaries between bytes that an assertion can tell apart
 pub mod ErrorTexts  -- what the error of the Unicode assertions prints
+pub mod HoldingLayout  -- how the tables of the assertions that hold are read
 pub mod Holds  -- where an assertion holds: the table of neighbouring bytes, and the table of neighbouring characters
 pub mod Keeping  -- what it is for a partition of the bytes to keep assertions, and to be the coarsest one that does
 pub mod KeepingLaws  -- partitions and haystacks of one byte, lists of one assertion, and the two choices of word characters

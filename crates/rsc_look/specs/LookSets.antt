@@ -1,12 +1,13 @@
 -- Sets of assertions, and their members in order.
 use Rattle.std.specs.Prelude.{ℕ, Bool, List, [], ◌∷◌, ◌++◌, filter}
-use Rattle.std.specs.List.{sum_by, list_any}
+use Rattle.std.specs.Char.{encode_utf8}
+use Rattle.std.specs.List.{sum_by, list_any, flat_map}
 use Rattle.std.specs.Ordering.{nat_cmp, on}
 use Rattle.std.specs.declared.cmp.Ordering.{Ordering}
 use Rattle.std.specs.FinSet as sets
 use Rattle.rsc_look.specs.declared.assertion.Look.{Look}
 use Rattle.rsc_look.specs.declared.assertion.Look.TheVariants.{Start, End, StartLF, EndLF, StartCRLF, EndCRLF, WordAscii, WordAsciiNegate, WordUnicode, WordUnicodeNegate, WordStartAscii, WordEndAscii, WordStartUnicode, WordEndUnicode, WordStartHalfAscii, WordEndHalfAscii, WordStartHalfUnicode, WordEndHalfUnicode}
-use Rattle.rsc_look.specs.Looks.{repr_of, every_look}
+use Rattle.rsc_look.specs.Looks.{repr_of, char_of, every_look}
 
 -- assertions are ordered by their numbers
 abbrev pub look_cmp : Look → Look → Ordering
@@ -47,3 +48,11 @@ unicode_words = WordUnicode ∷ WordUnicodeNegate ∷ WordStartUnicode ∷ WordE
 -- all twelve about words
 abbrev pub words : List Look
 words = unicode_words ++ ascii_words
+
+-- how members in order are shown, and the empty set: each by its character, or `∅`
+abbrev pub look_text : Look → List ℕ
+look_text l = encode_utf8 (char_of l)
+
+abbrev pub text_of_looks : List Look → List ℕ
+text_of_looks [] = encode_utf8 0x2205
+text_of_looks looks = flat_map look_text looks

@@ -5,6 +5,7 @@ ghost use Rattle.std.specs.FinSet as sets;
 ghost use Rattle.rsc_look.specs.declared.assertion.Look.{Look};
 ghost use Rattle.rsc_look.specs.Looks.{every_look};
 ghost use Rattle.rsc_look.specs.LookSets.{Looks, members, bits_of};
+ghost use Rattle.rsc_look.specs.LookSetLayout.{has_bit};
 
 mod iter;
 mod kinds;
@@ -86,11 +87,17 @@ impl Default for LookSet {
 }
 
 impl fmt::Debug for LookSet {
+    ghost use Rattle.std.specs.Prelude.{Some};
+    ghost use Rattle.rsc_look.specs.LookSets.{members, text_of_looks};
+
+    ghost debug_output = { λ s. Some (text_of_looks (members s)) };
+
     fn fmt<W: fmt::Write>(&self, f: &mut fmt::Formatter<W>) -> fmt::Result {
         if self.is_empty() {
             return f.write_char('∅');
         }
-        for look in self.iter() {
+        let mut looks = self.iter();
+        while let Some(look) = looks.next() {
             f.write_char(look.as_char())?;
         }
         Ok(())
@@ -138,6 +145,15 @@ impl LookSet {
         } else {
             None
         }
+    }
+
+    // The set of a number's bits, of which none is above the eighteenth.
+    #[inline(always)]
+    pub(crate) fn of_bits(bits: u32) -> LookSet
+        requires { bits < 2 ^ 18 }
+        ensures { (look : Look) → sets.contains result look ≡ has_bit bits look }
+    {
+        LookSet { bits }
     }
 
     /// The sum of the numbers of the members, by [`Look::as_repr`].

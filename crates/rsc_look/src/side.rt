@@ -19,6 +19,7 @@ pub(crate) enum Side {
 
 impl Side {
     ghost use Rattle.rsc_look.specs.Holds.{is_invalid, is_word_side, is_edge_or_non_word};
+    ghost use Rattle.rsc_look.specs.HoldingLayout.{entry_of};
 
     #[inline(always)]
     pub(crate) fn is_word(self) -> bool
@@ -32,6 +33,19 @@ impl Side {
         ensures { result ≡ is_invalid self }
     {
         matches!(self, Side::Invalid)
+    }
+
+    // Its entry in a table of sides.
+    #[inline(always)]
+    pub(crate) fn index(self) -> usize
+        ensures { result ≡ entry_of self }
+    {
+        match self {
+            Side::Absent => 0,
+            Side::Invalid => 1,
+            Side::Word => 2,
+            Side::Other => 3,
+        }
     }
 
     #[inline(always)]

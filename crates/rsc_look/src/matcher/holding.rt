@@ -5,7 +5,8 @@ ghost use Rattle.rsc_alphabet.specs.Symbols.{byte_of};
 ghost use Rattle.rsc_look.specs.declared.assertion.Look.{Look};
 ghost use Rattle.rsc_look.specs.LookSets.{Looks};
 ghost use Rattle.rsc_look.specs.LookSetLayout.{is_same};
-ghost use Rattle.rsc_look.specs.Holds.{HoldsFor, holds_at_bytes, holds_at_sides};
+ghost use Rattle.rsc_look.specs.Holds.{HoldsFor, IsBefore, IsAfter, holds_at_bytes, holds_at_sides};
+ghost use Rattle.rsc_look.specs.HoldingLayout.{holds_at_words};
 
 use crate::matcher::{CARRIAGE_RETURN, LINE_FEED};
 use crate::side::{Side, byte_after, byte_before, is_byte, is_word_neighbor};
@@ -40,8 +41,8 @@ impl<W: WordClass> LookMatcher<W> {
             byte_after(haystack, at),
         );
         let characters = holding_at_sides(
-            self.side_before(haystack, at),
-            self.side_after(haystack, at),
+            self.near_side_before(haystack, at),
+            self.near_side_after(haystack, at),
         );
         bytes.union(characters)
     }
@@ -64,6 +65,46 @@ impl<W: WordClass> LookMatcher<W> {
     {
         holding_at_bytes(self.line_terminator, before, after.as_u8())
     }
+
+    // What is before a position. A byte below 128 is read here, without a jump: where words of ASCII begin and end can't be predicted.
+    #[inline(always)]
+    fn near_side_before(&self, haystack: &[u8], at: usize) -> Side
+        requires { at ≤ length haystack.now }
+        ensures { IsBefore (W.word_chars self.now.1) haystack.now at result }
+    {
+        match byte_before(haystack, at) {
+            Some(byte) if byte < 0x80 => self.side_of(char::from(byte)),
+            _ => self.far_side_before(haystack, at),
+        }
+    }
+
+    // What is after a position, in the same way.
+    #[inline(always)]
+    fn near_side_after(&self, haystack: &[u8], at: usize) -> Side
+        requires { at ≤ length haystack.now }
+        ensures { IsAfter (W.word_chars self.now.1) haystack.now at result }
+    {
+        match byte_after(haystack, at) {
+            Some(byte) if byte < 0x80 => self.side_of(char::from(byte)),
+            _ => self.far_side_after(haystack, at),
+        }
+    }
+
+    #[inline(never)]
+    fn far_side_before(&self, haystack: &[u8], at: usize) -> Side
+        requires { at ≤ length haystack.now }
+        ensures { IsBefore (W.word_chars self.now.1) haystack.now at result }
+    {
+        self.side_before(haystack, at)
+    }
+
+    #[inline(never)]
+    fn far_side_after(&self, haystack: &[u8], at: usize) -> Side
+        requires { at ≤ length haystack.now }
+        ensures { IsAfter (W.word_chars self.now.1) haystack.now at result }
+    {
+        self.side_after(haystack, at)
+    }
 }
 
 // A set with an assertion as one more member, if it holds.
@@ -79,15 +120,14 @@ fn with(set: LookSet, look: Look, holds: bool) -> LookSet
 fn holding_at_bytes(terminator: u8, before: Option<u8>, after: Option<u8>) -> LookSet
     ensures { (look : Look) → sets.contains result look ≡ holds_at_bytes look terminator before after }
 {
-    let word_before = is_word_neighbor(before);
-    let word_after = is_word_neighbor(after);
     let starts = before.is_none()
         | is_byte(LINE_FEED, before)
         | (is_byte(CARRIAGE_RETURN, before) & !is_byte(LINE_FEED, after));
     let ends = after.is_none()
         | is_byte(CARRIAGE_RETURN, after)
         | (is_byte(LINE_FEED, after) & !is_byte(CARRIAGE_RETURN, before));
-    let set = with(LookSet::empty(), Look::Start, before.is_none());
+    let set = holding_at_words(is_word_neighbor(before), is_word_neighbor(after));
+    let set = with(set, Look::Start, before.is_none());
     let set = with(set, Look::End, after.is_none());
     let set = with(
         set,
@@ -100,44 +140,66 @@ fn holding_at_bytes(terminator: u8, before: Option<u8>, after: Option<u8>) -> Lo
         after.is_none() | is_byte(terminator, after),
     );
     let set = with(set, Look::StartCRLF, starts);
-    let set = with(set, Look::EndCRLF, ends);
-    let set = with(set, Look::WordAscii, word_before != word_after);
-    let set = with(set, Look::WordAsciiNegate, word_before == word_after);
-    let set = with(set, Look::WordStartAscii, word_after & !word_before);
-    let set = with(set, Look::WordEndAscii, word_before & !word_after);
-    let set = with(set, Look::WordStartHalfAscii, !word_before);
-    with(set, Look::WordEndHalfAscii, !word_after)
+    with(set, Look::EndCRLF, ends)
 }
 
+// The assertions about words of ASCII, by whether a word byte is before, and whether one is after: the sums of their numbers.
+static AT_WORDS: [u32; 4] = [
+    // Neither: the negation and both half assertions.
+    1 << 7 | 1 << 14 | 1 << 15,
+    // A word starts.
+    1 << 6 | 1 << 10 | 1 << 14,
+    // A word ends.
+    1 << 6 | 1 << 11 | 1 << 15,
+    // Within a word.
+    1 << 7,
+];
+
+// The assertions about words of ASCII that hold between two bytes, or ends, of which each is a word byte or not.
+#[inline(always)]
+fn holding_at_words(before: bool, after: bool) -> LookSet
+    ensures { (look : Look) → sets.contains result look ≡ holds_at_words look before after }
+{
+    LookSet::of_bits(AT_WORDS[usize::from(before) * 2 + usize::from(after)])
+}
+
+// No word is beside the position: the negation and both half assertions.
+const NO_WORD: u32 = 1 << 9 | 1 << 16 | 1 << 17;
+
+// A word starts, and ends.
+const STARTS: u32 = 1 << 8 | 1 << 12;
+
+const ENDS: u32 = 1 << 8 | 1 << 13;
+
+// The half assertions: what is before, or after, is no word, and not invalid.
+const START_HALF: u32 = 1 << 16;
+
+const END_HALF: u32 = 1 << 17;
+
+// The assertions about characters, by the side before and the side after: absent, invalid, a word, another character.
+static AT_SIDES: [u32; 16] = [
+    NO_WORD,
+    START_HALF,
+    STARTS | START_HALF,
+    NO_WORD,
+    END_HALF,
+    0,
+    STARTS,
+    END_HALF,
+    ENDS | END_HALF,
+    ENDS,
+    1 << 9,
+    ENDS | END_HALF,
+    NO_WORD,
+    START_HALF,
+    STARTS | START_HALF,
+    NO_WORD,
+];
+
 // The assertions about characters that hold between two sides.
-#[inline]
+#[inline(always)]
 fn holding_at_sides(before: Side, after: Side) -> LookSet
     ensures { (look : Look) → sets.contains result look ≡ holds_at_sides look before after }
 {
-    let set = with(
-        LookSet::empty(),
-        Look::WordUnicode,
-        before.is_word() != after.is_word(),
-    );
-    let set = with(
-        set,
-        Look::WordUnicodeNegate,
-        !before.is_invalid() & !after.is_invalid() & (before.is_word() == after.is_word()),
-    );
-    let set = with(
-        set,
-        Look::WordStartUnicode,
-        after.is_word() & !before.is_word(),
-    );
-    let set = with(
-        set,
-        Look::WordEndUnicode,
-        before.is_word() & !after.is_word(),
-    );
-    let set = with(
-        set,
-        Look::WordStartHalfUnicode,
-        before.is_edge_or_non_word(),
-    );
-    with(set, Look::WordEndHalfUnicode, after.is_edge_or_non_word())
+    LookSet::of_bits(AT_SIDES[before.index() * 4 + after.index()])
 }

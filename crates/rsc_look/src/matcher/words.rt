@@ -40,7 +40,7 @@ impl<W: WordClass> LookMatcher<W> {
 
     // What a character on a side makes of it.
     #[inline(always)]
-    fn side_of(&self, c: char) -> Side
+    pub(crate) fn side_of(&self, c: char) -> Side
         ensures { IsSideOf (W.word_chars self.now.1) c result }
     {
         if self.words.is_word(c) {

@@ -1,12 +1,13 @@
-use Rattle.std.proofs.Common.{◌∙◌, ◌||◌, ap, ap₂, sym}
-use Rattle.rsc_look.specs.Holds.{holds_at_bytes, holds_at_sides}
+use Rattle.std.proofs.Common.{◌∙◌, ◌||◌, ap₂}
+use Rattle.rsc_look.specs.Holds.{holds_at_bytes}
 use Rattle.rsc_look.proofs.MatcherLemmas.{holds_by_tables}
 use Rattle.rsc_look.proofs.matcher.LookMatcher.holding.Goals as goal
 
 pub returns-clause-exactly : goal.returns-clause-exactly
 returns-clause-exactly g c = λ look.
     rw (← c.self.view_is) (holds_by_tables look c.self.inside.line_terminator (g.W.WordClass.word_chars c.self.inside.words) c.args.haystack.now c.args.at
-    c.side_before.result c.side_after.result _ (rw (← c.self.view_is) at c.side_before.ensures) (rw (← c.self.view_is) at c.side_after.ensures)
+    c.near_side_before.result c.near_side_after.result _
+    (rw (← c.self.view_is) at c.near_side_before.ensures) (rw (← c.self.view_is) at c.near_side_after.ensures)
     (c.union.ensures.at look
     ∙ ap₂ (λ x y. x || y)
     (c.holding_at_bytes-bytes.ensures look
