@@ -234,6 +234,8 @@ def pages():
         yield file, readme(example.read_text(encoding="utf-8"), file.read_text(encoding="utf-8"))
         file = ROOT / "crates" / f"{crate}_tests" / "README.md"
         yield file, test_modules(file.parent.name, file.read_text(encoding="utf-8"))
+    file = ROOT / "crates/rsc_engine/CALLING.md"
+    yield file, page("rsc_engine", file.read_text(encoding="utf-8"))
     for file in sorted((ROOT / "crates").glob("*/*/Lib.antt")):
         yield file, module_list(file)
     file = ROOT / "README.md"

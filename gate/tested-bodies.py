@@ -6,8 +6,8 @@
 
 A contract says nothing of whether memory is there, of the texts that only tests show, and of what a program reads and writes.
 gate/edits.py explains the format of an edit; its fields are `file`, the source file that it changes, and one of
-    tests    the crate whose tests must fail; with `snippet`, the name of a snippet of its must-run, those of the snippet too; with
-             `seconds`, the time that each test has, the tests of cost too, which all other edits leave out
+    tests    the crate whose tests must fail; with `modules`, the test modules that are tried, instead of all but those of cost; with
+             `snippet`, the name of a snippet of its must-run, those of the snippet too; with `seconds`, the time that each test has
     runs     `all`: of the crate's plain stored runs (gate/stored-runs.py) one must print something else, or end with another status;
              or the arguments of one run, with \\xHH for bytes, of which standard error counts too
 and where it needs a private field of another file `also`, as `src/span.rt: start: usize ⇒ pub(crate) start: usize`.
@@ -37,7 +37,7 @@ def edits(crates):
     for crate in sorted(os.listdir(f"{ROOT}/crates")):
         path = f"{ROOT}/crates/{crate}/tested-bodies.edits"
         if os.path.exists(path) and (not crates or crate in crates):
-            found += [(crate, *it) for it in blocks(path, ("file", "tests", "snippet", "seconds", "runs", "also"))]
+            found += [(crate, *it) for it in blocks(path, ("file", "tests", "modules", "snippet", "seconds", "runs", "also"))]
     return found
 
 
@@ -87,22 +87,25 @@ def judge_runs(copy, crate, name, runs, unchanged):
     return False, f"{crate}/{name}: NO RUN FAILS"
 
 
-def with_cost(tests, is_wanted):
-    """Leaves the tests of cost, which take long, out of a copy of a crate of tests, or puts them back."""
-    root, cost = tests / "src/tests.rt", tests / "src/tests/cost.rt"
+def with_modules(tests, wanted):
+    """Leaves in a copy of a crate of tests the wanted test modules alone; without a list all but those of cost, which take long."""
+    root = tests / "src/tests.rt"
     own = pathlib.Path(ROOT, "crates", tests.name, "src")
-    if (own / "tests/cost.rt").exists():
-        text = (own / "tests.rt").read_text(encoding="utf-8")
-        root.write_text(text if is_wanted else text.replace("mod cost;\n", ""), encoding="utf-8")
-        cost.unlink(missing_ok=True)
-        if is_wanted:
-            shutil.copy(own / "tests/cost.rt", cost)
+    text = (own / "tests.rt").read_text(encoding="utf-8")
+    for line, module in re.findall(r"^((?:pub )?mod (\w+);\n)", text, flags=re.M):
+        source = f"tests/{module}.rt"
+        if (module in wanted) if wanted else module != "cost":
+            shutil.copy(own / source, tests / "src" / source)
+        else:
+            text = text.replace(line, "")
+            (tests / "src" / source).unlink(missing_ok=True)
+    root.write_text(text, encoding="utf-8")
 
 
 def judge_tests(copy, crate, name, fields):
     """Runs the tests of a copy, and returns whether one fails, with a line that says which."""
     tests = pathlib.Path(copy, "crates", fields["tests"])
-    with_cost(tests, "seconds" in fields)
+    with_modules(tests, fields.get("modules", "").split())
     if "snippet" in fields:
         snippet = pathlib.Path(ROOT, "crates", fields["tests"], "must-run", fields["snippet"] + ".snippet").read_text(encoding="utf-8")
         added_to = tests / snippet.splitlines()[0].removeprefix("// added to: ")

@@ -4,6 +4,7 @@
 
 pub mod alphabet;
 pub mod captures;
+pub mod engine;
 #[cfg(test)]
 mod examples;
 pub mod look;

@@ -1,6 +1,8 @@
 //! Each caller, run on values.
 ghost use Rattle.std.specs.Prelude.{◌≡◌, ◌<◌, ℕ, slice_index};
 
+mod engine;
+
 use crate::{alphabet, captures, look, nfa, primitives, search, threads, tokens};
 use rsc_alphabet::{ByteClassSet, ByteSet, Unit, classes_of_ranges, laws};
 use rsc_captures::{Captures, GroupInfo};

@@ -1,0 +1,61 @@
+//! Searches by an engine, and what its answers say of one another.
+ghost use Rattle.std.specs.Prelude.{◌≡◌, ◌<◌, IfOk, IfSome, IfNone};
+ghost use Rattle.rsc_search.specs.Matches.{Matched};
+ghost use Rattle.rsc_engine.specs.Searches.{search_in};
+ghost use Rattle.rsc_engine.specs.Preferred.{HasNone, IsFirstMatch};
+
+use rsc_captures::Captures;
+use rsc_engine::{AsciiWords, Dfa, Error, Matches, Program, find, laws};
+use rsc_look::WordClass;
+use rsc_search::{Input, Span};
+use std::alloc::Global;
+
+/// The span of the first match, or `None` if no match begins where one may.
+pub fn first_span<W: WordClass>(
+    alloc: Global,
+    program: &Program<W>,
+    input: &Input<'_>,
+    captures: &mut Captures,
+) -> Result<Option<Span>, Error>
+    ensures some { IfOk result (λ found. IfSome found (λ span.
+        (first : Matched) × IsFirstMatch (search_in W.word_chars program.now input.now) captures.new first × (span ≡ first.span))) }
+    ensures none { IfOk result (λ found. IfNone found (HasNone (search_in W.word_chars program.now input.now))) }
+{
+    match find(alloc, program, input, captures)? {
+        None => Ok(None),
+        Some(first) => Ok(Some(first.span())),
+    }
+}
+
+/// Whether an input has a match, by a DFA and by the backtracker: they never differ.
+pub fn has_match_twice<W: WordClass + AsciiWords>(
+    alloc: Global,
+    program: &Program<W>,
+    dfa: &mut Dfa<'_, W>,
+    input: &Input<'_>,
+    captures: &mut Captures,
+) -> Result<(bool, bool), Error>
+    requires of_program { dfa.old ≡ program.now }
+    ensures same { IfOk result (λ found. found.0 ≡ found.1) }
+{
+    laws::there_is_one_first_match();
+    let by_table = dfa.is_match(input)?;
+    let by_walk = find(alloc, program, input, captures)?.is_some();
+    Ok((by_table, by_walk))
+}
+
+/// The ends of the next two matches, of which the second is greater.
+pub fn next_two_ends<W: WordClass>(
+    matches: &mut Matches<'_, '_, W>,
+    captures: &mut Captures,
+) -> Result<Option<(usize, usize)>, Error>
+    ensures ascending { IfOk result (λ found. IfSome found (λ ends. ends.0 < ends.1)) }
+{
+    let Some(one) = matches.next(captures)? else {
+        return Ok(None);
+    };
+    let Some(other) = matches.next(captures)? else {
+        return Ok(None);
+    };
+    Ok(Some((one.end(), other.end())))
+}

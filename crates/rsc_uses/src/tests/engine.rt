@@ -1,0 +1,25 @@
+//! The callers of the engine, run on values.
+use crate::engine;
+use rsc_captures::Captures;
+use rsc_engine::{Builder, Dfa, Matches};
+use rsc_look::AsciiWord;
+use rsc_search::Input;
+use std::test::Fail;
+
+#[test]
+fn searches(rt: HostRuntime) -> Result<(), Fail> {
+    let mut builder = Builder::new(rt.alloc())?;
+    let whole = builder.range(b'a', b'z')?;
+    let program = builder.build(AsciiWord, true, whole)?;
+    let mut captures = Captures::all(rt.alloc(), program.nfa().group_info().clone()?)?;
+    let input = Input::new(b"-a b");
+    let first = engine::first_span(rt.alloc(), &program, &input, &mut captures)?;
+    assert!(rt; first.is_some_and(|span| span.start == 1 && span.end == 2));
+    let mut dfa = Dfa::new(rt.alloc(), &program, 4);
+    let found = engine::has_match_twice(rt.alloc(), &program, &mut dfa, &input, &mut captures)?;
+    assert!(rt; found.0 && found.1);
+    let mut matches = Matches::new(rt.alloc(), &program, input)?;
+    assert!(rt; engine::next_two_ends(&mut matches, &mut captures)? == Some((2, 4)));
+    assert!(rt; engine::next_two_ends(&mut matches, &mut captures)?.is_none());
+    Ok(())
+}
