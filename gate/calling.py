@@ -36,7 +36,7 @@ PROMISES = "next_gives next_back_gives remaining eq cmp partial_cmp hash_input i
 
 def promises(text):
     """Yields each impl of a trait in a file, with the ghost items that say what its methods promise."""
-    for head, body in re.findall(r"^impl(?:<[^\n]*?>)? ?(\S[^\n{]* for [^\n{]*?)(?: \{|\n)(.*?)^\}", text, flags=re.M | re.S):
+    for head, body in re.findall(r"^impl(?:<[^\n]*?>)? ?(\S[^\n{]* for [^\n{]*?)(?: \{(?!\})|\n)(.*?)^\}", text, flags=re.M | re.S):
         items = re.findall(r"^    ghost (\w+) = (\{.*?\});$", body, flags=re.M | re.S)
         kept = [f"{name} = {promise}" for name, promise in items if name in PROMISES]
         of = re.match(r"\w*", head.rpartition(" for ")[2])[0]
@@ -77,11 +77,21 @@ def shortened(owner, signature):
     return "\n".join(lines)
 
 
+def is_exported(crate, path, owner, signature):
+    """Returns whether a crate above can name a function: its type, or without one the function or its module, is brought out by lib.rt."""
+    text = (ROOT / "crates" / crate / "src/lib.rt").read_text(encoding="utf-8")
+    names = set(re.findall(r"\w+", " ".join(re.findall(r"^pub use \w+::([^;]*);", text, flags=re.M))))
+    if owner:
+        return re.match(r"\w*", owner.rpartition(" for ")[2])[0] in names
+    name = re.search(r"\bfn (\w+)", signature)[1]
+    return name in names or f"pub mod {path.parts[0].removesuffix('.rt')};" in text
+
+
 def contracts(crate):
     head = "`specs/` defines the names, and the `ghost use` lines of the quoted file say where. Below `impl TRAIT for TYPE` is what its methods promise."
     parts = ["## Contracts", "", f"Quoted from `crates/{crate}/src`; {head}", ""]
     for path, text in sources(crate):
-        shown = [shortened(owner, it) for owner, is_public, it in functions(text) if is_public]
+        shown = [shortened(owner, it) for owner, is_public, it in functions(text) if is_public and is_exported(crate, path, owner, it)]
         shown += ["\n    ".join([f"impl {head}", *kept]) for head, kept in promises(text)]
         if shown:
             parts += [f"### `{path}`", "", "```text", *shown, "```", ""]

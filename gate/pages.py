@@ -27,6 +27,7 @@ import re
 import sys
 
 from calling import ROOT, functions, page, promises, sources
+from calls import calls
 from edits import blocks
 
 MOST_COLUMNS = 160
@@ -241,6 +242,7 @@ def pages():
     file = ROOT / "README.md"
     yield file, by_hand(believed(with_quotes(file.read_text(encoding="utf-8"))))
     yield ROOT / "docs/TRUSTED.md", trusted()[0]
+    yield ROOT / "docs/CALLS.md", calls((*LIBRARIES, "rsc_engine"))
 
 
 def cited():
