@@ -10,7 +10,7 @@ HEAD = """# The public calls
 
 Written by `gate/pages.py --write`. Each row is a public call, or an impl of a trait that promises something: the names of the clauses of its contract (`ensures`
 for one without a name), which CALLING.md of the crate quotes; a test that calls it; and a wrong body that the prover refuses in that very function (of several
-the first, with their number). Functions that pass a call on, and those that read a field, may share a wrong body with another function.
+the first, with their number). A function that passes a call on or reads a field may share a wrong body with another.
 """
 
 
