@@ -59,6 +59,8 @@ fn texts_past_ascii(rt: HostRuntime) -> Result<(), Fail> {
         ("𐀀𝛃🌀😀", "\"𐀀𝛃🌀😀\""),
         ("a😀b€c", "\"a😀b€c\""),
         ("\u{10FFFF}", "\"\\u{10ffff}\""),
+        ("\u{2028}\u{FEFF}", "\"\\u{2028}\\u{feff}\""),
+        ("e\u{301}", "\"e\\u{301}\""),
     ] {
         assert_eq!(rt;
             haystack_text(rt.alloc(), haystack.as_bytes())?.as_str(),
@@ -66,6 +68,20 @@ fn texts_past_ascii(rt: HostRuntime) -> Result<(), Fail> {
         );
         let shown = format!(in rt.alloc(); "{:?}", DebugHaystack(haystack.as_bytes()))?;
         assert_eq!(rt; shown.as_str(), want);
+    }
+    Ok(())
+}
+
+#[test]
+fn texts_of_runs_before_a_character(rt: HostRuntime) -> Result<(), Fail> {
+    for count in 0..200usize {
+        let mut haystack = "a".repeat(rt.alloc(), count)?;
+        haystack.push_str("é€b")?;
+        let text = haystack_text(rt.alloc(), haystack.as_bytes())?;
+        assert_eq!(rt;
+            text.as_str(),
+            format!(in rt.alloc(); "\"{haystack}\"")?.as_str()
+        );
     }
     Ok(())
 }

@@ -1,5 +1,6 @@
 //! Texts in each form that a caller may ask for, as the original gives them; clones of errors.
 use rsc_primitives::PatternID;
+use rsc_primitives::escape::DebugByte;
 use rsc_primitives_tests::forms::{is_error, is_shown};
 use rsc_search::{Anchored, MatchError, PatternSet, Span};
 use std::alloc::Global;
@@ -61,6 +62,35 @@ fn unsupported_modes_are_displayed_in_each_form(rt: HostRuntime) {
             is_error(alloc, &MatchError::unsupported_anchored(mode), want),
             "{text}"
         );
+    }
+}
+
+#[test]
+fn a_quit_at_each_byte_is_displayed_in_each_form(rt: HostRuntime) {
+    let alloc = rt.alloc();
+    for byte in 0..=255u8 {
+        let shown = DebugByte(byte);
+        let want = format!(in alloc; "quit search after observing byte {shown:?} at offset 1001");
+        assert!(rt;
+            is_error(alloc, &MatchError::quit(byte, 1_001), want),
+            "{byte}"
+        );
+    }
+}
+
+#[test]
+fn an_unsupported_pattern_of_any_length_is_displayed_in_each_form(rt: HostRuntime) {
+    let alloc = rt.alloc();
+    let mut number: usize = 1;
+    for _ in 0..31 {
+        let pattern = PatternID::must(number.min(2147483646));
+        let p = pattern.as_usize();
+        let want = format!(in alloc;
+            "anchored searches for a specific pattern ({p}) are not supported or enabled"
+        );
+        let error = MatchError::unsupported_anchored(Anchored::Pattern(pattern));
+        assert!(rt; is_error(alloc, &error, want), "{p}");
+        number = number.saturating_mul(2);
     }
 }
 

@@ -75,6 +75,17 @@ fn ample_memory_suffices(rt: HostRuntime) {
     }
 }
 
+#[test]
+fn sets_of_any_members_are_cloned(rt: HostRuntime) -> Result<(), Fail> {
+    let mut set = PatternSet::new(rt.alloc(), 200)?;
+    for p in 0..200usize {
+        let is_new = set.try_insert(PatternID::must(p)).is_ok_and(|new| new);
+        let copy = set.clone()?;
+        assert!(rt; is_new && copy == set, "{p}");
+    }
+    Ok(())
+}
+
 // Whether each call on a set that takes no memory answers as it should and leaves what is used of the memory as it was.
 fn takes_none(heap: &LocalHeap, set: &mut PatternSet<&LocalHeap>) -> bool {
     let used = heap.used();

@@ -62,3 +62,22 @@ fn calls_on_a_set_ask_for_no_memory(rt: HostRuntime) -> Result<(), Fail> {
     assert_eq!(rt; watch.asking(), "");
     Ok(())
 }
+
+#[test]
+fn calls_on_sets_of_other_capacities_ask_for_no_memory(rt: HostRuntime) -> Result<(), Fail> {
+    let arena = Bump::new(rt.alloc());
+    let mut set = PatternSet::new(&arena, 320)?;
+    let smaller = PatternSet::new(&arena, 64)?;
+    let mut watch = Watch::new(rt.alloc(), &arena);
+    let none = PatternSet::new(&arena, 0)?;
+    watch.note("new of no capacity");
+    let is_cloned = none.clone().is_ok_and(|copy| copy == none);
+    watch.note("clone of a set of no capacity");
+    let are_new = set.insert(PatternID::ZERO) && set.insert(PatternID::must(1));
+    watch.note("insert beside a member");
+    let are_equal = set == smaller || none == smaller;
+    watch.note("eq of sets of different capacities");
+    assert!(rt; is_cloned && are_new && !are_equal);
+    assert_eq!(rt; watch.asking(), "");
+    Ok(())
+}

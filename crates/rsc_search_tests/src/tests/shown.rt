@@ -95,6 +95,36 @@ fn inputs_are_shown(rt: HostRuntime) -> Result<(), Fail> {
 }
 
 #[test]
+fn inputs_are_shown_in_lines(rt: HostRuntime) -> Result<(), Fail> {
+    let input = Input::new(b"abc").anchored(Anchored::Yes);
+    assert_eq!(rt;
+        format!(in rt.alloc(); "{input:#?}")?.as_str(),
+        "Input {\n    haystack: \"abc\",\n    span: 0..3,\n    anchored: Yes,\n    earliest: false,\n}"
+    );
+    Ok(())
+}
+
+#[test]
+fn matches_are_shown_at_the_greatest_numbers(rt: HostRuntime) -> Result<(), Fail> {
+    let alloc = rt.alloc();
+    let half = HalfMatch::new(PatternID::MAX, usize::MAX);
+    let span = Span {
+        start: 0,
+        end: usize::MAX,
+    };
+    let found = Match::new(PatternID::MAX, span);
+    assert_eq!(rt;
+        format!(in alloc; "{half:?}")?.as_str(),
+        "HalfMatch { pattern: PatternID(2147483646), offset: 18446744073709551615 }"
+    );
+    assert_eq!(rt;
+        format!(in alloc; "{found:?}")?.as_str(),
+        "Match { pattern: PatternID(2147483646), span: 0..18446744073709551615 }"
+    );
+    Ok(())
+}
+
+#[test]
 fn errors_are_shown(rt: HostRuntime) -> Result<(), Fail> {
     let alloc = rt.alloc();
     for (error, want) in [
