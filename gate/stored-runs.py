@@ -8,12 +8,12 @@ The runs of a crate are in crates/CRATE/runs/*.txt, which read as a session does
 
     # a comment
     $ CRATE looks StartLF -             the arguments, as a shell splits them; \xHH in them is a byte
-    @ input a\n                         standard input, with \n and \xHH for bytes
+    @ input a\n                         standard input, with \n and \xHH for bytes; a\{500} is 500 times the byte before it
     @ later b\n                         more of it, which comes a little later
     @ terminal                          what is unusual: standard output is a terminal; a variable NAME=VALUE; `output full`,
                                         which takes no byte; `output closed`, which nobody reads; `input unreadable`
     ..                                  any lines
-    and all others                      standard output, a line each; \e is the escape character
+    and all others                      standard output, a line each; \e is the escape character, and \# a `#`
     ! rsc_show: `a`: expected b         a line of standard error
     [2]                                 the exit status, if not 0
 """
@@ -33,10 +33,16 @@ Run = collections.namedtuple("Run", "name args unusual stdin stdout stderr statu
 
 
 def unescaped(text):
-    """Returns the bytes of a text in which \\n, \\e and \\xHH are written so."""
-    found = re.split(rb"(\\n|\\e|\\x[0-9a-fA-F]{2})", text.encode())
+    """Returns the bytes of a text in which \\n, \\e and \\xHH are written so, and a byte before \\{N} stands N times."""
+    found = re.split(rb"(\\n|\\e|\\x[0-9a-fA-F]{2}|\\\{\d+\})", text.encode())
     known = {b"\\n": b"\n", b"\\e": b"\x1b"}
-    return b"".join(known.get(it) or (bytes([int(it[2:], 16)]) if it[:2] == b"\\x" else it) for it in found)
+    made = b""
+    for it in found:
+        if it[:2] == b"\\{":
+            made += made[-1:] * (int(it[2:-1]) - 1)
+        else:
+            made += known.get(it) or (bytes([int(it[2:], 16)]) if it[:2] == b"\\x" else it)
+    return made
 
 
 def runs_of(crate):
@@ -56,7 +62,7 @@ def runs_of(crate):
                 elif re.fullmatch(r"\[\d+\]", line):
                     found[-1].status[0] = int(line[1:-1])
                 elif not line.startswith("#"):
-                    found[-1].stdout.append(line.replace("\\e", "\x1b").encode())
+                    found[-1].stdout.append(line.replace("\\e", "\x1b").replace("\\#", "#").encode())
     return [it._replace(stdout=without_last_blank(it.stdout)) for it in found]
 
 
@@ -110,7 +116,13 @@ def answer_of(program, run):
             pass
     output = b"" if reader is None else read_to_end(reader).replace(b"\r\n", b"\n")
     errors = child.stderr.read()
-    return output.splitlines(), errors.splitlines(), child.wait()
+    return lines_of(output), lines_of(errors), child.wait()
+
+
+def lines_of(output):
+    """Returns the lines of an output; a last one that has no end says so."""
+    *lines, rest = output.split(b"\n")
+    return lines + [rest + b" (with no end of line)"] if rest else lines
 
 
 def agrees(lines, wanted):

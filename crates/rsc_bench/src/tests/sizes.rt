@@ -35,7 +35,7 @@ fn name_of(alloc: Global, length: usize) -> Result<String, AllocError> {
 #[test]
 fn names_of_any_length_are_answered(rt: HostRuntime) -> Result<(), Fail> {
     let alloc = rt.alloc();
-    for length in [1usize, 31, 32, 33, 64, 65, 1_000, 10_000] {
+    for length in [1usize, 31, 32, 33, 64, 65, 1_000, 70_000] {
         let name = name_of(alloc, length)?;
         let line = format!(in alloc; "groups -,{name};-,{name}x,{name}")?;
         assert!(rt;
@@ -74,13 +74,14 @@ fn answer_to_many(
 fn lists_of_any_length_are_answered(rt: HostRuntime) -> Result<(), Fail> {
     let alloc = rt.alloc();
     for count in [17usize, 18, 255, 256, 1_000, 40_000] {
-        let answer = answer_to_many(alloc, "ranges", " 61-7a", count, " 30-39")?;
+        // The first range and the last one differ from the others, and a line comes after.
+        let answer = answer_to_many(alloc, "ranges 21-2f", " 61-7a", count, " 30-39\nranges")?;
         assert!(rt;
-            answer.as_str() == "alphabet 6: 00 30 3a 61 7b\n",
+            answer.as_str() == "alphabet 7: 00 21 30 3a 61 7b\nalphabet 2: 00\n",
             "{count}"
         );
-        let answer = answer_to_many(alloc, "looks 0a", " Start", count, " StartLF")?;
-        assert!(rt; answer.as_str() == "alphabet 4: 00 0a 0b\n", "{count}");
+        let answer = answer_to_many(alloc, "looks 07", " Start", count, " StartLF")?;
+        assert!(rt; answer.as_str() == "alphabet 4: 00 07 08\n", "{count}");
         let answer = answer_to_many(alloc, "looks 0a", " StartLF", count, " none")?;
         assert!(rt; answer.as_str() == "bad line\n", "{count}");
     }
@@ -120,13 +121,28 @@ fn patterns_of_many_groups_are_answered(rt: HostRuntime) -> Result<(), Fail> {
     Ok(())
 }
 
+// The limit is one slot less than the patterns have.
+#[test]
+fn limits_on_many_patterns_are_kept(rt: HostRuntime) -> Result<(), Fail> {
+    for count in [2usize, 1_000, 2_000] {
+        let limit = count.saturating_mul(2).saturating_sub(1);
+        let command = format!(in rt.alloc(); "limited {limit} -")?;
+        let answer = answer_to_many(rt.alloc(), &command, ";-", count.saturating_sub(1), "")?;
+        assert!(rt;
+            answer.as_str() == "too many capture groups (at least 1) were found for pattern 0\n",
+            "{count}"
+        );
+    }
+    Ok(())
+}
+
 #[test]
 fn haystacks_of_any_length_are_answered(rt: HostRuntime) -> Result<(), Fail> {
     let alloc = rt.alloc();
     for count in [1_024usize, 2_048, 65_535, 65_536, 700_000] {
         let mut hay = String::from_str(alloc, "look WordAscii 0a ")?;
         for _ in 0..count {
-            hay.push_str("61")?;
+            hay.push_str("4A")?;
         }
         for (at, want) in [
             (0, "true\n"),
@@ -159,14 +175,20 @@ fn inputs_of_any_length_are_answered(rt: HostRuntime) -> Result<(), Fail> {
         }
     }
     assert!(rt; answer_to(alloc, &input)?.as_str() == want.as_str());
-    // A line of 20 MiB is read whole.
+    // A line of 20 MiB is read whole, and each of 69,999 empty ones after it.
     let mut input = Vec::new(alloc);
+    let mut want = String::new(alloc);
     for _ in 0..20 * 1024 * 1024 {
         input.push(b'x')?;
     }
-    input.extend_from_slice(b"\nranges\n".as_slice())?;
+    for _ in 0..70_000 {
+        input.push(b'\n')?;
+        want.push_str("bad line\n")?;
+    }
+    input.extend_from_slice(b"ranges\n".as_slice())?;
+    want.push_str("alphabet 2: 00\n")?;
     let mut writer = Vec::new(alloc);
     run(alloc, &mut input.as_slice(), &mut writer)?;
-    assert!(rt; writer.as_slice() == b"bad line\nalphabet 2: 00\n".as_slice());
+    assert!(rt; writer.as_slice() == want.as_bytes());
     Ok(())
 }

@@ -3,10 +3,11 @@ use crate::error::BenchError;
 use crate::run::run;
 use std::io;
 use std::io::{Read, Write};
+use std::test::Fail;
 
-const LINES: &[u8] = b"ranges\nranges 61-7a\n";
+const LINES: &[u8] = b"ranges\nranges 61-7a\nranges\n";
 
-const ANSWERS: &[u8] = b"alphabet 2: 00\nalphabet 4: 00 61 7b\n";
+const ANSWERS: &[u8] = b"alphabet 2: 00\nalphabet 4: 00 61 7b\nalphabet 2: 00\n";
 
 // Gives the bytes that are left, one a call; after that many calls, if a number is set, it fails once, in that way.
 #[derive(Drop)]
@@ -77,11 +78,14 @@ impl Read for CountingReader {
     }
 }
 
-// Takes one byte a call, as long as there is room, and then fails.
+// Takes one byte a call, as long as there is room, and then fails in that way, or takes nothing where none is set; if it fails
+// once, it has room from then on.
 #[derive(Drop)]
 struct ByteWriter {
     taken: Vec<u8>,
     room: usize,
+    kind: Option<io::ErrorKind>,
+    is_once: bool,
 }
 
 impl Write for ByteWriter {
@@ -90,7 +94,13 @@ impl Write for ByteWriter {
             return Ok(0);
         };
         if self.taken.len() >= self.room {
-            return Err(io::Error::from(io::ErrorKind::BrokenPipe));
+            if self.is_once {
+                self.room = 1000;
+            }
+            return match self.kind {
+                Some(kind) => Err(io::Error::from(kind)),
+                None => Ok(0),
+            };
         }
         self.taken.push(*byte)?;
         Ok(1)
@@ -119,6 +129,24 @@ fn a_read_that_fails_once_writes_nothing(rt: HostRuntime) {
             assert!(rt; ended == Err(BenchError::Read) && writer.is_empty());
         }
     }
+}
+
+// A read that fails after 90,000 bytes.
+#[test]
+fn a_late_read_that_fails_writes_nothing(rt: HostRuntime) -> Result<(), Fail> {
+    let mut input = Vec::new(rt.alloc());
+    for _ in 0..100_000 {
+        input.push(b'\n')?;
+    }
+    let mut reader = ByteReader {
+        left: input.as_slice(),
+        fails_after: Some(90_000),
+        kind: io::ErrorKind::BrokenPipe,
+    };
+    let mut writer = Vec::new(rt.alloc());
+    let ended = run(rt.alloc(), &mut reader, &mut writer);
+    assert!(rt; ended == Err(BenchError::Read) && writer.is_empty());
+    Ok(())
 }
 
 #[test]
@@ -159,22 +187,34 @@ fn short_reads_and_writes_give_the_full_answer(rt: HostRuntime) {
     let mut writer = ByteWriter {
         taken: Vec::new(rt.alloc()),
         room: 1000,
+        kind: None,
+        is_once: false,
     };
     assert!(rt; run(rt.alloc(), &mut reader, &mut writer).is_ok());
     assert!(rt; writer.taken.as_slice() == ANSWERS);
 }
 
-// The first answer takes 15 bytes, and both take 36: the writer fails at each byte of either.
+// The answers take 15, 21 and 15 bytes: the writer fails at each byte of them.
 #[test]
 fn a_failed_write_leaves_what_was_written(rt: HostRuntime) {
-    for room in 0..36usize {
-        let mut reader = LINES;
-        let mut writer = ByteWriter {
-            taken: Vec::new(rt.alloc()),
-            room,
-        };
-        let ended = run(rt.alloc(), &mut reader, &mut writer);
-        assert!(rt; ended == Err(BenchError::Write) && room < ANSWERS.len());
-        assert!(rt; writer.taken.as_slice() == &ANSWERS[..room]);
+    for kind in [
+        Some(io::ErrorKind::BrokenPipe),
+        Some(io::ErrorKind::WouldBlock),
+        Some(io::ErrorKind::StorageFull),
+        None,
+    ] {
+        for room in 0..102usize {
+            let (room, is_once) = (room / 2, room % 2 == 1);
+            let mut reader = LINES;
+            let mut writer = ByteWriter {
+                taken: Vec::new(rt.alloc()),
+                room,
+                kind,
+                is_once,
+            };
+            let ended = run(rt.alloc(), &mut reader, &mut writer);
+            assert!(rt; ended == Err(BenchError::Write) && room < ANSWERS.len());
+            assert!(rt; writer.taken.as_slice() == &ANSWERS[..room]);
+        }
     }
 }
