@@ -36,12 +36,14 @@ pub fn has_match_twice<W: WordClass + AsciiWords>(
     captures: &mut Captures,
 ) -> Result<(bool, bool), Error>
     requires of_program { dfa.old ≡ program.now }
-    ensures same { IfOk result (λ found. found.0 ≡ found.1) }
+    ensures { IfOk result (λ found. found.0 ≡ found.1) }
 {
     laws::there_is_one_first_match();
     let by_table = dfa.is_match(input)?;
-    let by_walk = find(alloc, program, input, captures)?.is_some();
-    Ok((by_table, by_walk))
+    match find(alloc, program, input, captures)? {
+        None => Ok((by_table, false)),
+        Some(_) => Ok((by_table, true)),
+    }
 }
 
 /// The ends of the next two matches, of which the second is greater.
