@@ -1,10 +1,8 @@
 //! Group lists and captures: worked rows, shown texts, and running out of memory.
 mod captures;
-mod clones;
 mod cost;
 mod forms;
 mod group_info;
-mod iterators;
 mod memory;
 mod repeats;
 mod requests;

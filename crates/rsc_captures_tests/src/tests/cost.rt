@@ -1,12 +1,10 @@
 //! Runs so long that a call whose time grows with the groups, the names or the patterns doesn't end within the time that a test has.
 use super::group_info::groups_of;
 use super::requests::names_of;
-use super::shown::Counter;
 use rsc_captures::{Captures, GroupInfo};
 use rsc_primitives::PatternID;
 use rsc_search::Span;
 use std::alloc::Global;
-use std::fmt::Write;
 use std::test::Fail;
 
 const NAMES: usize = 50_000;
@@ -115,46 +113,6 @@ fn each_step_takes_the_same_time_among_any_groups(rt: HostRuntime) -> Result<(),
             assert!(rt; is_next && all.next().is_some(), "{g}");
         }
         assert!(rt; all.next().is_none());
-    }
-    Ok(())
-}
-
-#[test]
-fn each_count_takes_the_same_time_among_any_groups(rt: HostRuntime) -> Result<(), Fail> {
-    let captures = captures_of(rt.alloc(), false)?;
-    let names = captures.group_info().pattern_names(PatternID::ZERO);
-    for g in 0..GROUPS {
-        assert!(rt; names.len() == GROUPS, "{g}");
-    }
-    Ok(())
-}
-
-#[test]
-fn captures_are_shown_and_cleared_in_one_walk(rt: HostRuntime) -> Result<(), Fail> {
-    for are_patterns in [false, true] {
-        let mut captures = captures_of(rt.alloc(), are_patterns)?;
-        captures.set_pattern(Some(PatternID::ZERO));
-        let mut counter = Counter::new();
-        let is_shown = write!(counter, "{captures:?}").is_ok();
-        assert!(rt; is_shown && counter.count > 0);
-        captures.clear();
-        assert!(rt; !captures.is_match());
-    }
-    Ok(())
-}
-
-#[test]
-fn each_clone_and_each_extraction_takes_the_same_time_among_any_groups(
-    rt: HostRuntime,
-) -> Result<(), Fail> {
-    let mut captures = captures_of(rt.alloc(), false)?;
-    captures.set_pattern(Some(PatternID::ZERO));
-    let span = Some(Span { start: 1, end: 2 });
-    assert!(rt; captures.set_group(0, span) && captures.set_group(1, span));
-    for g in 0..GROUPS {
-        let is_cloned = captures.group_info().clone().is_ok();
-        let is_extracted = captures.extract_from::<&str, 1>("abc") == Some(("b", ["b"]));
-        assert!(rt; is_cloned && is_extracted, "{g}");
     }
     Ok(())
 }

@@ -17,38 +17,31 @@ fn is_kind(alloc: Global, kind: &GroupInfoErrorKind, made: Result<String, AllocE
     }
 }
 
-// Whether the kinds of a pattern and a number are displayed in each form, and so are their clones.
-fn are_kinds(alloc: Global, number: usize) -> bool {
-    let pattern = PatternID::must(number.min(2147483646));
-    let p = pattern.as_usize();
-    let too_many = GroupInfoErrorKind::TooManyGroups {
-        pattern,
-        minimum: number,
-    };
-    let want = format!(in alloc;
-        "too many capture groups (at least {number}) were found for pattern {p}"
-    );
-    let is_well = is_kind(alloc, &too_many, want);
-    let missing = GroupInfoErrorKind::MissingGroups { pattern };
-    let want = format!(in alloc;
-        "no capturing groups found for pattern {p} (either all patterns have zero groups or all patterns have at least one group)"
-    );
-    let is_well = is_well && is_kind(alloc, &missing, want);
-    let named = GroupInfoErrorKind::FirstMustBeUnnamed { pattern };
-    let want = format!(in alloc;
-        "first capture group (at index 0) for pattern {p} has a name (it must be unnamed)"
-    );
-    is_well && is_kind(alloc, &named, want)
-}
-
 #[test]
 fn kinds_of_many_numbers_are_displayed_in_each_form(rt: HostRuntime) {
     let alloc = rt.alloc();
     let mut number: usize = 1;
     for _ in 0..65 {
-        for other in [number, number.saturating_sub(1), number / 3] {
-            assert!(rt; are_kinds(alloc, other), "{other}");
-        }
+        let pattern = PatternID::must(number.min(2147483646));
+        let p = pattern.as_usize();
+        let kind = GroupInfoErrorKind::TooManyGroups {
+            pattern,
+            minimum: number,
+        };
+        let want = format!(in alloc;
+            "too many capture groups (at least {number}) were found for pattern {p}"
+        );
+        assert!(rt; is_kind(alloc, &kind, want), "{number}");
+        let kind = GroupInfoErrorKind::MissingGroups { pattern };
+        let want = format!(in alloc;
+            "no capturing groups found for pattern {p} (either all patterns have zero groups or all patterns have at least one group)"
+        );
+        assert!(rt; is_kind(alloc, &kind, want), "{number}");
+        let kind = GroupInfoErrorKind::FirstMustBeUnnamed { pattern };
+        let want = format!(in alloc;
+            "first capture group (at index 0) for pattern {p} has a name (it must be unnamed)"
+        );
+        assert!(rt; is_kind(alloc, &kind, want), "{number}");
         number = number.saturating_mul(2);
     }
     assert_eq!(rt; number, usize::MAX);
@@ -67,24 +60,20 @@ fn is_too_many(alloc: Global, number: usize) -> bool {
     }
 }
 
-// Whether a name that is repeated in that pattern is displayed in each form, and so are clones of the error and of its kind.
-fn is_repeated(alloc: Global, pattern: usize, name: &str) -> Result<bool, Fail> {
-    let whole: &[Option<&str>] = &[None];
-    let last: [Option<&str>; 3] = [None, Some(name), Some(name)];
-    let mut lists: Vec<&[Option<&str>]> = vec![in alloc; whole; pattern]?;
-    lists.push(&last)?;
-    let want = format!(in alloc;
-        "duplicate capture group name '{name}' found for pattern {pattern}"
-    )?;
-    let Err(error) = GroupInfo::new(alloc, &lists) else {
-        return Ok(false);
+// Whether a repeated name is displayed in each form, and so are clones of the error and of its kind.
+fn is_repeated(alloc: Global, name: &str) -> bool {
+    let want = format!(in alloc; "duplicate capture group name '{name}' found for pattern 0");
+    let Err(error) = GroupInfo::new(alloc, &[&[None, Some(name), Some(name)]]) else {
+        return false;
     };
-    let copy = error.clone()?;
-    Ok(
-        is_displayed(alloc, &error, &want)
-            && is_displayed(alloc, &copy, &want)
-            && is_kind(alloc, error.kind(), Ok(want)),
-    )
+    let Ok(copy) = error.clone() else {
+        return false;
+    };
+    let are_displayed = match &want {
+        Ok(text) => is_displayed(alloc, &error, text) && is_displayed(alloc, &copy, text),
+        Err(_) => false,
+    };
+    are_displayed && is_kind(alloc, error.kind(), want)
 }
 
 #[test]
@@ -92,75 +81,12 @@ fn numbers_and_names_of_each_length_are_displayed_in_each_form(
     rt: HostRuntime,
 ) -> Result<(), Fail> {
     let alloc = rt.alloc();
-    let mut number: usize = 2147483647;
-    for _ in 0..34 {
+    for number in [2147483647, 4294967296, usize::MAX] {
         assert!(rt; is_too_many(alloc, number), "{number}");
-        number = number.saturating_mul(2);
     }
-    assert_eq!(rt; number, usize::MAX);
     for count in [0, 1, 2, 31, 32, 33, 499, 500, 501, 2_049, 40_000] {
         let name = "ß".repeat(alloc, count)?;
-        assert!(rt; is_repeated(alloc, 0, &name)?, "{count}");
-    }
-    Ok(())
-}
-
-#[test]
-fn names_of_any_characters_are_displayed_in_each_pattern(rt: HostRuntime) -> Result<(), Fail> {
-    for name in [
-        "x", "'", "\"", "{}", "a\nb", "\\", " ", "\0", "\u{301}", "\u{202E}", "日本", "😀",
-    ] {
-        for pattern in [0, 1, 2, 10, 1_001] {
-            assert!(rt;
-                is_repeated(rt.alloc(), pattern, name)?,
-                "{name:?} in {pattern}"
-            );
-        }
-    }
-    Ok(())
-}
-
-// Whether a list is refused by an error that is displayed by this text in each form, and so is its clone.
-fn is_refused(made: Result<GroupInfo, GroupInfoError>, alloc: Global, want: &str) -> bool {
-    let Err(error) = made else {
-        return false;
-    };
-    match error.clone() {
-        Ok(copy) => is_displayed(alloc, &error, want) && is_displayed(alloc, &copy, want),
-        Err(_) => false,
-    }
-}
-
-#[test]
-fn errors_of_later_patterns_are_displayed_in_each_form(rt: HostRuntime) -> Result<(), Fail> {
-    let alloc = rt.alloc();
-    let whole: &[Option<&str>] = &[None];
-    for p in [0usize, 1, 2, 3, 10, 1_001] {
-        let mut lists: Vec<&[Option<&str>]> = vec![in alloc; whole; p]?;
-        lists.push(&[])?;
-        let want = format!(in alloc;
-            "no capturing groups found for pattern {p} (either all patterns have zero groups or all patterns have at least one group)"
-        )?;
-        assert!(rt;
-            is_refused(GroupInfo::new(alloc, &lists), alloc, &want),
-            "{p}"
-        );
-        let mut lists: Vec<&[Option<&str>]> = vec![in alloc; whole; p]?;
-        lists.push(&[Some("x")])?;
-        let want = format!(in alloc;
-            "first capture group (at index 0) for pattern {p} has a name (it must be unnamed)"
-        )?;
-        assert!(rt;
-            is_refused(GroupInfo::new(alloc, &lists), alloc, &want),
-            "{p}"
-        );
-        let mut lists: Vec<&[Option<&str>]> = vec![in alloc; whole; p]?;
-        lists.push(&[None, None])?;
-        let want = format!(in alloc;
-            "too many capture groups (at least 2) were found for pattern {p}"
-        )?;
-        let made = GroupInfo::new_limited(alloc, 2 * p.min(1_001) + 2, &lists);
-        assert!(rt; is_refused(made, alloc, &want), "{p}");
+        assert!(rt; is_repeated(alloc, &name), "{count}");
     }
     Ok(())
 }

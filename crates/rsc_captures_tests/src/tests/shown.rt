@@ -4,7 +4,6 @@ use rsc_captures::{
     GroupInfoErrorKind, GroupInfoPatternNames,
 };
 use rsc_primitives::{NonMaxUsize, PatternID, PatternIDError};
-use rsc_primitives_tests::forms::is_shown;
 use std::alloc::Global;
 use std::error::Error;
 use std::fmt;
@@ -45,9 +44,10 @@ fn captures_are_shown(rt: HostRuntime) -> Result<(), Fail> {
             captures.slots_mut()[slot] = NonMaxUsize::new(offset);
         }
     }
-    let want =
-        "Captures { pid: Some(PatternID(1)), spans: {0: 3..123456, 1/\"a\\\"\\né\": 0..7, 2: None} }";
-    assert!(rt; is_shown(alloc, &captures, want));
+    assert_eq!(rt;
+        format!(in alloc; "{captures:?}")?.as_str(),
+        "Captures { pid: Some(PatternID(1)), spans: {0: 3..123456, 1/\"a\\\"\\né\": 0..7, 2: None} }"
+    );
     Ok(())
 }
 
@@ -70,52 +70,6 @@ fn captures_with_a_named_group_are_shown(rt: HostRuntime) -> Result<(), Fail> {
         format!(in alloc; "{captures:?}")?.as_str(),
         "Captures { pid: None }"
     );
-    Ok(())
-}
-
-// The text of captures of the first pattern, none of whose groups has a span.
-fn text_of(alloc: Global, count: usize) -> Result<String, Fail> {
-    let mut text = String::from_str(alloc, "Captures { pid: Some(PatternID(0)), spans: {0: None")?;
-    for g in 1..count {
-        text.push_str(format!(in alloc; ", {g}: None")?.as_str())?;
-    }
-    text.push_str("} }")?;
-    Ok(text)
-}
-
-#[test]
-fn each_of_many_groups_is_shown_in_each_form(rt: HostRuntime) -> Result<(), Fail> {
-    let alloc = rt.alloc();
-    for count in [1, 2, 9, 10, 11, 12, 99, 101, 1_001] {
-        let groups: Vec<Option<&str>> = vec![in alloc; None; count]?;
-        let mut captures = Captures::all(alloc, GroupInfo::new(alloc, &[&groups])?)?;
-        assert!(rt;
-            is_shown(alloc, &captures, "Captures { pid: None }"),
-            "{count}"
-        );
-        captures.set_pattern(Some(PatternID::ZERO));
-        let want = text_of(alloc, count)?;
-        assert!(rt; is_shown(alloc, &captures, &want), "{count}");
-    }
-    Ok(())
-}
-
-#[test]
-fn spans_are_shown_by_how_many_are_left(rt: HostRuntime) -> Result<(), Fail> {
-    let alloc = rt.alloc();
-    let mut captures = Captures::all(alloc, GroupInfo::new(alloc, &[&[None, Some("x"), None]])?)?;
-    captures.set_pattern(Some(PatternID::ZERO));
-    let mut spans = captures.iter();
-    for want in [
-        "CapturesPatternIter(3)",
-        "CapturesPatternIter(2)",
-        "CapturesPatternIter(1)",
-        "CapturesPatternIter(0)",
-        "CapturesPatternIter(0)",
-    ] {
-        assert!(rt; is_shown(alloc, &spans, want), "{want}");
-        let _ = spans.next();
-    }
     Ok(())
 }
 
