@@ -71,8 +71,9 @@ fn calls_on_sets_of_other_capacities_ask_for_no_memory(rt: HostRuntime) -> Resul
     let mut watch = Watch::new(rt.alloc(), &arena);
     let none = PatternSet::new(&arena, 0)?;
     watch.note("new of no capacity");
-    let is_cloned = none.clone().is_ok_and(|copy| copy == none);
+    let copy = none.clone()?;
     watch.note("clone of a set of no capacity");
+    let is_cloned = copy == none;
     let are_new = set.insert(PatternID::ZERO) && set.insert(PatternID::must(1));
     watch.note("insert beside a member");
     let are_equal = set == smaller || none == smaller;
