@@ -11,7 +11,7 @@ use Rattle.rsc_search.specs.declared.anchored.Anchored.TheVariants.{No, Yes, Pat
 use Rattle.rsc_search.specs.declared.anchored.Anchored.{Anchored}
 use Rattle.rsc_engine.specs.Searches.{Search}
 use Rattle.rsc_engine.specs.Runs.{Leads, IsPlace, accepts, IsMatchRun, HasNoMatch}
-use Rattle.rsc_engine.specs.Preferred.{IsOnce, IsBefore, IsPreferred, IsLeftmostFirst, MayBegin, HasNone}
+use Rattle.rsc_engine.specs.Preferred.{IsOnce, IsBefore, IsPreferred, IsLeftmostFirst, HasNone}
 use Rattle.rsc_engine.specs.Moves.{IsMove, other_of}
 use Rattle.rsc_engine.specs.Walks.{IsTrail, IsOnward, IsOn, IsDone, IsClosed, IsClosedFrom, IsBarred, IsFirstWay, IsExplored, IsAfter, IsLess, HasFlags, is_flagged, number_in, left_to_do}
 use Rattle.rsc_engine.specs.declared.moves.Move.{Move}

@@ -1,6 +1,7 @@
 pub mod GroupsLemmas  -- what a run records, from its end on
 pub mod FlagsLemmas  -- flags, by the bits of their blocks
 pub mod WalksLemmas  -- a trail grows by a place and goes back to one
+pub mod StartsLemmas  -- no match begins with a byte that isn't marked
 pub mod BacktrackLemmas  -- what is known of the places that were seen, from visit to visit
 pub mod NextMatchesLemmas  -- which match is next, as the search's start moves on
 pub mod RowsLemmas  -- a row at a position is exact, and so is the next one

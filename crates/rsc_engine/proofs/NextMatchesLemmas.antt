@@ -13,7 +13,7 @@ use Rattle.rsc_search.specs.declared.anchored.Anchored.TheVariants.{No}
 use Rattle.rsc_search.specs.Modes.{pattern_of}
 use Rattle.rsc_engine.specs.Searches.{Search, Compiled, search_in}
 use Rattle.rsc_engine.specs.Runs.{Leads, accepts, is_accepting, IsMatchRun, IsMatchOf, HasNoMatch}
-use Rattle.rsc_engine.specs.Preferred.{IsBefore, IsPreferred, IsLeftmostFirst, MayBegin, HasNone, IsOf}
+use Rattle.rsc_engine.specs.Preferred.{IsBefore, IsPreferred, IsLeftmostFirst, HasNone, IsOf}
 use Rattle.rsc_engine.specs.NextMatches.{IsRepeat, IsSplit, IsRepeated, IsPassed, IsOpen, IsNext, IsOver, from_start}
 use Rattle.rsc_engine.proofs.WalksLemmas.{run-rises}
 use Rattle.rsc_engine.proofs.BacktrackLemmas.{is_no}

@@ -6,11 +6,13 @@ ghost use Rattle.rsc_engine.specs.declared.error.Error.TheVariants.{OutOfMemory}
 ghost use Rattle.rsc_engine.specs.declared.moves.Move.TheVariants.{Accepts};
 ghost use Rattle.rsc_engine.specs.Searches.{search_in};
 ghost use Rattle.rsc_engine.specs.Runs.{HasNoMatch};
+ghost use Rattle.rsc_engine.specs.Starts.{AreStarts};
 ghost use Rattle.rsc_engine.specs.Preferred.{IsPreferred, IsLeftmostFirst, HasNone};
 ghost use Rattle.rsc_engine.specs.Walks.{HasFlags, IsTrail, IsOnward, IsClosed, IsClosedFrom, IsExplored, is_flagged, IsAfter, IsLess, left_to_do};
 
 use crate::flags::Flags;
 use crate::moves::{Move, move_of, other_way};
+use crate::starts::Starts;
 use crate::{Error, Program};
 use rsc_look::WordClass;
 use rsc_primitives::StateID;
@@ -58,9 +60,11 @@ impl Walk {
         &mut self,
         program: &Program<W>,
         input: &Input<'_>,
+        starts: &Starts,
     ) -> Result<bool, Error>
         requires room { HasFlags (search_in W.word_chars program.now input.now) self.old.visited }
         requires closed { IsClosed (search_in W.word_chars program.now input.now) (is_flagged (search_in W.word_chars program.now input.now) self.old.visited) }
+        requires starts { starts.now.known ≡ true → AreStarts program.now.automaton.states program.now.start starts.now.marks.items starts.now.bytes.items }
         ensures room { HasFlags (search_in W.word_chars program.now input.now) self.new.visited }
         ensures size { length self.new.visited ≡ length self.old.visited }
         ensures memory { IfErr result (λ e. e ≡ OutOfMemory) }
@@ -77,7 +81,7 @@ impl Walk {
         }
         let last = last_start(input);
         'starts: for at in input.start()..last + 1 {
-            match self.follow(program, input, at) {
+            match self.try_at(program, input, starts, at) {
                 Ok(true) => return Ok(true),
                 Ok(false) => {}
                 Err(error) => {
@@ -88,6 +92,38 @@ impl Walk {
             }
         }
         Ok(false)
+    }
+
+    // The same as `follow`, and sooner where no match begins with the byte at the position.
+    #[inline(always)]
+    fn try_at<W: WordClass>(
+        &mut self,
+        program: &Program<W>,
+        input: &Input<'_>,
+        starts: &Starts,
+        at: usize,
+    ) -> Result<bool, Error>
+        requires room { HasFlags (search_in W.word_chars program.now input.now) self.old.visited }
+        requires start { input.now.span.start ≤ at }
+        requires end { at ≤ input.now.span.end }
+        requires closed { IsClosed (search_in W.word_chars program.now input.now) (is_flagged (search_in W.word_chars program.now input.now) self.old.visited) }
+        requires starts { starts.now.known ≡ true → AreStarts program.now.automaton.states program.now.start starts.now.marks.items starts.now.bytes.items }
+        ensures room { HasFlags (search_in W.word_chars program.now input.now) self.new.visited }
+        ensures size { length self.new.visited ≡ length self.old.visited }
+        ensures memory { IfErr result (λ e. e ≡ OutOfMemory) }
+        ensures found { IfOk result (λ found. found ≡ true →
+            IsPreferred (search_in W.word_chars program.now input.now) (program.now.start, at) self.new.run.items) }
+        ensures after { IfOk result (λ found. found ≡ true → IsClosedFrom (search_in W.word_chars program.now input.now)
+            (place self.new.run.items (length self.new.run.items - 1)).1 (is_flagged (search_in W.word_chars program.now input.now) self.new.visited)) }
+        ensures none { IfOk result (λ found. found ≡ false → HasNoMatch (search_in W.word_chars program.now input.now) at) }
+        ensures closed { IfOk result (λ found. found ≡ false → IsClosed (search_in W.word_chars program.now input.now)
+            (is_flagged (search_in W.word_chars program.now input.now) self.new.visited)) }
+    {
+        if starts.may_begin(program, input, at) {
+            self.follow(program, input, at)
+        } else {
+            Ok(false)
+        }
     }
 
     // Whether a match begins at the position. If so, the walk has its run, and the places at its end aren't visited.

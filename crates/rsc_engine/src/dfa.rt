@@ -15,6 +15,7 @@ mod successor;
 mod table;
 
 use crate::backtrack::Walk;
+use crate::starts::Starts;
 use crate::{AsciiWords, Error, Program, iterate};
 use entries::Step;
 use lawful::steps_are_lawful;
@@ -144,8 +145,9 @@ fn is_match_by_walk<W: WordClass>(
     ensures none { IfOk result (λ found. found ≡ false → HasNone (search_in W.word_chars program.now input.now)) }
 {
     crate::laws::there_is_one_first_match();
+    let starts = Starts::new(alloc, program)?;
     let mut walk = Walk::new(alloc, program, input)?;
-    let found = walk.search(program, input)?;
+    let found = walk.search(program, input, &starts)?;
     Ok(found)
 }
 

@@ -9,10 +9,12 @@ ghost use Rattle.rsc_engine.specs.Searches.{search_in};
 ghost use Rattle.rsc_engine.specs.Groups.{IsInSpan};
 ghost use Rattle.rsc_engine.specs.Preferred.{IsLeftmostFirst, IsFirstMatch, IsOf, HasNone};
 ghost use Rattle.rsc_engine.specs.NextMatches.{IsNext, IsOver, IsNextMatch, from_start};
+ghost use Rattle.rsc_engine.specs.Starts.{AreStarts};
 ghost use Rattle.rsc_engine.specs.Walks.{HasFlags, IsClosed, is_flagged};
 
 use crate::backtrack::Walk;
 use crate::groups::write_match;
+use crate::starts::Starts;
 use crate::{Error, Program};
 use rsc_captures::Captures;
 use rsc_look::WordClass;
@@ -41,8 +43,9 @@ pub fn find<W: WordClass>(
     ensures unset { IfOk result (λ found. IfNone found (captures.new ≡ no_offsets captures.old.groups (length captures.old.offsets))) }
 {
     captures.clear();
+    let starts = Starts::new(alloc, program)?;
     let mut walk = Walk::new(alloc, program, input)?;
-    if !walk.search(program, input)? {
+    if !walk.search(program, input, &starts)? {
         return Ok(None);
     }
     Ok(Some(write_match(program, input, walk.run.as_slice(), captures)))
@@ -77,11 +80,13 @@ impl<'p, 'h, W: WordClass> Matches<'p, 'h, W> {
     ) -> Result<Matches<'p, 'h, W>, Error>
         ensures { IfOk result (λ m. m ≡ record { program = program.now; input = input.entry; last = None }) }
     {
+        let starts = Starts::new(alloc, program)?;
         let walk = Walk::new(alloc, program, &input)?;
         Ok(Matches {
             rest: Rest {
                 program,
                 input,
+                starts,
                 walk,
                 last_end: None,
             },
@@ -117,10 +122,12 @@ impl<'p, 'h, W: WordClass> Matches<'p, 'h, W> {
 struct Rest<'p, 'h, W: WordClass> {
     program: &'p Program<W>,
     input: Input<'h>,
+    starts: Starts,
     walk: Walk,
     last_end: Option<usize>,
     ghost room: { HasFlags (search_in W.word_chars program.now input) walk.visited },
     ghost closed: { IsClosed (search_in W.word_chars program.now input) (is_flagged (search_in W.word_chars program.now input) walk.visited) },
+    ghost begins: { starts.known ≡ true → AreStarts program.now.automaton.states program.now.start starts.marks.items starts.bytes.items },
     ghost order: { ForSome last_end (λ end. end ≤ input.span.start) },
 }
 
@@ -193,7 +200,7 @@ impl<'p, 'h, W: WordClass> Rest<'p, 'h, W> {
         ensures unset { IfOk result (λ found. IfNone found (captures.new ≡ no_offsets captures.old.groups (length captures.old.offsets))) }
     {
         captures.clear();
-        if !self.walk.search(self.program, &self.input)? {
+        if !self.walk.search(self.program, &self.input, &self.starts)? {
             return Ok(None);
         }
         let found = write_match(

@@ -14,6 +14,7 @@ mod iterate;
 pub mod laws;
 mod moves;
 mod program;
+mod starts;
 mod words;
 
 pub use builder::{Builder, Group, Part};

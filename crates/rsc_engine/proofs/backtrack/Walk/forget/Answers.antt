@@ -1,4 +1,3 @@
-use Rattle.std.proofs.Common.{◌≡◌, ◌-◌, arith}
 use Rattle.rsc_engine.specs.Searches.{search_in}
 use Rattle.rsc_engine.proofs.BacktrackLemmas.{closed_from}
 use Rattle.rsc_engine.proofs.backtrack.Walk.forget.Goals as goal

@@ -16,8 +16,8 @@ pub starts-preserved : goal.starts-preserved
 starts-preserved g c =
     let e = search_in g.W.WordClass.word_chars c.args.program.now c.args.input.now in
     record {
-      room = c.follow.ensures.room;
-      size = c.follow.ensures.size ∙ c.starts.invariant.size;
+      room = c.try_at.ensures.room;
+      size = c.try_at.ensures.size ∙ c.starts.invariant.size;
       closed = c.in-Ok-false.ensures.closed c.in-Ok-false.field-0-test;
       none = none_more e _ c.starts.at c.starts.invariant.none (c.in-Ok-false.ensures.none c.in-Ok-false.field-0-test);
     }

@@ -1,8 +1,5 @@
-use Rattle.std.proofs.Common.{◌≡◌, ◌<◌, ◌≤◌, ◌*◌, ◌/◌, ◌%◌, ◌==◌, ◌≢◌, ◌∙◌, ⊎_elim, ℕ, Bool, List, false, length, get_or, sym, ap, arith}
-use Rattle.std.specs.Int.{bit_at}
-use Rattle.std.proofs.lemmas.Bool.{cases_lt}
+use Rattle.std.proofs.Common.{◌≡◌, ◌<◌, ◌≤◌, ◌*◌, ◌/◌, ◌∙◌, ℕ, Bool, List, false, length, get_or, ap, arith}
 use Rattle.std.proofs.lemmas.Grind.{common_steps}
-use Rattle.std.proofs.lemmas.List.{get_or_read, length-set}
 use Rattle.rsc_engine.proofs.FlagsLemmas.{length_is, flag_is, kept_all}
 use Rattle.rsc_engine.proofs.flags.Flags.clear.Goals as goal
 

@@ -1,4 +1,4 @@
-use Rattle.std.proofs.Common.{◌≡◌, ◌<◌, ◌/◌, ◌%◌, ◌==◌, ◌∙◌, ℕ, Bool, List, false, length, get_or, sym, ap, arith}
+use Rattle.std.proofs.Common.{◌<◌, ◌/◌, ◌%◌, ◌==◌, ◌∙◌, ℕ, Bool, List, false, length, get_or, sym, ap, arith}
 use Rattle.std.specs.Int.{bit_at}
 use Rattle.std.proofs.lemmas.Grind.{common_steps}
 use Rattle.std.proofs.lemmas.List.{get_or_read}

@@ -22,5 +22,6 @@ invariant_of-self-2 g c =
     record {
       room = rw c.set_start.ensures (fewer_flags e c.end.result c.search.new.self.visited up c.search.ensures.room);
       closed = rw c.set_start.ensures (later_start e c.end.result seen up after);
+      begins = c.args.self.now.begins;
       order = λ x is. omega (arith, c.args.self.now.order x is, up, start);
     }

@@ -1,4 +1,4 @@
-use Rattle.std.proofs.Common.{◌≡◌, ◌+◌, ◌≤◌, ◌∙◌, ap, refl, arith}
+use Rattle.std.proofs.Common.{◌≡◌, ◌+◌, ◌≤◌, ◌∙◌, ap, arith}
 use Rattle.rsc_search.specs.Inputs.{InputParts}
 use Rattle.rsc_engine.specs.Searches.{search_in}
 use Rattle.rsc_engine.specs.NextMatches.{from_start}
@@ -77,5 +77,6 @@ invariant_of-self-then-splits g c =
     record {
       room = rw c.set_start-then-splits.ensures (fewer_flags e next c.advance.new.self.walk.visited up c.advance.new.self.room);
       closed = rw c.set_start-then-splits.ensures (even_later e next seen up c.advance.new.self.closed);
+      begins = c.advance.new.self.begins;
       order = λ x is. omega (arith, c.advance.new.self.order x is, up, start);
     }
