@@ -1,19 +1,21 @@
 -- A row at a position is exact, and so is the next one.
-use Rattle.std.proofs.Common.{◌≡◌, ℕ, zero, suc, ◌+◌, ◌-◌, ◌<◌, ◌≤◌, ◌⊎◌, inl, inr, ⊎_elim, true, false, List, [], ◌∷◌, ◌++◌, length, slice_index, refl, sym, ap, ◌∙◌, subst, arith, length-append, slice_get, Some}
+use Rattle.std.proofs.Common.{◌≡◌, ℕ, zero, suc, ◌+◌, ◌-◌, ◌<◌, ◌≤◌, ◌⊎◌, inl, inr, ⊎_elim, true, false, List, [], ◌∷◌, ◌++◌, length, slice_index, refl, sym, ap, ◌∙◌, subst, arith, length-append, slice_get, Option, Some, None, MatchOption}
 use Rattle.std.specs.List.{Contains}
 use Rattle.std.proofs.lemmas.Bool.{cases_lt}
 use Rattle.std.proofs.lemmas.List.{get_or_default}
-use Rattle.std.proofs.lemmas.List.Elements.{Contains-get_or}
+use Rattle.std.proofs.lemmas.List.Elements.{Contains-get_or, Contains-push_cases}
 use Rattle.rsc_search.specs.Modes.{pattern_of}
 use Rattle.rsc_search.specs.declared.anchored.Anchored.{Anchored}
 use Rattle.rsc_search.specs.declared.anchored.Anchored.TheVariants.{No, Yes, Pattern}
-use Rattle.rsc_nfa.specs.Steps.{place}
+use Rattle.rsc_nfa.specs.declared.state.State.{State}
+use Rattle.rsc_nfa.specs.declared.state.State.TheVariants.{ByteRange, Assert, Fork, Capture, Accept}
+use Rattle.rsc_nfa.specs.Steps.{StepsTo, place}
 use Rattle.rsc_engine.specs.Searches.{Search}
-use Rattle.rsc_engine.specs.Runs.{Leads, is_accepting}
+use Rattle.rsc_engine.specs.Runs.{Leads, is_accepting, HasNoMatch}
 use Rattle.rsc_engine.specs.Preferred.{HasNone}
 use Rattle.rsc_engine.specs.Ends.{IsMatchEnd, IsEarliestEnd}
 use Rattle.rsc_engine.specs.Lawful.{Lawful}
-use Rattle.rsc_engine.specs.Rows.{machine_of, Follows, AreLed, IsClosure, IsMoved, IsSuccessor, IsNear, IsRowAt, IsStartRun, Reaches, first_unless}
+use Rattle.rsc_engine.specs.Rows.{machine_of, Follows, AreLed, IsClosure, IsMoved, IsSuccessor, IsNear, IsRowAt, IsStartRun, Reaches, first_unless, IsNeverEntered}
 use Rattle.rsc_engine.proofs.WalksLemmas.{place-before, place-after}
 
 -- ---- runs
@@ -287,3 +289,60 @@ last_row w e near at set next row is_near s = none_ends e none
         (λ (h : e.end ≤ j). none_here w e e.end near at set next row is_near s
         (subst (λ (y : ℕ). IsMatchEnd e y) (omega (arith, (end_within e j x).1, h)) x))
         (cases_lt j e.end)
+
+-- ---- where no match that began earlier goes on
+
+-- a step that goes on by a byte leaves a state that leads over one
+step_over : (e : Search) (p q : ℕ × ℕ) → IsNeverEntered (machine_of e) → Leads e p q → q.1 ≡ p.1 + 1 → ¬ (q.0 ≡ e.first)
+step_over e p q never l on first = go (slice_get e.states p.0) refl l
+  where
+    go : (o : Option State) → slice_get e.states p.0 ≡ o → MatchOption o ⊥ (λ (state : State). StepsTo state e.terminator e.words e.haystack e.end p.1 q) → ⊥
+    go None is l = l
+    go (Some (ByteRange a b next)) is l = never p.0 a b next is (sym l.2 ∙ first)
+    go (Some (Assert look next)) is l = absurd (omega (arith, l.2, on))
+    go (Some (Fork a b)) is l = absurd (omega (arith, l.1, on))
+    go (Some (Capture slot next)) is l = absurd (omega (arith, l.1, on))
+    go (Some (Accept p)) is l = l
+
+none_there : (y : ℕ) → Contains [] y → ⊥
+none_there y (k, l, e) = omega (arith, l)
+
+only_one : (x y : ℕ) → Contains (x ∷ []) y → y ≡ x
+only_one x y there = sym (⊎_elim (λ (none : Contains [] y). absurd (none_there y none)) (λ (h : x ≡ y). h) (Contains-push_cases [] x y there))
+
+-- if the row's only state is the first one, and no byte leads to it, each match begins at the position or later
+pub none_before_row : Lawful → (e : Search) (i : ℕ) (set : List ℕ) → IsRowAt e i set → e.mode ≡ No → IsNeverEntered (machine_of e) → set ≡ e.first ∷ []
+    → (at : ℕ) → e.start ≤ at → at < i → HasNoMatch e at
+none_before_row w e i set row free never is at low early run m =
+    row.none_before (place run last).1 (below last within) record {
+      from = at;
+      run = run;
+      begins = record { start = low; end = rw m.begins at (m.is_run.places 0 m.some).2; anchored = λ a. absurd (a free) };
+      is_match = m;
+      ends = refl;
+    }
+  where
+    last : ℕ
+    last = length run - 1
+
+    within : last < length run
+    within = omega (arith, m.some)
+
+    starts : IsStartRun e run
+    starts = record { is_run = m.is_run; some = m.some; begins = ap (λ (p : ℕ × ℕ). p.0) m.begins; at_start = λ a. absurd (a free) }
+
+    below : (k : ℕ) → k < length run → (place run k).1 < i
+    below zero l = rw m.begins early
+    below (suc k) l =
+        let same : suc k ≡ k + 1 = omega arith in
+        let h : k + 1 < length run = omega (arith, l) in
+        let before : (place run k).1 < i = below k (omega (arith, h)) in
+        rw same (⊎_elim
+        (λ (stays : (place run (k + 1)).1 ≡ (place run k).1). omega (arith, stays, before))
+        (λ (on : ((place run (k + 1)).1 ≡ (place run k).1 + 1) × ((place run k).1 < e.end)). ⊎_elim
+        (λ (less : (place run (k + 1)).1 < i). less)
+        (λ (here : i ≤ (place run (k + 1)).1). absurd (step_over e (place run k) (place run (k + 1)) never (m.is_run.steps k h) on.0
+        (only_one e.first (place run (k + 1)).0 (subst (λ (x : List ℕ). Contains x (place run (k + 1)).0) is
+        (row.all run starts (k + 1) h (omega (arith, here, on.0, before)) (λ j e. let j_is : j ≡ k = omega (arith, e) in rw j_is before))))))
+        (cases_lt (place run (k + 1)).1 i))
+        (w.position e.states e.terminator e.words e.haystack e.end (place run k) (place run (k + 1)) (m.is_run.steps k h)))

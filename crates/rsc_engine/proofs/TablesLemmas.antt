@@ -1,5 +1,5 @@
 -- What the table of a DFA says is so, and stays so as it grows.
-use Rattle.std.proofs.Common.{◌≡◌, ℕ, zero, suc, ◌+◌, ◌*◌, ◌/◌, ◌%◌, ◌<◌, ◌≤◌, ◌⊎◌, ⊎_elim, inl, inr, Bool, true, false, List, [], ◌∷◌, ◌++◌, length, get_or, set, slice_index_or, refl, sym, ap, ◌∙◌, subst, arith, length-append, slice_get, Option, Some, None, IfSome}
+use Rattle.std.proofs.Common.{◌≡◌, ℕ, zero, suc, ◌+◌, ◌*◌, ◌/◌, ◌%◌, ◌<◌, ◌≤◌, ◌⊎◌, ⊎_elim, inl, inr, Bool, true, false, List, [], ◌∷◌, ◌++◌, length, get_or, set, slice_index_or, refl, sym, ap, ◌∙◌, subst, arith, length-append, slice_get, Option, Some, None, IfSome, IsTrue, true≢false}
 use Rattle.std.specs.List.{All}
 use Rattle.std.proofs.lemmas.Bool.{cases_eq}
 use Rattle.std.proofs.lemmas.Grind.{get_or-set_at}
@@ -18,12 +18,13 @@ use Rattle.rsc_engine.specs.declared.dfa.entries.Step.{Step}
 use Rattle.rsc_engine.specs.declared.dfa.entries.Step.TheVariants.{Matches, Goes, Quits}
 use Rattle.rsc_engine.specs.Searches.{Search}
 use Rattle.rsc_engine.specs.Preferred.{HasNone}
-use Rattle.rsc_engine.specs.Ends.{IsEarliestEnd, IsQuit}
+use Rattle.rsc_engine.specs.Ends.{IsEarliestEnd, IsQuit, BeginsFrom}
 use Rattle.rsc_engine.specs.Lawful.{Lawful}
-use Rattle.rsc_engine.specs.Rows.{Machine, machine_of, Alike, IsPlainUnit, IsPlan, IsSuccessor, IsNear, IsRowAt, around, middle}
+use Rattle.rsc_search.specs.declared.anchored.Anchored.TheVariants.{No, Yes, Pattern}
+use Rattle.rsc_engine.specs.Rows.{Machine, machine_of, Alike, IsPlainUnit, IsPlan, IsNeverEntered, IsSuccessor, IsNear, IsRowAt, around, middle}
 use Rattle.rsc_engine.specs.Tables.{column, step_of, IsSoundRow, IsRow, IsLed, LeadsTo, IsStepTo, IsBeyond, IsExact, IsGrown, IsOn}
 use Rattle.rsc_engine.proofs.LawfulLemmas.{IsNear-from, Alike-self, Alike-trans}
-use Rattle.rsc_engine.proofs.RowsLemmas.{first_row, match_here, next_row, last_row}
+use Rattle.rsc_engine.proofs.RowsLemmas.{first_row, match_here, next_row, last_row, none_before_row}
 
 -- ---- rows stay where they are
 
@@ -303,3 +304,23 @@ quit_here e classes rows k i on x = record {
   beyond = subst (λ (b : ℕ). 128 ≤ b) (sym (get_or_from_slice_get e.haystack i x.byte 0 x.is_byte)) x.beyond;
   none_before = on.is_row.none_before;
 }
+
+-- ---- where the first match begins
+
+-- no match begins before the start
+pub begins_first : (e : Search) (k : ℕ) → k ≡ e.start → BeginsFrom e k
+begins_first e k is = record { start = omega (arith, is); none = λ at low high. absurd (omega (arith, is, low, high)) }
+
+-- nor before a row whose only state is the first one
+pub begins_at_row : Lawful → (e : Search) (classes : List ℕ) (rows : List Row) (k i : ℕ) → IsOn e classes rows k i → e.mode ≡ No
+    → IsNeverEntered (machine_of e) → ((row : Row) → slice_get rows k ≡ Some row → row.set.items ≡ e.first ∷ []) → e.start ≤ i → BeginsFrom e i
+begins_at_row w e classes rows k i on free never first low = record {
+  start = low;
+  none = none_before_row w e i on.row.set.items on.is_row free never (first on.row on.there);
+}
+
+-- what isn't anchored
+pub is_free : (mode : Anchored) (b : Bool) → (¬ (mode ≡ No) → IsTrue b) → b ≡ false → mode ≡ No
+is_free No b f is = refl
+is_free Yes b f is = absurd (true≢false (sym (f (λ e. absurd (cc))) ∙ is))
+is_free (Pattern p) b f is = absurd (true≢false (sym (f (λ e. absurd (cc))) ∙ is))

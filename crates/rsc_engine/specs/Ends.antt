@@ -3,7 +3,7 @@ use Rattle.std.specs.Prelude.{◌≡◌, ℕ, ◌-◌, ◌<◌, ◌≤◌, true,
 use Rattle.rsc_nfa.specs.Classes.{has_unicode}
 use Rattle.rsc_nfa.specs.Steps.{place}
 use Rattle.rsc_engine.specs.Searches.{Search}
-use Rattle.rsc_engine.specs.Runs.{IsMatchRun}
+use Rattle.rsc_engine.specs.Runs.{IsMatchRun, HasNoMatch}
 use Rattle.rsc_engine.specs.Preferred.{MayBegin, HasNone}
 use Rattle.rsc_engine.specs.declared.dfa.Answer.{Answer}
 use Rattle.rsc_engine.specs.declared.dfa.Answer.TheVariants.{End, NoMatch, Quit}
@@ -27,6 +27,11 @@ pub record IsQuit (e : Search) (i : ℕ) : Type 0 where
   pub within : i < length e.haystack
   pub beyond : 128 ≤ slice_index e.haystack i
   pub none_before : (j : ℕ) → j < i → ¬ (IsMatchEnd e j)
+
+-- no match begins at a position of the span before this one
+pub record BeginsFrom (e : Search) (k : ℕ) : Type 0 where
+  pub start : e.start ≤ k
+  pub none : (at : ℕ) → e.start ≤ at → at < k → HasNoMatch e at
 
 -- what an answer says
 abbrev pub IsAnswer : Search → Answer → Type 0

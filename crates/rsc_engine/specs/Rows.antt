@@ -7,6 +7,7 @@ use Rattle.rsc_search.specs.Modes.{pattern_of}
 use Rattle.rsc_search.specs.declared.anchored.Anchored.{Anchored}
 use Rattle.rsc_search.specs.declared.anchored.Anchored.TheVariants.{No, Yes, Pattern}
 use Rattle.rsc_nfa.specs.declared.state.State.{State}
+use Rattle.rsc_nfa.specs.declared.state.State.TheVariants.{ByteRange}
 use Rattle.rsc_nfa.specs.Classes.{KeepsRuns, has_unicode}
 use Rattle.rsc_nfa.specs.Faults.{IsFaultless}
 use Rattle.rsc_nfa.specs.Steps.{IsStep, IsRun, place}
@@ -145,6 +146,10 @@ abbrev pub Alike : List ℕ → Option ℕ → Option ℕ → Type 0
 Alike classes None None = Unit {0}
 Alike classes (Some a) (Some b) = (a < 256) × (b < 256) × (slice_index classes a ≡ slice_index classes b)
 Alike classes _ _ = ⊥
+
+-- no byte leads to the first state
+abbrev pub IsNeverEntered : Machine → Type 0
+IsNeverEntered m = (s a b next : ℕ) → slice_get m.states s ≡ Some (ByteRange a b next) → ¬ (next ≡ m.first)
 
 -- no byte, or one below 128, if an assertion looks at characters
 abbrev pub IsPlainUnit : Machine → Option ℕ → Type 0

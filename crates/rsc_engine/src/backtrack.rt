@@ -6,6 +6,7 @@ ghost use Rattle.rsc_engine.specs.declared.error.Error.TheVariants.{OutOfMemory}
 ghost use Rattle.rsc_engine.specs.declared.moves.Move.TheVariants.{Accepts};
 ghost use Rattle.rsc_engine.specs.Searches.{search_in};
 ghost use Rattle.rsc_engine.specs.Runs.{HasNoMatch};
+ghost use Rattle.rsc_engine.specs.Ends.{BeginsFrom};
 ghost use Rattle.rsc_engine.specs.Starts.{AreStarts};
 ghost use Rattle.rsc_engine.specs.Preferred.{IsPreferred, IsLeftmostFirst, HasNone};
 ghost use Rattle.rsc_engine.specs.Walks.{HasFlags, IsTrail, IsOnward, IsClosed, IsClosedFrom, IsExplored, is_flagged, IsAfter, IsLess, left_to_do};
@@ -55,13 +56,15 @@ impl Walk {
         })
     }
 
-    /// Whether a match begins in the input's span. If so, the walk has its run.
+    /// Whether a match begins in the input's span, in which none does before a position. If so, the walk has its run.
     pub fn search<W: WordClass>(
         &mut self,
         program: &Program<W>,
         input: &Input<'_>,
         starts: &Starts,
+        from: usize,
     ) -> Result<bool, Error>
+        requires from { BeginsFrom (search_in W.word_chars program.now input.now) from }
         requires room { HasFlags (search_in W.word_chars program.now input.now) self.old.visited }
         requires closed { IsClosed (search_in W.word_chars program.now input.now) (is_flagged (search_in W.word_chars program.now input.now) self.old.visited) }
         requires starts { starts.now.known ≡ true → AreStarts program.now.automaton.states program.now.start starts.now.marks.items starts.now.bytes.items }
@@ -80,7 +83,7 @@ impl Walk {
             return Ok(false);
         }
         let last = last_start(input);
-        'starts: for at in input.start()..last + 1 {
+        'starts: for at in from..last + 1 {
             match self.try_at(program, input, starts, at) {
                 Ok(true) => return Ok(true),
                 Ok(false) => {}

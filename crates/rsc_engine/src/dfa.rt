@@ -4,8 +4,8 @@ ghost use Rattle.rsc_captures.specs.Captured.{no_offsets};
 ghost use Rattle.rsc_engine.specs.declared.error.Error.TheVariants.{OutOfMemory};
 ghost use Rattle.rsc_engine.specs.Searches.{search_in};
 ghost use Rattle.rsc_engine.specs.Preferred.{HasNone, IsFirstMatch};
-ghost use Rattle.rsc_engine.specs.Ends.{IsAnswer};
-ghost use Rattle.rsc_engine.specs.Rows.{machine, IsPlan};
+ghost use Rattle.rsc_engine.specs.Ends.{IsAnswer, BeginsFrom};
+ghost use Rattle.rsc_engine.specs.Rows.{machine, IsPlan, IsNeverEntered};
 ghost use Rattle.rsc_engine.specs.Tables.{IsExact};
 
 mod entries;
@@ -51,7 +51,8 @@ pub struct Dfa<'p, W: WordClass> {
 
 impl<'p, W: WordClass> Model for Dfa<'p, W> {
     ghost use Rattle.rsc_engine.specs.Searches.{Compiled};
-    ghost use Rattle.rsc_engine.specs.Rows.{machine, IsPlan};
+    ghost use Rattle.std.specs.Prelude.{◌≡◌, true};
+    ghost use Rattle.rsc_engine.specs.Rows.{machine, IsPlan, IsNeverEntered};
     ghost use Rattle.rsc_engine.specs.Tables.{IsExact};
 
     ghost Value = { Compiled W };
@@ -59,6 +60,7 @@ impl<'p, W: WordClass> Model for Dfa<'p, W> {
     ghost view = { λ d. d.plan.program.now };
 
     ghost invariant = { λ d. IsPlan (machine W.word_chars d.plan.program.now) d.plan.classes d.plan.stride d.plan.unicode
+        × (d.plan.once ≡ true → IsNeverEntered (machine W.word_chars d.plan.program.now))
         × IsExact (machine W.word_chars d.plan.program.now) d.plan.classes d.plan.stride d.table.rows.items d.table.leads.items };
 }
 
@@ -85,7 +87,25 @@ impl<'p, W: WordClass + AsciiWords> Dfa<'p, W> {
         ensures answer { IfOk result (IsAnswer (search_in W.word_chars self.old input.now)) }
         ensures memory { IfErr result (λ e. e ≡ OutOfMemory) }
     {
-        search(self.alloc, &self.plan, &mut self.table, input)
+        Ok(search(self.alloc, &self.plan, &mut self.table, input)?.0)
+    }
+
+    /// A position in the span before which no match begins, at best the last one at which no match can have begun earlier and still go on;
+    /// `None` only if no match begins where one may.
+    ///
+    /// # Errors
+    ///
+    /// Out of memory.
+    pub(crate) fn begin(&mut self, input: &Input<'_>) -> Result<Option<usize>, Error>
+        ensures program { self.new ≡ self.old }
+        ensures none { IfOk result (λ found. IfNone found (HasNone (search_in W.word_chars self.old input.now))) }
+        ensures begin { IfOk result (λ found. IfSome found (BeginsFrom (search_in W.word_chars self.old input.now))) }
+    {
+        let (answer, begin) = search(self.alloc, &self.plan, &mut self.table, input)?;
+        if let Answer::NoMatch = answer {
+            return Ok(None);
+        }
+        Ok(Some(begin))
     }
 
     /// Whether a match begins where one may, in the span of the input. Where the DFA quits, the backtracker answers.
@@ -147,7 +167,7 @@ fn is_match_by_walk<W: WordClass>(
     crate::laws::there_is_one_first_match();
     let starts = Starts::new(alloc, program)?;
     let mut walk = Walk::new(alloc, program, input)?;
-    let found = walk.search(program, input, &starts)?;
+    let found = walk.search(program, input, &starts, input.start())?;
     Ok(found)
 }
 
@@ -157,23 +177,25 @@ fn search<W: WordClass>(
     plan: &Plan<'_, W>,
     table: &mut Table,
     input: &Input<'_>,
-) -> Result<Answer, Error>
+) -> Result<(Answer, usize), Error>
+    requires once { plan.now.once ≡ true → IsNeverEntered (machine W.word_chars plan.now.program.now) }
     requires plan { IsPlan (machine W.word_chars plan.now.program.now) plan.now.classes plan.now.stride plan.now.unicode }
     requires exact { IsExact (machine W.word_chars plan.now.program.now) plan.now.classes plan.now.stride table.old.rows.items table.old.leads.items }
     ensures exact { IsExact (machine W.word_chars plan.now.program.now) plan.now.classes plan.now.stride table.new.rows.items table.new.leads.items }
-    ensures answer { IfOk result (IsAnswer (search_in W.word_chars plan.now.program.now input.now)) }
+    ensures answer { IfOk result (λ r. IsAnswer (search_in W.word_chars plan.now.program.now input.now) r.0) }
+    ensures begin { IfOk result (λ r. BeginsFrom (search_in W.word_chars plan.now.program.now input.now) r.1) }
     ensures memory { IfErr result (λ e. e ≡ OutOfMemory) }
 {
     steps_are_lawful();
     let start = input.start();
     let end = input.end();
     if start > end {
-        return Ok(Answer::NoMatch);
+        return Ok((Answer::NoMatch, start));
     }
     let haystack = input.haystack();
     let before = before_of(haystack, start);
     if plan.quits_at(before) {
-        return Ok(Answer::Quit(start - 1));
+        return Ok((Answer::Quit(start - 1), start));
     }
     let mode = input.get_anchored();
     let mut first = Vec::new(alloc);
@@ -181,16 +203,18 @@ fn search<W: WordClass>(
     let found = table.row_of(plan, &mode, before, first)?;
     let mut row = found.0;
     let mut at = start;
+    let mut begin = start;
     'rows: loop {
-        let (here, position) = table.follow(plan, input, row, at);
+        let (here, position, from) = table.follow(plan, input, row, at, begin);
         let step = table.step(plan, here, after_of(haystack, position))?;
         match step {
-            Step::Matches => return Ok(Answer::End(position)),
-            Step::Quits => return Ok(Answer::Quit(position)),
+            Step::Matches => return Ok((Answer::End(position), from)),
+            Step::Quits => return Ok((Answer::Quit(position), from)),
             Step::Goes(next) => {
                 if position == end {
-                    return Ok(Answer::NoMatch);
+                    return Ok((Answer::NoMatch, from));
                 }
+                begin = from;
                 row = next;
                 at = position + 1;
             }

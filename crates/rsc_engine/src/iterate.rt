@@ -9,18 +9,25 @@ ghost use Rattle.rsc_engine.specs.Searches.{search_in};
 ghost use Rattle.rsc_engine.specs.Groups.{IsInSpan};
 ghost use Rattle.rsc_engine.specs.Preferred.{IsLeftmostFirst, IsFirstMatch, IsOf, HasNone};
 ghost use Rattle.rsc_engine.specs.NextMatches.{IsNext, IsOver, IsNextMatch, from_start};
+ghost use Rattle.rsc_engine.specs.Ends.{BeginsFrom};
 ghost use Rattle.rsc_engine.specs.Starts.{AreStarts};
 ghost use Rattle.rsc_engine.specs.Walks.{HasFlags, IsClosed, is_flagged};
 
 use crate::backtrack::Walk;
 use crate::groups::write_match;
 use crate::starts::Starts;
-use crate::{Error, Program};
+use crate::{AsciiWords, Dfa, Error, Program};
 use rsc_captures::Captures;
 use rsc_look::WordClass;
 use rsc_search::{Input, Match};
 use std::alloc::Global;
 use std::marker::Model;
+
+// How many rows the DFA of an iteration keeps.
+const MOST_ROWS: usize = 1000;
+
+// Where more bytes than these lie before a match, the DFA looks for the next one.
+const FAR: usize = 64;
 
 /// The leftmost-first match in an input's span: of the matches that begin first, the one that the forks prefer. Its groups are in
 /// the captures afterwards; without a match no slot is set.
@@ -45,7 +52,7 @@ pub fn find<W: WordClass>(
     captures.clear();
     let starts = Starts::new(alloc, program)?;
     let mut walk = Walk::new(alloc, program, input)?;
-    if !walk.search(program, input, &starts)? {
+    if !walk.search(program, input, &starts, input.start())? {
         return Ok(None);
     }
     Ok(Some(write_match(program, input, walk.run.as_slice(), captures)))
@@ -67,7 +74,7 @@ impl<'p, 'h, W: WordClass> Model for Matches<'p, 'h, W> {
     ghost view = { λ m. record { program = m.rest.program.now; input = m.rest.input; last = m.rest.last_end } };
 }
 
-impl<'p, 'h, W: WordClass> Matches<'p, 'h, W> {
+impl<'p, 'h, W: WordClass + AsciiWords> Matches<'p, 'h, W> {
     /// All matches in an input's span.
     ///
     /// # Errors
@@ -87,6 +94,8 @@ impl<'p, 'h, W: WordClass> Matches<'p, 'h, W> {
                 program,
                 input,
                 starts,
+                dfa: Dfa::new(alloc, program, MOST_ROWS),
+                is_far: true,
                 walk,
                 last_end: None,
             },
@@ -123,15 +132,19 @@ struct Rest<'p, 'h, W: WordClass> {
     program: &'p Program<W>,
     input: Input<'h>,
     starts: Starts,
+    dfa: Dfa<'p, W>,
+    // Whether the last match began far from where it was looked for.
+    is_far: bool,
     walk: Walk,
     last_end: Option<usize>,
     ghost room: { HasFlags (search_in W.word_chars program.now input) walk.visited },
     ghost closed: { IsClosed (search_in W.word_chars program.now input) (is_flagged (search_in W.word_chars program.now input) walk.visited) },
+    ghost table: { dfa ≡ program.now },
     ghost begins: { starts.known ≡ true → AreStarts program.now.automaton.states program.now.start starts.marks.items starts.bytes.items },
     ghost order: { ForSome last_end (λ end. end ≤ input.span.start) },
 }
 
-impl<'p, 'h, W: WordClass> Rest<'p, 'h, W> {
+impl<'p, 'h, W: WordClass + AsciiWords> Rest<'p, 'h, W> {
     // The next match.
     fn next(&mut self, captures: &mut Captures) -> Result<Option<Match>, Error>
         ensures next { IfOk result (λ found. IfSome found (λ m.
@@ -200,7 +213,13 @@ impl<'p, 'h, W: WordClass> Rest<'p, 'h, W> {
         ensures unset { IfOk result (λ found. IfNone found (captures.new ≡ no_offsets captures.old.groups (length captures.old.offsets))) }
     {
         captures.clear();
-        if !self.walk.search(self.program, &self.input, &self.starts)? {
+        let Some(from) = begin_of(&mut self.dfa, self.is_far, &self.input) else {
+            return Ok(None);
+        };
+        if !self
+            .walk
+            .search(self.program, &self.input, &self.starts, from)?
+        {
             return Ok(None);
         }
         let found = write_match(
@@ -209,6 +228,7 @@ impl<'p, 'h, W: WordClass> Rest<'p, 'h, W> {
             self.walk.run.as_slice(),
             captures,
         );
+        self.is_far = from < found.start() && FAR < found.start() - from;
         self.input.set_start(found.end());
         Ok(Some(found))
     }
@@ -244,5 +264,27 @@ impl<'p, 'h, W: WordClass> Rest<'p, 'h, W> {
         } else {
             end + 1
         }
+    }
+}
+
+// A position before which no match begins; `None` only if none begins where one may. If it's wanted, the DFA tells; if that is out of
+// memory, the backtracker looks from the start on.
+fn begin_of<W: WordClass + AsciiWords>(
+    dfa: &mut Dfa<'_, W>,
+    is_wanted: bool,
+    input: &Input<'_>,
+) -> Option<usize>
+    ensures program { dfa.new ≡ dfa.old }
+    ensures none { IfNone result (HasNone (search_in W.word_chars dfa.old input.now)) }
+    ensures begin { IfSome result (BeginsFrom (search_in W.word_chars dfa.old input.now)) }
+{
+    let start = input.start();
+    if !is_wanted {
+        return Some(start);
+    }
+    match dfa.begin(input) {
+        Ok(Some(begin)) => Some(begin),
+        Ok(None) => None,
+        Err(_) => Some(start),
     }
 }

@@ -1,13 +1,16 @@
 //! What a DFA is made from: a program, and the classes of bytes that its steps tell apart.
-ghost use Rattle.std.specs.Prelude.{◌≡◌, ◌<◌, ◌≤◌, IfSome, Some, true, false, length};
+ghost use Rattle.std.specs.Prelude.{◌≡◌, ℕ, ◌<◌, ◌≤◌, IfSome, Some, true, false, length};
 ghost use Rattle.std.specs.FinSet as sets;
 ghost use Rattle.rsc_look.specs.Holds.{byte_before, byte_after};
-ghost use Rattle.rsc_engine.specs.Rows.{IsPlan, IsPlainUnit, machine};
+ghost use Rattle.rsc_engine.specs.Rows.{IsPlan, IsPlainUnit, IsNeverEntered, machine};
+ghost use Rattle.rsc_nfa.specs.declared.state.State.TheVariants.{ByteRange};
 ghost use Rattle.rsc_engine.specs.Tables.{IsBeyond, column};
 
 use crate::{AsciiWords, Program};
 use rsc_alphabet::{ByteClassSet, ByteClasses};
 use rsc_look::WordClass;
+use rsc_nfa::State;
+use rsc_primitives::StateID;
 
 /// The first byte that is not ASCII.
 const PAST_ASCII: u8 = 0x80;
@@ -23,6 +26,8 @@ pub struct Plan<'p, W: WordClass> {
     pub stride: usize,
     /// Whether an assertion looks at characters.
     pub unicode: bool,
+    /// Whether no byte leads to the first state, as far as is known.
+    pub once: bool,
     /// How many rows are kept at most.
     pub most_rows: usize,
 }
@@ -32,6 +37,7 @@ impl<'p, W: WordClass + AsciiWords> Plan<'p, W> {
     pub fn new(program: &'p Program<W>, most_rows: usize) -> Plan<'p, W>
         ensures program { result.program.now ≡ program.now }
         ensures plan { IsPlan (machine W.word_chars program.now) result.classes result.stride result.unicode }
+        ensures once { result.once ≡ true → IsNeverEntered (machine W.word_chars program.now) }
     {
         W::agrees_with_ascii();
         let _start = program.start();
@@ -45,6 +51,7 @@ impl<'p, W: WordClass + AsciiWords> Plan<'p, W> {
             classes,
             stride,
             unicode,
+            once: is_never_entered(program),
             most_rows,
         }
     }
@@ -74,6 +81,29 @@ impl<'p, W: WordClass> Plan<'p, W> {
             Some(byte) => self.unicode && byte >= PAST_ASCII,
             None => false,
         }
+    }
+}
+
+// Whether no byte leads to the first state.
+fn is_never_entered<W: WordClass>(program: &Program<W>) -> bool
+    ensures { result ≡ true → IsNeverEntered (machine W.word_chars program.now) }
+{
+    let mut once = true;
+    'states: for index in 0..program.len() {
+        let other = leads_past(program.nfa().states()[index], program.start());
+        once = once & other;
+    }
+    once
+}
+
+// Whether a byte doesn't lead from a state to another.
+fn leads_past(state: State, first: StateID) -> bool
+    ensures { result ≡ true → (a b next : ℕ) → state ≡ ByteRange a b next → ¬ (next ≡ first) }
+{
+    match state {
+        State::ByteRange { next, .. } => next != first,
+        State::Assert { .. } | State::Fork { .. } | State::Capture { .. } | State::Accept { .. } =>
+            true,
     }
 }
 

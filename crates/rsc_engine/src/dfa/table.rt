@@ -1,7 +1,9 @@
 //! The table of a DFA: a row for a mode, the byte before and a set of states, with an entry for each class and the end of the input.
-ghost use Rattle.std.specs.Prelude.{◌≡◌, ◌+◌, ◌*◌, ◌<◌, ◌≤◌, ◌⊎◌, ℕ, [], IfOk, IfErr, IfSome, OnOk, OnErr, Some, None, true, false, length, slice_index_or};
+ghost use Rattle.std.specs.Prelude.{◌≡◌, ◌∷◌, slice_get, ◌+◌, ◌*◌, ◌<◌, ◌≤◌, ◌⊎◌, ℕ, [], IfOk, IfErr, IfSome, OnOk, OnErr, Some, None, true, false, length, slice_index_or};
 ghost use Rattle.rsc_engine.specs.declared.error.Error.TheVariants.{OutOfMemory};
-ghost use Rattle.rsc_engine.specs.Rows.{machine, AreStates, IsPlan, IsPlainUnit};
+ghost use Rattle.rsc_engine.specs.Rows.{machine, AreStates, IsPlan, IsPlainUnit, IsNeverEntered};
+ghost use Rattle.rsc_engine.specs.Ends.{BeginsFrom};
+ghost use Rattle.rsc_engine.specs.declared.dfa.table.Row.{Row};
 ghost use Rattle.rsc_engine.specs.declared.dfa.entries.Step.TheVariants.{Goes};
 ghost use Rattle.rsc_engine.specs.Searches.{search_in};
 ghost use Rattle.rsc_engine.specs.Tables.{IsExact, IsRow, IsStepTo, IsMade, IsGrown, IsOn};
@@ -52,7 +54,8 @@ impl Table {
         }
     }
 
-    /// Follows the entries from a row as far as they are known, at most to the end: the row there, and its position.
+    /// Follows the entries from a row as far as they are known, at most to the end: the row there, its position, and a position before which
+    /// no match begins, as far as the rows tell.
     #[inline(never)]
     pub fn follow<W: WordClass>(
         &self,
@@ -60,12 +63,16 @@ impl Table {
         input: &Input<'_>,
         row: usize,
         at: usize,
-    ) -> (usize, usize)
+        begin: usize,
+    ) -> (usize, usize, usize)
         requires plan { IsPlan (machine W.word_chars plan.now.program.now) plan.now.classes plan.now.stride plan.now.unicode }
         requires exact { IsExact (machine W.word_chars plan.now.program.now) plan.now.classes plan.now.stride self.now.rows.items self.now.leads.items }
         requires on { IsOn (search_in W.word_chars plan.now.program.now input.now) plan.now.classes self.now.rows.items row at }
+        requires once { plan.now.once ≡ true → IsNeverEntered (machine W.word_chars plan.now.program.now) }
+        requires begin { BeginsFrom (search_in W.word_chars plan.now.program.now input.now) begin }
         requires start { input.now.span.start ≤ at }
         requires end { at ≤ input.now.span.end }
+        ensures begin { BeginsFrom (search_in W.word_chars plan.now.program.now input.now) result.2 }
         ensures on { IsOn (search_in W.word_chars plan.now.program.now input.now) plan.now.classes self.now.rows.items result.0 result.1 }
         ensures further { at ≤ result.1 }
         ensures end { result.1 ≤ input.now.span.end }
@@ -74,13 +81,54 @@ impl Table {
         let haystack = input.haystack();
         let end = input.end();
         let mut here = row;
+        let mut from = begin;
         'bytes: for position in at..end {
             match self.known_row(plan, here, byte_at(haystack, position)) {
-                Some(next) => here = next,
-                None => return (here, position),
+                Some(next) => {
+                    here = next;
+                    from = self.begin_at(plan, input, next, position + 1, from);
+                }
+                None => return (here, position, from),
             }
         }
-        (here, end)
+        (here, end, from)
+    }
+
+    // The position before which no match begins: the row's, if its only state is the first one, so that no match that began earlier goes on.
+    #[inline(always)]
+    fn begin_at<W: WordClass>(
+        &self,
+        plan: &Plan<'_, W>,
+        input: &Input<'_>,
+        row: usize,
+        at: usize,
+        begin: usize,
+    ) -> usize
+        requires on { IsOn (search_in W.word_chars plan.now.program.now input.now) plan.now.classes self.now.rows.items row at }
+        requires once { plan.now.once ≡ true → IsNeverEntered (machine W.word_chars plan.now.program.now) }
+        requires begin { BeginsFrom (search_in W.word_chars plan.now.program.now input.now) begin }
+        requires start { input.now.span.start ≤ at }
+        ensures { BeginsFrom (search_in W.word_chars plan.now.program.now input.now) result }
+    {
+        steps_are_lawful();
+        if plan.once && !input.get_anchored().is_anchored() && self.is_first(plan, row) {
+            at
+        } else {
+            begin
+        }
+    }
+
+    // Whether the row's only state is the first one.
+    #[inline(always)]
+    fn is_first<W: WordClass>(&self, plan: &Plan<'_, W>, row: usize) -> bool
+        ensures { result ≡ true → (found : Row) → slice_get self.now.rows.items row ≡ Some found → found.set.items ≡ plan.now.program.now.start ∷ [] }
+    {
+        if row < self.rows.len() {
+            let set = self.rows[row].set.as_slice();
+            set.len() == 1 && set[0] == plan.program.start()
+        } else {
+            false
+        }
     }
 
     // The row to which a byte leads from a row, if it is known.

@@ -1,7 +1,7 @@
 use Rattle.std.proofs.Common.{◌≡◌, ◌<◌, ◌≤◌, [], ◌∷◌, refl, arith}
 use Rattle.rsc_look.specs.Holds.{byte_after}
 use Rattle.rsc_engine.specs.Searches.{search_in}
-use Rattle.rsc_engine.proofs.TablesLemmas.{IsOn-first, IsOn-next, IsOn-match, IsOn-last, IsOn-within, quit_here}
+use Rattle.rsc_engine.proofs.TablesLemmas.{IsOn-first, IsOn-next, IsOn-match, IsOn-last, IsOn-within, quit_here, begins_first}
 use Rattle.rsc_engine.proofs.dfa.search.Goals as goal
 
 pub rows-init : goal.rows-init
@@ -17,6 +17,7 @@ rows-init g c =
           (omega (arith, c.if-start-end.false, c.start-start.ensures.start, c.end-end.ensures.end))
           (rw c.haystack-haystack.ensures.bytes at c.before_of-before.ensures.before) c.start-start.ensures.start alone
           (rw c.get_anchored-mode.ensures at c.in_ok-found.ensures.row);
+      begin = begins_first e c.start-start.result (omega (arith, c.start-start.ensures.start));
       start = omega (arith, c.start-start.ensures.start);
       end = omega (arith, c.if-start-end.false, c.start-start.ensures.start, c.end-end.ensures.end);
     }
@@ -70,6 +71,7 @@ rows-preserved g c =
           c.rows.table.rows.items c.step.new.self.rows.items c.follow-here.result.0 c.in-Goes.next c.follow-here.result.1
           c.rows.invariant.exact.sound c.step.ensures.exact.sound low high c.follow-here.ensures.on
           (rw after at (rw c.in-Goes.is at c.in_ok-step.ensures.step));
+      begin = c.follow-here.ensures.begin;
       start = omega (arith, low);
       end = omega (arith, high);
     }

@@ -22,6 +22,10 @@ invariant_of-self-2 g c =
     record {
       room = rw c.set_start.ensures (fewer_flags e c.end.result c.search.new.self.visited up c.search.ensures.room);
       closed = rw c.set_start.ensures (later_start e c.end.result seen up after);
+      table = c.begin_of.ensures.program ∙ c.args.self.now.table;
       begins = c.args.self.now.begins;
       order = λ x is. omega (arith, c.args.self.now.order x is, up, start);
     }
+
+pub returns-in_default-clause-none : goal.returns-in_default-clause-none
+returns-in_default-clause-none g c = rw (c.in_default.is, c.args.self.now.table) at c.begin_of.ensures.none

@@ -77,6 +77,7 @@ invariant_of-self-then-splits g c =
     record {
       room = rw c.set_start-then-splits.ensures (fewer_flags e next c.advance.new.self.walk.visited up c.advance.new.self.room);
       closed = rw c.set_start-then-splits.ensures (even_later e next seen up c.advance.new.self.closed);
+      table = c.advance.new.self.table;
       begins = c.advance.new.self.begins;
       order = λ x is. omega (arith, c.advance.new.self.order x is, up, start);
     }
