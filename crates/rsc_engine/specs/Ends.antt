@@ -4,7 +4,7 @@ use Rattle.rsc_nfa.specs.Classes.{has_unicode}
 use Rattle.rsc_nfa.specs.Steps.{place}
 use Rattle.rsc_engine.specs.Searches.{Search}
 use Rattle.rsc_engine.specs.Runs.{IsMatchRun, HasNoMatch}
-use Rattle.rsc_engine.specs.Preferred.{MayBegin, HasNone}
+use Rattle.rsc_engine.specs.Preferred.{MayBegin, IsLeftmostFirst, HasNone}
 use Rattle.rsc_engine.specs.declared.dfa.Answer.{Answer}
 use Rattle.rsc_engine.specs.declared.dfa.Answer.TheVariants.{End, NoMatch, Quit}
 
@@ -27,6 +27,12 @@ pub record IsQuit (e : Search) (i : ℕ) : Type 0 where
   pub within : i < length e.haystack
   pub beyond : 128 ≤ slice_index e.haystack i
   pub none_before : (j : ℕ) → j < i → ¬ (IsMatchEnd e j)
+
+-- the leftmost-first match ends at the position
+pub record IsLeftmostEnd (e : Search) (i : ℕ) : Type 0 where
+  pub run : List (ℕ × ℕ)
+  pub is_first : IsLeftmostFirst e run
+  pub ends : (place run (length run - 1)).1 ≡ i
 
 -- no match begins at a position of the span before this one
 pub record BeginsFrom (e : Search) (k : ℕ) : Type 0 where

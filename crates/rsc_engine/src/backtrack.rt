@@ -1,5 +1,5 @@
 //! A backtracker that visits no place, a state at a position, twice: places from which no match is reached stay visited from one search to the next.
-ghost use Rattle.std.specs.Prelude.{◌≡◌, ◌+◌, ◌-◌, ◌*◌, ◌<◌, ◌≤◌, ℕ, [], ◌∷◌, ◌++◌, OnOk, IfOk, IfErr, IfSome, Some, None, false, true, length, slice_index_or, count_by, is_some};
+ghost use Rattle.std.specs.Prelude.{◌≡◌, ◌+◌, ◌-◌, ◌*◌, ◌<◌, ◌≤◌, ℕ, [], ◌∷◌, ◌++◌, OnOk, IfOk, IfErr, IfSome, IfNone, Some, None, false, true, length, slice_index_or, count_by, is_some};
 ghost use Rattle.rsc_nfa.specs.Steps.{place};
 ghost use Rattle.rsc_search.specs.declared.anchored.Anchored.TheVariants.{No};
 ghost use Rattle.rsc_engine.specs.declared.error.Error.TheVariants.{OutOfMemory};
@@ -281,6 +281,26 @@ impl Walk {
         }
         None
     }
+}
+
+/// A walk that has the leftmost-first run in the input's span, in which no match begins before a position; `None` if no match begins where one
+/// may.
+pub fn first_run<W: WordClass>(
+    alloc: Global,
+    program: &Program<W>,
+    input: &Input<'_>,
+    from: usize,
+) -> Result<Option<Walk>, Error>
+    requires { BeginsFrom (search_in W.word_chars program.now input.now) from }
+    ensures found { IfOk result (λ found. IfSome found (λ walk. IsLeftmostFirst (search_in W.word_chars program.now input.now) walk.run.items)) }
+    ensures none { IfOk result (λ found. IfNone found (HasNone (search_in W.word_chars program.now input.now))) }
+{
+    let starts = Starts::new(alloc, program)?;
+    let mut walk = Walk::new(alloc, program, input)?;
+    if !walk.search(program, input, &starts, from)? {
+        return Ok(None);
+    }
+    Ok(Some(walk))
 }
 
 // The last position at which a match may begin.

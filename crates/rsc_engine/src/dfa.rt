@@ -1,10 +1,11 @@
 //! A lazy DFA: a table of rows that searches fill as they go, and that answers without a run of the backtracker where it can.
-ghost use Rattle.std.specs.Prelude.{◌≡◌, IfOk, IfErr, IfSome, IfNone, true, false, length};
+ghost use Rattle.std.specs.Prelude.{◌≡◌, ◌-◌, ◌<◌, IfOk, IfErr, IfSome, IfNone, true, false, length};
 ghost use Rattle.rsc_captures.specs.Captured.{no_offsets};
 ghost use Rattle.rsc_engine.specs.declared.error.Error.TheVariants.{OutOfMemory};
 ghost use Rattle.rsc_engine.specs.Searches.{search_in};
 ghost use Rattle.rsc_engine.specs.Preferred.{HasNone, IsFirstMatch};
-ghost use Rattle.rsc_engine.specs.Ends.{IsAnswer, BeginsFrom};
+ghost use Rattle.rsc_nfa.specs.Steps.{place};
+ghost use Rattle.rsc_engine.specs.Ends.{IsAnswer, IsLeftmostEnd, BeginsFrom};
 ghost use Rattle.rsc_engine.specs.Rows.{machine, IsPlan, IsNeverEntered};
 ghost use Rattle.rsc_engine.specs.Tables.{IsExact};
 
@@ -14,14 +15,14 @@ mod plan;
 mod successor;
 mod table;
 
-use crate::backtrack::Walk;
-use crate::starts::Starts;
+use crate::backtrack::first_run;
 use crate::{AsciiWords, Error, Program, iterate};
 use entries::Step;
 use lawful::steps_are_lawful;
 use plan::{Plan, after_of, before_of};
 use rsc_captures::Captures;
 use rsc_look::WordClass;
+use rsc_primitives::StateID;
 use rsc_search::{Input, Match};
 use std::alloc::Global;
 use std::marker::Model;
@@ -143,16 +144,54 @@ impl<'p, W: WordClass + AsciiWords> Dfa<'p, W> {
         ensures slots { length captures.new.offsets ≡ length captures.old.offsets }
         ensures unset { IfOk result (λ found. IfNone found (captures.new ≡ no_offsets captures.old.groups (length captures.old.offsets))) }
     {
-        match self.earliest_end(input)? {
-            Answer::NoMatch => {
-                captures.clear();
-                Ok(None)
-            }
-            Answer::End(_) | Answer::Quit(_) => {
-                iterate::find(self.alloc, self.plan.program, input, captures)
-            }
-        }
+        captures.clear();
+        let Some(from) = self.begin(input)? else {
+            return Ok(None);
+        };
+        iterate::find_from(self.alloc, self.plan.program, input, captures, from)
     }
+
+    /// The position at which the leftmost-first match in an input's span ends; `None` if no match begins where one may. The DFA tells from
+    /// where on to look, and the backtracker finds the end.
+    ///
+    /// # Errors
+    ///
+    /// Out of memory, or of the backtracker `TooLarge`, where the span has too many positions for the number of states.
+    pub fn leftmost_end(&mut self, input: &Input<'_>) -> Result<Option<usize>, Error>
+        ensures program { self.new ≡ self.old }
+        ensures found { IfOk result (λ found. IfSome found (IsLeftmostEnd (search_in W.word_chars self.old input.now))) }
+        ensures none { IfOk result (λ found. IfNone found (HasNone (search_in W.word_chars self.old input.now))) }
+    {
+        let Some(from) = self.begin(input)? else {
+            return Ok(None);
+        };
+        end_from(self.alloc, self.plan.program, input, from)
+    }
+}
+
+// Where the leftmost-first match ends, if no match begins before a position in the span.
+fn end_from<W: WordClass>(
+    alloc: Global,
+    program: &Program<W>,
+    input: &Input<'_>,
+    from: usize,
+) -> Result<Option<usize>, Error>
+    requires { BeginsFrom (search_in W.word_chars program.now input.now) from }
+    ensures found { IfOk result (λ found. IfSome found (IsLeftmostEnd (search_in W.word_chars program.now input.now))) }
+    ensures none { IfOk result (λ found. IfNone found (HasNone (search_in W.word_chars program.now input.now))) }
+{
+    match first_run(alloc, program, input, from)? {
+        None => Ok(None),
+        Some(walk) => Ok(Some(last_position(walk.run.as_slice()))),
+    }
+}
+
+// The position of a run's last place.
+fn last_position(run: &[(StateID, usize)]) -> usize
+    requires { 0 < length run.now }
+    ensures { result ≡ (place run.now (length run.now - 1)).1 }
+{
+    run[run.len() - 1].1
 }
 
 // Whether a match begins where one may, as the backtracker answers it.
@@ -165,10 +204,10 @@ fn is_match_by_walk<W: WordClass>(
     ensures none { IfOk result (λ found. found ≡ false → HasNone (search_in W.word_chars program.now input.now)) }
 {
     crate::laws::there_is_one_first_match();
-    let starts = Starts::new(alloc, program)?;
-    let mut walk = Walk::new(alloc, program, input)?;
-    let found = walk.search(program, input, &starts, input.start())?;
-    Ok(found)
+    let Some(_) = first_run(alloc, program, input, input.start())? else {
+        return Ok(false);
+    };
+    Ok(true)
 }
 
 // The same, over a table.

@@ -13,7 +13,7 @@ ghost use Rattle.rsc_engine.specs.Ends.{BeginsFrom};
 ghost use Rattle.rsc_engine.specs.Starts.{AreStarts};
 ghost use Rattle.rsc_engine.specs.Walks.{HasFlags, IsClosed, is_flagged};
 
-use crate::backtrack::Walk;
+use crate::backtrack::{Walk, first_run};
 use crate::groups::write_match;
 use crate::starts::Starts;
 use crate::{AsciiWords, Dfa, Error, Program};
@@ -49,13 +49,29 @@ pub fn find<W: WordClass>(
     ensures slots { length captures.new.offsets ≡ length captures.old.offsets }
     ensures unset { IfOk result (λ found. IfNone found (captures.new ≡ no_offsets captures.old.groups (length captures.old.offsets))) }
 {
+    find_from(alloc, program, input, captures, input.start())
+}
+
+/// The same, where no match begins before a position in the span.
+pub(crate) fn find_from<W: WordClass>(
+    alloc: Global,
+    program: &Program<W>,
+    input: &Input<'_>,
+    captures: &mut Captures,
+    from: usize,
+) -> Result<Option<Match>, Error>
+    requires { BeginsFrom (search_in W.word_chars program.now input.now) from }
+    ensures found { IfOk result (λ found. IfSome found (IsFirstMatch (search_in W.word_chars program.now input.now) captures.new)) }
+    ensures none { IfOk result (λ found. IfNone found (HasNone (search_in W.word_chars program.now input.now))) }
+    ensures groups { captures.new.groups ≡ captures.old.groups }
+    ensures slots { length captures.new.offsets ≡ length captures.old.offsets }
+    ensures unset { IfOk result (λ found. IfNone found (captures.new ≡ no_offsets captures.old.groups (length captures.old.offsets))) }
+{
     captures.clear();
-    let starts = Starts::new(alloc, program)?;
-    let mut walk = Walk::new(alloc, program, input)?;
-    if !walk.search(program, input, &starts, input.start())? {
-        return Ok(None);
+    match first_run(alloc, program, input, from)? {
+        None => Ok(None),
+        Some(walk) => Ok(Some(write_match(program, input, walk.run.as_slice(), captures))),
     }
-    Ok(Some(write_match(program, input, walk.run.as_slice(), captures)))
 }
 
 /// The matches in an input that are left, in order.

@@ -1,4 +1,7 @@
+use Rattle.rsc_engine.specs.Searches.{search_in}
 use Rattle.rsc_engine.proofs.dfa.is_match_by_walk.Goals as goal
 
 pub returns-clause-some : goal.returns-clause-some
-returns-clause-some g c = λ yes none. c.there_is_one_first_match.ensures.none _ _ none (c.in_ok-found.ensures.found yes)
+returns-clause-some g c = λ _ none.
+    c.there_is_one_first_match.ensures.none (search_in g.W.WordClass.word_chars c.args.program.now c.args.input.now) c.in-Some.field-0.run.items none
+    (rw c.in-Some.is at c.in_ok-first_run.ensures.found)

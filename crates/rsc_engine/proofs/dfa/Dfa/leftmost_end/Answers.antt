@@ -1,0 +1,5 @@
+use Rattle.std.proofs.Common.{◌∙◌}
+use Rattle.rsc_engine.proofs.dfa.Dfa.leftmost_end.Goals as goal
+
+pub returns-clause-none : goal.returns-clause-none
+returns-clause-none g c = rw (c.self.view_is ∙ c.begin.ensures.program) at c.end_from.ensures.none
