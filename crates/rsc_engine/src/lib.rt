@@ -16,7 +16,7 @@ mod moves;
 mod program;
 mod words;
 
-pub use builder::{Builder, Group, Part};
+pub use builder::{Builder, Part};
 pub use dfa::{Answer, Dfa};
 pub use error::Error;
 pub use iterate::{Matches, find};
