@@ -11,6 +11,8 @@ use Rattle.rsc_search.specs.Modes.{pattern_of as pattern_wanted}
 use Rattle.rsc_engine.specs.Searches.{Search, Compiled, search_in}
 use Rattle.rsc_engine.specs.Runs.{Leads, IsPlace, IsMatchRun, IsMatchOf, accepts, is_accepting, is_wanted}
 use Rattle.rsc_engine.specs.Patterns.{Pattern, Text, Goes, text_of, IsMatchIn, HasRunOf, Recognizes}
+use Rattle.rsc_captures.specs.Captured.{Captured}
+use Rattle.rsc_engine.specs.Preferred.{IsFirstMatch, MayBegin, HasNone}
 use Rattle.rsc_engine.specs.Links.{Aim, Ends, HasEnd, Begins, IsOfSome}
 use Rattle.rsc_engine.proofs.WalksLemmas.{leads-rises, run-rises}
 
@@ -137,3 +139,26 @@ pub Recognizes-built : {W : Type 0} (chars : W → ℕ → Bool) (program : Comp
 Recognizes-built chars program patterns b = record {
   exactly = λ input found. (has_match (search_in chars program input) patterns found b, has_run (search_in chars program input) patterns found b);
 }
+
+-- ---- the first match
+
+pub first_is_in : (e : Search) (patterns : List Pattern) (captures : Captured) (found : Matched)
+    → ((other : Matched) → HasRunOf e other ↔ IsMatchIn patterns e other) → IsFirstMatch e captures found → IsMatchIn patterns e found
+first_is_in e patterns captures found both f = (both found).0 (record {
+  run = f.run;
+  is_match = subst (λ (i : ℕ). IsMatchRun e (e.first, i) f.run) (sym f.is_of.ends.start) f.is_first.preferred.is_match;
+  makes = f.is_of.ends;
+})
+
+pub none_before : (e : Search) (patterns : List Pattern) (captures : Captured) (found other : Matched)
+    → ((other : Matched) → HasRunOf e other ↔ IsMatchIn patterns e other) → IsFirstMatch e captures found → other.span.start < found.span.start
+    → IsMatchIn patterns e other → ⊥
+none_before e patterns captures found other both f l m =
+    let r = (both other).1 m in
+    f.is_first.leftmost other.span.start m.start (omega (arith, l, f.is_of.ends.start)) r.run r.is_match
+
+pub none_at_all : (e : Search) (patterns : List Pattern) (other : Matched) → ((other : Matched) → HasRunOf e other ↔ IsMatchIn patterns e other)
+    → HasNone e → MayBegin e other.span.start → IsMatchIn patterns e other → ⊥
+none_at_all e patterns other both none begins m =
+    let r = (both other).1 m in
+    none other.span.start begins r.run r.is_match
