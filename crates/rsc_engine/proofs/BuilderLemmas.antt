@@ -8,8 +8,8 @@ use Rattle.rsc_nfa.specs.declared.state.State.{State}
 use Rattle.rsc_nfa.specs.declared.state.State.TheVariants.{ByteRange, Assert, Fork, Capture}
 use Rattle.rsc_engine.specs.Patterns.{Pattern, Empty, Never, Class, Literal, Assertion, Then, Either, Repeat, Text, Goes}
 use Rattle.rsc_engine.specs.Links.{IsIn, Adds, Builds, IsAdded, IsChoice, Realizes, copies, up_to}
-use Rattle.rsc_engine.proofs.LinksLemmas.{Realizes-empty, Realizes-never, Realizes-range, Realizes-assert, Realizes-capture, Realizes-is, Realizes-then, Realizes-either, Realizes-choice, Realizes-star, Realizes-plus}
-use Rattle.rsc_engine.proofs.RepeatLemmas.{class-is, class-back, literal-is, literal-back, star-is, star-back, limited-is, limited-back, unlimited-is, unlimited-back}
+use Rattle.rsc_engine.proofs.LinksLemmas.{Realizes-never, Realizes-range, Realizes-assert, Realizes-capture, Realizes-is, Realizes-then, Realizes-either, Realizes-choice, Realizes-star, Realizes-plus}
+use Rattle.rsc_engine.proofs.PatternsLemmas.{class-is, class-back, literal-is, literal-back, star-is, star-back, limited-is, limited-back, unlimited-is, unlimited-back}
 
 -- ---- what a list has at an index
 
@@ -35,14 +35,6 @@ get-set_other (x ∷ xs) (suc i) zero y apart = refl
 get-set_other (x ∷ xs) (suc i) (suc k) y apart = get-set_other xs i k y (λ e. apart (ap suc e))
 
 -- ---- what is added
-
--- nothing is added
-pub Adds-nothing : (states : List State) (P : List State → Type 0) → ((all : List State) → P all) → Adds states states P
-Adds-nothing states P p = record {
-  longer = omega arith;
-  kept = λ k l. refl;
-  holds = λ all is. p all;
-}
 
 -- a state
 pub Adds-one : (old new : List State) (state : State) (id : ℕ) → IsAdded old new state id → Adds old new (λ states. slice_get states id ≡ Some state)
@@ -83,7 +75,8 @@ Adds-written old middle new state written id P a p = record {
     is id (omega (arith, a.last)) (omega (arith, length-set new id written, p.longer, more, a.last))
         ∙ get-set new id written (omega (arith, p.longer, more, a.last)),
     p.holds states (λ k l m.
-        is k (omega (arith, l, more)) (omega (arith, length-set new id written, m)) ∙ get-set_other new id k written (λ e. absurd (omega (arith, e, a.last, l, more)))),
+        is k (omega (arith, l, more)) (omega (arith, length-set new id written, m))
+        ∙ get-set_other new id k written (λ e. absurd (omega (arith, e, a.last, l, more)))),
   );
 }
   where
@@ -91,9 +84,6 @@ Adds-written old middle new state written id P a p = record {
     more = ap length a.added ∙ length-append old (state ∷ [])
 
 -- ---- parts
-
-pub Builds-empty : (states : List State) (next : ℕ) → Builds states states next next Empty
-Builds-empty states next = Adds-nothing states (λ (all : List State). Realizes all next next Empty) (λ all. Realizes-empty all next)
 
 pub Builds-then : (old middle new : List State) (first between next : ℕ) (p q : Pattern) → Builds old middle between next q
     → Builds middle new first between p → Builds old new first next (Then p q)

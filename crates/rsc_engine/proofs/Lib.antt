@@ -8,8 +8,7 @@ pub mod LawfulLemmas  -- what follows from the laws of steps: the bytes on both 
 pub mod DfaLemmas  -- a closure as it grows
 pub mod TablesLemmas  -- what the table of a DFA says is so, and stays so as it grows
 pub mod PartsLemmas  -- the pattern of a tree, by its variants
+pub mod PatternsLemmas  -- patterns that go where others go: bytes, classes and repetitions
 pub mod LinksLemmas  -- how single states lead on, and what follows for parts made of parts
-pub mod RepeatLemmas  -- patterns that go where others go: bytes, classes and repetitions
 pub mod BuilderLemmas  -- how lists of states grow, part by part
-pub mod CompileLemmas  -- from the state at which a pattern begins its matches are found and no others
-pub mod PatternsLemmas  -- the runs of a program that was built are the matches of its patterns
+pub mod BeginsLemmas  -- from the state at which a pattern begins, or the first of several, its matches are found and no others: the runs of a program that was built

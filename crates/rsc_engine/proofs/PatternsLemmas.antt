@@ -1,164 +1,165 @@
--- The runs of a program that was built are the matches of its patterns.
-use Rattle.std.proofs.Common.{◌≡◌, ◌↔◌, ℕ, zero, suc, ◌+◌, ◌-◌, ◌<◌, ◌≤◌, ◌⊎◌, inl, inr, ⊎_elim, Bool, true, false, true≢false, List, [], ◌∷◌, ◌++◌, length, get_or, slice_get, refl, sym, ap, ◌∙◌, subst, arith, Option, Some, None, MatchOption}
-use Rattle.std.proofs.lemmas.Bool.{cases_lt, cases_eq}
-use Rattle.std.proofs.lemmas.Option.{slice_get_within}
-use Rattle.rsc_nfa.specs.declared.state.State.{State}
-use Rattle.rsc_nfa.specs.declared.state.State.TheVariants.{ByteRange, Assert, Fork, Capture, Accept}
-use Rattle.rsc_nfa.specs.Steps.{place, IsRun, IsStep, StepsTo}
-use Rattle.rsc_search.specs.Inputs.{InputParts}
-use Rattle.rsc_search.specs.Matches.{Matched}
-use Rattle.rsc_search.specs.Modes.{pattern_of as pattern_wanted}
-use Rattle.rsc_engine.specs.Searches.{Search, Compiled, search_in}
-use Rattle.rsc_engine.specs.Runs.{Leads, IsPlace, IsMatchRun, IsMatchOf, accepts, is_accepting, is_wanted}
-use Rattle.rsc_engine.specs.Patterns.{Pattern, Text, Goes, text_of, IsMatchIn, HasRunOf, Recognizes}
-use Rattle.rsc_captures.specs.Captured.{Captured}
-use Rattle.rsc_engine.specs.Preferred.{IsFirstMatch, MayBegin, HasNone}
-use Rattle.rsc_engine.specs.Links.{Aim, Ends, HasEnd, Begins, IsOfSome}
-use Rattle.rsc_engine.proofs.WalksLemmas.{leads-rises, run-rises}
+-- Patterns that go where others go: bytes, classes and repetitions.
+use Rattle.std.proofs.Common.{◌≡◌, ℕ, zero, suc, ◌+◌, ◌-◌, ◌<◌, ◌≤◌, ◌⊎◌, inl, inr, ⊎_elim, Bool, true, false, ◌||◌, ◌&&◌, true≢false, nat_le, IsTrue, List, [], ◌∷◌, slice_get, refl, sym, ap, ◌∙◌, subst, arith, Option, Some, None}
+use Rattle.std.specs.List.{list_any}
+use Rattle.std.proofs.lemmas.Bool.{cases_lt, leb-true, le-leb}
+use Rattle.rsc_nfa.specs.Steps.{is_between}
+use Rattle.rsc_engine.specs.Patterns.{Pattern, Empty, Never, Class, Literal, Assertion, Then, Either, Repeat, Text, Times, IsAtMost, Goes}
+use Rattle.rsc_engine.specs.Links.{copies, up_to}
 
--- the match that is looked for, in a search
-abbrev aim_of : Search → Matched → Aim
-aim_of e found = record { text = text_of e; end = e.end; pattern = found.pattern; position = found.span.end }
+-- ---- n times
 
--- ---- from a run to a way
+Times-add : (R : ℕ → ℕ → Type 0) (n m i k j : ℕ) → Times R n i k → Times R m k j → Times R (n + m) i j
+Times-add R zero m i k j x y =
+    let same : zero + m ≡ m = omega arith in
+    rw same (subst (λ (l : ℕ). Times R m l j) (sym x) y)
+Times-add R (suc n) m i k j x y =
+    let same : suc n + m ≡ suc (n + m) = omega arith in
+    rw same (x.0, x.1, Times-add R n m x.0 k j x.2 y)
 
--- the places of a run from k on are a way to its match, if n steps are left
-way_from : (e : Search) (found : Matched) (run : List (ℕ × ℕ)) → IsRun e.states e.terminator e.words e.haystack e.start e.end run
-    → IsMatchOf e run found → (n k : ℕ) → k + n + 1 ≡ length run → Ends e.states (aim_of e found) n (place run k).0 (place run k).1
-way_from e found run r m zero k last =
-    let same : length run - 1 ≡ k = omega (arith, last) in
-    let pattern = rw same at m.pattern in
-    let end = rw same at m.end in
-    (pattern, sym end, (r.places k (omega (arith, last))).2)
-way_from e found run r m (suc n) k last = (
-  (r.places k (omega (arith, last))).2,
-  (place run (k + 1)).0,
-  (place run (k + 1)).1,
-  r.steps k (omega (arith, last)),
-  way_from e found run r m n (k + 1) (omega (arith, last)),
+Times-split : (R : ℕ → ℕ → Type 0) (n m i j : ℕ) → Times R (n + m) i j → (k : ℕ) × Times R n i k × Times R m k j
+Times-split R zero m i j x =
+    let same : zero + m ≡ m = omega arith in
+    (i, refl, rw same at x)
+Times-split R (suc n) m i j x =
+    let same : suc n + m ≡ suc (n + m) = omega arith in
+    let y : Times R (suc (n + m)) i j = rw same at x in
+    let z = Times-split R n m y.0 j y.2 in
+    (z.0, (y.0, y.1, z.1), z.2)
+
+copies-times : (x : Text) (p : Pattern) (n i j : ℕ) → Goes x (copies n p) i j → Times (Goes x p) n i j
+copies-times x p zero i j g = g
+copies-times x p (suc n) i j g = (g.0, g.1, copies-times x p n g.0 j g.2)
+
+times-copies : (x : Text) (p : Pattern) (n i j : ℕ) → Times (Goes x p) n i j → Goes x (copies n p) i j
+times-copies x p zero i j g = g
+times-copies x p (suc n) i j g = (g.0, g.1, times-copies x p n g.0 j g.2)
+
+up_to-times : (x : Text) (p : Pattern) (n i j : ℕ) → Goes x (up_to n p) i j → (m : ℕ) × (m ≤ n) × Times (Goes x p) m i j
+up_to-times x p zero i j g = (0, omega arith, g)
+up_to-times x p (suc n) i j g = ⊎_elim
+    (λ (h : Goes x (Then p (up_to n p)) i j).
+    let r = up_to-times x p n h.0 j h.2 in (suc r.0, omega (arith, r.1), (h.0, h.1, r.2)))
+    (λ (h : i ≡ j). (0, omega arith, h))
+    g
+
+times-up_to : (x : Text) (p : Pattern) (n m i j : ℕ) → m ≤ n → Times (Goes x p) m i j → Goes x (up_to n p) i j
+times-up_to x p zero zero i j l t = t
+times-up_to x p zero (suc m) i j l t = absurd (omega (arith, l))
+times-up_to x p (suc n) zero i j l t = inr t
+times-up_to x p (suc n) (suc m) i j l t = inl (t.0, t.1, times-up_to x p n m t.0 j (omega (arith, l)) t.2)
+
+-- ---- counted repetitions
+
+pub limited-is : (min max : ℕ) (p : Pattern) (x : Text) (i j : ℕ) → Goes x (Then (copies min p) (up_to (max - min) p)) i j
+    → Goes x (Repeat min (Some max) p) i j
+limited-is min max p x i j g =
+    let r = up_to-times x p (max - min) g.0 j g.2 in
+    (min + r.0, omega arith, most r.0 r.1, Times-add (Goes x p) min r.0 i g.0 j (copies-times x p min i g.0 g.1) r.2)
+  where
+    most : (m : ℕ) → m ≤ max - min → (min + m ≤ max) ⊎ (min + m ≤ min)
+    most m l = ⊎_elim (λ (h : max < min). inr (omega (arith, h, l))) (λ (h : min ≤ max). inl (omega (arith, h, l))) (cases_lt max min)
+
+pub limited-back : (min max : ℕ) (p : Pattern) (x : Text) (i j : ℕ) → Goes x (Repeat min (Some max) p) i j
+    → Goes x (Then (copies min p) (up_to (max - min) p)) i j
+limited-back min max p x i j g =
+    let whole : g.0 ≡ min + (g.0 - min) = omega (arith, g.1) in
+    let t : Times (Goes x p) (min + (g.0 - min)) i j = subst (λ (n : ℕ). Times (Goes x p) n i j) whole g.3 in
+    let s = Times-split (Goes x p) min (g.0 - min) i j t in
+    (s.0, times-copies x p min i s.0 s.1, times-up_to x p (max - min) (g.0 - min) s.0 j (fits g.0 g.2) s.2)
+  where
+    fits : (n : ℕ) → (n ≤ max) ⊎ (n ≤ min) → n - min ≤ max - min
+    fits n h = ⊎_elim (λ (l : n ≤ max). omega (arith, l)) (λ (l : n ≤ min). omega (arith, l)) h
+
+pub unlimited-is : (min : ℕ) (p : Pattern) → 0 < min → (x : Text) (i j : ℕ) → Goes x (Then (copies (min - 1) p) (Repeat 1 None p)) i j
+    → Goes x (Repeat min None p) i j
+unlimited-is min p some x i j g =
+    (min - 1 + g.2.0, omega (arith, some, g.2.1), tt, Times-add (Goes x p) (min - 1) g.2.0 i g.0 j (copies-times x p (min - 1) i g.0 g.1) g.2.3)
+
+pub unlimited-back : (min : ℕ) (p : Pattern) → 0 < min → (x : Text) (i j : ℕ) → Goes x (Repeat min None p) i j
+    → Goes x (Then (copies (min - 1) p) (Repeat 1 None p)) i j
+unlimited-back min p some x i j g =
+    let whole : g.0 ≡ (min - 1) + (g.0 - (min - 1)) = omega (arith, g.1) in
+    let t : Times (Goes x p) ((min - 1) + (g.0 - (min - 1))) i j = subst (λ (n : ℕ). Times (Goes x p) n i j) whole g.3 in
+    let s = Times-split (Goes x p) (min - 1) (g.0 - (min - 1)) i j t in
+    (s.0, times-copies x p (min - 1) i s.0 s.1, (g.0 - (min - 1), omega (arith, g.1, some), tt, s.2))
+
+-- any number of times is once or more, or not at all
+pub star-is : (p : Pattern) (x : Text) (i j : ℕ) → Goes x (Either (Repeat 1 None p) Empty) i j → Goes x (Repeat 0 None p) i j
+star-is p x i j g = ⊎_elim
+    (λ (h : Goes x (Repeat 1 None p) i j). (h.0, omega arith, tt, h.3))
+    (λ (h : i ≡ j). (0, omega arith, tt, h))
+    g
+
+pub star-back : (p : Pattern) (x : Text) (i j : ℕ) → Goes x (Repeat 0 None p) i j → Goes x (Either (Repeat 1 None p) Empty) i j
+star-back p x i j g = go g.0 g.3
+  where
+    go : (n : ℕ) → Times (Goes x p) n i j → Goes x (Either (Repeat 1 None p) Empty) i j
+    go zero t = inr t
+    go (suc n) t = inl (suc n, omega arith, tt, t)
+
+-- ---- a range more, and a byte more
+
+or_cases : (a b : Bool) → (a || b) ≡ true → (a ≡ true) ⊎ (b ≡ true)
+or_cases true b h = inl refl
+or_cases false b h = inr h
+
+or_one : (a b : Bool) → a ≡ true → (a || b) ≡ true
+or_one true b h = refl
+or_one false b h = absurd (true≢false (sym h))
+
+or_other : (a b : Bool) → b ≡ true → (a || b) ≡ true
+or_other true b h = refl
+or_other false b h = h
+
+has : Text → ℕ → ℕ × ℕ → Bool
+has x i r = is_between r.0 r.1 (slice_get x.haystack i)
+
+pub class-is : (a b : ℕ) (rest : List (ℕ × ℕ)) (x : Text) (i j : ℕ) → Goes x (Either (Class ((a, b) ∷ [])) (Class rest)) i j
+    → Goes x (Class ((a, b) ∷ rest)) i j
+unfolding has
+class-is a b rest x i j g = ⊎_elim
+    (λ (h : Goes x (Class ((a, b) ∷ [])) i j). (
+      ⊎_elim (λ (y : has x i (a, b) ≡ true). or_one (has x i (a, b)) (list_any (has x i) rest) y) (λ (y : false ≡ true). absurd (true≢false (sym y)))
+          (or_cases (has x i (a, b)) false h.0),
+      h.1,
+    ))
+    (λ (h : Goes x (Class rest) i j). (or_other (has x i (a, b)) (list_any (has x i) rest) h.0, h.1))
+    g
+
+pub class-back : (a b : ℕ) (rest : List (ℕ × ℕ)) (x : Text) (i j : ℕ) → Goes x (Class ((a, b) ∷ rest)) i j
+    → Goes x (Either (Class ((a, b) ∷ [])) (Class rest)) i j
+unfolding has
+class-back a b rest x i j g = ⊎_elim
+    (λ (y : has x i (a, b) ≡ true). inl (or_one (has x i (a, b)) false y, g.1))
+    (λ (y : list_any (has x i) rest ≡ true). inr (y, g.1))
+    (or_cases (has x i (a, b)) (list_any (has x i) rest) g.0)
+
+and_cases : (a b : Bool) → (a && b) ≡ true → (a ≡ true) × (b ≡ true)
+and_cases true b h = (refl, h)
+and_cases false b h = absurd (true≢false (sym h))
+
+-- between a byte and itself is that byte
+only : (b : ℕ) (o : Option ℕ) → is_between b b o ≡ true → o ≡ Some b
+only b None h = absurd (true≢false (sym h))
+only b (Some x) h =
+    let both = and_cases (nat_le b x) (nat_le x b) h in
+    let same : x ≡ b = omega (arith, leb-true b x both.0, leb-true x b both.1) in ap (λ (n : ℕ). Some n) same
+
+itself : (b : ℕ) (o : Option ℕ) → o ≡ Some b → is_between b b o ≡ true
+itself b o e = rw e (both (nat_le b b) (le-leb b b (omega arith)))
+  where
+    both : (t : Bool) → t ≡ true → (t && t) ≡ true
+    both true h = refl
+    both false h = h
+
+pub literal-is : (b : ℕ) (rest : List ℕ) (x : Text) (i j : ℕ) → Goes x (Then (Class ((b, b) ∷ [])) (Literal rest)) i j → Goes x (Literal (b ∷ rest)) i j
+unfolding has
+literal-is b rest x i j g = (
+  only b (slice_get x.haystack i)
+      (⊎_elim (λ (y : has x i (b, b) ≡ true). y) (λ (y : false ≡ true). absurd (true≢false (sym y))) (or_cases (has x i (b, b)) false g.1.0)),
+  subst (λ (k : ℕ). Goes x (Literal rest) k j) g.1.1 g.2,
 )
 
--- ---- from a way to a run
-
--- a run to the match from a place
-record Run (e : Search) (found : Matched) (s i : ℕ) : Type 0 where
-  run : List (ℕ × ℕ)
-  is_run : IsRun e.states e.terminator e.words e.haystack e.start e.end run
-  some : 0 < length run
-  begins : place run 0 ≡ (s, i)
-  pattern : slice_get e.states (place run (length run - 1)).0 ≡ Some (Accept found.pattern)
-  end : (place run (length run - 1)).1 ≡ found.span.end
-
-step_within : (e : Search) (p q : ℕ × ℕ) → Leads e p q → p.0 < length e.states
-step_within e p q l = go (slice_get e.states p.0) refl l
-  where
-    go : (o : Option State) → slice_get e.states p.0 ≡ o → MatchOption o ⊥ (λ (state : State). StepsTo state e.terminator e.words e.haystack e.end p.1 q)
-        → p.0 < length e.states
-    go None is x = absurd x
-    go (Some state) is x = slice_get_within e.states p.0 state is
-
--- a place before a run
-before : (e : Search) (found : Matched) (s i t k : ℕ) → e.start ≤ i → i ≤ e.end → Leads e (s, i) (t, k) → Run e found t k → Run e found s i
-before e found s i t k low high step r = record {
-  run = (s, i) ∷ r.run;
-  is_run = record { places = places; steps = steps };
-  some = omega arith;
-  begins = refl;
-  pattern = rw back r.pattern;
-  end = rw back r.end;
-}
-  where
-    back : place ((s, i) ∷ r.run) (length ((s, i) ∷ r.run) - 1) ≡ place r.run (length r.run - 1)
-    back = let one : length ((s, i) ∷ r.run) - 1 ≡ suc (length r.run - 1) = omega (arith, r.some) in ap (λ (n : ℕ). place ((s, i) ∷ r.run) n) one
-
-    places : (n : ℕ) → n < length ((s, i) ∷ r.run) → IsPlace e (place ((s, i) ∷ r.run) n)
-    places zero l = (step_within e (s, i) (t, k) step, low, high)
-    places (suc n) l = r.is_run.places n (omega (arith, l))
-
-    steps : (n : ℕ) → n + 1 < length ((s, i) ∷ r.run) → Leads e (place ((s, i) ∷ r.run) n) (place ((s, i) ∷ r.run) (n + 1))
-    steps zero l = subst (λ (q : ℕ × ℕ). Leads e (s, i) q) (sym r.begins) step
-    steps (suc n) l = let one : suc n + 1 ≡ suc (n + 1) = omega arith in rw one (r.is_run.steps n (omega (arith, l)))
-
-run_from : (e : Search) (found : Matched) (n s i : ℕ) → e.start ≤ i → Ends e.states (aim_of e found) n s i → Run e found s i
-run_from e found zero s i low x = record {
-  run = (s, i) ∷ [];
-  is_run = record {
-    places = λ n l.
-        let none : n ≡ 0 = omega (arith, l) in
-        rw none (slice_get_within e.states s (Accept found.pattern) x.0, low, omega (arith, x.1, x.2));
-    steps = λ n l. absurd (omega (arith, l));
-  };
-  some = omega arith;
-  begins = refl;
-  pattern = x.0;
-  end = x.1;
-}
-run_from e found (suc n) s i low x =
-    let up = leads-rises e (s, i) (x.1, x.2) x.3 in
-    before e found s i x.1 x.2 low x.0 x.3 (run_from e found n x.1 x.2 (omega (arith, low, up)) x.4)
-
--- ---- both
-
--- the state of a match accepts its pattern, if that is wanted
-accepting : (wanted : Option ℕ) (o : Option State) (q : ℕ) → o ≡ Some (Accept q) → is_wanted wanted q ≡ is_accepting wanted o
-accepting wanted o q e = rw e refl
-
-has_match : (e : Search) (patterns : List Pattern) (found : Matched) → Begins e.states e.first (IsOfSome 0 patterns) → HasRunOf e found → IsMatchIn patterns e found
-has_match e patterns found b h =
-    let r = h.is_match in
-    let way = way_from e found h.run r.is_run h.makes (length h.run - 1) 0 (omega (arith, r.some)) in
-    let here : Ends e.states (aim_of e found) (length h.run - 1) e.first found.span.start =
-    subst (λ (p : ℕ × ℕ). Ends e.states (aim_of e found) (length h.run - 1) p.0 p.1) r.begins way in
-    let s = b.sound (aim_of e found) (length h.run - 1) found.span.start here in
-    record {
-      pattern = s.1;
-      its = s.2;
-      wanted = accepting (pattern_wanted e.mode) (slice_get e.states (place h.run (length h.run - 1)).0) found.pattern h.makes.pattern ∙ r.ends;
-      start = subst (λ (p : ℕ × ℕ). e.start ≤ p.1) r.begins ((r.is_run.places 0 r.some).1);
-      end = omega (arith, h.makes.end, (r.is_run.places (length h.run - 1) (omega (arith, r.some))).2);
-      goes = s.3;
-    }
-
-has_run : (e : Search) (patterns : List Pattern) (found : Matched) → Begins e.states e.first (IsOfSome 0 patterns) → IsMatchIn patterns e found → HasRunOf e found
-has_run e patterns found b m =
-    let h = b.complete (aim_of e found) found.span.start (omega arith, m.pattern, m.its, m.goes) m.end in
-    let r = run_from e found h.steps e.first found.span.start m.start h.ends in
-    record {
-      run = r.run;
-      is_match = record {
-        is_run = r.is_run;
-        some = r.some;
-        begins = r.begins;
-        ends = sym (accepting (pattern_wanted e.mode) (slice_get e.states (place r.run (length r.run - 1)).0) found.pattern r.pattern) ∙ m.wanted;
-      };
-      makes = record { pattern = r.pattern; start = sym (ap (λ (p : ℕ × ℕ). p.1) r.begins); end = sym r.end };
-    }
-
-pub Recognizes-built : {W : Type 0} (chars : W → ℕ → Bool) (program : Compiled W) (patterns : List Pattern)
-    → Begins program.automaton.states program.start (IsOfSome 0 patterns) → Recognizes chars program patterns
-Recognizes-built chars program patterns b = record {
-  exactly = λ input found. (has_match (search_in chars program input) patterns found b, has_run (search_in chars program input) patterns found b);
-}
-
--- ---- the first match
-
-pub first_is_in : (e : Search) (patterns : List Pattern) (captures : Captured) (found : Matched)
-    → ((other : Matched) → HasRunOf e other ↔ IsMatchIn patterns e other) → IsFirstMatch e captures found → IsMatchIn patterns e found
-first_is_in e patterns captures found both f = (both found).0 (record {
-  run = f.run;
-  is_match = subst (λ (i : ℕ). IsMatchRun e (e.first, i) f.run) (sym f.is_of.ends.start) f.is_first.preferred.is_match;
-  makes = f.is_of.ends;
-})
-
-pub none_before : (e : Search) (patterns : List Pattern) (captures : Captured) (found other : Matched)
-    → ((other : Matched) → HasRunOf e other ↔ IsMatchIn patterns e other) → IsFirstMatch e captures found → other.span.start < found.span.start
-    → IsMatchIn patterns e other → ⊥
-none_before e patterns captures found other both f l m =
-    let r = (both other).1 m in
-    f.is_first.leftmost other.span.start m.start (omega (arith, l, f.is_of.ends.start)) r.run r.is_match
-
-pub none_at_all : (e : Search) (patterns : List Pattern) (other : Matched) → ((other : Matched) → HasRunOf e other ↔ IsMatchIn patterns e other)
-    → HasNone e → MayBegin e other.span.start → IsMatchIn patterns e other → ⊥
-none_at_all e patterns other both none begins m =
-    let r = (both other).1 m in
-    none other.span.start begins r.run r.is_match
+pub literal-back : (b : ℕ) (rest : List ℕ) (x : Text) (i j : ℕ) → Goes x (Literal (b ∷ rest)) i j → Goes x (Then (Class ((b, b) ∷ [])) (Literal rest)) i j
+unfolding has
+literal-back b rest x i j g = (i + 1, (or_one (has x i (b, b)) false (itself b (slice_get x.haystack i) g.0), refl), g.1)

@@ -86,4 +86,5 @@ pub record HasRunOf (e : Search) (found : Matched) : Type 0 where
 
 -- in every input the runs of the program are the matches of the patterns
 pub record Recognizes {W : Type 0} (chars : W → ℕ → Bool) (program : Compiled W) (patterns : List Pattern) : Type 0 where
-  pub exactly : (input : InputParts) (found : Matched) → HasRunOf (search_in chars program input) found ↔ IsMatchIn patterns (search_in chars program input) found
+  pub exactly : (input : InputParts) (found : Matched) →
+      HasRunOf (search_in chars program input) found ↔ IsMatchIn patterns (search_in chars program input) found

@@ -12,7 +12,7 @@ mod tree;
 use self::compile::compile;
 use self::tree::Tree;
 use crate::{Error, Program};
-use rsc_captures::GroupInfo;
+use rsc_captures::{GroupInfo, GroupInfoError, GroupInfoErrorKind};
 use rsc_look::{Look, LookMatcher, WordClass};
 use rsc_nfa::Nfa;
 use std::alloc::Global;
@@ -192,8 +192,8 @@ impl<'n> Builder<'n> {
     ///
     /// # Errors
     ///
-    /// `Faulty` if a range's first byte is above its last, `Names` if a pattern has a name twice, `TooLarge` for more states or patterns than
-    /// there are numbers for, else out of memory.
+    /// `Faulty` if a range's first byte is above its last, `Names` if a pattern has a name twice, `TooLarge` for more states, patterns or groups
+    /// than there are numbers for, else out of memory.
     pub fn build<W: WordClass>(
         mut self,
         words: W,
@@ -251,7 +251,19 @@ fn info_of(alloc: Global, patterns: &[Part<'_>]) -> Result<GroupInfo, Error> {
         lists.push(names.as_slice())?;
     }
     match GroupInfo::new(alloc, lists.as_slice()) {
-        Err(_) => Err(Error::Names),
+        Err(fault) => Err(refusal_of(&fault)),
         Ok(info) => Ok(info),
+    }
+}
+
+// Why there is no group info.
+fn refusal_of(fault: &GroupInfoError) -> Error {
+    match fault.kind() {
+        GroupInfoErrorKind::OutOfMemory => Error::OutOfMemory,
+        GroupInfoErrorKind::Duplicate { .. } => Error::Names,
+        GroupInfoErrorKind::TooManyPatterns { .. }
+        | GroupInfoErrorKind::TooManyGroups { .. }
+        | GroupInfoErrorKind::MissingGroups { .. }
+        | GroupInfoErrorKind::FirstMustBeUnnamed { .. } => Error::TooLarge,
     }
 }

@@ -3,7 +3,8 @@ ghost use Rattle.std.specs.Prelude.{◌≡◌, ◌++◌, [], ◌∷◌, map, len
 ghost use Rattle.rsc_nfa.specs.declared.state.State.TheVariants.{Fork};
 ghost use Rattle.rsc_engine.specs.Patterns.{Never, Class, Literal, in_order};
 ghost use Rattle.rsc_engine.specs.Parts.{pattern_of, pattern_in};
-ghost use Rattle.rsc_engine.specs.Links.{Adds, Builds, IsAdded, Begins, IsOfOne, IsOfSome};
+ghost use Rattle.rsc_engine.specs.Links.{Adds, Builds, IsAdded};
+ghost use Rattle.rsc_engine.specs.Begins.{Begins, IsOfOne, IsOfSome};
 
 use super::Part;
 use super::tree::Tree;
@@ -76,7 +77,8 @@ impl Compiler {
         index: usize,
         whole: &Part<'_>,
     ) -> Result<StateID, Error>
-        ensures { IfOk result (λ first. Adds self.old.states.items self.new.states.items (λ states. Begins states first (IsOfOne index (pattern_of whole.now)))) }
+        ensures { IfOk result (λ first. Adds self.old.states.items self.new.states.items
+            (λ states. Begins states first (IsOfOne index (pattern_of whole.now)))) }
     {
         let Ok(pattern) = PatternID::new(index) else {
             return Err(Error::TooLarge);
