@@ -8,3 +8,8 @@ pub mod RowsLemmas  -- a row at a position is exact, and so is the next one
 pub mod LawfulLemmas  -- what follows from the laws of steps: the bytes on both sides, or others of their classes, stand for a position
 pub mod DfaLemmas  -- a closure as it grows
 pub mod TablesLemmas  -- what the table of a DFA says is so, and stays so as it grows
+pub mod PartsLemmas  -- the pattern of a tree, by its variants
+pub mod PatternsLemmas  -- patterns that go where others go: bytes, classes and repetitions
+pub mod LinksLemmas  -- how single states lead on, and what follows for parts made of parts
+pub mod BuilderLemmas  -- how lists of states grow, part by part
+pub mod BeginsLemmas  -- from the state at which a pattern begins, or the first of several, its matches are found and no others: the runs of a program that was built

@@ -7,6 +7,10 @@ pub mod Preferred  -- which match is first
 pub mod NextMatches  -- which match is next; `last` is where the last one ended, if there was one
 pub mod Moves  -- what a state does at a position
 pub mod Walks  -- what a backtracker has on hand
+pub mod Patterns  -- what a pattern matches, and which programs match it
+pub mod Parts  -- which pattern a part is
+pub mod Links  -- how the states of a part lead on
+pub mod Begins  -- at which state the matches of a pattern, or of several, begin
 pub mod Ends  -- where matches end, and what a DFA answers
 pub mod Rows  -- the rows of a DFA, and where a byte leads from one
 pub mod Tables  -- the table of a DFA

@@ -1,264 +1,269 @@
-//! A builder: each call adds the states of a part of a pattern, and larger parts are made of smaller ones.
-ghost use Rattle.std.specs.Prelude.{◌≤◌};
+//! A builder: each call makes a part of a pattern, and larger parts are made of smaller ones.
+ghost use Rattle.std.specs.Prelude.{◌≡◌, ◌<◌, ◌++◌, [], ◌∷◌, None, Some, Err, map, length, IfOk, IfErr, OnOk, OnErr};
+ghost use Rattle.rsc_engine.specs.declared.error.Error.TheVariants.{OutOfMemory, EmptyClass};
+ghost use Rattle.rsc_engine.specs.Patterns.{Empty, Never, Class, Literal, Assertion, Then, Either, in_order, Recognizes};
+ghost use Rattle.rsc_engine.specs.Parts.{pattern_of, patterns_of, pattern_in};
 
+mod compile;
+mod loops;
 mod repeat;
-mod states;
+mod tree;
 
+use self::compile::compile;
+use self::tree::Tree;
 use crate::{Error, Program};
-use rsc_captures::GroupInfo;
+use rsc_captures::{GroupInfo, GroupInfoError, GroupInfoErrorKind};
 use rsc_look::{Look, LookMatcher, WordClass};
-use rsc_nfa::{Nfa, State};
-use rsc_primitives::{PatternID, SmallIndex, StateID};
+use rsc_nfa::Nfa;
 use std::alloc::Global;
 
-/// A part of a pattern. Each is used once.
-#[derive(Clone, Copy)]
-pub struct Part {
-    first: StateID,
-    // Its steps to itself are open: what comes after the part is written into them.
-    last: StateID,
-    // Its states are some of these: from the one to before the other.
-    from: usize,
-    to: usize,
+/// A part of a pattern.
+///
+/// Parts nest as the calls that made them, but for `literal` and `concat`, which stay flat: to build or drop a part takes stack for each level.
+#[derive(Drop)]
+pub struct Part<'n> {
+    tree: Tree,
+    // The names of its groups, in the order in which they open.
+    names: Vec<Option<&'n str>>,
     may_be_empty: bool,
 }
 
-/// A group that is open: its number is taken, and its part not yet known.
-#[derive(Clone, Copy)]
-pub struct Group {
-    // Two slots for each group so far, whose final numbers are known once all patterns are.
-    slot: usize,
-}
-
-/// The states and the groups so far.
+/// Makes parts, and keeps the patterns that are finished.
 #[derive(Drop)]
 pub struct Builder<'n> {
     alloc: Global,
-    states: Vec<State>,
-    // The first state of each pattern that is finished.
-    firsts: Vec<StateID>,
-    // The names of the groups of each pattern, that of the unfinished one last.
-    names: Vec<Vec<Option<&'n str>>>,
-    // The pattern and the number of each group, in the order in which they were opened.
-    groups: Vec<(usize, usize)>,
+    patterns: Vec<Part<'n>>,
 }
 
 impl<'n> Builder<'n> {
-    /// A builder with no states, and with the group of the whole match of the first pattern.
-    pub fn new(alloc: Global) -> Result<Builder<'n>, Error> {
-        Ok(Builder {
+    /// A builder with no pattern.
+    pub fn new(alloc: Global) -> Builder<'n>
+        ensures { patterns_of result ≡ [] }
+    {
+        Builder {
             alloc,
-            states: Vec::new(alloc),
-            firsts: Vec::new(alloc),
-            names: Vec::new(alloc),
-            groups: Vec::new(alloc),
-        })
+            patterns: Vec::new(alloc),
+        }
     }
 
-    /// A byte from `start` to `end`.
-    pub fn range(&mut self, start: u8, end: u8) -> Result<Part, Error> {
-        let next = self.next_id()?;
-        self.add(State::ByteRange { start, end, next }, false)
+    /// A byte from `start` to `end`. No program is built of a part with a range whose first byte is above its last.
+    pub fn range(&self, start: u8, end: u8) -> Part<'n>
+        ensures { pattern_of result ≡ Class ((start, end) ∷ []) }
+    {
+        self.leaf(Tree::Range(start, end), false)
     }
 
     /// A byte of one of the ranges.
-    pub fn class(&mut self, ranges: &[(u8, u8)]) -> Result<Part, Error> {
-        let last = self.empty()?;
-        match self.first_of_ranges(ranges, last.first)? {
-            None => Err(Error::EmptyClass),
-            Some(first) => Ok(self.part(first, &last, last.from, false)),
+    ///
+    /// # Errors
+    ///
+    /// `EmptyClass` without a range, else out of memory.
+    pub fn class(&self, ranges: &[(u8, u8)]) -> Result<Part<'n>, Error>
+        ensures part { IfOk result (λ part. pattern_of part ≡ Class ranges.now) }
+        ensures some { IfOk result (λ part. 0 < length ranges.now) }
+        ensures empty { length ranges.now ≡ 0 → result ≡ Err EmptyClass }
+        ensures refused { 0 < length ranges.now → IfErr result (λ e. e ≡ OutOfMemory) }
+    {
+        if ranges.is_empty() {
+            return Err(Error::EmptyClass);
         }
+        let ranges = Vec::from_slice(self.alloc, ranges)?;
+        Ok(self.leaf(Tree::Class(ranges), false))
     }
 
     /// These bytes. A text's are `text.as_bytes()`.
-    pub fn literal(&mut self, bytes: &[u8]) -> Result<Part, Error> {
-        let mut whole = self.empty()?;
-        for byte in bytes {
-            let part = self.range(*byte, *byte)?;
-            whole = self.then(whole, part);
-        }
-        Ok(whole)
+    pub fn literal(&self, bytes: &[u8]) -> Result<Part<'n>, Error>
+        ensures part { IfOk result (λ part. pattern_of part ≡ Literal bytes.now) }
+        ensures refused { IfErr result (λ e. e ≡ OutOfMemory) }
+    {
+        let may_be_empty = bytes.is_empty();
+        let bytes = Vec::from_slice(self.alloc, bytes)?;
+        Ok(self.leaf(Tree::Literal(bytes), may_be_empty))
     }
 
     /// A position at which an assertion holds.
-    pub fn look(&mut self, look: Look) -> Result<Part, Error> {
-        let next = self.next_id()?;
-        self.add(State::Assert { look, next }, true)
+    pub fn look(&self, look: Look) -> Part<'n>
+        ensures { pattern_of result ≡ Assertion look }
+    {
+        self.leaf(Tree::Assertion(look), true)
     }
 
     /// No byte.
-    pub fn empty(&mut self) -> Result<Part, Error> {
-        let next = self.next_id()?;
-        self.add(State::Fork { a: next, b: next }, true)
+    pub fn empty(&self) -> Part<'n>
+        ensures { pattern_of result ≡ Empty }
+    {
+        self.leaf(Tree::Empty, true)
     }
 
     /// What never matches, not even no byte.
-    pub fn never(&mut self) -> Result<Part, Error> {
-        // Its only step leads to itself, since nothing is written into it.
-        let first = self.empty()?;
-        let last = self.empty()?;
-        Ok(self.part(first.first, &last, first.from, false))
+    pub fn never(&self) -> Part<'n>
+        ensures { pattern_of result ≡ Never }
+    {
+        self.leaf(Tree::Never, false)
     }
 
     /// One part after the other.
-    pub fn then(&mut self, one: Part, other: Part) -> Part {
-        self.lead(one.last, other.first);
-        Part {
-            first: one.first,
-            last: other.last,
-            from: one.from.min(other.from),
-            to: one.to.max(other.to),
-            may_be_empty: one.may_be_empty && other.may_be_empty,
-        }
+    pub fn then(&self, one: Part<'n>, other: Part<'n>) -> Result<Part<'n>, Error>
+        ensures part { IfOk result (λ part. pattern_of part ≡ Then (pattern_of one.entry) (pattern_of other.entry)) }
+        ensures refused { IfErr result (λ e. e ≡ OutOfMemory) }
+    {
+        let may_be_empty = one.may_be_empty && other.may_be_empty;
+        let names = joined(one.names, other.names)?;
+        let tree = Tree::Then(
+            Box::new(self.alloc, one.tree)?,
+            Box::new(self.alloc, other.tree)?,
+        );
+        Ok(Part {
+            tree,
+            names,
+            may_be_empty,
+        })
     }
 
     /// All parts in their order.
-    pub fn concat(&mut self, parts: &[Part]) -> Result<Part, Error> {
-        let mut whole = self.empty()?;
+    pub fn concat(&self, parts: Vec<Part<'n>>) -> Result<Part<'n>, Error>
+        ensures part { IfOk result (λ part. pattern_of part ≡ in_order (map pattern_of parts.entry.items)) }
+        ensures refused { IfErr result (λ e. e ≡ OutOfMemory) }
+    {
+        let mut trees = Vec::new(self.alloc);
+        let mut names = Vec::new(self.alloc);
+        let mut may_be_empty = true;
         for part in parts {
-            whole = self.then(whole, *part);
+            may_be_empty = may_be_empty && part.may_be_empty;
+            names = joined(names, part.names)?;
+            trees.push(part.tree)?;
         }
-        Ok(whole)
+        Ok(Part {
+            tree: Tree::Concat(trees),
+            names,
+            may_be_empty,
+        })
     }
 
     /// Either part; the first is preferred.
-    pub fn either(&mut self, one: Part, other: Part) -> Result<Part, Error> {
-        let last = self.empty()?;
-        self.lead(one.last, last.first);
-        self.lead(other.last, last.first);
-        let first = self.fork(one.first, other.first)?.first;
-        let from = one.from.min(other.from);
-        Ok(self.part(first, &last, from, one.may_be_empty || other.may_be_empty))
+    pub fn either(&self, one: Part<'n>, other: Part<'n>) -> Result<Part<'n>, Error>
+        ensures part { IfOk result (λ part. pattern_of part ≡ Either (pattern_of one.entry) (pattern_of other.entry)) }
+        ensures refused { IfErr result (λ e. e ≡ OutOfMemory) }
+    {
+        let may_be_empty = one.may_be_empty || other.may_be_empty;
+        let names = joined(one.names, other.names)?;
+        let tree = Tree::Either(
+            Box::new(self.alloc, one.tree)?,
+            Box::new(self.alloc, other.tree)?,
+        );
+        Ok(Part {
+            tree,
+            names,
+            may_be_empty,
+        })
     }
 
-    /// The part as a group, opened and closed by one call: for a group that no other is in.
-    pub fn group(&mut self, name: Option<&'n str>, part: Part) -> Result<Part, Error> {
-        let group = self.open(name)?;
-        self.close(group, part)
+    /// The part as a group. The groups of a pattern are numbered from 1 in the order in which they open: each before those in it, and those of
+    /// a part before those of the next one.
+    pub fn group(&self, name: Option<&'n str>, part: Part<'n>) -> Result<Part<'n>, Error>
+        ensures part { IfOk result (λ group. pattern_of group ≡ pattern_of part.entry) }
+        ensures refused { IfErr result (λ e. e ≡ OutOfMemory) }
+    {
+        let groups = part.names.len();
+        let may_be_empty = part.may_be_empty;
+        let mut first = Vec::new(self.alloc);
+        first.push(name)?;
+        let names = joined(first, part.names)?;
+        let tree = Tree::Group(groups, Box::new(self.alloc, part.tree)?);
+        Ok(Part {
+            tree,
+            names,
+            may_be_empty,
+        })
     }
 
-    /// Opens a group of the pattern. Its groups are numbered from 1 in the order of these calls, so a group is opened before those in it.
-    pub fn open(&mut self, name: Option<&'n str>) -> Result<Group, Error> {
-        self.begin()?;
-        let pattern = self.firsts.len();
-        let mut number = 0;
-        if let Some(names) = self.names.last_mut() {
-            number = names.len();
-            names.push(name)?;
-        }
-        self.groups.push((pattern, number))?;
-        match (self.groups.len() - 1).checked_mul(2) {
-            None => Err(Error::TooLarge),
-            Some(slot) => Ok(Group { slot }),
-        }
-    }
-
-    /// The part as the group.
-    pub fn close(&mut self, group: Group, part: Part) -> Result<Part, Error> {
-        let before = self.record(group.slot)?;
-        let after = self.record(group.slot.saturating_add(1))?;
-        let part = self.then(before, part);
-        Ok(self.then(part, after))
-    }
-
-    /// Finishes a pattern: what is built afterwards is of the next one. Of two that match from a position the earlier is preferred.
-    pub fn pattern(&mut self, whole: Part) -> Result<(), Error> {
-        self.begin()?;
-        let pattern = match PatternID::new(self.firsts.len()) {
-            Err(_) => return Err(Error::TooLarge),
-            Ok(pattern) => pattern,
-        };
-        let group = self.whole_group(pattern.as_usize())?;
-        let whole = self.close(group, whole)?;
-        let accept = self.add(State::Accept { pattern }, true)?;
-        let whole = self.then(whole, accept);
-        self.firsts.push(whole.first)?;
+    /// Finishes a pattern. Of two that match from a position the earlier is preferred.
+    pub fn pattern(&mut self, whole: Part<'n>) -> Result<(), Error>
+        ensures added { OnOk result (patterns_of self.new ≡ patterns_of self.old ++ pattern_of whole.entry ∷ []) }
+        ensures refused { IfErr result (λ e. e ≡ OutOfMemory) }
+        ensures kept { OnErr result (patterns_of self.new ≡ patterns_of self.old) }
+    {
+        self.patterns.push(whole)?;
         Ok(())
     }
 
     /// The program of the finished patterns and of a last one. If haystacks are text, an iteration leaves out empty matches within
     /// characters.
+    ///
+    /// # Errors
+    ///
+    /// `Faulty` if a range's first byte is above its last, `Names` if a pattern has a name twice, `TooLarge` for more states, patterns or groups
+    /// than there are numbers for, else out of memory.
     pub fn build<W: WordClass>(
         mut self,
         words: W,
         utf8: bool,
-        last: Part,
-    ) -> Result<Program<W>, Error> {
+        last: Part<'n>,
+    ) -> Result<Program<W>, Error>
+        ensures matches { IfOk result (λ program. Recognizes W.word_chars program (patterns_of self.entry ++ pattern_of last.entry ∷ [])) }
+        ensures text { IfOk result (λ program. program.utf8 ≡ utf8) }
+        ensures matcher { IfOk result (λ program. program.automaton.matcher ≡ (10, words)) }
+    {
         self.pattern(last)?;
-        let first = self.first_of_patterns()?;
-        let info = info_of(self.alloc, &self.names)?;
-        let states = self.with_final_slots(&info)?;
+        let info = info_of(self.alloc, self.patterns.as_slice())?;
+        let (states, first) = compile(self.alloc, &info, self.patterns.as_slice())?;
         let nfa = Nfa::new(self.alloc, info, LookMatcher::new(words), &states)?;
-        match first {
+        match Program::new(nfa, first, utf8) {
             None => Err(Error::TooLarge),
-            Some(first) => match Program::new(nfa, first, utf8) {
-                None => Err(Error::TooLarge),
-                Some(program) => Ok(program),
-            },
+            Some(program) => Ok(program),
         }
     }
 
-    // Begins the list of names of a pattern, with that of the whole match, if it isn't begun.
-    fn begin(&mut self) -> Result<(), Error> {
-        let pattern = self.firsts.len();
-        if self.names.len() <= pattern {
-            let mut names = Vec::new(self.alloc);
-            names.push(None)?;
-            self.names.push(names)?;
-        }
-        Ok(())
-    }
-
-    // The group of the whole match.
-    fn whole_group(&mut self, pattern: usize) -> Result<Group, Error> {
-        self.groups.push((pattern, 0))?;
-        match (self.groups.len() - 1).checked_mul(2) {
-            None => Err(Error::TooLarge),
-            Some(slot) => Ok(Group { slot }),
-        }
-    }
-
-    // The states, with each record's slot by the group info.
-    fn with_final_slots(&self, info: &GroupInfo) -> Result<Vec<State>, Error> {
-        let mut states = Vec::new(self.alloc);
-        for state in self.states.as_slice() {
-            states.push(match *state {
-                State::Capture { slot, next } => State::Capture {
-                    slot: self.final_slot(info, slot.as_usize())?,
-                    next,
-                },
-                other => other,
-            })?;
-        }
-        Ok(states)
-    }
-
-    // The slot of the group that was opened at half of the number: of its start if that is even, else of its end.
-    fn final_slot(&self, info: &GroupInfo, number: usize) -> Result<SmallIndex, Error> {
-        let Some((pattern, group)) = self.groups.get(number / 2) else {
-            return Err(Error::TooLarge);
-        };
-        let Ok(pattern) = PatternID::new(*pattern) else {
-            return Err(Error::TooLarge);
-        };
-        let Some((start, end)) = info.slots(pattern, *group) else {
-            return Err(Error::TooLarge);
-        };
-        match SmallIndex::new(if number % 2 == 0 { start } else { end }) {
-            Err(_) => Err(Error::TooLarge),
-            Ok(slot) => Ok(slot),
+    // A part with no smaller ones, and with no group.
+    fn leaf(&self, tree: Tree, may_be_empty: bool) -> Part<'n>
+        ensures { pattern_of result ≡ pattern_in tree }
+    {
+        Part {
+            tree,
+            names: Vec::new(self.alloc),
+            may_be_empty,
         }
     }
 }
 
-// The groups of all patterns.
-fn info_of(alloc: Global, names: &[Vec<Option<&str>>]) -> Result<GroupInfo, Error> {
+// The names of a part, and of the part after it.
+fn joined<'n>(
+    mut names: Vec<Option<&'n str>>,
+    mut more: Vec<Option<&'n str>>,
+) -> Result<Vec<Option<&'n str>>, Error>
+    ensures refused { IfErr result (λ e. e ≡ OutOfMemory) }
+{
+    names.append(&mut more)?;
+    Ok(names)
+}
+
+// The groups of all patterns: of each that of the whole match, which has no name, and then its own.
+fn info_of(alloc: Global, patterns: &[Part<'_>]) -> Result<GroupInfo, Error> {
+    let mut all = Vec::new(alloc);
+    for part in patterns {
+        let mut names = Vec::new(alloc);
+        names.push(None)?;
+        names.extend_from_slice(&part.names)?;
+        all.push(names)?;
+    }
     let mut lists = Vec::new(alloc);
-    for list in names {
-        lists.push(list.as_slice())?;
+    for names in &all {
+        lists.push(names.as_slice())?;
     }
     match GroupInfo::new(alloc, lists.as_slice()) {
-        Err(_) => Err(Error::Names),
+        Err(fault) => Err(refusal_of(&fault)),
         Ok(info) => Ok(info),
+    }
+}
+
+// Why there is no group info.
+fn refusal_of(fault: &GroupInfoError) -> Error {
+    match fault.kind() {
+        GroupInfoErrorKind::OutOfMemory => Error::OutOfMemory,
+        GroupInfoErrorKind::Duplicate { .. } => Error::Names,
+        GroupInfoErrorKind::TooManyPatterns { .. }
+        | GroupInfoErrorKind::TooManyGroups { .. }
+        | GroupInfoErrorKind::MissingGroups { .. }
+        | GroupInfoErrorKind::FirstMustBeUnnamed { .. } => Error::TooLarge,
     }
 }

@@ -1,8 +1,14 @@
 //! Laws of matches that a caller can cite: functions whose contracts are the laws.
 ghost use Rattle.std.specs.Prelude.{◌≡◌, ◌<◌, ℕ, List, Option};
-ghost use Rattle.rsc_engine.specs.Searches.{Search};
-ghost use Rattle.rsc_engine.specs.Preferred.{IsPreferred, IsLeftmostFirst, HasNone};
+ghost use Rattle.rsc_captures.specs.Captured.{Captured};
+ghost use Rattle.rsc_search.specs.Inputs.{InputParts};
+ghost use Rattle.rsc_search.specs.Matches.{Matched};
+ghost use Rattle.rsc_engine.specs.Searches.{Search, Compiled, search_in};
+ghost use Rattle.rsc_engine.specs.Patterns.{Pattern, IsMatchIn, Recognizes};
+ghost use Rattle.rsc_engine.specs.Preferred.{IsPreferred, IsLeftmostFirst, IsFirstMatch, MayBegin, HasNone};
 ghost use Rattle.rsc_engine.specs.NextMatches.{IsNext, IsOver};
+
+use rsc_look::WordClass;
 
 /// From a place there is at most one preferred run; in a search there is at most one leftmost-first run, and none if no match begins
 /// where one may.
@@ -16,4 +22,17 @@ pub fn there_is_one_first_match()
 pub fn there_is_one_next_match()
     ensures next { (e : Search) (last : Option ℕ) (one other : List (ℕ × ℕ)) → IsNext e last one → IsNext e last other → one ≡ other }
     ensures over { (e : Search) (last : Option ℕ) (run : List (ℕ × ℕ)) → IsOver e last → ¬ (IsNext e last run) }
+{}
+
+/// What the first match of a program of patterns is: a match of one of them, before which none begins. Without a first match they have none.
+pub fn a_first_match_is_of_a_pattern<W: WordClass>()
+    ensures some { (program : Compiled W) (patterns : List Pattern) (input : InputParts) (captures : Captured) (found : Matched) →
+        Recognizes W.word_chars program patterns → IsFirstMatch (search_in W.word_chars program input) captures found →
+        IsMatchIn patterns (search_in W.word_chars program input) found }
+    ensures earlier { (program : Compiled W) (patterns : List Pattern) (input : InputParts) (captures : Captured) (found other : Matched) →
+        Recognizes W.word_chars program patterns → IsFirstMatch (search_in W.word_chars program input) captures found →
+        other.span.start < found.span.start → ¬ (IsMatchIn patterns (search_in W.word_chars program input) other) }
+    ensures none { (program : Compiled W) (patterns : List Pattern) (input : InputParts) (other : Matched) →
+        Recognizes W.word_chars program patterns → HasNone (search_in W.word_chars program input) →
+        MayBegin (search_in W.word_chars program input) other.span.start → ¬ (IsMatchIn patterns (search_in W.word_chars program input) other) }
 {}

@@ -17,7 +17,7 @@ mod program;
 mod starts;
 mod words;
 
-pub use builder::{Builder, Group, Part};
+pub use builder::{Builder, Part};
 pub use dfa::{Answer, Dfa};
 pub use error::Error;
 pub use iterate::{Matches, find};

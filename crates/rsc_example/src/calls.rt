@@ -9,11 +9,11 @@
 //! e n            no byte; what never matches
 //! , |            the last two parts one after the other; either of them
 //! * + ? {2,3}    the last part repeated; with one more `?` lazily; `{2,}` has no limit
-//! ( )            opens a group; closes the one opened last, whose part is the last
+//! ( )            nothing; the last part as a group, which begins at the `(`
 //! ```
 
 use rsc_captures::Captures;
-use rsc_engine::{Builder, Error, Group, Matches, Part, Program};
+use rsc_engine::{Builder, Error, Matches, Part, Program};
 use rsc_look::AsciiWord;
 use rsc_notation::bytes::{parse_bytes, parse_number, parse_range};
 use rsc_notation::looks::look_of;
@@ -22,13 +22,12 @@ use std::alloc::Global;
 use std::io;
 use std::io::{BufWriter, Read, Write};
 
-// The parts and the open groups that the calls so far have made.
+// The parts that the calls so far have made.
 #[derive(Drop)]
 struct Calls {
     alloc: Global,
     builder: Builder<'static>,
-    parts: Vec<Part>,
-    groups: Vec<Group>,
+    parts: Vec<Part<'static>>,
 }
 
 /// Answers each line of standard input, which is calls, a tab and the digits of a text: all matches of the pattern, each with the spans
@@ -99,14 +98,11 @@ fn push_span(text: &mut String, span: Option<Span>) -> Result<(), Error> {
 fn program_of(alloc: Global, calls: &[u8]) -> Result<Option<Program<AsciiWord>>, Error> {
     let mut made = Calls {
         alloc,
-        builder: Builder::new(alloc)?,
+        builder: Builder::new(alloc),
         parts: Vec::new(alloc),
-        groups: Vec::new(alloc),
     };
     for word in calls.split(|byte| *byte == b' ') {
         if word == b"(".as_slice() {
-            let group = made.builder.open(None)?;
-            made.groups.push(group)?;
             continue;
         }
         match made.call(word)? {
@@ -122,7 +118,7 @@ fn program_of(alloc: Global, calls: &[u8]) -> Result<Option<Program<AsciiWord>>,
 
 impl Calls {
     // The part that a call makes, or `None` if it can't be read.
-    fn call(&mut self, word: &[u8]) -> Result<Option<Part>, Error> {
+    fn call(&mut self, word: &[u8]) -> Result<Option<Part<'static>>, Error> {
         let Some((kind, rest)) = word.split_first() else {
             return Ok(None);
         };
@@ -131,10 +127,10 @@ impl Calls {
             b'c' => self.class(rest),
             b'a' => match look_of(rest) {
                 None => Ok(None),
-                Some(look) => Ok(Some(self.builder.look(look)?)),
+                Some(look) => Ok(Some(self.builder.look(look))),
             },
-            b'e' => Ok(Some(self.builder.empty()?)),
-            b'n' => Ok(Some(self.builder.never()?)),
+            b'e' => Ok(Some(self.builder.empty())),
+            b'n' => Ok(Some(self.builder.never())),
             b',' | b'|' => self.joined(*kind == b','),
             b')' => self.closed(),
             _ => match self.parts.pop() {
@@ -144,14 +140,14 @@ impl Calls {
         }
     }
 
-    fn literal(&mut self, digits: &[u8]) -> Result<Option<Part>, Error> {
+    fn literal(&mut self, digits: &[u8]) -> Result<Option<Part<'static>>, Error> {
         match parse_bytes(self.alloc, digits)? {
             None => Ok(None),
             Some(bytes) => Ok(Some(self.builder.literal(&bytes)?)),
         }
     }
 
-    fn class(&mut self, text: &[u8]) -> Result<Option<Part>, Error> {
+    fn class(&mut self, text: &[u8]) -> Result<Option<Part<'static>>, Error> {
         let mut ranges = Vec::new(self.alloc);
         for range in text.split(|byte| *byte == b',') {
             match parse_range(range) {
@@ -162,25 +158,30 @@ impl Calls {
         Ok(Some(self.builder.class(&ranges)?))
     }
 
-    fn joined(&mut self, is_then: bool) -> Result<Option<Part>, Error> {
+    fn joined(&mut self, is_then: bool) -> Result<Option<Part<'static>>, Error> {
         let (Some(other), Some(one)) = (self.parts.pop(), self.parts.pop()) else {
             return Ok(None);
         };
         if is_then {
-            Ok(Some(self.builder.then(one, other)))
+            Ok(Some(self.builder.then(one, other)?))
         } else {
             Ok(Some(self.builder.either(one, other)?))
         }
     }
 
-    fn closed(&mut self) -> Result<Option<Part>, Error> {
-        let (Some(group), Some(part)) = (self.groups.pop(), self.parts.pop()) else {
-            return Ok(None);
-        };
-        Ok(Some(self.builder.close(group, part)?))
+    fn closed(&mut self) -> Result<Option<Part<'static>>, Error> {
+        match self.parts.pop() {
+            None => Ok(None),
+            Some(part) => Ok(Some(self.builder.group(None, part)?)),
+        }
     }
 
-    fn repeated(&mut self, kind: u8, rest: &[u8], part: Part) -> Result<Option<Part>, Error> {
+    fn repeated(
+        &mut self,
+        kind: u8,
+        rest: &[u8],
+        part: Part<'static>,
+    ) -> Result<Option<Part<'static>>, Error> {
         let is_lazy = rest.last() == Some(&b'?');
         Ok(match (kind, is_lazy) {
             (b'*', false) => Some(self.builder.star(part)?),
@@ -195,7 +196,12 @@ impl Calls {
     }
 
     // The part repeated as often as `2,3}` or `2,}` says.
-    fn counted(&mut self, text: &[u8], is_lazy: bool, part: Part) -> Result<Option<Part>, Error> {
+    fn counted(
+        &mut self,
+        text: &[u8],
+        is_lazy: bool,
+        part: Part<'static>,
+    ) -> Result<Option<Part<'static>>, Error> {
         let mut halves = text.split(|byte| *byte == b',' || *byte == b'}');
         let (Some(min), Some(max)) = (halves.next(), halves.next()) else {
             return Ok(None);

@@ -40,7 +40,7 @@ fn failure<E: Display>(rt: &HostRuntime, error: &E) -> ExitCode {
 
 // Prints the values of all matches of `(\w+)=(?P<value>\w+)`, where each byte of a character above ASCII counts as a word byte.
 fn pairs(rt: &HostRuntime, text: &str) -> Result<(), Error> {
-    let mut builder = Builder::new(rt.alloc())?;
+    let builder = Builder::new(rt.alloc());
     let word = builder.class(&patterns::WORD)?;
     let word = builder.plus(word)?;
     let key = builder.group(None, word)?;
@@ -48,7 +48,7 @@ fn pairs(rt: &HostRuntime, text: &str) -> Result<(), Error> {
     let word = builder.class(&patterns::WORD)?;
     let word = builder.plus(word)?;
     let value = builder.group(Some("value"), word)?;
-    let whole = builder.concat(&[key, equals, value])?;
+    let whole = builder.concat(vec![in rt.alloc(); key, equals, value]?)?;
     let program = builder.build(UnicodeWord, true, whole)?;
 
     let mut captures = Captures::all(rt.alloc(), program.nfa().group_info().clone()?)?;

@@ -1,14 +1,40 @@
 //! Searches by an engine, and what its answers say of one another.
-ghost use Rattle.std.specs.Prelude.{◌≡◌, ◌<◌, IfOk, IfSome, IfNone};
+ghost use Rattle.std.specs.Prelude.{◌≡◌, ◌<◌, ◌≤◌, ℕ, IfOk, IfSome, IfNone, length};
 ghost use Rattle.rsc_search.specs.Matches.{Matched};
 ghost use Rattle.rsc_engine.specs.Searches.{search_in};
 ghost use Rattle.rsc_engine.specs.Preferred.{HasNone, IsFirstMatch};
+ghost use Rattle.rsc_engine.specs.Patterns.{Goes};
+ghost use Rattle.rsc_engine.specs.Parts.{pattern_of};
 
 use rsc_captures::Captures;
-use rsc_engine::{AsciiWords, Dfa, Error, Matches, Program, find, laws};
+use rsc_engine::{AsciiWords, Builder, Dfa, Error, Matches, Part, Program, find, laws};
 use rsc_look::WordClass;
 use rsc_search::{Input, Span};
 use std::alloc::Global;
+
+/// Where a part goes first in a haystack, whose line terminator is `\n`: from where to where, or `None` if it goes nowhere.
+pub fn find_part<W: WordClass>(
+    alloc: Global,
+    words: W,
+    part: Part<'_>,
+    haystack: &[u8],
+) -> Result<Option<(usize, usize)>, Error>
+    ensures some { IfOk result (λ found. IfSome found (λ ends.
+        Goes (record { haystack = haystack.now; terminator = 10; words = W.word_chars words }) (pattern_of part.entry) ends.0 ends.1)) }
+    ensures first { IfOk result (λ found. IfSome found (λ ends. (i j : ℕ) → i < ends.0 → j ≤ length haystack.now →
+        ¬ (Goes (record { haystack = haystack.now; terminator = 10; words = W.word_chars words }) (pattern_of part.entry) i j))) }
+    ensures none { IfOk result (λ found. IfNone found ((i j : ℕ) → i ≤ length haystack.now → j ≤ length haystack.now →
+        ¬ (Goes (record { haystack = haystack.now; terminator = 10; words = W.word_chars words }) (pattern_of part.entry) i j))) }
+{
+    laws::a_first_match_is_of_a_pattern::<W>();
+    let program = Builder::new(alloc).build(words, true, part)?;
+    let mut captures = Captures::all(alloc, program.nfa().group_info().clone()?)?;
+    let input = Input::new(haystack);
+    match find(alloc, &program, &input, &mut captures)? {
+        None => Ok(None),
+        Some(found) => Ok(Some((found.start(), found.end()))),
+    }
+}
 
 /// The span of the first match, or `None` if no match begins where one may.
 pub fn first_span<W: WordClass>(

@@ -10,12 +10,12 @@ use std::test::Fail;
 
 // `(?P<both>a(b)?)+`
 fn groups(alloc: Global) -> Result<Program<AsciiWord>, Error> {
-    let mut builder = Builder::new(alloc)?;
+    let builder = Builder::new(alloc);
     let one = builder.literal(b"a")?;
-    let other = builder.range(b'b', b'b')?;
+    let other = builder.range(b'b', b'b');
     let other = builder.group(None, other)?;
     let other = builder.optional(other)?;
-    let both = builder.then(one, other);
+    let both = builder.then(one, other)?;
     let both = builder.group(Some("both"), both)?;
     let whole = builder.plus(both)?;
     builder.build(AsciiWord, true, whole)
@@ -28,17 +28,17 @@ fn groups_of_the_last_round_count(rt: HostRuntime) -> Result<(), Fail> {
     let found = find(rt.alloc(), &program, &Input::new(b"-aba"), &mut captures)?;
     assert!(rt; found.map(|m| m.span()) == Some(Span { start: 1, end: 4 }));
     assert!(rt; captures.get_group_by_name("both") == Some(Span { start: 3, end: 4 }));
-    assert!(rt; captures.get_group(1) == Some(Span { start: 2, end: 3 }));
+    assert!(rt; captures.get_group(2) == Some(Span { start: 2, end: 3 }));
     Ok(())
 }
 
 // `[ab]|c` of classes
 fn class(alloc: Global) -> Result<Program<AsciiWord>, Error> {
-    let mut builder = Builder::new(alloc)?;
+    let builder = Builder::new(alloc);
     let class = builder.class(&[(b'a', b'a'), (b'b', b'b')])?;
     let other = builder.literal(b"c")?;
     let either = builder.either(class, other)?;
-    let whole = builder.concat(&[either])?;
+    let whole = builder.concat(vec![in alloc; either]?)?;
     builder.build(AsciiWord, true, whole)
 }
 
@@ -53,15 +53,60 @@ fn classes_take_one_byte(rt: HostRuntime) -> Result<(), Fail> {
 
 #[test]
 fn refuses_a_class_without_a_range(rt: HostRuntime) -> Result<(), Fail> {
-    let mut builder = Builder::new(rt.alloc())?;
+    let builder = Builder::new(rt.alloc());
     assert!(rt; matches!(builder.class(&[]), Err(Error::EmptyClass)));
+    Ok(())
+}
+
+#[test]
+fn refuses_a_range_from_a_greater_byte(rt: HostRuntime) -> Result<(), Fail> {
+    let builder = Builder::new(rt.alloc());
+    let whole = builder.range(b'b', b'a');
+    assert!(rt; matches!(builder.build(AsciiWord, true, whole), Err(Error::Faulty)));
+    Ok(())
+}
+
+#[test]
+fn refuses_a_name_twice(rt: HostRuntime) -> Result<(), Fail> {
+    let builder = Builder::new(rt.alloc());
+    let one = builder.group(Some("x"), builder.empty())?;
+    let other = builder.group(Some("x"), builder.empty())?;
+    let whole = builder.then(one, other)?;
+    assert!(rt; matches!(builder.build(AsciiWord, true, whole), Err(Error::Names)));
+    Ok(())
+}
+
+// `(a){0}(?:(b)|(c)){2}(d)`
+fn repeated_groups(alloc: Global) -> Result<Program<AsciiWord>, Error> {
+    let builder = Builder::new(alloc);
+    let a = builder.group(None, builder.literal(b"a")?)?;
+    let a = builder.repeat(a, 0, Some(0))?;
+    let b = builder.group(None, builder.literal(b"b")?)?;
+    let c = builder.group(None, builder.literal(b"c")?)?;
+    let either = builder.either(b, c)?;
+    let twice = builder.repeat(either, 2, Some(2))?;
+    let d = builder.group(None, builder.literal(b"d")?)?;
+    let whole = builder.concat(vec![in alloc; a, twice, d]?)?;
+    builder.build(AsciiWord, true, whole)
+}
+
+#[test]
+fn a_repeated_part_has_its_groups_once(rt: HostRuntime) -> Result<(), Fail> {
+    let program = repeated_groups(rt.alloc())?;
+    let mut captures = Captures::all(rt.alloc(), program.nfa().group_info().clone()?)?;
+    let found = find(rt.alloc(), &program, &Input::new(b"bcd"), &mut captures)?;
+    assert!(rt; found.map(|m| m.span()) == Some(Span { start: 0, end: 3 }));
+    assert!(rt; captures.get_group(1) == None);
+    assert!(rt; captures.get_group(2) == Some(Span { start: 0, end: 1 }));
+    assert!(rt; captures.get_group(3) == Some(Span { start: 1, end: 2 }));
+    assert!(rt; captures.get_group(4) == Some(Span { start: 2, end: 3 }));
     Ok(())
 }
 
 // `(?:^|a)*` of lines: what is repeated can match nothing.
 fn repeated_nothing(alloc: Global) -> Result<Program<AsciiWord>, Error> {
-    let mut builder = Builder::new(alloc)?;
-    let start = builder.look(Look::StartLF)?;
+    let builder = Builder::new(alloc);
+    let start = builder.look(Look::StartLF);
     let a = builder.literal(b"a")?;
     let either = builder.either(start, a)?;
     let whole = builder.star(either)?;
@@ -78,7 +123,7 @@ fn a_star_of_what_can_be_empty_is_a_plus_or_nothing(rt: HostRuntime) -> Result<(
 }
 
 // A repetition of `a`, by its number.
-fn repetition(builder: &mut Builder<'_>, number: usize, part: Part) -> Result<Part, Error> {
+fn repetition<'n>(builder: &Builder<'n>, number: usize, part: Part<'n>) -> Result<Part<'n>, Error> {
     match number {
         0 => builder.star(part),
         1 => builder.star_lazy(part),
@@ -111,9 +156,9 @@ fn repeats_as_often_as_is_asked(rt: HostRuntime) -> Result<(), Fail> {
         (10, 3),
         (11, 0),
     ] {
-        let mut builder = Builder::new(rt.alloc())?;
+        let builder = Builder::new(rt.alloc());
         let part = builder.literal(b"a")?;
-        let whole = repetition(&mut builder, number, part)?;
+        let whole = repetition(&builder, number, part)?;
         let program = builder.build(AsciiWord, true, whole)?;
         let found = first(rt.alloc(), &program, &Input::new(b"aaaa"))?;
         assert!(rt; found == Some((0, end)), "{number}: {found:?}");
@@ -121,18 +166,16 @@ fn repeats_as_often_as_is_asked(rt: HostRuntime) -> Result<(), Fail> {
     Ok(())
 }
 
-// `((a)|\xFF|never)`, whose outer group is opened first
+// `((a)|\xFF|never)`, whose outer group is made last
 fn nested(alloc: Global) -> Result<Program<AsciiWord>, Error> {
-    let mut builder = Builder::new(alloc)?;
-    let outer = builder.open(Some("outer"))?;
-    let inner = builder.open(Some("inner"))?;
+    let builder = Builder::new(alloc);
     let a = builder.literal(b"a")?;
-    let a = builder.close(inner, a)?;
+    let a = builder.group(Some("inner"), a)?;
     let last = builder.literal(b"\xFF")?;
-    let never = builder.never()?;
+    let never = builder.never();
     let either = builder.either(a, last)?;
     let either = builder.either(either, never)?;
-    let whole = builder.close(outer, either)?;
+    let whole = builder.group(Some("outer"), either)?;
     builder.build(AsciiWord, false, whole)
 }
 
@@ -152,7 +195,7 @@ fn groups_are_numbered_where_they_open(rt: HostRuntime) -> Result<(), Fail> {
 
 // `(?P<x>ab)` and `(?P<x>a)`
 fn patterns(alloc: Global) -> Result<Program<AsciiWord>, Error> {
-    let mut builder = Builder::new(alloc)?;
+    let mut builder = Builder::new(alloc);
     let one = builder.literal(b"ab")?;
     let one = builder.group(Some("x"), one)?;
     builder.pattern(one)?;

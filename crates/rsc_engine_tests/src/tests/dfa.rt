@@ -38,43 +38,43 @@ fn look(number: usize) -> Look {
 
 // For each assertion L, `Lb|aLa|(?:b\n)L`; and then lines, words and no assertion.
 fn made(alloc: Global, number: usize) -> Result<Program<UnicodeWord>, Error> {
-    let mut builder = Builder::new(alloc)?;
+    let builder = Builder::new(alloc);
     let whole = match number {
         18 => {
-            let start = builder.look(Look::StartLF)?;
-            let letters = builder.range(b'a', b'z')?;
+            let start = builder.look(Look::StartLF);
+            let letters = builder.range(b'a', b'z');
             let letters = builder.plus(letters)?;
-            let end = builder.look(Look::EndLF)?;
-            builder.concat(&[start, letters, end])?
+            let end = builder.look(Look::EndLF);
+            builder.concat(vec![in alloc; start, letters, end]?)?
         }
         19 => {
-            let start = builder.look(Look::WordUnicode)?;
+            let start = builder.look(Look::WordUnicode);
             let letter = builder.literal(b"\xC3\xA9")?;
-            let end = builder.look(Look::WordUnicode)?;
-            builder.concat(&[start, letter, end])?
+            let end = builder.look(Look::WordUnicode);
+            builder.concat(vec![in alloc; start, letter, end]?)?
         }
         20 => {
             let letters = builder.literal(b"a")?;
             let letters = builder.star(letters)?;
             let last = builder.literal(b" b")?;
-            builder.then(letters, last)
+            builder.then(letters, last)?
         }
         21 => {
             let last = builder.literal(b"b")?;
-            let end = builder.look(Look::End)?;
-            builder.then(last, end)
+            let end = builder.look(Look::End);
+            builder.then(last, end)?
         }
         _ => {
-            let here = builder.look(look(number))?;
+            let here = builder.look(look(number));
             let last = builder.literal(b"b")?;
-            let one = builder.then(here, last);
+            let one = builder.then(here, last)?;
             let first = builder.literal(b"a")?;
-            let here = builder.look(look(number))?;
+            let here = builder.look(look(number));
             let last = builder.literal(b"a")?;
-            let two = builder.concat(&[first, here, last])?;
+            let two = builder.concat(vec![in alloc; first, here, last]?)?;
             let first = builder.literal(b"b\n")?;
-            let here = builder.look(look(number))?;
-            let three = builder.then(first, here);
+            let here = builder.look(look(number));
+            let three = builder.then(first, here)?;
             let two = builder.either(two, three)?;
             builder.either(one, two)?
         }
@@ -211,10 +211,10 @@ fn goes_on_with_one_row(rt: HostRuntime) -> Result<(), Fail> {
 
 // `a\b` and `b+`
 fn two(alloc: Global) -> Result<Program<AsciiWord>, Error> {
-    let mut builder = Builder::new(alloc)?;
+    let mut builder = Builder::new(alloc);
     let letter = builder.literal(b"a")?;
-    let end = builder.look(Look::WordEndAscii)?;
-    let one = builder.then(letter, end);
+    let end = builder.look(Look::WordEndAscii);
+    let one = builder.then(letter, end)?;
     builder.pattern(one)?;
     let other = builder.literal(b"b")?;
     let other = builder.plus(other)?;

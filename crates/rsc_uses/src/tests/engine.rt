@@ -8,8 +8,11 @@ use std::test::Fail;
 
 #[test]
 fn searches(rt: HostRuntime) -> Result<(), Fail> {
-    let mut builder = Builder::new(rt.alloc())?;
-    let whole = builder.range(b'a', b'z')?;
+    let builder = Builder::new(rt.alloc());
+    let whole = builder.range(b'a', b'z');
+    let found = engine::find_part(rt.alloc(), AsciiWord, whole, b"-a b")?;
+    assert!(rt; found == Some((1, 2)));
+    let whole = builder.range(b'a', b'z');
     let program = builder.build(AsciiWord, true, whole)?;
     let mut captures = Captures::all(rt.alloc(), program.nfa().group_info().clone()?)?;
     let input = Input::new(b"-a b");

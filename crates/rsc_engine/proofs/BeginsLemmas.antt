@@ -1,0 +1,288 @@
+-- From the state at which a pattern begins, or the first of several, its matches are found and no others: the runs of a program that was built.
+use Rattle.std.proofs.Common.{map, get_or, option_map, ◌≡◌, ℕ, zero, suc, ◌+◌, ◌-◌, ◌<◌, ◌≤◌, ◌⊎◌, inl, inr, ⊎_elim, List, [], ◌∷◌, ◌++◌, length, slice_get, refl, sym, ap, ◌∙◌, subst, arith, Option, Some, None, MatchOption, ◌↔◌, Bool, true, false, true≢false}
+use Rattle.std.proofs.lemmas.Bool.{cases_lt, cases_eq}
+use Rattle.std.proofs.lemmas.Option.{slice_get_within, slice_get_read, slice_get-map}
+use Rattle.rsc_nfa.specs.declared.state.State.{State}
+use Rattle.rsc_nfa.specs.declared.state.State.TheVariants.{Fork, Accept, ByteRange, Assert, Capture}
+use Rattle.rsc_nfa.specs.Steps.{StepsTo, place, IsRun, IsStep}
+use Rattle.rsc_engine.specs.Patterns.{Pattern, Goes, Text, text_of, IsMatchIn, HasRunOf, Recognizes}
+use Rattle.rsc_engine.specs.declared.builder.Part.{Part}
+use Rattle.rsc_engine.specs.Parts.{pattern_of}
+use Rattle.rsc_engine.specs.Links.{Aim, Ends, HasEnd, Realizes, Adds, Builds, IsAdded}
+use Rattle.rsc_engine.specs.Begins.{Begins, IsOfOne, IsOfSome}
+use Rattle.rsc_engine.proofs.LinksLemmas.{choice_to, choice_first, choice_next}
+use Rattle.rsc_engine.proofs.BuilderLemmas.{Adds-one, Adds-both, Adds-is}
+use Rattle.rsc_search.specs.Inputs.{InputParts}
+use Rattle.rsc_search.specs.Matches.{Matched}
+use Rattle.rsc_search.specs.Modes.{pattern_of as pattern_wanted}
+use Rattle.rsc_engine.specs.Searches.{Search, Compiled, search_in}
+use Rattle.rsc_engine.specs.Runs.{Leads, IsPlace, IsMatchRun, IsMatchOf, accepts, is_accepting, is_wanted}
+use Rattle.rsc_captures.specs.Captured.{Captured}
+use Rattle.rsc_engine.specs.Preferred.{IsFirstMatch, MayBegin, HasNone}
+use Rattle.rsc_engine.proofs.WalksLemmas.{leads-rises, run-rises}
+
+-- ---- one pattern
+
+same_pattern : (p q : ℕ) → Some (Accept p) ≡ Some (Accept q) → p ≡ q
+same_pattern p q e = cc
+
+-- a way to a match ends where its pattern is accepted
+at_accept : (states : List State) (a : Aim) (n s i q : ℕ) → slice_get states s ≡ Some (Accept q) → Ends states a n s i → (a.pattern ≡ q) × (i ≡ a.position)
+at_accept states a zero s i q is e = (same_pattern a.pattern q (sym e.0 ∙ is), e.1)
+at_accept states a (suc n) s i q is e =
+    absurd (subst (λ (o : Option State). MatchOption o ⊥ (λ (x : State). StepsTo x a.text.terminator a.text.words a.text.haystack a.end i (e.1, e.2))) is e.3)
+
+Begins-one : (states : List State) (first accept number : ℕ) (p : Pattern) → slice_get states accept ≡ Some (Accept number)
+    → Realizes states first accept p → Begins states first (IsOfOne number p)
+Begins-one states first accept number p is r = record {
+  sound = λ a n i e.
+      let g = r.sound a n i e in
+      let end = at_accept states a g.left accept g.to number is g.ends in
+      (end.0, subst (λ (k : ℕ). Goes a.text p i k) end.1 g.goes);
+  complete = λ a i s within.
+      r.complete a i a.position s.1
+      (record { steps = 0; ends = (is ∙ ap (λ (q : ℕ). Some (Accept q)) (sym s.0), refl, within) });
+}
+
+pub Adds-pattern : (old middle new : List State) (accept number first index : ℕ) (p : Pattern) → IsAdded old middle (Accept number) accept
+    → Builds middle new first accept p → number ≡ index → Adds old new (λ (states : List State). Begins states first (IsOfOne index p))
+Adds-pattern old middle new accept number first index p a x same =
+    Adds-both old middle new (λ (states : List State). slice_get states accept ≡ Some (Accept number))
+    (λ (states : List State). Realizes states first accept p) (λ (states : List State). Begins states first (IsOfOne index p))
+    (Adds-one old middle (Accept number) accept a) x
+    (λ states is r. Begins-one states first accept index p (is ∙ ap (λ (q : ℕ). Some (Accept q)) same) r)
+
+-- ---- several patterns
+
+Begins-is : (states : List State) (first : ℕ) (P Q : Aim → ℕ → Type 0) → ((a : Aim) (i : ℕ) → P a i → Q a i) → ((a : Aim) (i : ℕ) → Q a i → P a i)
+    → Begins states first P → Begins states first Q
+Begins-is states first P Q to back b = record {
+  sound = λ a n i e. to a i (b.sound a n i e);
+  complete = λ a i q within. b.complete a i (back a i q) within;
+}
+
+Begins-either : (states : List State) (s one other : ℕ) (P Q : Aim → ℕ → Type 0) → slice_get states s ≡ Some (Fork one other)
+    → Begins states one P → Begins states other Q → Begins states s (λ (a : Aim) (i : ℕ). P a i ⊎ Q a i)
+Begins-either states s one other P Q is b c = record {
+  sound = λ a n i e.
+      let w = choice_to states a n s i one other (inl is) e in
+      ⊎_elim (λ (x : Ends states a w.0 one i). inl (b.sound a w.0 i x)) (λ (x : Ends states a w.0 other i). inr (c.sound a w.0 i x)) w.2;
+  complete = λ a i h within. ⊎_elim
+      (λ (x : P a i). choice_first states a s i one other (inl is) (b.complete a i x within))
+      (λ (x : Q a i). choice_next states a s i one other (inl is) (c.complete a i x within))
+      h;
+}
+
+same_some : (p q : Pattern) → Some p ≡ Some q → p ≡ q
+same_some p q e = cc
+
+-- the last of the patterns
+last-is : (patterns : List Pattern) (n : ℕ) (p : Pattern) → slice_get patterns n ≡ Some p → (a : Aim) (i : ℕ) → IsOfOne n p a i → IsOfSome n patterns a i
+last-is patterns n p at a i s = (omega (arith, s.0), p, (subst (λ (m : ℕ). slice_get patterns m ≡ Some p) (sym s.0) at), s.1)
+
+last-back : (patterns : List Pattern) (n : ℕ) (p : Pattern) → slice_get patterns n ≡ Some p → n + 1 ≡ length patterns → (a : Aim) (i : ℕ)
+    → IsOfSome n patterns a i → IsOfOne n p a i
+last-back patterns n p at last a i s =
+    let there = slice_get_within patterns a.pattern s.1 s.2 in
+    let same : a.pattern ≡ n = omega (arith, there, last, s.0) in
+    let its : s.1 ≡ p = same_some s.1 p (sym s.2 ∙ (subst (λ (m : ℕ). slice_get patterns m ≡ Some p) (sym same) at)) in
+    (same, subst (λ (q : Pattern). Goes a.text q i a.position) its s.3)
+
+pub Adds-last : (old new : List State) (first n : ℕ) (p : Pattern) (patterns : List Pattern) → slice_get patterns n ≡ Some p → n + 1 ≡ length patterns
+    → Adds old new (λ (states : List State). Begins states first (IsOfOne n p))
+    → Adds old new (λ (states : List State). Begins states first (IsOfSome n patterns))
+Adds-last old new first n p patterns at last x =
+    Adds-is old new (λ (states : List State). Begins states first (IsOfOne n p)) (λ (states : List State). Begins states first (IsOfSome n patterns))
+    (λ states b. Begins-is states first (IsOfOne n p) (IsOfSome n patterns) (last-is patterns n p at) (last-back patterns n p at last) b) x
+
+-- a pattern before others
+more-is : (patterns : List Pattern) (n : ℕ) (p : Pattern) → slice_get patterns n ≡ Some p → (a : Aim) (i : ℕ)
+    → IsOfOne n p a i ⊎ IsOfSome (n + 1) patterns a i → IsOfSome n patterns a i
+more-is patterns n p at a i (inl s) = last-is patterns n p at a i s
+more-is patterns n p at a i (inr s) = (omega (arith, s.0), s.1, s.2, s.3)
+
+more-back : (patterns : List Pattern) (n : ℕ) (p : Pattern) → slice_get patterns n ≡ Some p → (a : Aim) (i : ℕ)
+    → IsOfSome n patterns a i → IsOfOne n p a i ⊎ IsOfSome (n + 1) patterns a i
+more-back patterns n p at a i s = ⊎_elim
+    (λ (same : a.pattern ≡ n).
+    let its : s.1 ≡ p = same_some s.1 p (sym s.2 ∙ (subst (λ (m : ℕ). slice_get patterns m ≡ Some p) (sym same) at)) in
+    inl (same, subst (λ (q : Pattern). Goes a.text q i a.position) its s.3))
+    (λ (apart : (a.pattern ≡ n) → ⊥). inr (above a.pattern s.0 apart, s.1, s.2, s.3))
+    (cases_eq a.pattern n)
+  where
+    above : (m : ℕ) → n ≤ m → ((m ≡ n) → ⊥) → n + 1 ≤ m
+    above m le apart = ⊎_elim (λ (l : n < m). omega (arith, l)) (λ (l : m ≤ n). absurd (apart (omega (arith, l, le)))) (cases_lt n m)
+
+pub Adds-more : (old middle last new : List State) (one first id n : ℕ) (p : Pattern) (patterns : List Pattern) → slice_get patterns n ≡ Some p
+    → Adds old middle (λ (states : List State). Begins states first (IsOfSome (n + 1) patterns))
+    → Adds middle last (λ (states : List State). Begins states one (IsOfOne n p)) → IsAdded last new (Fork one first) id
+    → Adds old new (λ (states : List State). Begins states id (IsOfSome n patterns))
+Adds-more old middle last new one first id n p patterns at x y a =
+    Adds-both old last new
+    (λ (states : List State). Begins states first (IsOfSome (n + 1) patterns) × Begins states one (IsOfOne n p))
+    (λ (states : List State). slice_get states id ≡ Some (Fork one first)) (λ (states : List State). Begins states id (IsOfSome n patterns))
+    (Adds-both old middle last (λ (states : List State). Begins states first (IsOfSome (n + 1) patterns))
+    (λ (states : List State). Begins states one (IsOfOne n p))
+    (λ (states : List State). Begins states first (IsOfSome (n + 1) patterns) × Begins states one (IsOfOne n p)) x y (λ states b c. (b, c)))
+    (Adds-one last new (Fork one first) id a)
+    (λ states b is. Begins-is states id (λ (t : Aim) (i : ℕ). IsOfOne n p t i ⊎ IsOfSome (n + 1) patterns t i) (IsOfSome n patterns)
+    (more-is patterns n p at) (more-back patterns n p at)
+    (Begins-either states id one first (IsOfOne n p) (IsOfSome (n + 1) patterns) is b.1 b.0))
+
+-- what was added is so in the list itself
+pub Adds-now : (old new : List State) (P : List State → Type 0) → Adds old new P → P new
+Adds-now old new P x = x.holds new (λ k l m. refl)
+
+pub its_pattern : (parts : List Part) (k : ℕ) (part : Part) → k < length parts → part ≡ get_or parts k part
+    → slice_get (map pattern_of parts) k ≡ Some (pattern_of part)
+its_pattern parts k part l is =
+    slice_get-map pattern_of parts k ∙ ap (option_map pattern_of) (slice_get_read parts (length parts) k part refl l is)
+
+-- the match that is looked for, in a search
+abbrev aim_of : Search → Matched → Aim
+aim_of e found = record { text = text_of e; end = e.end; pattern = found.pattern; position = found.span.end }
+
+-- ---- from a run to a way
+
+-- the places of a run from k on are a way to its match, if n steps are left
+way_from : (e : Search) (found : Matched) (run : List (ℕ × ℕ)) → IsRun e.states e.terminator e.words e.haystack e.start e.end run
+    → IsMatchOf e run found → (n k : ℕ) → k + n + 1 ≡ length run → Ends e.states (aim_of e found) n (place run k).0 (place run k).1
+way_from e found run r m zero k last =
+    let same : length run - 1 ≡ k = omega (arith, last) in
+    let pattern = rw same at m.pattern in
+    let end = rw same at m.end in
+    (pattern, sym end, (r.places k (omega (arith, last))).2)
+way_from e found run r m (suc n) k last = (
+  (r.places k (omega (arith, last))).2,
+  (place run (k + 1)).0,
+  (place run (k + 1)).1,
+  r.steps k (omega (arith, last)),
+  way_from e found run r m n (k + 1) (omega (arith, last)),
+)
+
+-- ---- from a way to a run
+
+-- a run to the match from a place
+record Run (e : Search) (found : Matched) (s i : ℕ) : Type 0 where
+  run : List (ℕ × ℕ)
+  is_run : IsRun e.states e.terminator e.words e.haystack e.start e.end run
+  some : 0 < length run
+  begins : place run 0 ≡ (s, i)
+  pattern : slice_get e.states (place run (length run - 1)).0 ≡ Some (Accept found.pattern)
+  end : (place run (length run - 1)).1 ≡ found.span.end
+
+step_within : (e : Search) (p q : ℕ × ℕ) → Leads e p q → p.0 < length e.states
+step_within e p q l = go (slice_get e.states p.0) refl l
+  where
+    go : (o : Option State) → slice_get e.states p.0 ≡ o → MatchOption o ⊥ (λ (state : State). StepsTo state e.terminator e.words e.haystack e.end p.1 q)
+        → p.0 < length e.states
+    go None is x = absurd x
+    go (Some state) is x = slice_get_within e.states p.0 state is
+
+-- a place before a run
+before : (e : Search) (found : Matched) (s i t k : ℕ) → e.start ≤ i → i ≤ e.end → Leads e (s, i) (t, k) → Run e found t k → Run e found s i
+before e found s i t k low high step r = record {
+  run = (s, i) ∷ r.run;
+  is_run = record { places = places; steps = steps };
+  some = omega arith;
+  begins = refl;
+  pattern = rw back r.pattern;
+  end = rw back r.end;
+}
+  where
+    back : place ((s, i) ∷ r.run) (length ((s, i) ∷ r.run) - 1) ≡ place r.run (length r.run - 1)
+    back = let one : length ((s, i) ∷ r.run) - 1 ≡ suc (length r.run - 1) = omega (arith, r.some) in ap (λ (n : ℕ). place ((s, i) ∷ r.run) n) one
+
+    places : (n : ℕ) → n < length ((s, i) ∷ r.run) → IsPlace e (place ((s, i) ∷ r.run) n)
+    places zero l = (step_within e (s, i) (t, k) step, low, high)
+    places (suc n) l = r.is_run.places n (omega (arith, l))
+
+    steps : (n : ℕ) → n + 1 < length ((s, i) ∷ r.run) → Leads e (place ((s, i) ∷ r.run) n) (place ((s, i) ∷ r.run) (n + 1))
+    steps zero l = subst (λ (q : ℕ × ℕ). Leads e (s, i) q) (sym r.begins) step
+    steps (suc n) l = let one : suc n + 1 ≡ suc (n + 1) = omega arith in rw one (r.is_run.steps n (omega (arith, l)))
+
+run_from : (e : Search) (found : Matched) (n s i : ℕ) → e.start ≤ i → Ends e.states (aim_of e found) n s i → Run e found s i
+run_from e found zero s i low x = record {
+  run = (s, i) ∷ [];
+  is_run = record {
+    places = λ n l.
+        let none : n ≡ 0 = omega (arith, l) in
+        rw none (slice_get_within e.states s (Accept found.pattern) x.0, low, omega (arith, x.1, x.2));
+    steps = λ n l. absurd (omega (arith, l));
+  };
+  some = omega arith;
+  begins = refl;
+  pattern = x.0;
+  end = x.1;
+}
+run_from e found (suc n) s i low x =
+    let up = leads-rises e (s, i) (x.1, x.2) x.3 in
+    before e found s i x.1 x.2 low x.0 x.3 (run_from e found n x.1 x.2 (omega (arith, low, up)) x.4)
+
+-- ---- both
+
+-- the state of a match accepts its pattern, if that is wanted
+accepting : (wanted : Option ℕ) (o : Option State) (q : ℕ) → o ≡ Some (Accept q) → is_wanted wanted q ≡ is_accepting wanted o
+accepting wanted o q e = rw e refl
+
+has_match : (e : Search) (patterns : List Pattern) (found : Matched) → Begins e.states e.first (IsOfSome 0 patterns)
+    → HasRunOf e found → IsMatchIn patterns e found
+has_match e patterns found b h =
+    let r = h.is_match in
+    let way = way_from e found h.run r.is_run h.makes (length h.run - 1) 0 (omega (arith, r.some)) in
+    let here : Ends e.states (aim_of e found) (length h.run - 1) e.first found.span.start =
+    subst (λ (p : ℕ × ℕ). Ends e.states (aim_of e found) (length h.run - 1) p.0 p.1) r.begins way in
+    let s = b.sound (aim_of e found) (length h.run - 1) found.span.start here in
+    record {
+      pattern = s.1;
+      its = s.2;
+      wanted = accepting (pattern_wanted e.mode) (slice_get e.states (place h.run (length h.run - 1)).0) found.pattern h.makes.pattern ∙ r.ends;
+      start = subst (λ (p : ℕ × ℕ). e.start ≤ p.1) r.begins ((r.is_run.places 0 r.some).1);
+      end = omega (arith, h.makes.end, (r.is_run.places (length h.run - 1) (omega (arith, r.some))).2);
+      goes = s.3;
+    }
+
+has_run : (e : Search) (patterns : List Pattern) (found : Matched) → Begins e.states e.first (IsOfSome 0 patterns)
+    → IsMatchIn patterns e found → HasRunOf e found
+has_run e patterns found b m =
+    let h = b.complete (aim_of e found) found.span.start (omega arith, m.pattern, m.its, m.goes) m.end in
+    let r = run_from e found h.steps e.first found.span.start m.start h.ends in
+    record {
+      run = r.run;
+      is_match = record {
+        is_run = r.is_run;
+        some = r.some;
+        begins = r.begins;
+        ends = sym (accepting (pattern_wanted e.mode) (slice_get e.states (place r.run (length r.run - 1)).0) found.pattern r.pattern) ∙ m.wanted;
+      };
+      makes = record { pattern = r.pattern; start = sym (ap (λ (p : ℕ × ℕ). p.1) r.begins); end = sym r.end };
+    }
+
+pub Recognizes-built : {W : Type 0} (chars : W → ℕ → Bool) (program : Compiled W) (patterns : List Pattern)
+    → Begins program.automaton.states program.start (IsOfSome 0 patterns) → Recognizes chars program patterns
+Recognizes-built chars program patterns b = record {
+  exactly = λ input found. (has_match (search_in chars program input) patterns found b, has_run (search_in chars program input) patterns found b);
+}
+
+-- ---- the first match
+
+pub first_is_in : (e : Search) (patterns : List Pattern) (captures : Captured) (found : Matched)
+    → ((other : Matched) → HasRunOf e other ↔ IsMatchIn patterns e other) → IsFirstMatch e captures found → IsMatchIn patterns e found
+first_is_in e patterns captures found both f = (both found).0 (record {
+  run = f.run;
+  is_match = subst (λ (i : ℕ). IsMatchRun e (e.first, i) f.run) (sym f.is_of.ends.start) f.is_first.preferred.is_match;
+  makes = f.is_of.ends;
+})
+
+pub none_before : (e : Search) (patterns : List Pattern) (captures : Captured) (found other : Matched)
+    → ((other : Matched) → HasRunOf e other ↔ IsMatchIn patterns e other) → IsFirstMatch e captures found → other.span.start < found.span.start
+    → IsMatchIn patterns e other → ⊥
+none_before e patterns captures found other both f l m =
+    let r = (both other).1 m in
+    f.is_first.leftmost other.span.start m.start (omega (arith, l, f.is_of.ends.start)) r.run r.is_match
+
+pub none_at_all : (e : Search) (patterns : List Pattern) (other : Matched) → ((other : Matched) → HasRunOf e other ↔ IsMatchIn patterns e other)
+    → HasNone e → MayBegin e other.span.start → IsMatchIn patterns e other → ⊥
+none_at_all e patterns other both none begins m =
+    let r = (both other).1 m in
+    none other.span.start begins r.run r.is_match

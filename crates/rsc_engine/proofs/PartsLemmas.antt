@@ -1,0 +1,19 @@
+-- The pattern of a tree, by its variants.
+use Rattle.std.proofs.Common.{◌≡◌, ℕ, [], ◌∷◌, map, Vec, Box, Global, sym, ap, ◌∙◌}
+use Rattle.rsc_look.specs.declared.assertion.Look.{Look}
+use Rattle.rsc_engine.specs.Patterns.{Pattern, Class, Assertion, Then, Either}
+use Rattle.rsc_engine.specs.Parts.{pattern_in, pattern_of_node}
+use Rattle.rsc_engine.specs.declared.builder.tree.Tree.{Tree, Tree-F, fold-roll-Tree}
+use Rattle.rsc_engine.specs.declared.builder.tree.Tree.TheVariants as variants
+
+pub pattern-range : (a b : ℕ) → pattern_in (variants.Range a b) ≡ Class ((a, b) ∷ [])
+pattern-range a b = ap pattern_in (sym (variants.rolls-Range a b)) ∙ fold-roll-Tree Pattern pattern_of_node (Tree-F.Range a b)
+
+pub pattern-assertion : (look : Look) → pattern_in (variants.Assertion look) ≡ Assertion look
+pattern-assertion look = ap pattern_in (sym (variants.rolls-Assertion look)) ∙ fold-roll-Tree Pattern pattern_of_node (Tree-F.Assertion look)
+
+pub pattern-then : (one other : Box Tree Global) → pattern_in (variants.Then one other) ≡ Then (pattern_in one.value) (pattern_in other.value)
+pattern-then one other = ap pattern_in (sym (variants.rolls-Then one other)) ∙ fold-roll-Tree Pattern pattern_of_node (Tree-F.Then one other)
+
+pub pattern-either : (one other : Box Tree Global) → pattern_in (variants.Either one other) ≡ Either (pattern_in one.value) (pattern_in other.value)
+pattern-either one other = ap pattern_in (sym (variants.rolls-Either one other)) ∙ fold-roll-Tree Pattern pattern_of_node (Tree-F.Either one other)

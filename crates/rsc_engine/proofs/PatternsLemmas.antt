@@ -1,0 +1,165 @@
+-- Patterns that go where others go: bytes, classes and repetitions.
+use Rattle.std.proofs.Common.{◌≡◌, ℕ, zero, suc, ◌+◌, ◌-◌, ◌<◌, ◌≤◌, ◌⊎◌, inl, inr, ⊎_elim, Bool, true, false, ◌||◌, ◌&&◌, true≢false, nat_le, IsTrue, List, [], ◌∷◌, slice_get, refl, sym, ap, ◌∙◌, subst, arith, Option, Some, None}
+use Rattle.std.specs.List.{list_any}
+use Rattle.std.proofs.lemmas.Bool.{cases_lt, leb-true, le-leb}
+use Rattle.rsc_nfa.specs.Steps.{is_between}
+use Rattle.rsc_engine.specs.Patterns.{Pattern, Empty, Never, Class, Literal, Assertion, Then, Either, Repeat, Text, Times, IsAtMost, Goes}
+use Rattle.rsc_engine.specs.Links.{copies, up_to}
+
+-- ---- n times
+
+Times-add : (R : ℕ → ℕ → Type 0) (n m i k j : ℕ) → Times R n i k → Times R m k j → Times R (n + m) i j
+Times-add R zero m i k j x y =
+    let same : zero + m ≡ m = omega arith in
+    rw same (subst (λ (l : ℕ). Times R m l j) (sym x) y)
+Times-add R (suc n) m i k j x y =
+    let same : suc n + m ≡ suc (n + m) = omega arith in
+    rw same (x.0, x.1, Times-add R n m x.0 k j x.2 y)
+
+Times-split : (R : ℕ → ℕ → Type 0) (n m i j : ℕ) → Times R (n + m) i j → (k : ℕ) × Times R n i k × Times R m k j
+Times-split R zero m i j x =
+    let same : zero + m ≡ m = omega arith in
+    (i, refl, rw same at x)
+Times-split R (suc n) m i j x =
+    let same : suc n + m ≡ suc (n + m) = omega arith in
+    let y : Times R (suc (n + m)) i j = rw same at x in
+    let z = Times-split R n m y.0 j y.2 in
+    (z.0, (y.0, y.1, z.1), z.2)
+
+copies-times : (x : Text) (p : Pattern) (n i j : ℕ) → Goes x (copies n p) i j → Times (Goes x p) n i j
+copies-times x p zero i j g = g
+copies-times x p (suc n) i j g = (g.0, g.1, copies-times x p n g.0 j g.2)
+
+times-copies : (x : Text) (p : Pattern) (n i j : ℕ) → Times (Goes x p) n i j → Goes x (copies n p) i j
+times-copies x p zero i j g = g
+times-copies x p (suc n) i j g = (g.0, g.1, times-copies x p n g.0 j g.2)
+
+up_to-times : (x : Text) (p : Pattern) (n i j : ℕ) → Goes x (up_to n p) i j → (m : ℕ) × (m ≤ n) × Times (Goes x p) m i j
+up_to-times x p zero i j g = (0, omega arith, g)
+up_to-times x p (suc n) i j g = ⊎_elim
+    (λ (h : Goes x (Then p (up_to n p)) i j).
+    let r = up_to-times x p n h.0 j h.2 in (suc r.0, omega (arith, r.1), (h.0, h.1, r.2)))
+    (λ (h : i ≡ j). (0, omega arith, h))
+    g
+
+times-up_to : (x : Text) (p : Pattern) (n m i j : ℕ) → m ≤ n → Times (Goes x p) m i j → Goes x (up_to n p) i j
+times-up_to x p zero zero i j l t = t
+times-up_to x p zero (suc m) i j l t = absurd (omega (arith, l))
+times-up_to x p (suc n) zero i j l t = inr t
+times-up_to x p (suc n) (suc m) i j l t = inl (t.0, t.1, times-up_to x p n m t.0 j (omega (arith, l)) t.2)
+
+-- ---- counted repetitions
+
+pub limited-is : (min max : ℕ) (p : Pattern) (x : Text) (i j : ℕ) → Goes x (Then (copies min p) (up_to (max - min) p)) i j
+    → Goes x (Repeat min (Some max) p) i j
+limited-is min max p x i j g =
+    let r = up_to-times x p (max - min) g.0 j g.2 in
+    (min + r.0, omega arith, most r.0 r.1, Times-add (Goes x p) min r.0 i g.0 j (copies-times x p min i g.0 g.1) r.2)
+  where
+    most : (m : ℕ) → m ≤ max - min → (min + m ≤ max) ⊎ (min + m ≤ min)
+    most m l = ⊎_elim (λ (h : max < min). inr (omega (arith, h, l))) (λ (h : min ≤ max). inl (omega (arith, h, l))) (cases_lt max min)
+
+pub limited-back : (min max : ℕ) (p : Pattern) (x : Text) (i j : ℕ) → Goes x (Repeat min (Some max) p) i j
+    → Goes x (Then (copies min p) (up_to (max - min) p)) i j
+limited-back min max p x i j g =
+    let whole : g.0 ≡ min + (g.0 - min) = omega (arith, g.1) in
+    let t : Times (Goes x p) (min + (g.0 - min)) i j = subst (λ (n : ℕ). Times (Goes x p) n i j) whole g.3 in
+    let s = Times-split (Goes x p) min (g.0 - min) i j t in
+    (s.0, times-copies x p min i s.0 s.1, times-up_to x p (max - min) (g.0 - min) s.0 j (fits g.0 g.2) s.2)
+  where
+    fits : (n : ℕ) → (n ≤ max) ⊎ (n ≤ min) → n - min ≤ max - min
+    fits n h = ⊎_elim (λ (l : n ≤ max). omega (arith, l)) (λ (l : n ≤ min). omega (arith, l)) h
+
+pub unlimited-is : (min : ℕ) (p : Pattern) → 0 < min → (x : Text) (i j : ℕ) → Goes x (Then (copies (min - 1) p) (Repeat 1 None p)) i j
+    → Goes x (Repeat min None p) i j
+unlimited-is min p some x i j g =
+    (min - 1 + g.2.0, omega (arith, some, g.2.1), tt, Times-add (Goes x p) (min - 1) g.2.0 i g.0 j (copies-times x p (min - 1) i g.0 g.1) g.2.3)
+
+pub unlimited-back : (min : ℕ) (p : Pattern) → 0 < min → (x : Text) (i j : ℕ) → Goes x (Repeat min None p) i j
+    → Goes x (Then (copies (min - 1) p) (Repeat 1 None p)) i j
+unlimited-back min p some x i j g =
+    let whole : g.0 ≡ (min - 1) + (g.0 - (min - 1)) = omega (arith, g.1) in
+    let t : Times (Goes x p) ((min - 1) + (g.0 - (min - 1))) i j = subst (λ (n : ℕ). Times (Goes x p) n i j) whole g.3 in
+    let s = Times-split (Goes x p) (min - 1) (g.0 - (min - 1)) i j t in
+    (s.0, times-copies x p (min - 1) i s.0 s.1, (g.0 - (min - 1), omega (arith, g.1, some), tt, s.2))
+
+-- any number of times is once or more, or not at all
+pub star-is : (p : Pattern) (x : Text) (i j : ℕ) → Goes x (Either (Repeat 1 None p) Empty) i j → Goes x (Repeat 0 None p) i j
+star-is p x i j g = ⊎_elim
+    (λ (h : Goes x (Repeat 1 None p) i j). (h.0, omega arith, tt, h.3))
+    (λ (h : i ≡ j). (0, omega arith, tt, h))
+    g
+
+pub star-back : (p : Pattern) (x : Text) (i j : ℕ) → Goes x (Repeat 0 None p) i j → Goes x (Either (Repeat 1 None p) Empty) i j
+star-back p x i j g = go g.0 g.3
+  where
+    go : (n : ℕ) → Times (Goes x p) n i j → Goes x (Either (Repeat 1 None p) Empty) i j
+    go zero t = inr t
+    go (suc n) t = inl (suc n, omega arith, tt, t)
+
+-- ---- a range more, and a byte more
+
+or_cases : (a b : Bool) → (a || b) ≡ true → (a ≡ true) ⊎ (b ≡ true)
+or_cases true b h = inl refl
+or_cases false b h = inr h
+
+or_one : (a b : Bool) → a ≡ true → (a || b) ≡ true
+or_one true b h = refl
+or_one false b h = absurd (true≢false (sym h))
+
+or_other : (a b : Bool) → b ≡ true → (a || b) ≡ true
+or_other true b h = refl
+or_other false b h = h
+
+has : Text → ℕ → ℕ × ℕ → Bool
+has x i r = is_between r.0 r.1 (slice_get x.haystack i)
+
+pub class-is : (a b : ℕ) (rest : List (ℕ × ℕ)) (x : Text) (i j : ℕ) → Goes x (Either (Class ((a, b) ∷ [])) (Class rest)) i j
+    → Goes x (Class ((a, b) ∷ rest)) i j
+unfolding has
+class-is a b rest x i j g = ⊎_elim
+    (λ (h : Goes x (Class ((a, b) ∷ [])) i j). (
+      ⊎_elim (λ (y : has x i (a, b) ≡ true). or_one (has x i (a, b)) (list_any (has x i) rest) y) (λ (y : false ≡ true). absurd (true≢false (sym y)))
+          (or_cases (has x i (a, b)) false h.0),
+      h.1,
+    ))
+    (λ (h : Goes x (Class rest) i j). (or_other (has x i (a, b)) (list_any (has x i) rest) h.0, h.1))
+    g
+
+pub class-back : (a b : ℕ) (rest : List (ℕ × ℕ)) (x : Text) (i j : ℕ) → Goes x (Class ((a, b) ∷ rest)) i j
+    → Goes x (Either (Class ((a, b) ∷ [])) (Class rest)) i j
+unfolding has
+class-back a b rest x i j g = ⊎_elim
+    (λ (y : has x i (a, b) ≡ true). inl (or_one (has x i (a, b)) false y, g.1))
+    (λ (y : list_any (has x i) rest ≡ true). inr (y, g.1))
+    (or_cases (has x i (a, b)) (list_any (has x i) rest) g.0)
+
+and_cases : (a b : Bool) → (a && b) ≡ true → (a ≡ true) × (b ≡ true)
+and_cases true b h = (refl, h)
+and_cases false b h = absurd (true≢false (sym h))
+
+-- between a byte and itself is that byte
+only : (b : ℕ) (o : Option ℕ) → is_between b b o ≡ true → o ≡ Some b
+only b None h = absurd (true≢false (sym h))
+only b (Some x) h =
+    let both = and_cases (nat_le b x) (nat_le x b) h in
+    let same : x ≡ b = omega (arith, leb-true b x both.0, leb-true x b both.1) in ap (λ (n : ℕ). Some n) same
+
+itself : (b : ℕ) (o : Option ℕ) → o ≡ Some b → is_between b b o ≡ true
+itself b o e = rw e (both (nat_le b b) (le-leb b b (omega arith)))
+  where
+    both : (t : Bool) → t ≡ true → (t && t) ≡ true
+    both true h = refl
+    both false h = h
+
+pub literal-is : (b : ℕ) (rest : List ℕ) (x : Text) (i j : ℕ) → Goes x (Then (Class ((b, b) ∷ [])) (Literal rest)) i j → Goes x (Literal (b ∷ rest)) i j
+unfolding has
+literal-is b rest x i j g = (
+  only b (slice_get x.haystack i)
+      (⊎_elim (λ (y : has x i (b, b) ≡ true). y) (λ (y : false ≡ true). absurd (true≢false (sym y))) (or_cases (has x i (b, b)) false g.1.0)),
+  subst (λ (k : ℕ). Goes x (Literal rest) k j) g.1.1 g.2,
+)
+
+pub literal-back : (b : ℕ) (rest : List ℕ) (x : Text) (i j : ℕ) → Goes x (Literal (b ∷ rest)) i j → Goes x (Then (Class ((b, b) ∷ [])) (Literal rest)) i j
+unfolding has
+literal-back b rest x i j g = (i + 1, (or_one (has x i (b, b)) false (itself b (slice_get x.haystack i) g.0), refl), g.1)

@@ -1,0 +1,13 @@
+use Rattle.std.proofs.Common.{◌≡◌, ◌∙◌, sym, ap, subst, List, rules, map}
+use Rattle.rsc_engine.specs.Patterns.{Pattern}
+use Rattle.rsc_engine.specs.Begins.{Begins, IsOfSome}
+use Rattle.rsc_engine.specs.Parts.{pattern_of}
+use Rattle.rsc_engine.proofs.BeginsLemmas.{Recognizes-built}
+use Rattle.rsc_engine.proofs.builder.Builder.build.Goals as goal
+
+pub returns-clause-matches : goal.returns-clause-matches
+returns-clause-matches g c =
+    rw (← c.in_ok-pattern.ensures.added, c.in-Some.ensures.made)
+    (Recognizes-built _ _ _
+    (rw (c.in_ok-nfa.ensures.made, c.deref.ensures.value)
+    (rw c.as_slice-2.ensures.value at c.in_ok-states.ensures)))

@@ -1,0 +1,17 @@
+use Rattle.std.proofs.Common.{map, drop}
+use Rattle.rsc_engine.specs.Patterns.{in_order}
+use Rattle.rsc_engine.specs.Parts.{pattern_in}
+use Rattle.rsc_engine.specs.Links.{Builds, copies, up_to}
+use Rattle.rsc_engine.proofs.builder.compile.Compiler.+part.Given as goal
+
+abbrev pub invariant-concat-loop-index : goal.invariant-concat-loop-index
+invariant-concat-loop-index l =
+    Builds l.fn.self.states.items l.self.states.items l.first l.fn.next (in_order (map pattern_in (drop l.index l.parts)))
+
+abbrev pub invariant-copies-loop-done : goal.invariant-copies-loop-done
+invariant-copies-loop-done l =
+    Builds l.fn.self.states.items l.self.states.items l.first l.fn.next (copies l.done (pattern_in l.sub))
+
+abbrev pub invariant-up_to-loop-done : goal.invariant-up_to-loop-done
+invariant-up_to-loop-done l =
+    Builds l.fn.self.states.items l.self.states.items l.first l.fn.next (up_to l.done (pattern_in l.sub))

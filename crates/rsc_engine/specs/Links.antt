@@ -1,0 +1,69 @@
+-- How the states of a part lead on.
+use Rattle.std.specs.Prelude.{◌≡◌, ◌↔◌, ℕ, zero, suc, ◌+◌, ◌<◌, ◌≤◌, ◌⊎◌, List, [], ◌∷◌, ◌++◌, length, slice_get, Option, Some, None}
+use Rattle.rsc_nfa.specs.declared.state.State.{State}
+use Rattle.rsc_nfa.specs.declared.state.State.TheVariants.{Fork, Accept}
+use Rattle.rsc_nfa.specs.Steps.{IsStep}
+use Rattle.rsc_engine.specs.Patterns.{Pattern, Empty, Then, Either, Text, Goes}
+
+-- a match that is looked for: in a text up to an end, of a pattern, to a position
+pub record Aim : Type 0 where
+  pub text : Text
+  pub end : ℕ
+  pub pattern : ℕ
+  pub position : ℕ
+
+-- n steps lead from the state s at i to the match
+abbrev pub Ends : List State → Aim → ℕ → ℕ → ℕ → Type 0
+Ends states a zero s i = (slice_get states s ≡ Some (Accept a.pattern)) × (i ≡ a.position) × (i ≤ a.end)
+Ends states a (suc n) s i =
+    (i ≤ a.end) × (t : ℕ) × (k : ℕ) × IsStep states a.text.terminator a.text.words a.text.haystack a.end (s, i) (t, k) × Ends states a n t k
+
+-- n steps lead from the state s at i to the match: m of them from the state `next`, to which the pattern goes
+pub record GoesOn (states : List State) (a : Aim) (next : ℕ) (p : Pattern) (n i : ℕ) : Type 0 where
+  pub to : ℕ
+  pub left : ℕ
+  pub fewer : left ≤ n
+  pub goes : Goes a.text p i to
+  pub ends : Ends states a left next to
+
+-- steps lead from the state s at i to the match
+pub record HasEnd (states : List State) (a : Aim) (s i : ℕ) : Type 0 where
+  pub steps : ℕ
+  pub ends : Ends states a steps s i
+
+-- from the state `first` matches are those from the state `next` after the pattern
+pub record Realizes (states : List State) (first next : ℕ) (p : Pattern) : Type 0 where
+  pub sound : (a : Aim) (n i : ℕ) → Ends states a n first i → GoesOn states a next p n i
+  pub complete : (a : Aim) (i k : ℕ) → Goes a.text p i k → HasEnd states a next k → HasEnd states a first i
+
+-- the states from n on are in the other list too
+abbrev pub IsIn : ℕ → List State → List State → Type 0
+IsIn n states others = (k : ℕ) → n ≤ k → k < length states → slice_get others k ≡ slice_get states k
+
+-- states were added by which something is so in whatever list they are
+pub record Adds (old new : List State) (Holds : List State → Type 0) : Type 0 where
+  pub longer : length old ≤ length new
+  pub kept : (k : ℕ) → k < length old → slice_get new k ≡ slice_get old k
+  pub holds : (states : List State) → IsIn (length old) new states → Holds states
+
+-- states were added by which a pattern leads from the state `first` to the state `next`
+abbrev pub Builds : List State → List State → ℕ → ℕ → Pattern → Type 0
+Builds old new first next p = Adds old new (λ states. Realizes states first next p)
+
+-- one state was added, and this is its number
+pub record IsAdded (old new : List State) (state : State) (id : ℕ) : Type 0 where
+  pub last : id ≡ length old
+  pub added : new ≡ old ++ state ∷ []
+
+-- the state leads to the one or to the other
+abbrev pub IsChoice : List State → ℕ → ℕ → ℕ → Type 0
+IsChoice states s one other = (slice_get states s ≡ Some (Fork one other)) ⊎ (slice_get states s ≡ Some (Fork other one))
+
+-- a pattern n times, and at most n times
+abbrev pub copies : ℕ → Pattern → Pattern
+copies zero p = Empty
+copies (suc n) p = Then p (copies n p)
+
+abbrev pub up_to : ℕ → Pattern → Pattern
+up_to zero p = Empty
+up_to (suc n) p = Either (Then p (up_to n p)) Empty

@@ -1,0 +1,34 @@
+-- Which pattern a part is.
+use Rattle.std.specs.Prelude.{List, [], ◌∷◌, map}
+use Rattle.rsc_engine.specs.Patterns.{Pattern, Empty, Never, Class, Literal, Assertion, Then, Either, Repeat, in_order}
+use Rattle.rsc_engine.specs.declared.builder.tree.Tree.{Tree}
+use Rattle.rsc_engine.specs.declared.builder.tree.Tree.TheOpen.{Tree-F}
+use Rattle.rsc_engine.specs.declared.builder.tree.Tree.TheFolds.{fold-Tree}
+use Rattle.rsc_engine.specs.declared.builder.Part.{Part}
+use Rattle.rsc_engine.specs.declared.builder.Builder.{Builder}
+
+-- one node, of which the pattern of each child is known
+abbrev pub pattern_of_node : Tree-F Pattern → Pattern
+pattern_of_node Tree-F.Empty = Empty
+pattern_of_node Tree-F.Never = Never
+pattern_of_node (Tree-F.Range a b) = Class ((a, b) ∷ [])
+pattern_of_node (Tree-F.Class ranges) = Class ranges.items
+pattern_of_node (Tree-F.Literal bytes) = Literal bytes.items
+pattern_of_node (Tree-F.Assertion look) = Assertion look
+pattern_of_node (Tree-F.Then one other) = Then one.value other.value
+pattern_of_node (Tree-F.Concat parts) = in_order parts.items
+pattern_of_node (Tree-F.Either one other) = Either one.value other.value
+pattern_of_node (Tree-F.Repeat times part) = Repeat times.min times.max part.value
+pattern_of_node (Tree-F.Group groups part) = part.value
+
+-- the pattern of a tree
+abbrev pub pattern_in : Tree → Pattern
+pattern_in = fold-Tree Pattern pattern_of_node
+
+-- the pattern that a part is
+abbrev pub pattern_of : Part → Pattern
+pattern_of part = pattern_in part.tree
+
+-- the patterns that a builder has finished
+abbrev pub patterns_of : Builder → List Pattern
+patterns_of builder = map pattern_of builder.patterns.items

@@ -1,0 +1,217 @@
+//! From parts to states. The walk goes from the end of a pattern to its start, so that what comes after a part has its state first.
+ghost use Rattle.std.specs.Prelude.{◌≡◌, ◌++◌, [], ◌∷◌, map, length, IfOk, OnOk};
+ghost use Rattle.rsc_nfa.specs.declared.state.State.TheVariants.{Fork};
+ghost use Rattle.rsc_engine.specs.Patterns.{Never, Class, Literal, in_order};
+ghost use Rattle.rsc_engine.specs.Parts.{pattern_of, pattern_in};
+ghost use Rattle.rsc_engine.specs.Links.{Adds, Builds, IsAdded};
+ghost use Rattle.rsc_engine.specs.Begins.{Begins, IsOfOne, IsOfSome};
+
+use super::Part;
+use super::tree::Tree;
+use crate::Error;
+use rsc_captures::GroupInfo;
+use rsc_nfa::State;
+use rsc_primitives::{PatternID, SmallIndex, StateID};
+use std::alloc::Global;
+
+/// The states so far, and the groups of the pattern that is compiled.
+#[derive(Drop)]
+pub struct Compiler {
+    pub states: Vec<State>,
+    // The slots of its groups, that of the whole match first.
+    pub slots: Vec<(SmallIndex, SmallIndex)>,
+    // How many of them open before the end of the part that is next.
+    pub left: usize,
+}
+
+/// The states of the patterns, and the one at which a match of any of them begins.
+pub fn compile(
+    alloc: Global,
+    info: &GroupInfo,
+    patterns: &[Part<'_>],
+) -> Result<(Vec<State>, StateID), Error>
+    ensures { IfOk result (λ made. Begins made.0.items made.1 (IsOfSome 0 (map pattern_of patterns.now))) }
+{
+    let mut compiler = Compiler {
+        states: Vec::new(alloc),
+        slots: Vec::new(alloc),
+        left: 0,
+    };
+    let Some(last) = patterns.len().checked_sub(1) else {
+        return Err(Error::TooLarge);
+    };
+    let mut first = compiler.pattern(alloc, info, last, &patterns[last])?;
+    for index in (0..last).rev() {
+        let one = compiler.pattern(alloc, info, index, &patterns[index])?;
+        first = compiler.fork(one, first)?;
+    }
+    Ok((compiler.states, first))
+}
+
+// The slots of the groups of a pattern.
+fn slots_of(
+    alloc: Global,
+    info: &GroupInfo,
+    pattern: PatternID,
+    groups: usize,
+) -> Result<Vec<(SmallIndex, SmallIndex)>, Error> {
+    let mut slots = Vec::new(alloc);
+    for group in 0..groups {
+        let Some((start, end)) = info.slots(pattern, group) else {
+            return Err(Error::TooLarge);
+        };
+        let (Ok(start), Ok(end)) = (SmallIndex::new(start), SmallIndex::new(end)) else {
+            return Err(Error::TooLarge);
+        };
+        slots.push((start, end))?;
+    }
+    Ok(slots)
+}
+
+impl Compiler {
+    // The state at which matches of the pattern begin.
+    fn pattern(
+        &mut self,
+        alloc: Global,
+        info: &GroupInfo,
+        index: usize,
+        whole: &Part<'_>,
+    ) -> Result<StateID, Error>
+        ensures { IfOk result (λ first. Adds self.old.states.items self.new.states.items
+            (λ states. Begins states first (IsOfOne index (pattern_of whole.now)))) }
+    {
+        let Ok(pattern) = PatternID::new(index) else {
+            return Err(Error::TooLarge);
+        };
+        let groups = whole.names.len();
+        self.left = groups.saturating_add(1);
+        self.slots = slots_of(alloc, info, pattern, self.left)?;
+        let accept = self.add(State::Accept { pattern })?;
+        self.group(groups, &whole.tree, accept)
+    }
+
+    /// The state at which the part begins. Where it ends the state `next` comes.
+    #[cycle(part)]
+    pub fn part(&mut self, tree: &Tree, next: StateID) -> Result<StateID, Error>
+        ensures { IfOk result (λ first. Builds self.old.states.items self.new.states.items first next (pattern_in tree.now)) }
+    {
+        match tree {
+            Tree::Empty => Ok(next),
+            Tree::Never => self.never(next),
+            Tree::Range(start, end) => self.add(State::ByteRange {
+                start: *start,
+                end: *end,
+                next,
+            }),
+            Tree::Class(ranges) => self.class(ranges, next),
+            Tree::Literal(bytes) => self.literal(bytes, next),
+            Tree::Assertion(look) => self.add(State::Assert { look: *look, next }),
+            Tree::Then(one, other) => {
+                let middle = self.part(other, next)?;
+                self.part(one, middle)
+            }
+            Tree::Concat(parts) => self.concat(parts, next),
+            Tree::Either(one, other) => {
+                let second = self.part(other, next)?;
+                let first = self.part(one, next)?;
+                self.fork(first, second)
+            }
+            Tree::Repeat(times, sub) => self.repeat(*times, sub, next),
+            Tree::Group(groups, sub) => self.group(*groups, sub, next),
+        }
+    }
+
+    // A state from which nothing leads on.
+    fn never(&mut self, next: StateID) -> Result<StateID, Error>
+        ensures { IfOk result (λ first. Builds self.old.states.items self.new.states.items first next Never) }
+    {
+        let this = self.next_id()?;
+        self.fork(this, this)
+    }
+
+    fn class(&mut self, ranges: &[(u8, u8)], next: StateID) -> Result<StateID, Error>
+        ensures { IfOk result (λ first. Builds self.old.states.items self.new.states.items first next (Class ranges.now)) }
+    {
+        if ranges.is_empty() {
+            return self.never(next);
+        }
+        let last = ranges.len() - 1;
+        let (start, end) = ranges[last];
+        let mut first = self.add(State::ByteRange { start, end, next })?;
+        for index in (0..last).rev() {
+            let (start, end) = ranges[index];
+            let one = self.add(State::ByteRange { start, end, next })?;
+            first = self.fork(one, first)?;
+        }
+        Ok(first)
+    }
+
+    fn literal(&mut self, bytes: &[u8], next: StateID) -> Result<StateID, Error>
+        ensures { IfOk result (λ first. Builds self.old.states.items self.new.states.items first next (Literal bytes.now)) }
+    {
+        let mut first = next;
+        for index in (0..bytes.len()).rev() {
+            first = self.add(State::ByteRange {
+                start: bytes[index],
+                end: bytes[index],
+                next: first,
+            })?;
+        }
+        Ok(first)
+    }
+
+    #[cycle(part)]
+    fn concat(&mut self, parts: &[Tree], next: StateID) -> Result<StateID, Error>
+        ensures { IfOk result (λ first. Builds self.old.states.items self.new.states.items first next (in_order (map pattern_in parts.now))) }
+    {
+        let mut first = next;
+        for index in (0..parts.len()).rev() {
+            first = self.part(&parts[index], first)?;
+        }
+        Ok(first)
+    }
+
+    // The part between two records of its position, in the slots of its group.
+    #[cycle(part)]
+    fn group(&mut self, groups: usize, sub: &Tree, next: StateID) -> Result<StateID, Error>
+        ensures { IfOk result (λ first. Builds self.old.states.items self.new.states.items first next (pattern_in sub.now)) }
+    {
+        let number = self.left.saturating_sub(groups).saturating_sub(1);
+        let Some((start, end)) = self.slots.get(number).copied() else {
+            return Err(Error::TooLarge);
+        };
+        let after = self.add(State::Capture { slot: end, next })?;
+        let body = self.part(sub, after)?;
+        self.left = number;
+        self.add(State::Capture {
+            slot: start,
+            next: body,
+        })
+    }
+
+    /// A state that leads to two, preferably to the first.
+    pub fn fork(&mut self, a: StateID, b: StateID) -> Result<StateID, Error>
+        ensures { IfOk result (IsAdded self.old.states.items self.new.states.items (Fork a b)) }
+    {
+        self.add(State::Fork { a, b })
+    }
+
+    /// One more state.
+    pub fn add(&mut self, state: State) -> Result<StateID, Error>
+        ensures { IfOk result (IsAdded self.old.states.items self.new.states.items state) }
+    {
+        let id = self.next_id()?;
+        self.states.push(state)?;
+        Ok(id)
+    }
+
+    /// The number of the state that is added next.
+    pub fn next_id(&self) -> Result<StateID, Error>
+        ensures { IfOk result (λ id. id ≡ length self.now.states.items) }
+    {
+        match StateID::new(self.states.len()) {
+            Err(_) => Err(Error::TooLarge),
+            Ok(id) => Ok(id),
+        }
+    }
+}

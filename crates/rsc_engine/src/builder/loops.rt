@@ -1,0 +1,128 @@
+//! The states of repetitions.
+ghost use Rattle.std.specs.Prelude.{◌≡◌, ◌⊎◌, None, IfOk};
+ghost use Rattle.rsc_nfa.specs.declared.state.State.TheVariants.{Fork};
+ghost use Rattle.rsc_engine.specs.Patterns.{Repeat};
+ghost use Rattle.rsc_engine.specs.Parts.{pattern_in};
+ghost use Rattle.rsc_engine.specs.Links.{Builds, copies, up_to};
+
+use super::compile::Compiler;
+use super::tree::{Times, Tree};
+use crate::Error;
+use rsc_nfa::State;
+use rsc_primitives::StateID;
+
+impl Compiler {
+    /// The part as often as the numbers say.
+    #[cycle(part)]
+    pub fn repeat(&mut self, times: Times, sub: &Tree, next: StateID) -> Result<StateID, Error>
+        ensures { IfOk result (λ first. Builds self.old.states.items self.new.states.items first next
+            (Repeat times.min times.max (pattern_in sub.now))) }
+    {
+        let left = self.left;
+        let first = self.times(times, sub, next)?;
+        // The part may have been left out.
+        self.left = left.saturating_sub(times.groups);
+        Ok(first)
+    }
+
+    // The part as often as it must be there, and then again as often as it may.
+    #[cycle(part)]
+    fn times(&mut self, times: Times, sub: &Tree, next: StateID) -> Result<StateID, Error>
+        ensures { IfOk result (λ first. Builds self.old.states.items self.new.states.items first next
+            (Repeat times.min times.max (pattern_in sub.now))) }
+    {
+        let left = self.left;
+        match times.max {
+            None => {
+                if times.min == 0 {
+                    return self.star(times, sub, next);
+                }
+                let (last, _) = self.again(times.is_greedy, sub, next)?;
+                self.left = left;
+                self.copies(times.min - 1, sub, last)
+            }
+            Some(max) => {
+                let more = max.saturating_sub(times.min);
+                let rest = self.up_to(more, times.is_greedy, sub, next)?;
+                self.left = left;
+                self.copies(times.min, sub, rest)
+            }
+        }
+    }
+
+    // The part a number of times.
+    #[cycle(part)]
+    fn copies(&mut self, count: usize, sub: &Tree, next: StateID) -> Result<StateID, Error>
+        ensures { IfOk result (λ first. Builds self.old.states.items self.new.states.items first next (copies count (pattern_in sub.now))) }
+    {
+        let left = self.left;
+        let mut first = next;
+        for done in 0..count {
+            self.left = left;
+            first = self.part(sub, first)?;
+        }
+        Ok(first)
+    }
+
+    // The part at most a number of times: `(part(part)?)?`.
+    #[cycle(part)]
+    fn up_to(
+        &mut self,
+        count: usize,
+        is_greedy: bool,
+        sub: &Tree,
+        next: StateID,
+    ) -> Result<StateID, Error>
+        ensures { IfOk result (λ first. Builds self.old.states.items self.new.states.items first next (up_to count (pattern_in sub.now))) }
+    {
+        let left = self.left;
+        let mut first = next;
+        for done in 0..count {
+            self.left = left;
+            let one = self.part(sub, first)?;
+            first = self.add(choice(is_greedy, one, next))?;
+        }
+        Ok(first)
+    }
+
+    // The part any number of times.
+    #[cycle(part)]
+    fn star(&mut self, times: Times, sub: &Tree, next: StateID) -> Result<StateID, Error>
+        ensures { IfOk result (λ first. Builds self.old.states.items self.new.states.items first next (Repeat 0 None (pattern_in sub.now))) }
+    {
+        let (first, again) = self.again(times.is_greedy, sub, next)?;
+        if times.may_be_empty {
+            return self.add(choice(times.is_greedy, first, next));
+        }
+        Ok(again)
+    }
+
+    // The part once or more: the state at which it begins, and the one after each time, which leads to the part again or to what comes next.
+    #[cycle(part)]
+    fn again(
+        &mut self,
+        is_greedy: bool,
+        sub: &Tree,
+        next: StateID,
+    ) -> Result<(StateID, StateID), Error>
+        ensures first { IfOk result (λ made. Builds self.old.states.items self.new.states.items made.0 next (Repeat 1 None (pattern_in sub.now))) }
+        ensures again { IfOk result (λ made. Builds self.old.states.items self.new.states.items made.1 next (Repeat 0 None (pattern_in sub.now))) }
+    {
+        // What it leads to isn't known yet.
+        let again = self.fork(next, next)?;
+        let first = self.part(sub, again)?;
+        self.states[again.as_usize()] = choice(is_greedy, first, next);
+        Ok((first, again))
+    }
+}
+
+// A state that leads to the part or to what comes next: preferably to the part, if it is greedy.
+fn choice(is_greedy: bool, part: StateID, next: StateID) -> State
+    ensures { (result ≡ Fork part next) ⊎ (result ≡ Fork next part) }
+{
+    if is_greedy {
+        State::Fork { a: part, b: next }
+    } else {
+        State::Fork { a: next, b: part }
+    }
+}

@@ -1,0 +1,45 @@
+//! Parts of patterns as trees.
+
+use rsc_look::Look;
+
+/// A part of a pattern, made of smaller ones. `pattern_in` in `specs/Parts.antt` says which pattern it is.
+#[derive(Drop)]
+pub enum Tree {
+    /// No byte.
+    Empty,
+    /// What never matches, not even no byte.
+    Never,
+    /// A byte from the one to the other.
+    Range(u8, u8),
+    /// A byte of one of the ranges.
+    Class(Vec<(u8, u8)>),
+    /// These bytes.
+    Literal(Vec<u8>),
+    /// A position at which an assertion holds.
+    Assertion(Look),
+    /// The one, then the other.
+    Then(Box<Tree>, Box<Tree>),
+    /// Each after the one before it.
+    Concat(Vec<Tree>),
+    /// The one or the other; the first is preferred.
+    Either(Box<Tree>, Box<Tree>),
+    /// The part repeated.
+    Repeat(Times, Box<Tree>),
+    /// The part as a group, which has this many groups in it.
+    Group(usize, Box<Tree>),
+}
+
+/// How a part is repeated, and what its states need to know of it.
+#[derive(Clone, Copy)]
+pub struct Times {
+    /// At least this often.
+    pub min: usize,
+    /// At most this often, or without a limit. It is `min` if it is below that.
+    pub max: Option<usize>,
+    /// Preferably often.
+    pub is_greedy: bool,
+    /// The part can match nothing: a loop over it is entered by a choice of its own.
+    pub may_be_empty: bool,
+    /// How many groups the part has.
+    pub groups: usize,
+}
