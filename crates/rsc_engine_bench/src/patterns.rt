@@ -1,0 +1,87 @@
+//! The patterns that are timed, as calls of the builder and as texts.
+
+use rsc_engine::{Builder, Error, Part, Program};
+use rsc_look::{AsciiWord, Look};
+use std::alloc::Global;
+
+/// The names of the patterns.
+pub const NAMES: [&str; 5] = ["capitals", "words", "lines", "pairs", "none"];
+
+const CAPITAL: [(u8, u8); 1] = [(b'A', b'Z')];
+
+const SMALL: [(u8, u8); 1] = [(b'a', b'z')];
+
+const WORD: [(u8, u8); 4] = [(b'a', b'z'), (b'A', b'Z'), (b'0', b'9'), (b'_', b'_')];
+
+const NO_LINE_FEED: [(u8, u8); 2] = [(0x0B, 0xFF), (0x00, 0x09)];
+
+/// The text of the pattern of a name.
+pub fn text_of(name: &str) -> &'static str {
+    match name {
+        "capitals" => "(?-u)[A-Z][a-z]*",
+        "words" => r"(?-u)\b[A-Z][a-z]*\b",
+        "lines" => r"(?m-u)^(\w+)?.*$",
+        "pairs" => r"(?-u)(\w+)=(\w+)",
+        _ => "(?-u)[a-z]+[0-9]x[0-9]",
+    }
+}
+
+/// The program of the pattern of a name.
+pub fn make(alloc: Global, name: &str) -> Result<Program<AsciiWord>, Error> {
+    let mut builder = Builder::new(alloc)?;
+    let whole = match name {
+        "capitals" => capitals(&mut builder),
+        "words" => words(&mut builder),
+        "lines" => lines(&mut builder),
+        "pairs" => pairs(&mut builder),
+        _ => none(&mut builder),
+    }?;
+    builder.build(AsciiWord, false, whole)
+}
+
+fn capitals(builder: &mut Builder<'static>) -> Result<Part, Error> {
+    let first = builder.class(&CAPITAL)?;
+    let rest = builder.class(&SMALL)?;
+    let rest = builder.star(rest)?;
+    Ok(builder.then(first, rest))
+}
+
+fn words(builder: &mut Builder<'static>) -> Result<Part, Error> {
+    let before = builder.look(Look::WordAscii)?;
+    let word = capitals(builder)?;
+    let after = builder.look(Look::WordAscii)?;
+    builder.concat(&[before, word, after])
+}
+
+fn lines(builder: &mut Builder<'static>) -> Result<Part, Error> {
+    let start = builder.look(Look::StartLF)?;
+    let first = word(builder)?;
+    let first = builder.optional(first)?;
+    let rest = builder.class(&NO_LINE_FEED)?;
+    let rest = builder.star(rest)?;
+    let end = builder.look(Look::EndLF)?;
+    builder.concat(&[start, first, rest, end])
+}
+
+fn pairs(builder: &mut Builder<'static>) -> Result<Part, Error> {
+    let key = word(builder)?;
+    let equals = builder.literal(b"=")?;
+    let value = word(builder)?;
+    builder.concat(&[key, equals, value])
+}
+
+fn none(builder: &mut Builder<'static>) -> Result<Part, Error> {
+    let before = builder.class(&SMALL)?;
+    let before = builder.plus(before)?;
+    let one = builder.range(b'0', b'9')?;
+    let middle = builder.literal(b"x")?;
+    let other = builder.range(b'0', b'9')?;
+    builder.concat(&[before, one, middle, other])
+}
+
+// `(\w+)`
+fn word(builder: &mut Builder<'static>) -> Result<Part, Error> {
+    let class = builder.class(&WORD)?;
+    let word = builder.plus(class)?;
+    builder.group(None, word)
+}
