@@ -276,19 +276,23 @@ def judge_runs(copy, crate, name, runs, unchanged):
 
 
 def with_modules(tests, wanted):
-    """Leaves in a copy of a crate of tests the wanted test modules alone; without a list all but those of cost, which take long."""
+    """Leaves in a copy of a crate of tests the wanted test modules alone, with those that they name, whose own tests are left out; without a list
+    all but those of cost, which take long."""
     own = pathlib.Path(ROOT, "crates", tests.name, "src")
-    text = (own / "tests.rt").read_text(encoding="utf-8")
-    if wanted and "tests" not in wanted:
-        text = text.replace("#[test]\n", "")
-    for line, module in re.findall(r"^((?:pub )?mod (\w+);\n)", text, flags=re.M):
-        source = f"tests/{module}.rt"
-        if (module in wanted) if wanted else module != "cost":
-            shutil.copy(own / source, tests / "src" / source)
+    texts = {it.stem: it.read_text(encoding="utf-8") for it in [own / "tests.rt", *(own / "tests").glob("*.rt")]}
+    wanted = wanted or [it for it in texts if it != "cost"]
+    kept = list(wanted)
+    for module in kept:
+        kept += [it for it in re.findall(r"\buse super::(\w+)::", texts[module]) if it not in kept]
+    for module, text in texts.items():
+        text = text if module in wanted else text.replace("#[test]\n", "")
+        if module == "tests":
+            text = re.sub(r"^(?:pub )?mod (\w+);\n", lambda it: it[0] if it[1] in kept else "", text, flags=re.M)
+            (tests / "src/tests.rt").write_text(text, encoding="utf-8")
+        elif module in kept:
+            (tests / f"src/tests/{module}.rt").write_text(text, encoding="utf-8")
         else:
-            text = text.replace(line, "")
-            (tests / "src" / source).unlink(missing_ok=True)
-    (tests / "src/tests.rt").write_text(text, encoding="utf-8")
+            (tests / f"src/tests/{module}.rt").unlink(missing_ok=True)
 
 
 def judge_tests(copy, crate, name, fields):
