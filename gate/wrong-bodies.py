@@ -285,7 +285,7 @@ def with_modules(tests, wanted):
     for module in kept:
         kept += [it for it in re.findall(r"\buse super::(\w+)::", texts[module]) if it not in kept]
     for module, text in texts.items():
-        text = text if module in wanted else text.replace("#[test]\n", "")
+        text = text if module in wanted else re.sub(r"^#\[test\]\nfn .*?^\}\n", "", text, flags=re.M | re.S)
         if module == "tests":
             text = re.sub(r"^(?:pub )?mod (\w+);\n", lambda it: it[0] if it[1] in kept else "", text, flags=re.M)
             (tests / "src/tests.rt").write_text(text, encoding="utf-8")
