@@ -3,7 +3,7 @@ r"""Runs programs as people do, and compares what they write and their status wi
 
     gate/stored-runs.py [CRATE ..]         # by the programs that `rt ci` or `rt run` left in crates/CRATE/out; all crates that have runs without a name
     gate/stored-runs.py --unproved         # proves nothing: all tests, every program on its stored input, and the plain runs, by `rt try`
-    gate/stored-runs.py --cases CRATE DIR  # writes the plain runs to DIR as `rt try --cases` takes them, and runs nothing
+    gate/stored-runs.py --cases CRATE DIR [FILE ..]  # writes the plain runs, of all files of runs/ or of these, to DIR as `rt try --cases` takes them
 
 The runs of a crate are in crates/CRATE/runs/*.txt, which read as a session does:
 
@@ -148,9 +148,11 @@ def judge(crate):
     return passed, failed
 
 
-def write_cases(crate, folder):
+def write_cases(crate, folder, *files):
     os.makedirs(folder, exist_ok=True)
     for run in runs_of(crate):
+        if files and re.search(r"([^/]+):\d+$", run.name)[1] not in files:
+            continue
         if not run.unusual and b".." not in run.stdout and all(it.isascii() for it in run.args):
             path = os.path.join(folder, run.name.replace("/", "-").replace(".txt:", "-"))
             for ending, text in (("", b"".join(part for _, part in run.stdin)), (".args", b"".join(it + b"\n" for it in run.args)),

@@ -30,7 +30,7 @@ of tested-bodies.edits are `file`, the source file that it changes, and
     snippet: allocators_are_dropped      if there: a snippet of that crate's must-run, whose tests are run too
     seconds: 240                         if there: the time that each test has
     runs: all                            instead of tests: of the crate's plain stored runs (gate/stored-runs.py) one must print something else, or end
-                                         with another status; or those of runs/FILE.txt as `FILE.txt`; or the arguments of one run, with \\xHH for
+                                         with another status; or those of some files of runs/, as `looks.txt`; or the arguments of one run, with \\xHH for
                                          bytes, of which standard error counts too
     also: src/span.rt: start: usize ⇒ pub(crate) start: usize      if there: a private field of another file that it needs
 
@@ -48,6 +48,7 @@ import shutil
 import subprocess
 import sys
 import tempfile
+import threading
 
 from edits import ROOT, below, blocks, crates, fault, in_lanes, replaced
 
@@ -215,8 +216,8 @@ def try_refused(wanted, known):
             yield from results if kind == "edits" else ()
 
 
-# What the unchanged program answers, by crate and runs.
-UNCHANGED = {}
+# What the unchanged programs answer, by crate and runs.
+UNCHANGED, IS_ASKED = {}, threading.Lock()
 
 
 def tested_edits(wanted):
@@ -260,8 +261,18 @@ def answers_of(copy, crate, runs):
         words = [re.sub(rb"\\x([0-9a-f]{2})", lambda it: bytes([int(it[1], 16)]), it.encode()) for it in shlex.split(runs)]
         return rt_try(folder, "--steps", "0", "--", *words).splitlines()
     with tempfile.TemporaryDirectory(prefix="cases-") as cases:
-        subprocess.run([f"{ROOT}/gate/stored-runs.py", "--cases", crate, cases, *([runs] if runs != "all" else [])], check=True)
+        subprocess.run([f"{ROOT}/gate/stored-runs.py", "--cases", crate, cases, *(runs.split() if runs != "all" else [])], check=True)
         return re.findall(r"^case=.*", rt_try(folder, "--steps", "0", "--cases", cases), flags=re.M)
+
+
+def unchanged(copy, crate, runs):
+    """Returns what the unchanged program answers in the runs. It answers all stored runs once."""
+    files = [it.removesuffix(".txt") for it in runs.split()] if runs.endswith(".txt") else []
+    key = crate, "all" if files else runs
+    with IS_ASKED:
+        if key not in UNCHANGED:
+            UNCHANGED[key] = answers_of(copy, *key)
+    return [it for it in UNCHANGED[key] if not files or any(it.startswith(f"case={crate}-{file}-") for file in files)]
 
 
 def judge_runs(copy, crate, name, runs, unchanged):
@@ -321,15 +332,13 @@ def judge_tests(copy, crate, name, fields):
 
 def judge_tested(copy, crate, name, fields, pairs):
     """Tries one edit in a copy, and returns whether a test or a run fails, with a line that says which."""
-    key = crate, fields.get("runs")
-    if "runs" in fields and key not in UNCHANGED:
-        UNCHANGED[key] = answers_of(copy, *key)
+    wanted = unchanged(copy, crate, fields["runs"]) if "runs" in fields else []
     texts = changed(copy, crate, fields, pairs)
     for source, (_, after) in texts.items():
         pathlib.Path(copy, "crates", crate, source).write_text(after, encoding="utf-8")
     try:
         if "runs" in fields:
-            return judge_runs(copy, crate, name, fields["runs"], UNCHANGED[key])
+            return judge_runs(copy, crate, name, fields["runs"], wanted)
         return judge_tests(copy, crate, name, fields)
     finally:
         for source, (before, _) in texts.items():
