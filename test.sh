@@ -24,7 +24,6 @@ case ${1:-} in
     gate/pages.py
     gate/unused-lemmas.py
     gate/wrong-bodies.py --texts
-    gate/tested-bodies.py --texts
     step "rt ci: proofs, tests, programs. It prints a crate when it has judged it"
     rt ci
     step "programs with arguments, on a terminal, without UTF-8, where reading or writing fails"
@@ -35,13 +34,12 @@ case ${1:-} in
       step "wrong bodies: each must be refused by the function that it changes"
       gate/wrong-bodies.py
       step "wrong bodies that no contract refuses: over each a test must fail"
-      gate/tested-bodies.py
+      gate/wrong-bodies.py --tested
     fi
     ;;
   quick)
     gate/wrong-bodies.py --texts
-    gate/tested-bodies.py --texts
-    gate/quick.sh
+    gate/stored-runs.py --unproved
     ;;
   *)
     echo "usage: ./test.sh [all | quick]" >&2

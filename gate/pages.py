@@ -26,8 +26,7 @@ import pathlib
 import re
 import sys
 
-from calling import ROOT, functions, page, promises, sources
-from calls import calls
+from calling import ROOT, calls, functions, page, promises, sources
 from edits import blocks
 
 MOST_COLUMNS = 160

@@ -2,7 +2,8 @@
 r"""Runs programs as people do, and compares what they write and their status with what is stored.
 
     gate/stored-runs.py [CRATE ..]         # by the programs that `rt ci` or `rt run` left in crates/CRATE/out; all crates that have runs without a name
-    gate/stored-runs.py --cases CRATE DIR  # writes the plain runs to DIR as `rt try --cases` takes them, and runs nothing
+    gate/stored-runs.py --unproved         # proves nothing: all tests, every program on its stored input, and the plain runs, by `rt try`
+    gate/stored-runs.py --cases CRATE DIR [FILE ..]  # writes the plain runs, of all files of runs/ or of these, to DIR as `rt try --cases` takes them
 
 The runs of a crate are in crates/CRATE/runs/*.txt, which read as a session does:
 
@@ -18,13 +19,16 @@ The runs of a crate are in crates/CRATE/runs/*.txt, which read as a session does
     [2]                                 the exit status, if not 0
 """
 import collections
+import concurrent.futures
 import glob
 import os
 import pty
 import re
 import shlex
+import shutil
 import subprocess
 import sys
+import tempfile
 import time
 
 ROOT = os.path.dirname(os.path.dirname(os.path.realpath(__file__)))
@@ -144,9 +148,11 @@ def judge(crate):
     return passed, failed
 
 
-def write_cases(crate, folder):
+def write_cases(crate, folder, *files):
     os.makedirs(folder, exist_ok=True)
     for run in runs_of(crate):
+        if files and re.search(r"([^/]+):\d+$", run.name)[1] not in files:
+            continue
         if not run.unusual and b".." not in run.stdout and all(it.isascii() for it in run.args):
             path = os.path.join(folder, run.name.replace("/", "-").replace(".txt:", "-"))
             for ending, text in (("", b"".join(part for _, part in run.stdin)), (".args", b"".join(it + b"\n" for it in run.args)),
@@ -155,10 +161,53 @@ def write_cases(crate, folder):
                     file.write(text)
 
 
+def unproved_jobs(folder):
+    """Returns what `rt try` runs without a proof: the name of each job, its crate and the words of the command."""
+    found = {}
+    for path in sorted(glob.glob(f"{ROOT}/crates/*")):
+        crate, cases = os.path.basename(path), ("--steps", "0", "--cases")
+        sources = glob.glob(f"{path}/src/**/*.rt", recursive=True)
+        if any("#[test]" in open(it, encoding="utf-8").read() for it in sources):
+            found[f"{crate}-tests"] = crate, "--test", "--seconds", "300"
+        if os.path.exists(f"{path}/stdout"):
+            os.makedirs(f"{folder}/{crate}-run")
+            for name, ending in (("stdin", ""), ("stdout", ".stdout"), ("args", ".args")):
+                if os.path.exists(f"{path}/{name}"):
+                    shutil.copy(f"{path}/{name}", f"{folder}/{crate}-run/stored{ending}")
+            found[f"{crate}-run"] = crate, *cases, f"{folder}/{crate}-run"
+        if os.path.isdir(f"{path}/runs"):
+            write_cases(crate, f"{folder}/{crate}-runs")
+            found[f"{crate}-runs"] = crate, *cases, f"{folder}/{crate}-runs"
+    return found
+
+
+def try_unproved():
+    """Runs all tests and programs without a proof, side by side, and says which failed."""
+    failed = []
+    with tempfile.TemporaryDirectory(prefix="unproved-") as folder, concurrent.futures.ThreadPoolExecutor(len(os.sched_getaffinity(0))) as pool:
+        jobs = unproved_jobs(folder)
+        running = {pool.submit(rt_try, *words): name for name, words in jobs.items()}
+        for it in concurrent.futures.as_completed(running):
+            status, said = it.result()
+            print(f"{running[it]}: {'FAILED' if status else 'passed'}", flush=True)
+            failed += [f"== {running[it]}", *said.splitlines()[-20:]] if status else []
+    print(*failed, sep="\n", end="\n" if failed else "")
+    failures = sum(it.startswith("== ") for it in failed)
+    print(f"{len(jobs) - failures} passed, {failures} failed")
+    return 1 if failures or not jobs else 0
+
+
+def rt_try(crate, *words):
+    ran = subprocess.run(["rt", "try", *words], cwd=f"{ROOT}/crates/{crate}", stdin=subprocess.DEVNULL, stdout=subprocess.PIPE, stderr=subprocess.STDOUT, errors="replace")
+    return ran.returncode, ran.stdout
+
+
 def main(words):
     if words[:1] == ["--cases"]:
         write_cases(*words[1:])
         return 0
+    if words == ["--unproved"]:
+        return try_unproved()
     crates = words or sorted(os.path.basename(os.path.dirname(it)) for it in glob.glob(f"{ROOT}/crates/*/runs"))
     judged = [judge(it) for it in crates]
     passed, failed = (sum(it) for it in zip(*judged))

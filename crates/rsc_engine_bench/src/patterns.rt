@@ -28,59 +28,62 @@ pub fn text_of(name: &str) -> &'static str {
 
 /// The program of the pattern of a name.
 pub fn make(alloc: Global, name: &str) -> Result<Program<AsciiWord>, Error> {
-    let mut builder = Builder::new(alloc)?;
+    let builder = Builder::new(alloc);
     let whole = match name {
-        "capitals" => capitals(&mut builder),
-        "words" => words(&mut builder),
-        "lines" => lines(&mut builder),
-        "pairs" => pairs(&mut builder),
-        _ => none(&mut builder),
+        "capitals" => capitals(&builder),
+        "words" => words(alloc, &builder),
+        "lines" => lines(alloc, &builder),
+        "pairs" => pairs(alloc, &builder),
+        _ => none(alloc, &builder),
     }?;
     builder.build(AsciiWord, false, whole)
 }
 
-fn capitals(builder: &mut Builder<'static>) -> Result<Part, Error> {
+fn capitals(builder: &Builder<'static>) -> Result<Part<'static>, Error> {
     let first = builder.class(&CAPITAL)?;
     let rest = builder.class(&SMALL)?;
     let rest = builder.star(rest)?;
-    Ok(builder.then(first, rest))
+    builder.then(first, rest)
 }
 
-fn words(builder: &mut Builder<'static>) -> Result<Part, Error> {
-    let before = builder.look(Look::WordAscii)?;
-    let word = capitals(builder)?;
-    let after = builder.look(Look::WordAscii)?;
-    builder.concat(&[before, word, after])
+fn words(alloc: Global, builder: &Builder<'static>) -> Result<Part<'static>, Error> {
+    let mut parts = Vec::new(alloc);
+    parts.push(builder.look(Look::WordAscii))?;
+    parts.push(capitals(builder)?)?;
+    parts.push(builder.look(Look::WordAscii))?;
+    builder.concat(parts)
 }
 
-fn lines(builder: &mut Builder<'static>) -> Result<Part, Error> {
-    let start = builder.look(Look::StartLF)?;
-    let first = word(builder)?;
-    let first = builder.optional(first)?;
+fn lines(alloc: Global, builder: &Builder<'static>) -> Result<Part<'static>, Error> {
     let rest = builder.class(&NO_LINE_FEED)?;
-    let rest = builder.star(rest)?;
-    let end = builder.look(Look::EndLF)?;
-    builder.concat(&[start, first, rest, end])
+    let mut parts = Vec::new(alloc);
+    parts.push(builder.look(Look::StartLF))?;
+    parts.push(builder.optional(word(builder)?)?)?;
+    parts.push(builder.star(rest)?)?;
+    parts.push(builder.look(Look::EndLF))?;
+    builder.concat(parts)
 }
 
-fn pairs(builder: &mut Builder<'static>) -> Result<Part, Error> {
-    let key = word(builder)?;
-    let equals = builder.literal(b"=")?;
-    let value = word(builder)?;
-    builder.concat(&[key, equals, value])
+fn pairs(alloc: Global, builder: &Builder<'static>) -> Result<Part<'static>, Error> {
+    let mut parts = Vec::new(alloc);
+    parts.push(word(builder)?)?;
+    parts.push(builder.literal(b"=")?)?;
+    parts.push(word(builder)?)?;
+    builder.concat(parts)
 }
 
-fn none(builder: &mut Builder<'static>) -> Result<Part, Error> {
+fn none(alloc: Global, builder: &Builder<'static>) -> Result<Part<'static>, Error> {
     let before = builder.class(&SMALL)?;
-    let before = builder.plus(before)?;
-    let one = builder.range(b'0', b'9')?;
-    let middle = builder.literal(b"x")?;
-    let other = builder.range(b'0', b'9')?;
-    builder.concat(&[before, one, middle, other])
+    let mut parts = Vec::new(alloc);
+    parts.push(builder.plus(before)?)?;
+    parts.push(builder.range(b'0', b'9'))?;
+    parts.push(builder.literal(b"x")?)?;
+    parts.push(builder.range(b'0', b'9'))?;
+    builder.concat(parts)
 }
 
 // `(\w+)`
-fn word(builder: &mut Builder<'static>) -> Result<Part, Error> {
+fn word(builder: &Builder<'static>) -> Result<Part<'static>, Error> {
     let class = builder.class(&WORD)?;
     let word = builder.plus(class)?;
     builder.group(None, word)
