@@ -6,43 +6,33 @@ use rsc_captures::Captures;
 use rsc_engine::{Dfa, Matches, Program};
 use rsc_look::AsciiWord;
 use rsc_search::Input;
-use std::io;
-use std::time::CpuClock;
+use std::time::{CpuClock, Duration};
 
+/// Why nothing was timed.
 pub type Fail = anyhow::Error;
 
 /// Times one pattern: all matches with their groups, and whether there is one.
 pub fn time_pattern(rt: &HostRuntime, name: &str, text: &[u8]) -> Result<(), Fail> {
     let program = make(rt.alloc(), name)?;
-    let from = rt.thread_cpu_time()?;
-    let ours = count(rt, &program, text)?;
-    report(rt, name, "matches engine", from)?;
-
-    let mut dfa = Dfa::new(rt.alloc(), &program, 1000);
-    let from = rt.thread_cpu_time()?;
-    let found = dfa.is_match(&Input::new(text))?;
-    report(rt, name, "is_match engine", from)?;
-
+    let ours = all_of_ours(rt, name, &program, text)?;
+    let is_ours = is_one_of_ours(rt, name, &program, text)?;
     let regex = Regex::new(rt.alloc(), text_of(name))?;
-    let mut matcher = regex.matcher(rt.alloc())?;
-    let mut locations = regex.capture_locations(rt.alloc())?;
-    let from = rt.thread_cpu_time()?;
-    let mut theirs = 0_usize;
-    let mut all = matcher.captures_iter(text);
-    for _ in 0..=text.len() {
-        if all.next_read(&mut locations).is_none() {
-            break;
-        }
-        theirs = theirs.saturating_add(1);
-    }
-    report(rt, name, "matches regex", from)?;
-
-    let mut matcher = regex.matcher(rt.alloc())?;
-    let from = rt.thread_cpu_time()?;
-    let their_answer = matcher.is_match(text);
-    report(rt, name, "is_match regex", from)?;
-    println!(rt; "{name} {ours} {theirs} {found} {their_answer}")?;
+    let theirs = all_of_theirs(rt, name, &regex, text)?;
+    let is_theirs = is_one_of_theirs(rt, name, &regex, text)?;
+    println!(rt; "{name} {ours} {theirs} {is_ours} {is_theirs}")?;
     Ok(())
+}
+
+fn all_of_ours(
+    rt: &HostRuntime,
+    name: &str,
+    program: &Program<AsciiWord>,
+    text: &[u8],
+) -> Result<usize, Fail> {
+    let from = rt.thread_cpu_time()?;
+    let count = count(rt, program, text)?;
+    report(rt, name, "matches engine", from)?;
+    Ok(count)
 }
 
 fn count(rt: &HostRuntime, program: &Program<AsciiWord>, text: &[u8]) -> Result<usize, Fail> {
@@ -58,7 +48,49 @@ fn count(rt: &HostRuntime, program: &Program<AsciiWord>, text: &[u8]) -> Result<
     Ok(count)
 }
 
-fn report(rt: &HostRuntime, name: &str, what: &str, from: std::time::Duration) -> Result<(), Fail> {
+fn is_one_of_ours(
+    rt: &HostRuntime,
+    name: &str,
+    program: &Program<AsciiWord>,
+    text: &[u8],
+) -> Result<bool, Fail> {
+    let from = rt.thread_cpu_time()?;
+    let mut dfa = Dfa::new(rt.alloc(), program, 1000);
+    let found = dfa.is_match(&Input::new(text))?;
+    report(rt, name, "is_match engine", from)?;
+    Ok(found)
+}
+
+fn all_of_theirs(rt: &HostRuntime, name: &str, regex: &Regex, text: &[u8]) -> Result<usize, Fail> {
+    let mut matcher = regex.matcher(rt.alloc())?;
+    let mut locations = regex.capture_locations(rt.alloc())?;
+    let from = rt.thread_cpu_time()?;
+    let mut count = 0_usize;
+    let mut all = matcher.captures_iter(text);
+    for _ in 0..=text.len() {
+        if all.next_read(&mut locations).is_none() {
+            break;
+        }
+        count = count.saturating_add(1);
+    }
+    report(rt, name, "matches regex", from)?;
+    Ok(count)
+}
+
+fn is_one_of_theirs(
+    rt: &HostRuntime,
+    name: &str,
+    regex: &Regex,
+    text: &[u8],
+) -> Result<bool, Fail> {
+    let mut matcher = regex.matcher(rt.alloc())?;
+    let from = rt.thread_cpu_time()?;
+    let found = matcher.is_match(text);
+    report(rt, name, "is_match regex", from)?;
+    Ok(found)
+}
+
+fn report(rt: &HostRuntime, name: &str, what: &str, from: Duration) -> Result<(), Fail> {
     let to = rt.thread_cpu_time()?;
     let micros = to.saturating_sub(from).as_micros();
     eprintln!(rt; "{name} {what} {micros}")?;

@@ -72,8 +72,27 @@ pub fn has_match_twice<W: WordClass + AsciiWords>(
     }
 }
 
+/// Where the first match ends, by a DFA and by the backtracker: they never differ.
+pub fn first_end_twice<W: WordClass + AsciiWords>(
+    alloc: Global,
+    program: &Program<W>,
+    dfa: &mut Dfa<'_, W>,
+    input: &Input<'_>,
+    captures: &mut Captures,
+) -> Result<(Option<usize>, Option<usize>), Error>
+    requires of_program { dfa.old ≡ program.now }
+    ensures { IfOk result (λ ends. ends.0 ≡ ends.1) }
+{
+    laws::there_is_one_first_match();
+    let by_table = dfa.leftmost_end(input)?;
+    match find(alloc, program, input, captures)? {
+        None => Ok((by_table, None)),
+        Some(found) => Ok((by_table, Some(found.end()))),
+    }
+}
+
 /// The ends of the next two matches, of which the second is greater.
-pub fn next_two_ends<W: WordClass>(
+pub fn next_two_ends<W: WordClass + AsciiWords>(
     matches: &mut Matches<'_, '_, W>,
     captures: &mut Captures,
 ) -> Result<Option<(usize, usize)>, Error>

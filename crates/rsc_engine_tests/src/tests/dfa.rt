@@ -159,7 +159,8 @@ fn difference(
             let found = find(alloc, &program, &input, &mut captures)?;
             let agree = agrees(alloc, &program, &input, answer, &mut captures)?
                 && dfa.is_match(&input)? == found.is_some()
-                && dfa.find(&input, &mut captures)? == found;
+                && dfa.find(&input, &mut captures)? == found
+                && dfa.leftmost_end(&input)? == found.map(|m| m.end());
             if !agree {
                 return Ok(Some((number, text)));
             }

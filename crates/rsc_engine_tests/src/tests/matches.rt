@@ -4,6 +4,7 @@ use rsc_captures::Captures;
 use rsc_engine::Matches;
 use rsc_nfa::State;
 use rsc_search::{Anchored, Input, Span};
+use std::alloc::Global;
 use std::test::Fail;
 
 // `a*`
@@ -83,5 +84,32 @@ fn ends_for_good(rt: HostRuntime) -> Result<(), Fail> {
         let found = matches.next(&mut captures)?;
         assert!(rt; found.is_some() == expected && captures.is_match() == expected);
     }
+    Ok(())
+}
+
+// The spans of the matches in 2,000 bytes, of which all are `-` but four `aab`.
+fn far_apart(alloc: Global, states: &[State]) -> Result<Vec<(usize, usize)>, Fail> {
+    let mut text = vec![in alloc; b'-'; 2000]?;
+    for start in [100, 103, 900, 1997] {
+        text[start] = b'a';
+        text[start + 1] = b'a';
+        text[start + 2] = b'b';
+    }
+    let program = program(alloc, states, true)?;
+    let found = all(alloc, &program, Input::new(text.as_slice()))?;
+    Ok(found)
+}
+
+#[test]
+fn finds_matches_far_apart(rt: HostRuntime) -> Result<(), Fail> {
+    let expected = [(100, 103), (103, 106), (900, 903), (1997, 2000)];
+    // a+b, to whose first state no byte leads
+    let states = [byte(b'a', 1), fork(0, 2), byte(b'b', 3), accept(0)];
+    let found = far_apart(rt.alloc(), &states)?;
+    assert!(rt; found.as_slice() == expected.as_slice());
+    // a*b, to whose first state one does
+    let states = [fork(1, 2), byte(b'a', 0), byte(b'b', 3), accept(0)];
+    let found = far_apart(rt.alloc(), &states)?;
+    assert!(rt; found.as_slice() == expected.as_slice());
     Ok(())
 }
