@@ -11,7 +11,8 @@ no_end e None law found none = refl
 no_end e (Some i) law found none = absurd (law found.run none found.is_first)
 
 -- the end of the first match is that of its run
-same_end : (e : Search) (o : Option ℕ) (run : List (ℕ × ℕ)) (end : ℕ) → ((one other : List (ℕ × ℕ)) → IsLeftmostFirst e one → IsLeftmostFirst e other → one ≡ other)
+same_end : (e : Search) (o : Option ℕ) (run : List (ℕ × ℕ)) (end : ℕ)
+    → ((one other : List (ℕ × ℕ)) → IsLeftmostFirst e one → IsLeftmostFirst e other → one ≡ other)
     → ((run : List (ℕ × ℕ)) → HasNone e → ¬ (IsLeftmostFirst e run)) → IfSome o (IsLeftmostEnd e) → IfNone o (HasNone e)
     → IsLeftmostFirst e run → end ≡ (place run (length run - 1)).1 → o ≡ Some end
 same_end e None run end one law found none first at = absurd (law run none first)
