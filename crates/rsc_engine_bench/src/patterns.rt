@@ -47,39 +47,35 @@ fn capitals(builder: &Builder<'static>) -> Result<Part<'static>, Error> {
 }
 
 fn words(alloc: Global, builder: &Builder<'static>) -> Result<Part<'static>, Error> {
-    let mut parts = Vec::new(alloc);
-    parts.push(builder.look(Look::WordAscii))?;
-    parts.push(capitals(builder)?)?;
-    parts.push(builder.look(Look::WordAscii))?;
-    builder.concat(parts)
+    let before = builder.look(Look::WordAscii);
+    let word = capitals(builder)?;
+    let after = builder.look(Look::WordAscii);
+    builder.concat(vec![in alloc; before, word, after]?)
 }
 
 fn lines(alloc: Global, builder: &Builder<'static>) -> Result<Part<'static>, Error> {
+    let start = builder.look(Look::StartLF);
+    let first = builder.optional(word(builder)?)?;
     let rest = builder.class(&NO_LINE_FEED)?;
-    let mut parts = Vec::new(alloc);
-    parts.push(builder.look(Look::StartLF))?;
-    parts.push(builder.optional(word(builder)?)?)?;
-    parts.push(builder.star(rest)?)?;
-    parts.push(builder.look(Look::EndLF))?;
-    builder.concat(parts)
+    let rest = builder.star(rest)?;
+    let end = builder.look(Look::EndLF);
+    builder.concat(vec![in alloc; start, first, rest, end]?)
 }
 
 fn pairs(alloc: Global, builder: &Builder<'static>) -> Result<Part<'static>, Error> {
-    let mut parts = Vec::new(alloc);
-    parts.push(word(builder)?)?;
-    parts.push(builder.literal(b"=")?)?;
-    parts.push(word(builder)?)?;
-    builder.concat(parts)
+    let key = word(builder)?;
+    let equals = builder.literal(b"=")?;
+    let value = word(builder)?;
+    builder.concat(vec![in alloc; key, equals, value]?)
 }
 
 fn none(alloc: Global, builder: &Builder<'static>) -> Result<Part<'static>, Error> {
     let before = builder.class(&SMALL)?;
-    let mut parts = Vec::new(alloc);
-    parts.push(builder.plus(before)?)?;
-    parts.push(builder.range(b'0', b'9'))?;
-    parts.push(builder.literal(b"x")?)?;
-    parts.push(builder.range(b'0', b'9'))?;
-    builder.concat(parts)
+    let before = builder.plus(before)?;
+    let one = builder.range(b'0', b'9');
+    let middle = builder.literal(b"x")?;
+    let other = builder.range(b'0', b'9');
+    builder.concat(vec![in alloc; before, one, middle, other]?)
 }
 
 // `(\w+)`
