@@ -11,4 +11,4 @@ pub mod PartsLemmas  -- the pattern of a tree, by its variants
 pub mod PatternsLemmas  -- patterns that go where others go: bytes, classes and repetitions
 pub mod LinksLemmas  -- how single states lead on, and what follows for parts made of parts
 pub mod BuilderLemmas  -- how lists of states grow, part by part
-pub mod BeginsLemmas  -- from the state at which a pattern begins, or the first of several, its matches are found and no others: the runs of a program that was built
+pub mod BeginsLemmas  -- from the state at which patterns begin their matches are found and no others: these are the runs of a program that was built
