@@ -13,6 +13,7 @@ PATTERNS = {
     "lines": rb"(?m)^(\w+)?.*$",
     "pairs": rb"(\w+)=(\w+)",
     "none": rb"[a-z]+[0-9]x[0-9]",
+    "digits": rb"[a-z]+[0-9]",
 }
 
 

@@ -88,7 +88,7 @@ impl<'p, W: WordClass + AsciiWords> Dfa<'p, W> {
         ensures answer { IfOk result (IsAnswer (search_in W.word_chars self.old input.now)) }
         ensures memory { IfErr result (λ e. e ≡ OutOfMemory) }
     {
-        Ok(search(self.alloc, &self.plan, &mut self.table, input)?.0)
+        Ok(search(self.alloc, &self.plan, &mut self.table, input, false)?.0)
     }
 
     /// A position in the span before which no match begins, at best the last one at which no match can have begun earlier and still go on;
@@ -102,7 +102,7 @@ impl<'p, W: WordClass + AsciiWords> Dfa<'p, W> {
         ensures none { IfOk result (λ found. IfNone found (HasNone (search_in W.word_chars self.old input.now))) }
         ensures begin { IfOk result (λ found. IfSome found (BeginsFrom (search_in W.word_chars self.old input.now))) }
     {
-        let (answer, begin) = search(self.alloc, &self.plan, &mut self.table, input)?;
+        let (answer, begin) = search(self.alloc, &self.plan, &mut self.table, input, true)?;
         if let Answer::NoMatch = answer {
             return Ok(None);
         }
@@ -210,12 +210,13 @@ fn is_match_by_walk<W: WordClass>(
     Ok(true)
 }
 
-// The same, over a table.
+// The same, over a table, and a position before which no match begins: as late as the rows tell, if it's wanted.
 fn search<W: WordClass>(
     alloc: Global,
     plan: &Plan<'_, W>,
     table: &mut Table,
     input: &Input<'_>,
+    is_wanted: bool,
 ) -> Result<(Answer, usize), Error>
     requires once { plan.now.once ≡ true → IsNeverEntered (machine W.word_chars plan.now.program.now) }
     requires plan { IsPlan (machine W.word_chars plan.now.program.now) plan.now.classes plan.now.stride plan.now.unicode }
@@ -244,7 +245,7 @@ fn search<W: WordClass>(
     let mut at = start;
     let mut begin = start;
     'rows: loop {
-        let (here, position, from) = table.follow(plan, input, row, at, begin);
+        let (here, position, from) = table.follow(plan, input, row, at, begin, is_wanted);
         let step = table.step(plan, here, after_of(haystack, position))?;
         match step {
             Step::Matches => return Ok((Answer::End(position), from)),

@@ -229,6 +229,7 @@ impl<'p, 'h, W: WordClass + AsciiWords> Rest<'p, 'h, W> {
         ensures unset { IfOk result (λ found. IfNone found (captures.new ≡ no_offsets captures.old.groups (length captures.old.offsets))) }
     {
         captures.clear();
+        let start = self.input.start();
         let Some(from) = begin_of(&mut self.dfa, self.is_far, &self.input) else {
             return Ok(None);
         };
@@ -244,7 +245,7 @@ impl<'p, 'h, W: WordClass + AsciiWords> Rest<'p, 'h, W> {
             self.walk.run.as_slice(),
             captures,
         );
-        self.is_far = from < found.start() && FAR < found.start() - from;
+        self.is_far = FAR < found.start().saturating_sub(start);
         self.input.set_start(found.end());
         Ok(Some(found))
     }

@@ -5,7 +5,7 @@ use rsc_look::{AsciiWord, Look};
 use std::alloc::Global;
 
 /// The names of the patterns.
-pub const NAMES: [&str; 5] = ["capitals", "words", "lines", "pairs", "none"];
+pub const NAMES: [&str; 6] = ["capitals", "words", "lines", "pairs", "none", "digits"];
 
 const CAPITAL: [(u8, u8); 1] = [(b'A', b'Z')];
 
@@ -22,7 +22,8 @@ pub fn text_of(name: &str) -> &'static str {
         "words" => r"(?-u)\b[A-Z][a-z]*\b",
         "lines" => r"(?m-u)^(\w+)?.*$",
         "pairs" => r"(?-u)(\w+)=(\w+)",
-        _ => "(?-u)[a-z]+[0-9]x[0-9]",
+        "none" => "(?-u)[a-z]+[0-9]x[0-9]",
+        _ => "(?-u)[a-z]+[0-9]",
     }
 }
 
@@ -34,7 +35,8 @@ pub fn make(alloc: Global, name: &str) -> Result<Program<AsciiWord>, Error> {
         "words" => words(alloc, &builder),
         "lines" => lines(alloc, &builder),
         "pairs" => pairs(alloc, &builder),
-        _ => none(alloc, &builder),
+        "none" => none(alloc, &builder),
+        _ => digits(&builder),
     }?;
     builder.build(AsciiWord, false, whole)
 }
@@ -76,6 +78,12 @@ fn none(alloc: Global, builder: &Builder<'static>) -> Result<Part<'static>, Erro
     let middle = builder.literal(b"x")?;
     let other = builder.range(b'0', b'9');
     builder.concat(vec![in alloc; before, one, middle, other]?)
+}
+
+fn digits(builder: &Builder<'static>) -> Result<Part<'static>, Error> {
+    let before = builder.class(&SMALL)?;
+    let before = builder.plus(before)?;
+    builder.then(before, builder.range(b'0', b'9'))
 }
 
 // `(\w+)`

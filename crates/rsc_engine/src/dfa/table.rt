@@ -55,7 +55,7 @@ impl Table {
     }
 
     /// Follows the entries from a row as far as they are known, at most to the end: the row there, its position, and a position before which
-    /// no match begins, as far as the rows tell.
+    /// no match begins. If it's wanted, that is as late as the rows tell.
     #[inline(never)]
     pub fn follow<W: WordClass>(
         &self,
@@ -64,6 +64,7 @@ impl Table {
         row: usize,
         at: usize,
         begin: usize,
+        is_wanted: bool,
     ) -> (usize, usize, usize)
         requires plan { IsPlan (machine W.word_chars plan.now.program.now) plan.now.classes plan.now.stride plan.now.unicode }
         requires exact { IsExact (machine W.word_chars plan.now.program.now) plan.now.classes plan.now.stride self.now.rows.items self.now.leads.items }
@@ -86,7 +87,7 @@ impl Table {
             match self.known_row(plan, here, byte_at(haystack, position)) {
                 Some(next) => {
                     here = next;
-                    from = self.begin_at(plan, input, next, position + 1, from);
+                    from = self.begin_at(plan, input, next, position + 1, from, is_wanted);
                 }
                 None => return (here, position, from),
             }
@@ -103,6 +104,7 @@ impl Table {
         row: usize,
         at: usize,
         begin: usize,
+        is_wanted: bool,
     ) -> usize
         requires on { IsOn (search_in W.word_chars plan.now.program.now input.now) plan.now.classes self.now.rows.items row at }
         requires once { plan.now.once ≡ true → IsNeverEntered (machine W.word_chars plan.now.program.now) }
@@ -111,7 +113,11 @@ impl Table {
         ensures { BeginsFrom (search_in W.word_chars plan.now.program.now input.now) result }
     {
         steps_are_lawful();
-        if plan.once && !input.get_anchored().is_anchored() && self.is_first(plan, row) {
+        if is_wanted
+            && plan.once
+            && !input.get_anchored().is_anchored()
+            && self.is_first(plan, row)
+        {
             at
         } else {
             begin
