@@ -1,10 +1,9 @@
 //! What each listed assertion and range brings to the classes of all of them.
-ghost use Rattle.std.specs.Prelude.{◌≡◌, ◌<◌, ◌∷◌, ◌++◌, [], ℕ, Bool, IfOk};
+ghost use Rattle.std.specs.Prelude.{◌≡◌, ◌<◌, ◌∷◌, ◌++◌, [], ℕ, Bool, IfOk, map};
 ghost use Rattle.rsc_alphabet.specs.Partitions.{class_map, class_of};
-ghost use Rattle.rsc_show.specs.declared.shares.Item.{Item};
 ghost use Rattle.rsc_show.specs.Chosen.{chosen_words};
 ghost use Rattle.rsc_show.specs.Ranges.{IsCoarsestParting};
-ghost use Rattle.rsc_show.specs.Shares.{exceeds, has_boundary};
+ghost use Rattle.rsc_show.specs.Shares.{exceeds, has_boundary, look_item, range_item};
 
 use crate::alphabet::classes_of;
 use crate::choices::Words;
@@ -38,7 +37,9 @@ pub fn shares_of(
     matcher: &LookMatcher<Words>,
     looks: &[Look],
     ranges: &[(u8, u8)],
-) -> Result<Vec<Share>, AllocError> {
+) -> Result<Vec<Share>, AllocError>
+    ensures { IfOk result (λ shares. map (λ s. s.item) shares.items ≡ map look_item looks.now ++ map range_item ranges.now) }
+{
     let mut shares = Vec::new(alloc);
     for (index, look) in looks.iter().enumerate() {
         let after = &looks[index + 1..];
@@ -60,7 +61,7 @@ fn share_of_look(
     after: &[Look],
     ranges: &[(u8, u8)],
 ) -> Result<Share, AllocError>
-    ensures item { IfOk result (λ share. share.item ≡ Item.Look look) }
+    ensures item { IfOk result (λ share. share.item ≡ look_item look) }
     ensures own { IfOk result (λ share. IsCoarsestParting share.own [] (look ∷ []) matcher.now.0 (chosen_words matcher.now.1)) }
     ensures others { IfOk result (λ share.
         IsCoarsestParting share.others ranges.now (before.now ++ after.now) matcher.now.0 (chosen_words matcher.now.1)) }
@@ -83,7 +84,7 @@ fn share_of_range(
     range: (u8, u8),
     after: &[(u8, u8)],
 ) -> Result<Share, AllocError>
-    ensures item { IfOk result (λ share. share.item ≡ Item.Range range.0 range.1) }
+    ensures item { IfOk result (λ share. share.item ≡ range_item range) }
     ensures own { IfOk result (λ share. IsCoarsestParting share.own (range ∷ []) [] matcher.now.0 (chosen_words matcher.now.1)) }
     ensures others { IfOk result (λ share.
         IsCoarsestParting share.others (before.now ++ after.now) looks.now matcher.now.0 (chosen_words matcher.now.1)) }
