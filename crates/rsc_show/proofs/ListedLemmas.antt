@@ -1,5 +1,6 @@
 -- What the first argument lists.
-use Rattle.std.proofs.Common.{◌≡◌, ◌∷◌, ◌++◌, ℕ, [], List, false, refl, sym, ap, ◌∙◌, append_assoc}
+use Rattle.std.proofs.Common.{◌≡◌, ◌∷◌, ◌++◌, ℕ, [], List, true, false, bytes_eq, refl, sym, ap, ◌∙◌, append_assoc, codes}
+use Rattle.std.proofs.lemmas.Slice.Eq.{bytes_eq-Decides}
 use Rattle.rsc_look.specs.declared.assertion.Look.{Look}
 use Rattle.rsc_look.specs.declared.assertion.Look.TheVariants.{Start}
 use Rattle.rsc_look.specs.Looks.{every_look}
@@ -23,3 +24,9 @@ listed_push looks l a rest e = append_assoc looks (l ∷ []) (listed false rest)
 pub haystack_behind_name : (l : Look) (a : List ℕ) (rest : List (List ℕ)) → a ≡ look_name l
     → haystack_arguments false (a ∷ rest) ≡ haystack_arguments false rest
 haystack_behind_name l a rest e = ap (λ x. haystack_arguments false (x ∷ rest)) e ∙ (behind_name l rest).1
+
+-- the option `--summary` lists nothing
+pub listed_summary : (a : List ℕ) (rest : List (List ℕ)) → true ≡ bytes_eq a (codes "--summary")
+    → listed false (a ∷ rest) ≡ listed false rest
+unfolding every_look
+listed_summary a rest e = ap (λ x. listed false (x ∷ rest)) ((bytes_eq-Decides a (codes "--summary")).0 (sym e))

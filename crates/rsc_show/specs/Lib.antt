@@ -6,5 +6,6 @@ pub mod Names  -- the names that arguments write
 pub mod Pointers  -- where the group at fault is, and where it is written in a text as `-,x;-,x,x`
 pub mod PointersLayout  -- what the search for a name from one group on answers
 pub mod Ranges  -- partitions that keep assertions and part ranges of bytes
+pub mod Shares  -- boundaries of maps from bytes to classes, and the items that shares are of
 pub mod Sides  -- what is beside a position of a haystack
 pub mod Statuses  -- the status with which the program ends

@@ -23,7 +23,7 @@ const EXPECTED_BYTES: &str = "pairs of hexadecimal digits";
 const EXPECTED_RANGE: &str = "a range of bytes, as 61-7a, whose start is at most its end";
 
 const EXPECTED_OPTION: &str =
-    "an assertion, or --terminator, --words, --range, --color, --hex or --";
+    "an assertion, or --terminator, --words, --range, --color, --summary once, --hex or --";
 
 const EXPECTED_WORDS: &str = "ascii or unicode";
 
@@ -53,6 +53,8 @@ pub struct Request {
     pub looks: Vec<Look>,
     /// When to use colour.
     pub color: Color,
+    /// Whether the classes are summed up.
+    pub summary: bool,
     /// The haystack.
     pub haystack: Haystack,
 }
@@ -97,6 +99,7 @@ pub fn parse(alloc: Global, arguments: &[String]) -> Result<Request, ShowError>
         ranges: Vec::new(alloc),
         looks: Vec::new(alloc),
         color: Color::Auto,
+        summary: false,
         haystack: Haystack::Missing,
     };
     let mut next = Next::Plain;
@@ -188,6 +191,10 @@ fn take_plain(alloc: Global, request: &mut Request, argument: &str) -> Result<Ne
     }
     if let Some(next) = after_option(argument) {
         return Ok(next);
+    }
+    if argument == "--summary" && !request.summary {
+        request.summary = true;
+        return Ok(Next::Plain);
     }
     if argument.starts_with("--") {
         return Err(refused(alloc, argument, EXPECTED_OPTION));

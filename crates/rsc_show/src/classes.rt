@@ -5,6 +5,7 @@ use crate::alphabet::{Sizes, classes_of, sizes_of};
 use crate::arguments::{Haystack, Request, parse};
 use crate::choices::Words;
 use crate::error::{ShowError, refused};
+use crate::summary::summary;
 use crate::text::Page;
 use crate::witness::witnesses;
 use rsc_alphabet::ByteClasses;
@@ -29,6 +30,9 @@ pub fn answer(alloc: Global, arguments: &[String], wants_color: bool) -> Result<
     let request = parse(alloc, arguments)?;
     if !matches!(&request.haystack, Haystack::Missing) {
         return Err(refused(alloc, "classes", "no haystack"));
+    }
+    if request.summary {
+        return Ok(summary(alloc, &request)?);
     }
     let matcher = request.matcher();
     let classes = classes_of(

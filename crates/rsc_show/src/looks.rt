@@ -42,6 +42,9 @@ fn option_of_classes(request: &Request) -> Option<&'static str> {
     if !request.ranges.is_empty() {
         return Some("--range");
     }
+    if request.summary {
+        return Some("--summary");
+    }
     match request.color {
         Color::Auto => None,
         Color::Always | Color::Never => Some("--color"),

@@ -10,6 +10,8 @@ mod groups;
 mod looks;
 mod positions;
 mod run;
+mod shares;
+mod summary;
 mod text;
 mod witness;
 

@@ -17,7 +17,7 @@ slots groups have.
   rsc_show looks .. --hex BYTES     the haystack as hexadecimal digits
   rsc_show looks .. -               the haystack from standard input
   rsc_show classes [--terminator XX] [--words ascii|unicode] [--range XX-XX]..
-                   [--color auto|always|never] [LOOK..]
+                   [--color auto|always|never] [--summary] [LOOK..]
   rsc_show groups LISTS
   rsc_show --help, rsc_show --version
 
@@ -25,11 +25,13 @@ XX is two hexadecimal digits; the terminator is 0a unless it is given. LOOK is
 the name of an assertion, as StartLF or WordUnicode; looks without one shows
 all. LISTS are patterns between `;`, each with its groups between `,`: `-` has
 no name. The picture of classes is in colour on a terminal, where NO_COLOR is
-not set. The status is 0, 1 for a failure, 2 for wrong arguments, and 3 for a
+not set; --summary says instead what each LOOK and range adds to a table's
+width. The status is 0, 1 for a failure, 2 for wrong arguments, and 3 for a
 refused list of groups.
 
   rsc_show looks WordUnicode StartLF -- 'a b'
   rsc_show classes StartLF WordAscii
+  rsc_show classes StartLF WordAscii --range 61-7a --summary
   rsc_show groups '-,x;-,-,x'
 ";
 

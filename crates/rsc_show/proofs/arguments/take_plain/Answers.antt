@@ -1,5 +1,5 @@
-use Rattle.std.proofs.Common.{◌∙◌, refl, sym}
-use Rattle.rsc_show.proofs.ListedLemmas.{haystack_behind_name, listed_push}
+use Rattle.std.proofs.Common.{◌∙◌, ◌++◌, ap, refl, sym}
+use Rattle.rsc_show.proofs.ListedLemmas.{haystack_behind_name, listed_push, listed_summary}
 use Rattle.rsc_show.proofs.arguments.take_plain.Goals as goal
 
 pub returns-clause-looks : goal.returns-clause-looks
@@ -14,3 +14,7 @@ returns-clause-haystack c = λ h rest before. (
   before.1 ∙ haystack_behind_name c.in-Some-look_of.look c.args.argument.now rest
       (sym c.as_bytes.ensures.value ∙ (c.in-Some-look_of.ensures c.in-Some-look_of.look).0 refl),
 )
+
+pub returns-then-not-request-clause-looks : goal.returns-then-not-request-clause-looks
+returns-then-not-request-clause-looks c = λ rest.
+    ap (λ looks. c.args.request.now.looks.items ++ looks) (sym (listed_summary c.args.argument.now rest c.if-eq-2.ensures))
