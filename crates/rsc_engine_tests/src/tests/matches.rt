@@ -89,11 +89,13 @@ fn ends_for_good(rt: HostRuntime) -> Result<(), Fail> {
 
 // The spans of the matches in 2,000 bytes, of which all are `-` but four `aab`.
 fn far_apart(alloc: Global, states: &[State]) -> Result<Vec<(usize, usize)>, Fail> {
-    let mut text = vec![in alloc; b'-'; 2000]?;
-    for start in [100, 103, 900, 1997] {
-        text[start] = b'a';
-        text[start + 1] = b'a';
-        text[start + 2] = b'b';
+    let mut text = Vec::new(alloc);
+    for position in 0..2000 {
+        text.push(match position {
+            100 | 101 | 103 | 104 | 900 | 901 | 1997 | 1998 => b'a',
+            102 | 105 | 902 | 1999 => b'b',
+            _ => b'-',
+        })?;
     }
     let program = program(alloc, states, true)?;
     let found = all(alloc, &program, Input::new(text.as_slice()))?;
