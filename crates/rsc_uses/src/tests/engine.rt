@@ -21,6 +21,7 @@ fn searches(rt: HostRuntime) -> Result<(), Fail> {
     let mut dfa = Dfa::new(rt.alloc(), &program, 4);
     let found = engine::has_match_twice(rt.alloc(), &program, &mut dfa, &input, &mut captures)?;
     assert!(rt; found.0 && found.1);
+    let mut dfa = Dfa::new(rt.alloc(), &program, 4);
     let ends = engine::first_end_twice(rt.alloc(), &program, &mut dfa, &input, &mut captures)?;
     assert!(rt; ends == (Some(2), Some(2)));
     let mut matches = Matches::new(rt.alloc(), &program, input)?;
