@@ -21,11 +21,21 @@ fn searches(rt: HostRuntime) -> Result<(), Fail> {
     let mut dfa = Dfa::new(rt.alloc(), &program, 4);
     let found = engine::has_match_twice(rt.alloc(), &program, &mut dfa, &input, &mut captures)?;
     assert!(rt; found.0 && found.1);
-    let mut dfa = Dfa::new(rt.alloc(), &program, 4);
-    let ends = engine::first_end_twice(rt.alloc(), &program, &mut dfa, &input, &mut captures)?;
-    assert!(rt; ends == (Some(2), Some(2)));
     let mut matches = Matches::new(rt.alloc(), &program, input)?;
     assert!(rt; engine::next_two_ends(&mut matches, &mut captures)? == Some((2, 4)));
     assert!(rt; engine::next_two_ends(&mut matches, &mut captures)?.is_none());
+    Ok(())
+}
+
+#[test]
+fn ends_agree(rt: HostRuntime) -> Result<(), Fail> {
+    let builder = Builder::new(rt.alloc());
+    let whole = builder.range(b'a', b'z');
+    let program = builder.build(AsciiWord, true, whole)?;
+    let mut captures = Captures::all(rt.alloc(), program.nfa().group_info().clone()?)?;
+    let mut dfa = Dfa::new(rt.alloc(), &program, 4);
+    let input = Input::new(b"-a b");
+    let ends = engine::first_end_twice(rt.alloc(), &program, &mut dfa, &input, &mut captures)?;
+    assert!(rt; ends == (Some(2), Some(2)));
     Ok(())
 }
