@@ -287,7 +287,7 @@ def judge_runs(copy, crate, name, runs, unchanged):
 
 
 def with_modules(tests, wanted):
-    """Leaves in a copy of a crate of tests the wanted test modules alone, with those that they name, whose own tests are left out; without a list
+    """Leaves in a copy of a crate of tests the wanted test modules alone, with the modules that they name, whose own tests are left out; without a list
     all but those of cost, which take long."""
     own = pathlib.Path(ROOT, "crates", tests.name, "src")
     texts = {it.stem: it.read_text(encoding="utf-8") for it in [own / "tests.rt", *(own / "tests").glob("*.rt")]}

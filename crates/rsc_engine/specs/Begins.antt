@@ -4,7 +4,7 @@ use Rattle.rsc_nfa.specs.declared.state.State.{State}
 use Rattle.rsc_engine.specs.Patterns.{Pattern, Goes}
 use Rattle.rsc_engine.specs.Links.{Aim, Ends, HasEnd}
 
--- from the state `first` matches are those that are looked for so
+-- from the state `first` exactly the matches that are looked for are found
 pub record Begins (states : List State) (first : ℕ) (IsSought : Aim → ℕ → Type 0) : Type 0 where
   pub sound : (a : Aim) (n i : ℕ) → Ends states a n first i → IsSought a i
   pub complete : (a : Aim) (i : ℕ) → IsSought a i → a.position ≤ a.end → HasEnd states a first i
