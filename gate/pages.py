@@ -308,7 +308,7 @@ def form_faults():
 def serves_nothing(crate, below):
     """Returns whether a file of proofs/ isn't named after the file of specs/ or src/ that its lemmas serve."""
     name = pathlib.Path(below[-1]).stem
-    if below[0] != "proofs" or len(below) > 2 or name in ("Lib", "Words", "Rows", "CitedLaws"):
+    if below[0] != "proofs" or len(below) > 2 or name in ("Lib", "Prelude", "Examples", "CitedLaws"):
         return False
     subject, folder = name.removesuffix("Lemmas"), ROOT / "crates" / crate
     return subject == name or not ((folder / f"specs/{subject}.antt").exists() or (folder / f"src/{subject.lower()}.rt").exists())

@@ -75,7 +75,7 @@ def is_lemma_file(file):
 
 
 def is_law_file(file):
-    return not file.endswith("/Rows.antt") and ("/proofs/" in file or file.endswith("Laws.antt"))
+    return not file.endswith("/Examples.antt") and ("/proofs/" in file or file.endswith("Laws.antt"))
 
 
 def main():
@@ -105,7 +105,7 @@ def main():
         for name, line, words in found:
             named[file, name] = named.get((file, name), set()) | set(targets(words, own))
             places.setdefault((file, name), line)
-    # Definitions are the contracts' vocabulary, and rows are computed examples of them: only lemmas and laws have to be used.
+    # Definitions are the contracts' vocabulary, and examples compute them: only lemmas and laws have to be used.
     pending += [it for it in named if not is_law_file(it[0])]
     used = set()
     while pending:

@@ -3,7 +3,7 @@ use Rattle.std.proofs.Common.{◌≡◌, ℕ, ◌+◌, ◌-◌, ◌<◌, ◌≤�
 use Rattle.std.specs.FinSet as sets
 use Rattle.std.proofs.Math.Bool.{and-false, or-true}
 use Rattle.std.proofs.lemmas.Bool.Decides.{nat_tests}
-use Rattle.rsc_alphabet.proofs.Words.{from_to, from_to_none, filter_none, filter_first, filter_skip, filter_same, filter_parts, filter_at, Numbers, members, runs, begins_run, ends_run, edges_of, edges_of_each, changes_at, contains-edges_of, contains-joined, bytes, length-from_to, get_or-from_to, IsMaximalRun}
+use Rattle.rsc_alphabet.proofs.Prelude.{from_to, from_to_none, filter_none, filter_first, filter_skip, filter_same, filter_parts, filter_at, Numbers, members, runs, begins_run, ends_run, boundaries_of_range, boundaries_of_ranges, is_boundary_of_set, contains-boundaries_of_range, contains-joined, bytes, length-from_to, get_or-from_to, IsMaximalRun}
 use Rattle.std.specs.List.{list_any, list_all, All, Contains, AllAdjacentBelow}
 use Rattle.std.specs.Cmp.{nat_cmp_total}
 use Rattle.std.specs.FinSet.{contains-empty, same_set, nat_cmp-IsAntisymmetric}
@@ -93,7 +93,7 @@ pub zip_none : {A B : Type 0} (xs : List A) (ys : List B) → ys ≡ [] → zip 
 zip_none [] ys none = refl
 zip_none (x ∷ xs) ys none = ap (zip (x ∷ xs)) none
 
--- ---- what is true of the runs from each place on
+-- ---- what is true of the runs from each index on
 
 alone : (s : Numbers) (b : ℕ) → b ≤ 255 → sets.contains s b ≡ true → ends_run s b ≡ true → EndsAt s b b
 alone s b l is last = record {
@@ -125,7 +125,7 @@ find_end s (suc n) b l far is =
     (cases_lt b 255)
 
 -- what is true of no runs past the bytes, of the runs after one that begins here and so with it, and of the runs after a byte that is no
--- member and so of the same runs, is true of the runs from each place on
+-- member and so of the same runs, is true of the runs from each index on
 pub for_runs_from : (s : Numbers) (P : ℕ → List (ℕ × ℕ) → Type 0) → ((low : ℕ) → 256 ≤ low → P low [])
     → ((low e : ℕ) → low < 256 → parts_no_run s low ≡ true → EndsAt s low e → P (e + 1) (runs_from s (e + 1)) → P low ((low, e) ∷ runs_from s (e + 1)))
     → ((low : ℕ) → low < 256 → sets.contains s low ≡ false → P (low + 1) (runs_from s (low + 1)) → P low (runs_from s (low + 1))) → (n low : ℕ) → 256 ≤ low + n

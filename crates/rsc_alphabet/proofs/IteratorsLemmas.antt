@@ -1,7 +1,7 @@
 -- The steps of the iterators of a class map, and what they give.
 use Rattle.std.proofs.Common.{◌≡◌, ℕ, ◌+◌, ◌-◌, ◌<◌, ◌≤◌, Bool, true, false, not, List, [], ◌∷◌, ◌++◌, map, filter, refl, sym, ap, ap₂, ◌∙◌, arith, nat_eq, slice_index, Some, None, ◌^◌, length, append-nil, nat_le, ⊎_elim, set, below_more, get_or-set_same, get_or-set_other, zero, suc, ◌||◌, ◌&&◌, slice_get, length-append, option_map, pow_mono, nat_cmp, get_or, nat_lt, IsSome, All, ◌⊎◌, inl, inr, ◌==◌, subst, Contains}
 use Rattle.std.proofs.lemmas.Bool.{eq-eqb, ne_eqb, cases_lt, le-leb, lt-leb, eqb-true}
-use Rattle.rsc_alphabet.proofs.Words.{from_to, bytes, from_to_none, from_to_first, length-from_to, get_or-from_to, filter_same, filter_first, filter_none, filter_parts, Symbol, byte, end_of_input, byte_of, end_of, symbols, elements_of, representing, end_if_unbounded, representatives_of, has_bit, Numbers, members, symbols_left, elements_left, class_of, number_of, class_at, class_of_none, class_of_more, class_of-between}
+use Rattle.rsc_alphabet.proofs.Prelude.{from_to, bytes, from_to_none, from_to_first, length-from_to, get_or-from_to, filter_same, filter_first, filter_none, filter_parts, Symbol, byte, end_of_input, byte_of, end_of, symbols, elements_of, representing, end_if_unbounded, representatives_of, has_bit, Numbers, members, symbols_left, elements_left, class_of, number_of, class_at, class_of_none, class_of_more, class_of-between}
 use Rattle.std.proofs.lemmas.Option.{slice_get-map, slice_get-get_or}
 use Rattle.std.specs.declared.ops.Bound.{Bound}
 use Rattle.std.specs.Range.Bound.{start_index, end_index}
@@ -55,7 +55,7 @@ pub length-symbols : (classes : List ℕ) → length (symbols classes) ≡ slice
 length-symbols classes =
     rw (length-append, length-map) (omega (arith, length-from_to 0 (slice_index classes 255 + 1)))
 
--- each class is at the place of its number
+-- each class is at the index of its number
 pub slice_get-symbols : (classes : List ℕ) (c : ℕ) → c ≤ slice_index classes 255 → slice_get (symbols classes) c ≡ Some (byte c)
 slice_get-symbols classes c l =
     let all = from_to 0 (slice_index classes 255 + 1) in
@@ -98,28 +98,28 @@ pub representing_none : (classes : List ℕ) (low high : ℕ) → high ≤ low �
 representing_none classes low high h = rw (from_to_none low high h) refl
 
 -- the members of the set that the code makes are the representatives
-pub representative_bytes_are : (classes : List ℕ) (changes part s : Numbers) (low high : ℕ) → low < high → high ≤ 256 →
-    ((b : ℕ) → b < 256 → sets.contains changes b ≡ not (nat_eq (slice_index classes b) (slice_index classes (b - 1)))) →
-    ((b : ℕ) → sets.contains part b ≡ (nat_le low b && nat_le b (high - 1) && sets.contains changes b)) →
+pub representative_bytes_are : (classes : List ℕ) (starts part s : Numbers) (low high : ℕ) → low < high → high ≤ 256 →
+    ((b : ℕ) → b < 256 → sets.contains starts b ≡ not (nat_eq (slice_index classes b) (slice_index classes (b - 1)))) →
+    ((b : ℕ) → sets.contains part b ≡ (nat_le low b && nat_le b (high - 1) && sets.contains starts b)) →
     ((b : ℕ) → sets.contains s b ≡ (nat_eq b low || sets.contains part b)) → members s ≡ representing classes low high
-representative_bytes_are classes changes part s low high l h changed parted added =
+representative_bytes_are classes starts part s low high l h changed parted added =
     representing_are classes s low high (omega arith) h
     (λ b p. added b ∙ rw (ne_eqb b low (λ e. omega arith), parted b, lt-leb low b p) refl)
     (λ b p q. added b ∙ rw (ne_eqb b low (λ e. omega arith), parted b, le-leb low b (omega arith), lt-leb b (high - 1) (omega arith)) refl)
     (λ b p q. added b ∙ ap (λ x. nat_eq b low || x) (parted b ∙ rw (le-leb low b p, le-leb b (high - 1) (omega arith)) (changed b (omega arith))))
 
--- ---- sets by their words
+-- ---- sets by their blocks
 
 -- the empty set has no members
 pub members_none : members sets.empty ≡ []
 members_none = filter_none (λ b. sets.contains sets.empty b) 0 256 (λ b p q. contains-empty nat_cmp b)
 
--- what a test says of each of the four words
-pub by_words : (s : Numbers) (p : ℕ → Bool) → ((i : ℕ) → i < 64 → sets.contains s i ≡ p i) → ((i : ℕ) → i < 64 → sets.contains s (64 + i) ≡ p (64 + i)) →
+-- what a test says of each of the four blocks
+pub by_blocks : (s : Numbers) (p : ℕ → Bool) → ((i : ℕ) → i < 64 → sets.contains s i ≡ p i) → ((i : ℕ) → i < 64 → sets.contains s (64 + i) ≡ p (64 + i)) →
     ((i : ℕ) → i < 64 → sets.contains s (128 + i) ≡ p (128 + i)) → ((i : ℕ) → i < 64 → sets.contains s (192 + i) ≡ p (192 + i)) → (b : ℕ)
     → b < 256
     → sets.contains s b ≡ p b
-by_words s p first second third fourth b l =
+by_blocks s p first second third fourth b l =
     ⊎_elim (λ (h : b < 64). first b h) (λ (h : 64 ≤ b).
     ⊎_elim (λ (k : b < 128). later 64 h (second (b - 64) (omega arith))) (λ (k : 128 ≤ b).
     ⊎_elim (λ (m : b < 192). later 128 k (third (b - 128) (omega arith))) (λ (m : 192 ≤ b). later 192 m (fourth (b - 192) (omega arith)))
@@ -128,26 +128,26 @@ by_words s p first second third fourth b l =
     later : (start : ℕ) → start ≤ b → sets.contains s (start + (b - start)) ≡ p (start + (b - start)) → sets.contains s b ≡ p b
     later start low same = let e : start + (b - start) ≡ b = omega arith in rw e at same
 
--- the word of the bytes 1 to 64, shifted by one byte
-pub first_changes : (classes : List ℕ) (word up i : ℕ) → i < 64
-    → ((i : ℕ) → i < 64 → has_bit word i ≡ not (nat_eq (slice_index classes (1 + i)) (slice_index classes (1 + i - 1)))) →
-    has_bit up 0 ≡ false → ((i : ℕ) → 0 < i → i < 64 → has_bit up i ≡ has_bit word (i - 1))
+-- the block of the bytes 1 to 64, shifted by one byte
+pub first_starts : (classes : List ℕ) (block up i : ℕ) → i < 64
+    → ((i : ℕ) → i < 64 → has_bit block i ≡ not (nat_eq (slice_index classes (1 + i)) (slice_index classes (1 + i - 1)))) →
+    has_bit up 0 ≡ false → ((i : ℕ) → 0 < i → i < 64 → has_bit up i ≡ has_bit block (i - 1))
     → has_bit up i ≡ not (nat_eq (slice_index classes i) (slice_index classes (i - 1)))
-first_changes classes word up zero l each first others = first ∙ rw (eq-eqb (slice_index classes 0) (slice_index classes 0) refl) refl
-first_changes classes word up (suc k) l each first others =
+first_starts classes block up zero l each first others = first ∙ rw (eq-eqb (slice_index classes 0) (slice_index classes 0) refl) refl
+first_starts classes block up (suc k) l each first others =
     let e : suc k - 1 ≡ k = omega arith in
     let f : 1 + k ≡ suc k = omega arith in
     others (suc k) (omega arith) l ∙ rw e (rw (f, e) at (each k (omega arith)))
 
 -- ---- numbers
 
--- a list of 256 numbers, each at the place that it names, is that of the bytes
+-- a list of 256 numbers, each at the index that it names, is that of the bytes
 pub is_bytes : (xs : List ℕ) → length xs ≡ 256 → ((k : ℕ) → k < 256 → slice_index xs k ≡ k) → xs ≡ bytes
 is_bytes xs long each =
     ext_get_or 0 xs bytes (long ∙ sym (length-from_to 0 256))
     (λ i l. let h : i < 256 = omega (arith, long) in each i h ∙ sym (get_or-from_to 0 256 i 0 h ∙ omega arith))
 
--- each byte is at its place
+-- each byte is at its index
 pub bytes_own : (b : ℕ) → b < 256 → slice_index bytes b ≡ b
 bytes_own b l = get_or-from_to 0 256 b 0 l ∙ omega arith
 

@@ -4,30 +4,30 @@ use Rattle.std.specs.Cmp.{nat_cmp_total}
 use Rattle.std.specs.FinSet as sets
 use Rattle.std.specs.FinSet.{contains-empty, same_set, nat_cmp-IsAntisymmetric}
 use Rattle.std.proofs.lemmas.Bool.Decides.{nat_tests}
-use Rattle.rsc_alphabet.proofs.Words.{Numbers, has_bit, masked, contains-masked, is_masked-low, is_masked-high, ClassesRise, class_of, class_map, edges_of, class_map_is, class_of_more, class_of_none, class_of_same, contains-edges_of, contains-inserted, contains-joined, contains-removed, begins_run, ends_run, runs, edges_of_each, changes_at, Together, holds, treats_alike, are_alike, separates, same_bools, same_class-together}
+use Rattle.rsc_alphabet.proofs.Prelude.{Numbers, has_bit, masked, contains-masked, is_masked-low, is_masked-high, LastClassIsGreatest, class_of, class_map, boundaries_of_range, class_map_is, class_of_more, class_of_none, class_of_same, contains-boundaries_of_range, contains-inserted, contains-joined, contains-removed, begins_run, ends_run, runs, boundaries_of_ranges, is_boundary_of_set, Together, holds, treats_alike, are_alike, has_boundary, same_bools, same_class-together}
 use Rattle.std.specs.List.{list_any, list_all}
 use Rattle.std.proofs.lemmas.Bool.{cases_lt, cases_Bool, cases_eq, eq-eqb, le-leb}
 use Rattle.std.proofs.Math.Bool.{or-true}
 use Rattle.rsc_alphabet.proofs.ByteSetsLemmas.{for_runs_from, find_end, EndsAt, runs_from, parts_no_run, runs_from_first, runs_from_skip, runs_from_none, parts_no_run-after, parts_no_run-skip, Contains-first, Contains-later}
 use Rattle.std.proofs.lemmas.List.Elements.{All-head, All-tail}
-use Rattle.rsc_alphabet.proofs.RangesLemmas.{are_alike_is, contains-edges_of_range}
+use Rattle.rsc_alphabet.proofs.RangesLemmas.{are_alike_is, boundary_if_unlike}
 
 -- ---- the boundaries that calls of a class set leave, and the boundary 255, which separates nothing
 
 -- what `set_range` leaves of the flags: `before` has the boundary before the first byte, if there is one
-pub edges_set : (ends before : Numbers) (s e : ℕ) → s ≤ e → e < 256
+pub boundaries_set : (ends before : Numbers) (s e : ℕ) → s ≤ e → e < 256
     → ((q : ℕ) → sets.contains before q ≡ ((nat_lt 0 s && nat_eq q (s - 1)) || sets.contains ends q))
-    → sets.remove (sets.insert before e) 255 ≡ sets.union (sets.remove ends 255) (edges_of (s, e))
-edges_set ends before s e order high first = same_set nat_cmp_total nat_cmp-IsAntisymmetric _ _ (λ q.
-    rw (contains-removed, contains-inserted, contains-joined, contains-removed, contains-edges_of, first q) (flags (sets.contains ends q) q s e order high))
+    → sets.remove (sets.insert before e) 255 ≡ sets.union (sets.remove ends 255) (boundaries_of_range (s, e))
+boundaries_set ends before s e order high first = same_set nat_cmp_total nat_cmp-IsAntisymmetric _ _ (λ q.
+    rw (contains-removed, contains-inserted, contains-joined, contains-removed, contains-boundaries_of_range, first q) (flags (sets.contains ends q) q s e order high))
   where
     flags : (b : Bool) (q s e : ℕ) → s ≤ e → e < 256 → (not (nat_eq q 255) && (nat_eq q e || ((nat_lt 0 s && nat_eq q (s - 1)) || b))) ≡
         ((not (nat_eq q 255) && b) || ((nat_lt 0 s && nat_eq (s - 1) q) || (nat_lt e 255 && nat_eq e q)))
     flags b q s e order high = grind (arith, nat_tests)
 
 -- the empty set has no boundary
-pub no_edges : sets.remove (sets.empty {K = ℕ} {R = nat_cmp}) 255 ≡ sets.empty
-no_edges = same_set nat_cmp_total nat_cmp-IsAntisymmetric _ _
+pub no_boundaries : sets.remove (sets.empty {K = ℕ} {R = nat_cmp}) 255 ≡ sets.empty
+no_boundaries = same_set nat_cmp_total nat_cmp-IsAntisymmetric _ _
     (λ q. contains-removed sets.empty 255 q ∙ rw (contains-empty nat_cmp q) (grind (arith, nat_tests)))
 
 -- ---- the boundary 255, which separates nothing
@@ -43,11 +43,11 @@ boundary_below ends bytes k is = parts (sets.contains ends k) (bytes k) (sym (co
     parts x low test = grind (arith, nat_tests)
 
 -- the boundaries of a set to which other bytes were added
-pub edges_joined : (ends before after : Numbers) (starts lasts : ℕ → Bool) → ((b : ℕ) → sets.contains before b ≡ (sets.contains ends b || starts b))
+pub boundaries_joined : (ends before after : Numbers) (starts lasts : ℕ → Bool) → ((b : ℕ) → sets.contains before b ≡ (sets.contains ends b || starts b))
     → ((b : ℕ) → sets.contains after b ≡ (sets.contains before b || lasts b)) →
     ((b : ℕ) → sets.contains after b ≡ true → b < 256) →
     (k : ℕ) → sets.contains (sets.remove after 255) k ≡ (sets.contains (sets.remove ends 255) k || (nat_lt k 255 && (starts k || lasts k)))
-edges_joined ends before after starts lasts first second bytes k =
+boundaries_joined ends before after starts lasts first second bytes k =
     let added : sets.contains after k ≡ ((sets.contains ends k || starts k) || lasts k) = second k ∙ ap (λ x. x || lasts k) (first k) in
     contains-removed after 255 k ∙ rw (added, contains-removed ends 255 k)
     (by_cases (sets.contains ends k) (starts k) (lasts k) (λ is. bytes k (added ∙ is)))
@@ -105,11 +105,11 @@ class_of-high low high b fits from =
 -- ---- maps whose classes rise
 
 -- one class for all bytes, and one for each, are classes that rise
-pub zeros_rise : (classes : List ℕ) → ((b : ℕ) → b < 256 → slice_index classes b ≡ 0) → ClassesRise classes
+pub zeros_rise : (classes : List ℕ) → ((b : ℕ) → b < 256 → slice_index classes b ≡ 0) → LastClassIsGreatest classes
 zeros_rise classes none = record { within = λ b l. omega (arith, none b l, none 255 (omega arith)) }
 
 -- the classes rise where each byte is a class of its own
-pub bytes_rise : (classes : List ℕ) → ((b : ℕ) → b < 256 → slice_index classes b ≡ b) → ClassesRise classes
+pub bytes_rise : (classes : List ℕ) → ((b : ℕ) → b < 256 → slice_index classes b ≡ b) → LastClassIsGreatest classes
 bytes_rise classes own = record { within = λ b l. omega (arith, l, own b l, own 255 (omega arith)) }
 
 -- a boundary but for the byte 255
@@ -126,8 +126,8 @@ map_of_counts ends classes long each =
 -- ---- the boundaries of a set's maximal runs: they are where membership changes
 
 -- one of a byte and the next is a member
-abbrev pub changes : Numbers → ℕ → Bool
-changes s k = (sets.contains s k && not (sets.contains s (k + 1))) || (not (sets.contains s k) && sets.contains s (k + 1))
+abbrev pub differs : Numbers → ℕ → Bool
+differs s k = (sets.contains s k && not (sets.contains s (k + 1))) || (not (sets.contains s k) && sets.contains s (k + 1))
 
 past : (b k : ℕ) (x y : Bool) → 256 ≤ b → (nat_lt k 255 && ((nat_le b k && x) || (nat_eq (k + 1) b && y))) ≡ false
 past b k x y l = grind (arith, nat_tests)
@@ -141,22 +141,22 @@ stepped : (b e k : ℕ) (x y : Bool) → b ≤ e → e < 256 → (b ≤ k → k 
     (nat_lt k 255 && ((nat_le b k && x) || (nat_eq (k + 1) b && true)))
 stepped b e k x y from fits inner end next = grind (arith, nat_tests)
 
-abbrev pub is_edge : ℕ → ℕ × ℕ → Bool
-is_edge k r = sets.contains (edges_of r) k
+abbrev pub is_boundary_of_range : ℕ → ℕ × ℕ → Bool
+is_boundary_of_range k r = sets.contains (boundaries_of_range r) k
 
--- from `low` on, the edges of the runs are the changes, and the run that begins at `low` has its edge there
-edges_from : (s : Numbers) (k n low : ℕ) → 256 ≤ low + n → parts_no_run s low ≡ true →
-    list_any (is_edge k) (runs_from s low) ≡ (nat_lt k 255 && ((nat_le low k && changes s k) || (nat_eq (k + 1) low && sets.contains s low)))
-edges_from s k =
-    for_runs_from s (λ low rs. list_any (is_edge k) rs ≡ (nat_lt k 255 && ((nat_le low k && changes s k) || (nat_eq (k + 1) low && sets.contains s low))))
-    (λ low h. sym (past low k (changes s k) (sets.contains s low) h))
+-- from `low` on, the boundaries of the runs are where membership differs, and the run that begins at `low` has its first boundary there
+boundaries_from : (s : Numbers) (k n low : ℕ) → 256 ≤ low + n → parts_no_run s low ≡ true →
+    list_any (is_boundary_of_range k) (runs_from s low) ≡ (nat_lt k 255 && ((nat_le low k && differs s k) || (nat_eq (k + 1) low && sets.contains s low)))
+boundaries_from s k =
+    for_runs_from s (λ low rs. list_any (is_boundary_of_range k) rs ≡ (nat_lt k 255 && ((nat_le low k && differs s k) || (nat_eq (k + 1) low && sets.contains s low))))
+    (λ low h. sym (past low k (differs s k) (sets.contains s low) h))
     (λ low e h clean run rest.
-    ap₂ (λ t u. t || u) (contains-edges_of low e k) rest ∙ stepped low e k (changes s k) (sets.contains s (e + 1)) run.from run.fits
+    ap₂ (λ t u. t || u) (contains-boundaries_of_range low e k) rest ∙ stepped low e k (differs s k) (sets.contains s (e + 1)) run.from run.fits
     (λ p q. inside (sets.contains s k) (sets.contains s (k + 1)) (run.within k p (omega arith)) (run.within (k + 1) (omega arith) (omega arith)))
     (λ at h. rw at (ends (sets.contains s e) (sets.contains s (e + 1)) e run.last h))
     (λ h. after (sets.contains s e) (sets.contains s (e + 1)) e run.last h)
     ∙ rw (run.within low (omega arith) run.from) refl)
-    (λ low h none rest. rest ∙ skipped low k (changes s k) (sets.contains s (low + 1)) (omega arith) (λ at. rw (at, none) refl) ∙ rw none refl)
+    (λ low h none rest. rest ∙ skipped low k (differs s k) (sets.contains s (low + 1)) (omega arith) (λ at. rw (at, none) refl) ∙ rw none refl)
   where
     inside : (x y : Bool) → x ≡ true → y ≡ true → ((x && not y) || (not x && y)) ≡ false
     inside x y p q = rw (p, q) refl
@@ -168,67 +168,67 @@ edges_from s k =
     after x y e is h = grind (arith, nat_tests)
 
 -- a boundary is an edge of one of the ranges
-pub contains-edges_of_each : (ranges : List (ℕ × ℕ)) (k : ℕ) → sets.contains (edges_of_each ranges) k ≡ list_any (is_edge k) ranges
-contains-edges_of_each [] k = contains-empty nat_cmp k
-contains-edges_of_each (r ∷ rest) k = contains-joined (edges_of r) (edges_of_each rest) k ∙ ap (λ b. is_edge k r || b) (contains-edges_of_each rest k)
+pub contains-boundaries_of_ranges : (ranges : List (ℕ × ℕ)) (k : ℕ) → sets.contains (boundaries_of_ranges ranges) k ≡ list_any (is_boundary_of_range k) ranges
+contains-boundaries_of_ranges [] k = contains-empty nat_cmp k
+contains-boundaries_of_ranges (r ∷ rest) k = contains-joined (boundaries_of_range r) (boundaries_of_ranges rest) k ∙ ap (λ b. is_boundary_of_range k r || b) (contains-boundaries_of_ranges rest k)
 
 -- the boundaries of a set's maximal runs are where membership changes
-pub changes_are_edges : (s : Numbers) (k : ℕ) → sets.contains (edges_of_each (runs s)) k ≡ changes_at s k
-changes_are_edges s k =
-    contains-edges_of_each (runs s) k ∙ edges_from s k 256 0 (omega arith) (rw (eq-eqb 0 0 refl) refl) ∙ whole (changes s k) (sets.contains s 0)
+pub boundaries_of_runs_are : (s : Numbers) (k : ℕ) → sets.contains (boundaries_of_ranges (runs s)) k ≡ is_boundary_of_set s k
+boundaries_of_runs_are s k =
+    contains-boundaries_of_ranges (runs s) k ∙ boundaries_from s k 256 0 (omega arith) (rw (eq-eqb 0 0 refl) refl) ∙ whole (differs s k) (sets.contains s 0)
   where
     whole : (x y : Bool) → (nat_lt k 255 && ((nat_le 0 k && x) || (nat_eq (k + 1) 0 && y))) ≡ (nat_lt k 255 && x)
     whole x y = grind (arith, nat_tests)
 
 -- what is a boundary after those of a set's runs were added
-c-runs : (old s : Numbers) (k : ℕ) → sets.contains (sets.union old (edges_of_each (runs s))) k ≡ (sets.contains old k || changes_at s k)
-c-runs old s k = contains-joined old (edges_of_each (runs s)) k ∙ ap (λ b. sets.contains old k || b) (changes_are_edges s k)
+c-runs : (old s : Numbers) (k : ℕ) → sets.contains (sets.union old (boundaries_of_ranges (runs s))) k ≡ (sets.contains old k || is_boundary_of_set s k)
+c-runs old s k = contains-joined old (boundaries_of_ranges (runs s)) k ∙ ap (λ b. sets.contains old k || b) (boundaries_of_runs_are s k)
 
 changing : (k : ℕ) (x y : Bool) → (nat_lt k 255 && ((y && (nat_eq (k + 1) 0 || not x)) || (x && (nat_eq k 255 || not y)))) ≡
     (nat_lt k 255 && ((x && not y) || (not x && y)))
 changing k x y = grind (arith, nat_tests)
 
 -- the boundaries before the first bytes of the runs, and after their last ones
-pub edges_of_ends : (s starts ends : Numbers) → ((b : ℕ) → sets.contains starts b ≡ begins_run s b) → ((b : ℕ) → sets.contains ends b ≡ ends_run s b) →
-    (k : ℕ) → (nat_lt k 255 && (sets.contains starts (k + 1) || sets.contains ends k)) ≡ changes_at s k
-edges_of_ends s starts ends first last k =
+pub boundaries_of_ends : (s starts ends : Numbers) → ((b : ℕ) → sets.contains starts b ≡ begins_run s b) → ((b : ℕ) → sets.contains ends b ≡ ends_run s b) →
+    (k : ℕ) → (nat_lt k 255 && (sets.contains starts (k + 1) || sets.contains ends k)) ≡ is_boundary_of_set s k
+boundaries_of_ends s starts ends first last k =
     let e : k + 1 - 1 ≡ k = omega arith in
     rw (first (k + 1), last k, e) (changing k (sets.contains s k) (sets.contains s (k + 1)))
 
 -- what has these boundaries beside the old ones
-pub edges_added : (s old new : Numbers) → ((k : ℕ) → sets.contains new k ≡ (sets.contains old k || changes_at s k))
-    → new ≡ sets.union old (edges_of_each (runs s))
-edges_added s old new each = same_set nat_cmp_total nat_cmp-IsAntisymmetric _ _ (λ k. each k ∙ sym (c-runs old s k))
+pub boundaries_added : (s old new : Numbers) → ((k : ℕ) → sets.contains new k ≡ (sets.contains old k || is_boundary_of_set s k))
+    → new ≡ sets.union old (boundaries_of_ranges (runs s))
+boundaries_added s old new each = same_set nat_cmp_total nat_cmp-IsAntisymmetric _ _ (λ k. each k ∙ sym (c-runs old s k))
 
 -- ---- the boundaries of a range, and what they part
 
-edge_test : (a e k : ℕ) → ((nat_lt 0 a && nat_eq (a - 1) k) || (nat_lt e 255 && nat_eq e k)) ≡ true → (k + 1 ≡ a) ⊎ (k ≡ e)
-edge_test a e k m = ⊎_elim (λ (q : k ≡ e). inr q) (λ (q : k ≡ e → ⊥). inl (low q)) (cases_eq k e)
+boundary_test : (a e k : ℕ) → ((nat_lt 0 a && nat_eq (a - 1) k) || (nat_lt e 255 && nat_eq e k)) ≡ true → (k + 1 ≡ a) ⊎ (k ≡ e)
+boundary_test a e k m = ⊎_elim (λ (q : k ≡ e). inr q) (λ (q : k ≡ e → ⊥). inl (low q)) (cases_eq k e)
   where
     low : (k ≡ e → ⊥) → k + 1 ≡ a
     low q = grind (arith, nat_tests)
 
-edge_passes : (a e k : ℕ) → k < 255 → (k + 1 ≡ a) ⊎ (k ≡ e) → ((nat_lt 0 a && nat_eq (a - 1) k) || (nat_lt e 255 && nat_eq e k)) ≡ true
-edge_passes a e k l (inl q) = grind (arith, nat_tests)
-edge_passes a e k l (inr q) = grind (arith, nat_tests)
+boundary_passes : (a e k : ℕ) → k < 255 → (k + 1 ≡ a) ⊎ (k ≡ e) → ((nat_lt 0 a && nat_eq (a - 1) k) || (nat_lt e 255 && nat_eq e k)) ≡ true
+boundary_passes a e k l (inl q) = grind (arith, nat_tests)
+boundary_passes a e k l (inr q) = grind (arith, nat_tests)
 
 -- the boundaries of a range are before its first byte and after its last
-pub edges-boundary : (r : ℕ × ℕ) (k : ℕ) → k < 255 → (sets.contains (edges_of r) k ≡ true) ↔ ((k + 1 ≡ r.0) ⊎ (k ≡ r.1))
-edges-boundary r k l = (
-  (λ m. edge_test r.0 r.1 k (sym (contains-edges_of r.0 r.1 k) ∙ m)),
-  (λ q. contains-edges_of r.0 r.1 k ∙ edge_passes r.0 r.1 k l q),
+pub boundary_is : (r : ℕ × ℕ) (k : ℕ) → k < 255 → (sets.contains (boundaries_of_range r) k ≡ true) ↔ ((k + 1 ≡ r.0) ⊎ (k ≡ r.1))
+boundary_is r k l = (
+  (λ m. boundary_test r.0 r.1 k (sym (contains-boundaries_of_range r.0 r.1 k) ∙ m)),
+  (λ q. contains-boundaries_of_range r.0 r.1 k ∙ boundary_passes r.0 r.1 k l q),
 )
 
-moves : (p : ℕ → Bool) (r : ℕ × ℕ) (b c : ℕ) → c < 256 → ((k : ℕ) → k < 255 → sets.contains (edges_of r) k ≡ true → p k ≡ true) → Together p b c
+moves : (p : ℕ → Bool) (r : ℕ × ℕ) (b c : ℕ) → c < 256 → ((k : ℕ) → k < 255 → sets.contains (boundaries_of_range r) k ≡ true → p k ≡ true) → Together p b c
     → (r.0 ≤ b) × (b ≤ r.1) → b < 256 → (r.0 ≤ c) × (c ≤ r.1)
 moves p r b c small has together within here = (
   ⊎_elim
       (λ (h : c < r.0). absurd (together (r.0 - 1) (omega arith) (omega arith)
-      (has (r.0 - 1) (omega arith) ((edges-boundary r (r.0 - 1) (omega arith)).1 (inl (omega arith))))))
+      (has (r.0 - 1) (omega arith) ((boundary_is r (r.0 - 1) (omega arith)).1 (inl (omega arith))))))
       (λ (h : r.0 ≤ c). h)
       (cases_lt c r.0),
   ⊎_elim
-      (λ (h : r.1 < c). absurd (together r.1 (omega arith) (omega arith) (has r.1 (omega arith) ((edges-boundary r r.1 (omega arith)).1 (inr refl)))))
+      (λ (h : r.1 < c). absurd (together r.1 (omega arith) (omega arith) (has r.1 (omega arith) ((boundary_is r r.1 (omega arith)).1 (inr refl)))))
       (λ (h : c ≤ r.1). h)
       (cases_lt r.1 c),
 )
@@ -243,31 +243,31 @@ Together-sym : (p : ℕ → Bool) (b c : ℕ) → Together p b c → Together p 
 Together-sym p b c t k l u = t k (omega arith) (omega arith)
 
 -- bytes that are together where a partition has these are both in the range or both outside
-pub edges-together : (p : ℕ → Bool) (r : ℕ × ℕ) (b c : ℕ) → b < 256 → c < 256 → ((k : ℕ) → k < 255 → sets.contains (edges_of r) k ≡ true → p k ≡ true)
+pub boundaries-together : (p : ℕ → Bool) (r : ℕ × ℕ) (b c : ℕ) → b < 256 → c < 256 → ((k : ℕ) → k < 255 → sets.contains (boundaries_of_range r) k ≡ true → p k ≡ true)
     → Together p b c → holds r b ≡ holds r c
-edges-together p r b c l u has t =
+boundaries-together p r b c l u has t =
     same_bools (holds r b) (holds r c)
     (λ m. from_within r c (moves p r b c u has t (to_within r b m) l))
     (λ m. from_within r b (moves p r c b l has (Together-sym p b c t) (to_within r c m) u))
 
--- where a list of ranges separates two neighbours, one of its ranges has a boundary
-has_edge : (p : ℕ → Bool) (k : ℕ) → k < 255 → (ranges : List (ℕ × ℕ)) → All (λ r. r.0 ≤ r.1) ranges →
-    ((r : ℕ × ℕ) → Contains ranges r → sets.contains (edges_of r) k ≡ true → p k ≡ true) → separates ranges k ≡ true → p k ≡ true
-has_edge p k l [] ordered has apart = cc
-has_edge p k l (r ∷ rs) ordered has apart =
+-- where a list of ranges has a boundary between two neighbours, one of its ranges has a boundary
+has_boundary_of_one : (p : ℕ → Bool) (k : ℕ) → k < 255 → (ranges : List (ℕ × ℕ)) → All (λ r. r.0 ≤ r.1) ranges →
+    ((r : ℕ × ℕ) → Contains ranges r → sets.contains (boundaries_of_range r) k ≡ true → p k ≡ true) → has_boundary ranges k ≡ true → p k ≡ true
+has_boundary_of_one p k l [] ordered has apart = cc
+has_boundary_of_one p k l (r ∷ rs) ordered has apart =
     ⊎_elim
     (λ (alike : treats_alike r k (k + 1) ≡ true).
-    has_edge p k l rs (All-tail (λ q. q.0 ≤ q.1) r rs ordered) (λ q c. has q (Contains-later r rs q c))
+    has_boundary_of_one p k l rs (All-tail (λ q. q.0 ≤ q.1) r rs ordered) (λ q c. has q (Contains-later r rs q c))
     (sym (ap (λ b. not (b && are_alike rs k (k + 1))) alike) ∙ apart))
     (λ (other : treats_alike r k (k + 1) ≡ false).
-    has r (Contains-first r rs) (contains-edges_of_range r k (All-head (λ q. q.0 ≤ q.1) r rs ordered) l ∙ ap not other))
+    has r (Contains-first r rs) (boundary_if_unlike r k (All-head (λ q. q.0 ≤ q.1) r rs ordered) l ∙ ap not other))
     (cases_Bool (treats_alike r k (k + 1)))
 
 -- two bytes that are together for a partition with the boundaries of each range are alike for the ranges
 pub together-alike : (p : ℕ → Bool) (ranges : List (ℕ × ℕ)) → All (λ r. r.0 ≤ r.1) ranges →
-    ((r : ℕ × ℕ) → Contains ranges r → (k : ℕ) → k < 255 → sets.contains (edges_of r) k ≡ true → p k ≡ true) →
+    ((r : ℕ × ℕ) → Contains ranges r → (k : ℕ) → k < 255 → sets.contains (boundaries_of_range r) k ≡ true → p k ≡ true) →
     (b c : ℕ) → b < 256 → c < 256 → Together p b c → are_alike ranges b c ≡ true
 together-alike p ranges ordered has b c l u together =
-    are_alike_is ranges b c ∙ eq-eqb _ _ ((same_class-together (separates ranges) b c).1 (λ k low high apart.
+    are_alike_is ranges b c ∙ eq-eqb _ _ ((same_class-together (has_boundary ranges) b c).1 (λ k low high apart.
     let within : k < 255 = omega (arith, low, high, l, u) in
-    together k low high (has_edge p k within ranges ordered (λ r m e. has r m k within e) apart)))
+    together k low high (has_boundary_of_one p k within ranges ordered (λ r m e. has r m k within e) apart)))

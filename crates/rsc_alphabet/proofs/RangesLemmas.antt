@@ -10,7 +10,7 @@ use Rattle.std.proofs.lemmas.Bool.Decides.{nat_tests}
 use Rattle.std.proofs.lemmas.List.{take_more}
 use Rattle.std.proofs.lemmas.List.Folds.{list_all-append, list_any-append}
 use Rattle.std.proofs.Math.Bool.{and-true, or-false}
-use Rattle.rsc_alphabet.proofs.Words.{from_to, from_to_none, from_to_last, class_of, class_map, edges_of, holds, treats_alike, are_alike, separates, class_of_more, class_of-rises, contains-edges_of, slice_index-class_map}
+use Rattle.rsc_alphabet.proofs.Prelude.{from_to, from_to_none, from_to_last, class_of, class_map, boundaries_of_range, holds, treats_alike, are_alike, has_boundary, class_of_more, class_of-rises, contains-boundaries_of_range, slice_index-class_map}
 
 all_last : (h : ℕ → Bool) (low high : ℕ) → low ≤ high → list_all h (from_to low (high + 1)) ≡ (list_all h (from_to low high) && h high)
 all_last h low high l = ap (list_all h) (from_to_last low high l) ∙ list_all-append h (from_to low high) (high ∷ [])
@@ -72,21 +72,21 @@ are_alike_down [] b c = refl
 are_alike_down (r ∷ rs) b c = ap₂ (λ t u. t && u) (treats_alike_down r b c) (are_alike_down rs b c)
 
 -- bytes in order are alike if they have one class
-are_alike_up : (ranges : List (ℕ × ℕ)) (b n : ℕ) → are_alike ranges b (b + n) ≡ nat_eq (class_of (separates ranges) (b + n)) (class_of
-    (separates ranges) b)
+are_alike_up : (ranges : List (ℕ × ℕ)) (b n : ℕ) → are_alike ranges b (b + n) ≡ nat_eq (class_of (has_boundary ranges) (b + n)) (class_of
+    (has_boundary ranges) b)
 are_alike_up ranges b zero = let e : b + zero ≡ b = omega arith in rw e (are_alike_same ranges b ∙ sym (eq-eqb _ _ refl))
 are_alike_up ranges b (suc n) =
     let e : b + suc n ≡ b + n + 1 = omega arith in
-    rw (e, class_of_more (separates ranges) (b + n)) (are_alike_more ranges b (b + n) (omega arith)
+    rw (e, class_of_more (has_boundary ranges) (b + n)) (are_alike_more ranges b (b + n) (omega arith)
     ∙ ap (λ t. t && are_alike ranges (b + n) (b + n + 1)) (are_alike_up ranges b n)
-    ∙ step (class_of (separates ranges) (b + n)) (class_of (separates ranges) b) (are_alike ranges (b + n) (b + n + 1))
-    (class_of-rises (separates ranges) b n))
+    ∙ step (class_of (has_boundary ranges) (b + n)) (class_of (has_boundary ranges) b) (are_alike ranges (b + n) (b + n + 1))
+    (class_of-rises (has_boundary ranges) b n))
   where
     step : (x y : ℕ) (t : Bool) → y ≤ x → (nat_eq x y && t) ≡ nat_eq (x + cond (not t) 1 0) y
     step x y t l = grind (arith, nat_tests)
 
 -- bytes are alike if they have one class
-pub are_alike_is : (ranges : List (ℕ × ℕ)) (b c : ℕ) → are_alike ranges b c ≡ nat_eq (class_of (separates ranges) b) (class_of (separates ranges) c)
+pub are_alike_is : (ranges : List (ℕ × ℕ)) (b c : ℕ) → are_alike ranges b c ≡ nat_eq (class_of (has_boundary ranges) b) (class_of (has_boundary ranges) c)
 are_alike_is ranges b c =
     ⊎_elim
     (λ (l : b < c). let e : b + (c - b) ≡ c = omega arith in
@@ -96,31 +96,31 @@ are_alike_is ranges b c =
     (cases_lt b c)
 
 -- bytes have one class exactly if each range treats them alike
-pub same_class_is : (ranges : List (ℕ × ℕ)) (classes : List ℕ) (b c : ℕ) → classes ≡ class_map (separates ranges) → b < 256 → c < 256 →
+pub same_class_is : (ranges : List (ℕ × ℕ)) (classes : List ℕ) (b c : ℕ) → classes ≡ class_map (has_boundary ranges) → b < 256 → c < 256 →
     ((slice_index classes b ≡ slice_index classes c → are_alike ranges b c ≡ true) ×
     (are_alike ranges b c ≡ true → slice_index classes b ≡ slice_index classes c))
 same_class_is ranges classes b c is lb lc =
-    rw is (rw (slice_index-class_map (separates ranges) b lb, slice_index-class_map (separates ranges) c lc) (
+    rw is (rw (slice_index-class_map (has_boundary ranges) b lb, slice_index-class_map (has_boundary ranges) c lc) (
       (λ e. are_alike_is ranges b c ∙ eq-eqb _ _ e),
       (λ t. eqb-true _ _ (sym (are_alike_is ranges b c) ∙ t)),
     ))
 
--- ---- the edges of one range
+-- ---- the boundaries of one range
 
 -- a boundary of a range is where it treats neighbours differently
-pub contains-edges_of_range : (r : ℕ × ℕ) (k : ℕ) → r.0 ≤ r.1 → k < 255 → sets.contains (edges_of r) k ≡ not (treats_alike r k (k + 1))
-contains-edges_of_range (s, e) k order within =
-    contains-edges_of s e k ∙ by_cases ∙ sym (ap not (treats_alike_up (s, e) k (k + 1) (omega arith) ∙ pair (holds (s, e)) k))
+pub boundary_if_unlike : (r : ℕ × ℕ) (k : ℕ) → r.0 ≤ r.1 → k < 255 → sets.contains (boundaries_of_range r) k ≡ not (treats_alike r k (k + 1))
+boundary_if_unlike (s, e) k order within =
+    contains-boundaries_of_range s e k ∙ by_cases ∙ sym (ap not (treats_alike_up (s, e) k (k + 1) (omega arith) ∙ pair (holds (s, e)) k))
   where
     by_cases : ((nat_lt 0 s && nat_eq (s - 1) k) || (nat_lt e 255 && nat_eq e k)) ≡ not
         ((holds (s, e) k && holds (s, e) (k + 1)) || not (holds (s, e) k || holds (s, e) (k + 1)))
     by_cases = grind (arith, nat_tests)
 
 -- one range more
-pub separates_more : (ranges : List (ℕ × ℕ)) (i : ℕ) (d : ℕ × ℕ) (k : ℕ) → i < length ranges
-    → separates (take (i + 1) ranges) k ≡ (separates (take i ranges) k || not (treats_alike (get_or ranges i d) k (k + 1)))
-separates_more ranges i d k l =
-    ap (λ rs. separates rs k) (take_more ranges i d l) ∙ ap not (list_all-append (λ r. treats_alike r k (k + 1)) (take i ranges) (get_or ranges i d ∷ []))
+pub has_boundary_more : (ranges : List (ℕ × ℕ)) (i : ℕ) (d : ℕ × ℕ) (k : ℕ) → i < length ranges
+    → has_boundary (take (i + 1) ranges) k ≡ (has_boundary (take i ranges) k || not (treats_alike (get_or ranges i d) k (k + 1)))
+has_boundary_more ranges i d k l =
+    ap (λ rs. has_boundary rs k) (take_more ranges i d l) ∙ ap not (list_all-append (λ r. treats_alike r k (k + 1)) (take i ranges) (get_or ranges i d ∷ []))
     ∙ split (are_alike (take i ranges) k (k + 1)) (treats_alike (get_or ranges i d) k (k + 1))
   where
     split : (x y : Bool) → not (x && (y && true)) ≡ (not x || not y)

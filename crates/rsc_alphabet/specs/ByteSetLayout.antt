@@ -1,7 +1,7 @@
 -- How the code holds a set of bytes, as two numbers of 128 bits, and how far an iterator over it has come.
 use Rattle.std.specs.Prelude.{ℕ, ◌+◌, ◌-◌, ◌*◌, Bool, nat_lt, List, ◌++◌, filter, if◌then◌else◌}
 use Rattle.std.specs.FinSet as sets
-use Rattle.rsc_primitives.specs.BitsLaws.{has_bit}
+use Rattle.rsc_primitives.specs.Bits.{has_bit}
 use Rattle.rsc_alphabet.specs.Bytes.{from_to, bytes}
 use Rattle.rsc_alphabet.specs.ByteSets.{Numbers}
 
@@ -17,6 +17,6 @@ masked low high = sets.from_list (filter (is_masked low high) bytes)
 abbrev pub members_from : Numbers → ℕ → List ℕ
 members_from s low = filter (λ b. sets.contains s b) (from_to low 256)
 
--- of the 64 numbers from `byte` on those whose bit of `word` is 1, and the members above the word
+-- of the 64 numbers from `byte` on those whose bit of `block` is 1, and the members above the block
 abbrev pub members_left : Numbers → ℕ → ℕ → ℕ → List ℕ
-members_left s number byte word = filter (λ b. has_bit word (b - byte)) (from_to byte (byte + 64)) ++ members_from s (64 * number + 64)
+members_left s number byte block = filter (λ b. has_bit block (b - byte)) (from_to byte (byte + 64)) ++ members_from s (64 * number + 64)

@@ -8,7 +8,8 @@ use Rattle.std.proofs.lemmas.Nat.Bits.{bit_at_above}
 use Rattle.std.proofs.Math.Bool.{and-true}
 use Rattle.std.proofs.lemmas.Map.Views.{any-filter_same}
 use Rattle.rsc_alphabet.specs.Bytes.{from_to, bytes}
-use Rattle.rsc_primitives.specs.BitsLaws.{has_bit, mask_of, mask_of_bits}
+use Rattle.rsc_primitives.specs.Bits.{has_bit, mask_of}
+use Rattle.rsc_primitives.specs.BitsLaws.{mask_of_bits}
 use Rattle.rsc_alphabet.specs.ByteSetLayout.{is_masked, masked}
 use Rattle.rsc_alphabet.specs.BytesLaws.{any_from_to}
 

@@ -13,7 +13,7 @@ use Rattle.std.proofs.Math.Bool.{or-false, or_assoc}
 use Rattle.rsc_alphabet.specs.Bytes.{from_to}
 use Rattle.rsc_alphabet.specs.BytesLaws.{from_to_none, from_to_last, length-from_to}
 use Rattle.rsc_alphabet.specs.ByteSets.{Numbers}
-use Rattle.rsc_alphabet.specs.Partitions.{ClassesRise, Together, class_of, class_map, edges_of}
+use Rattle.rsc_alphabet.specs.Partitions.{LastClassIsGreatest, Together, class_of, class_map, boundaries_of_range}
 
 -- ---- sets of numbers
 
@@ -38,8 +38,8 @@ union_assoc s t u = same_set nat_cmp_total nat_cmp-IsAntisymmetric _ _ (λ q.
 
 -- ---- the boundaries of a range
 
-pub contains-edges_of : (s e q : ℕ) → sets.contains (edges_of (s, e)) q ≡ ((nat_lt 0 s && nat_eq (s - 1) q) || (nat_lt e 255 && nat_eq e q))
-contains-edges_of s e q =
+pub contains-boundaries_of_range : (s e q : ℕ) → sets.contains (boundaries_of_range (s, e)) q ≡ ((nat_lt 0 s && nat_eq (s - 1) q) || (nat_lt e 255 && nat_eq e q))
+contains-boundaries_of_range s e q =
     contains-from_list_nat _ q ∙ by_cases (nat_lt 0 s) (nat_lt e 255)
   where
     by_cases : (u v : Bool) → list_any (λ y. nat_eq y q) (cond u ((s - 1) ∷ []) [] ++ cond v (e ∷ []) []) ≡
@@ -50,16 +50,16 @@ contains-edges_of s e q =
     by_cases false false = refl
 
 -- the boundary before the first byte, and the one after the last
-pub contains-edges : (s e k : ℕ) → sets.contains (edges_of (s, e)) k ≡ (nat_eq (k + 1) s || (nat_eq k e && nat_lt e 255))
-contains-edges s e k = contains-edges_of s e k ∙ by_cases
+pub contains-boundaries : (s e k : ℕ) → sets.contains (boundaries_of_range (s, e)) k ≡ (nat_eq (k + 1) s || (nat_eq k e && nat_lt e 255))
+contains-boundaries s e k = contains-boundaries_of_range s e k ∙ by_cases
   where
     by_cases : ((nat_lt 0 s && nat_eq (s - 1) k) || (nat_lt e 255 && nat_eq e k)) ≡ (nat_eq (k + 1) s || (nat_eq k e && nat_lt e 255))
     by_cases = grind (arith, nat_tests)
 
 -- what is a boundary after those of a range were added
-pub c-range : (old : Numbers) (s e k : ℕ) → sets.contains (sets.union old (edges_of (s, e))) k ≡
+pub c-range : (old : Numbers) (s e k : ℕ) → sets.contains (sets.union old (boundaries_of_range (s, e))) k ≡
     (sets.contains old k || (nat_eq (k + 1) s || (nat_eq k e && nat_lt e 255)))
-c-range old s e k = contains-joined old (edges_of (s, e)) k ∙ ap (λ b. sets.contains old k || b) (contains-edges s e k)
+c-range old s e k = contains-joined old (boundaries_of_range (s, e)) k ∙ ap (λ b. sets.contains old k || b) (contains-boundaries s e k)
 
 -- ---- classes
 
@@ -160,13 +160,16 @@ next_class p b l =
     either : (c : ℕ) (t : Bool) → (c + cond t 1 0 ≡ c) ⊎ (c + cond t 1 0 ≡ c + 1)
     either c t = grind (arith, nat_tests)
 
-pub class_within : (p : ℕ → Bool) (b : ℕ) → b < 256 → slice_index (class_map p) b ≤ slice_index (class_map p) 255
-class_within p b l =
-    let e : b + (255 - b) ≡ 255 = omega arith in
-    rw (slice_index-class_map p b l, slice_index-class_map p 255 (omega arith)) (rw e at (class_of-rises p b (255 - b)))
+pub class_map-rises : (p : ℕ → Bool) (b c : ℕ) → b ≤ c → c < 256 → slice_index (class_map p) b ≤ slice_index (class_map p) c
+class_map-rises p b c l h =
+    let e : b + (c - b) ≡ c = omega arith in
+    rw (slice_index-class_map p b (omega arith), slice_index-class_map p c h) (rw e at (class_of-rises p b (c - b)))
 
-pub class_map-rises : (p : ℕ → Bool) → ClassesRise (class_map p)
-class_map-rises p = record { within = class_within p }
+pub class_within : (p : ℕ → Bool) (b : ℕ) → b < 256 → slice_index (class_map p) b ≤ slice_index (class_map p) 255
+class_within p b l = class_map-rises p b 255 (omega arith) (omega arith)
+
+pub class_map-bounded : (p : ℕ → Bool) → LastClassIsGreatest (class_map p)
+class_map-bounded p = record { within = class_within p }
 
 class_of_reached : (p : ℕ → Bool) (n c : ℕ) → c ≤ class_of p n → (b : ℕ) × ((b ≤ n) × (class_of p b ≡ c))
 class_of_reached p zero c l = (0, (omega arith, omega (arith, class_of_none p)))

@@ -17,5 +17,5 @@ abbrev pub are_alike : List (ℕ × ℕ) → ℕ → ℕ → Bool
 are_alike ranges b c = list_all (λ r. treats_alike r b c) ranges
 
 -- the partition of a list of ranges has a boundary where two neighbours aren't alike
-abbrev pub separates : List (ℕ × ℕ) → ℕ → Bool
-separates ranges k = not (are_alike ranges k (k + 1))
+abbrev pub has_boundary : List (ℕ × ℕ) → ℕ → Bool
+has_boundary ranges k = not (are_alike ranges k (k + 1))

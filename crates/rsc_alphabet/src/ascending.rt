@@ -4,7 +4,7 @@ ghost use Rattle.std.specs.Iterator.{YieldsFirst, item_count};
 ghost use Rattle.rsc_alphabet.specs.ByteSets.{members};
 
 use crate::ByteSet;
-use crate::masks::{lowest_bit, word_shifted_right};
+use crate::masks::{lowest_bit, block_shifted_right};
 use std::marker::Model;
 
 // An iterator over the members of a set, one `u64` after the other, which is twice as fast as a `u128`. A contract sees it as the list
@@ -14,10 +14,10 @@ pub(crate) struct Ascending {
     set: ByteSet,
     // All members from 64 * (`number` + 1) on are left.
     number: u8,
-    // Bit i of the word is that of the byte `byte + i`, so a member that follows the last one has the lowest bit, and is found without
-    // waiting for the place of the one before it.
+    // Bit i of the block is that of the byte `byte + i`, so a member that follows the last one has the lowest bit, and is found without
+    // waiting for the index of the one before it.
     byte: usize,
-    word: u64,
+    block: u64,
 }
 
 impl Model for Ascending {
@@ -27,9 +27,9 @@ impl Model for Ascending {
 
     ghost Value = { List ℕ };
 
-    ghost view = { λ it. members_left it.set it.number it.byte it.word };
+    ghost view = { λ it. members_left it.set it.number it.byte it.block };
 
-    ghost invariant = { λ it. (it.number < 4) × ((i : ℕ) → bit_at it.word i ≡ 1 → it.byte + i < 256) };
+    ghost invariant = { λ it. (it.number < 4) × ((i : ℕ) → bit_at it.block i ≡ 1 → it.byte + i < 256) };
 }
 
 impl Ascending {
@@ -41,7 +41,7 @@ impl Ascending {
             set,
             number: 0,
             byte: 0,
-            word: set.word(0),
+            block: set.block(0),
         }
     }
 }
@@ -55,25 +55,25 @@ impl Iterator for Ascending {
 
     #[inline]
     fn next(&mut self) -> Option<u8> {
-        if self.word & 1 == 1 {
+        if self.block & 1 == 1 {
             let member = self.byte as u8;
             self.byte += 1;
-            self.word = word_shifted_right(self.word, 1);
+            self.block = block_shifted_right(self.block, 1);
             return Some(member);
         }
-        while self.word == 0 {
+        while self.block == 0 {
             if self.number == 3 {
                 return None;
             }
             self.number += 1;
             self.byte = 64 * usize::from(self.number);
-            self.word = self.set.word(self.number);
+            self.block = self.set.block(self.number);
         }
-        let gap = lowest_bit(self.word);
+        let gap = lowest_bit(self.block);
         let member = self.byte + usize::from(gap);
         self.byte = member + 1;
         // In two steps, since `gap + 1` may be 64.
-        self.word = word_shifted_right(word_shifted_right(self.word, gap), 1);
+        self.block = block_shifted_right(block_shifted_right(self.block, gap), 1);
         Some(member as u8)
     }
 }

@@ -2,8 +2,8 @@
 ghost use Rattle.std.specs.Prelude.{◌≡◌, ℕ, ◌+◌, ◌<◌, ◌≤◌, ◌↔◌, ◌==◌, ◌&&◌, ◌||◌, nat_lt, true, false, IsTrue, All, slice_index};
 ghost use Rattle.std.specs.FinSet as sets;
 ghost use Rattle.rsc_alphabet.specs.ByteSets.{runs};
-ghost use Rattle.rsc_alphabet.specs.Partitions.{ClassesRise, changes_at, class_map, edges_of, edges_of_each};
-ghost use Rattle.rsc_alphabet.specs.Ranges.{are_alike, separates};
+ghost use Rattle.rsc_alphabet.specs.Partitions.{LastClassIsGreatest, is_boundary_of_set, class_map, boundaries_of_range, boundaries_of_ranges};
+ghost use Rattle.rsc_alphabet.specs.Ranges.{are_alike, has_boundary};
 
 use crate::{ByteClasses, ByteSet};
 use std::marker::Model;
@@ -68,7 +68,7 @@ impl ByteClassSet {
     #[inline]
     pub fn set_range(&mut self, start: u8, end: u8)
         requires { start ≤ end }
-        ensures set { self.new ≡ sets.union self.old (edges_of (start, end)) }
+        ensures set { self.new ≡ sets.union self.old (boundaries_of_range (start, end)) }
         ensures boundaries { (k : ℕ) →
             sets.contains self.new k ≡ (sets.contains self.old k || (k + 1 == start || (k == end && nat_lt end 255))) }
     {
@@ -92,10 +92,10 @@ impl ByteClassSet {
     /// assert!(rt; classes.get(b'a') == classes.get(b'b') && classes.get(b'b') != classes.get(b'c'));
     /// ```
     pub fn add_set(&mut self, set: &ByteSet)
-        ensures set { self.new ≡ sets.union self.old (edges_of_each (runs set.now)) }
-        ensures boundaries { (k : ℕ) → sets.contains self.new k ≡ (sets.contains self.old k || changes_at set.now k) }
+        ensures set { self.new ≡ sets.union self.old (boundaries_of_ranges (runs set.now)) }
+        ensures boundaries { (k : ℕ) → sets.contains self.new k ≡ (sets.contains self.old k || is_boundary_of_set set.now k) }
     {
-        self.add_edges(&set.run_starts(), &set.run_ends());
+        self.add_boundaries(&set.run_starts(), &set.run_ends());
     }
 
     /// Adds the boundaries of another partition: two bytes are together after it if they were, and are in the other one too.
@@ -121,7 +121,7 @@ impl ByteClassSet {
 
     // Adds the boundary before each of `starts`, and the one after each of `ends`, where there is a byte on the other side.
     #[inline]
-    fn add_edges(&mut self, starts: &ByteSet, ends: &ByteSet)
+    fn add_boundaries(&mut self, starts: &ByteSet, ends: &ByteSet)
         ensures { (k : ℕ) → sets.contains self.new k
             ≡ (sets.contains self.old k || (nat_lt k 255 && (sets.contains starts.now (k + 1) || sets.contains ends.now k))) }
     {
@@ -134,7 +134,7 @@ impl ByteClassSet {
     pub fn byte_classes(&self) -> ByteClasses
         ensures map { result ≡ class_map (sets.contains self.now) }
         ensures below { (k : ℕ) → sets.contains self.now k ≡ true → k < 255 }
-        ensures rise { ClassesRise result }
+        ensures bounded { LastClassIsGreatest result }
     {
         // Each class is counted by itself: there is no running number.
         let mut classes = ByteClasses::empty();
@@ -160,10 +160,10 @@ impl ByteClassSet {
 /// ```
 pub fn classes_of_ranges(ranges: &[(u8, u8)]) -> ByteClasses
     requires { All (λ r. r.0 ≤ r.1) ranges.now }
-    ensures counts { result ≡ class_map (separates ranges.now) }
+    ensures counts { result ≡ class_map (has_boundary ranges.now) }
     ensures alike { (b c : ℕ) → b < 256 → c < 256 →
         (slice_index result b ≡ slice_index result c) ↔ IsTrue (are_alike ranges.now b c) }
-    ensures rise { ClassesRise result }
+    ensures bounded { LastClassIsGreatest result }
 {
     let mut partition = ByteClassSet::empty();
     for &(start, end) in ranges {

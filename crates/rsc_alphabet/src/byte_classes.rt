@@ -6,13 +6,13 @@ ghost use Rattle.rsc_alphabet.specs.Bytes.{bytes};
 ghost use Rattle.rsc_alphabet.specs.Symbols.{byte_of, number_of};
 ghost use Rattle.rsc_alphabet.specs.Iterators.{class_at, end_of, symbol_count, stride2_of, symbols, elements_of, representing, representatives_of};
 ghost use Rattle.rsc_alphabet.specs.ByteSets.{members};
-ghost use Rattle.rsc_primitives.specs.BitsLaws.{has_bit};
-ghost use Rattle.rsc_alphabet.specs.Partitions.{ClassesRise, class_of};
+ghost use Rattle.rsc_primitives.specs.Bits.{has_bit};
+ghost use Rattle.rsc_alphabet.specs.Partitions.{LastClassIsGreatest, class_of};
 
 mod iter;
 
 use crate::lanes::{equal_to, unlike_before};
-use crate::masks::word_shifted_left;
+use crate::masks::block_shifted_left;
 use crate::{ByteSet, Unit};
 pub use iter::{ByteClassElements, ByteClassIter, ByteClassRepresentatives};
 use rsc_primitives::escape::DebugByte;
@@ -58,7 +58,7 @@ impl ByteClasses {
     pub fn empty() -> ByteClasses
         ensures len { length result ≡ 256 }
         ensures zero { (b : ℕ) → b < 256 → slice_index result b ≡ 0 }
-        ensures rise { ClassesRise result }
+        ensures bounded { LastClassIsGreatest result }
     {
         ByteClasses { classes: [0; 256] }
     }
@@ -67,7 +67,7 @@ impl ByteClasses {
     pub fn singletons() -> ByteClasses
         ensures list { result ≡ bytes }
         ensures own { (b : ℕ) → b < 256 → slice_index result b ≡ b }
-        ensures rise { ClassesRise result }
+        ensures bounded { LastClassIsGreatest result }
     {
         let mut classes = ByteClasses::empty();
         for byte in 0..=255u8 {
@@ -142,7 +142,7 @@ impl ByteClasses {
     /// The exponent of the least power of two that is at least [`ByteClasses::alphabet_len`], from 1 to 9: the rows of a
     /// transition table are as long as that power.
     ///
-    /// With rows of that length the place of a state's row is its number shifted to the left, and a table needs no multiplication.
+    /// With rows of that length the index of a state's row is its number shifted to the left, and a table needs no multiplication.
     ///
     /// # Examples
     ///
@@ -264,19 +264,19 @@ impl ByteClasses {
             return ByteSet::empty();
         }
         let start = first as u8;
-        let mut bytes = self.changes().between(start, (end - 1) as u8);
+        let mut bytes = self.class_starts().between(start, (end - 1) as u8);
         bytes.add(start);
         bytes
     }
 
     // The bytes whose class isn't their predecessor's.
     #[inline]
-    fn changes(&self) -> ByteSet
+    fn class_starts(&self) -> ByteSet
         ensures { (b : ℕ) → b < 256 → sets.contains result b ≡ not (slice_index self.now b == slice_index self.now (b - 1)) }
     {
         let classes = &self.classes;
-        ByteSet::from_words(
-            word_shifted_left(unlike_before(classes, 1)),
+        ByteSet::from_blocks(
+            block_shifted_left(unlike_before(classes, 1)),
             unlike_before(classes, 64),
             unlike_before(classes, 128),
             unlike_before(classes, 192),
@@ -289,7 +289,7 @@ impl ByteClasses {
         ensures { (b : ℕ) → b < 256 → sets.contains result b ≡ (slice_index self.now b == class) }
     {
         let classes = &self.classes;
-        ByteSet::from_words(
+        ByteSet::from_blocks(
             equal_to(classes, 0, class),
             equal_to(classes, 64, class),
             equal_to(classes, 128, class),

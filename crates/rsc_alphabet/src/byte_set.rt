@@ -3,13 +3,13 @@ ghost use Rattle.std.specs.Prelude.{◌≡◌, ℕ, ◌+◌, ◌-◌, ◌*◌, �
 ghost use Rattle.std.specs.FinSet as sets;
 ghost use Rattle.std.specs.Iterator.{YieldsFirst, item_count};
 ghost use Rattle.rsc_alphabet.specs.ByteSets.{members, runs, begins_run, ends_run};
-ghost use Rattle.rsc_primitives.specs.BitsLaws.{has_bit};
+ghost use Rattle.rsc_primitives.specs.Bits.{has_bit};
 ghost use Rattle.rsc_alphabet.specs.Partitions.{class_of};
 
 use crate::ascending::Ascending;
 use crate::masks::{
-    difference, either, has_bit, has_bits, joined, lower_word, ones, ones_below, shifted_left,
-    shifted_right, upper_word, with_bit, within, without_bit,
+    difference, either, has_bit, has_bits, joined, lower_block, ones, ones_below, shifted_left,
+    shifted_right, upper_block, with_bit, within, without_bit,
 };
 use std::marker::{Model, PhantomData};
 
@@ -39,7 +39,7 @@ impl Model for ByteSet {
     ghost use Rattle.std.specs.FinSet as sets;
     ghost use Rattle.std.specs.Coded.{coded_ℕ};
     ghost use Rattle.rsc_alphabet.specs.ByteSets.{Numbers};
-    ghost use Rattle.rsc_primitives.specs.BitsLaws.{mask_of};
+    ghost use Rattle.rsc_primitives.specs.Bits.{mask_of};
     ghost use Rattle.rsc_alphabet.specs.ByteSetLayout.{masked};
 
     ghost Value = { Numbers };
@@ -213,9 +213,9 @@ impl ByteSet {
         }
     }
 
-    // The set whose words, as `ByteSet::word` gives them, are these.
+    // The set whose blocks, as `ByteSet::block` gives them, are these.
     #[inline(always)]
-    pub(crate) fn from_words(first: u64, second: u64, third: u64, fourth: u64) -> ByteSet
+    pub(crate) fn from_blocks(first: u64, second: u64, third: u64, fourth: u64) -> ByteSet
         ensures first { (i : ℕ) → i < 64 → sets.contains result i ≡ has_bit first i }
         ensures second { (i : ℕ) → i < 64 → sets.contains result (64 + i) ≡ has_bit second i }
         ensures third { (i : ℕ) → i < 64 → sets.contains result (128 + i) ≡ has_bit third i }
@@ -324,16 +324,16 @@ impl ByteSet {
 
     // The bits of the 64 bytes from 64 * `number` on.
     #[inline]
-    pub(crate) fn word(&self, number: u8) -> u64
+    pub(crate) fn block(&self, number: u8) -> u64
         requires { number < 4 }
         ensures bits { (i : ℕ) → i < 64 → has_bit result i ≡ sets.contains self.now (64 * number + i) }
         ensures bytes { (b : ℕ) → sets.contains self.now b ≡ true → b < 256 }
     {
         match number {
-            0 => lower_word(self.low),
-            1 => upper_word(self.low),
-            2 => lower_word(self.high),
-            _ => upper_word(self.high),
+            0 => lower_block(self.low),
+            1 => upper_block(self.low),
+            2 => lower_block(self.high),
+            _ => upper_block(self.high),
         }
     }
 }

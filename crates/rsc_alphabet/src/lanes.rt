@@ -1,6 +1,6 @@
 //! Comparisons of 64 bytes at once.
 ghost use Rattle.std.specs.Prelude.{◌≡◌, ◌==◌, ℕ, ◌+◌, ◌-◌, ◌<◌, ◌≤◌, not, length, slice_index};
-ghost use Rattle.rsc_primitives.specs.BitsLaws.{has_bit};
+ghost use Rattle.rsc_primitives.specs.Bits.{has_bit};
 
 use std::simd::prelude::*;
 

@@ -8,7 +8,7 @@ ghost use Rattle.std.specs.declared.ops.Bound.TheVariants.{Unbounded};
 ghost use Rattle.std.specs.Range.Bound.{start_index, end_index};
 ghost use Rattle.rsc_alphabet.specs.Bytes.{bytes};
 ghost use Rattle.rsc_alphabet.specs.ByteSets.{Numbers, members, runs, IsMaximalRun};
-ghost use Rattle.rsc_alphabet.specs.Partitions.{ClassesRise, Together, class_map, edges_of, edges_of_each, changes_at};
+ghost use Rattle.rsc_alphabet.specs.Partitions.{LastClassIsGreatest, HasBoundariesOf, Together, class_map, boundaries_of_range, boundaries_of_ranges, is_boundary_of_set};
 ghost use Rattle.rsc_alphabet.specs.Ranges.{holds, are_alike};
 ghost use Rattle.rsc_alphabet.specs.Symbols.{Symbol, byte, symbol_cmp};
 ghost use Rattle.rsc_alphabet.specs.Iterators.{end_of, symbols, symbol_count, representatives_of};
@@ -22,20 +22,21 @@ pub fn one_class_is_together()
         (slice_index (class_map p) b ≡ slice_index (class_map p) c) ↔ Together p b c }
 {}
 
-/// The classes of a partition start at 0, and rise by at most 1 from a byte to the next.
-#[tactic(auto, using(crate::proofs::CitedLaws::class_map_rises, crate::proofs::CitedLaws::first_class, crate::proofs::CitedLaws::next_class))]
+/// The classes of a partition start at 0 and rise, by at most 1 from a byte to the next, so that of the byte 255 is the greatest.
+#[tactic(auto, using(crate::proofs::CitedLaws::last_class_is_greatest, crate::proofs::CitedLaws::class_map_rises, crate::proofs::CitedLaws::first_class, crate::proofs::CitedLaws::next_class))]
 pub fn classes_rise_by_one()
-    ensures rise { (p : ℕ → Bool) → ClassesRise (class_map p) }
+    ensures bounded { (p : ℕ → Bool) → LastClassIsGreatest (class_map p) }
+    ensures rise { (p : ℕ → Bool) (b c : ℕ) → b ≤ c → c < 256 → slice_index (class_map p) b ≤ slice_index (class_map p) c }
     ensures first { (p : ℕ → Bool) → slice_index (class_map p) 0 ≡ 0 }
     ensures next { (p : ℕ → Bool) (b : ℕ) → b < 255 →
         (slice_index (class_map p) (b + 1) ≡ slice_index (class_map p) b)
         ⊎ (slice_index (class_map p) (b + 1) ≡ slice_index (class_map p) b + 1) }
 {}
 
-/// The iterator over the classes of a partition gives each class of a byte once, as the unit of its number, at that place, and then the
+/// The iterator over the classes of a partition gives each class of a byte once, as the unit of its number, at that index, and then the
 /// end of the input.
 pub fn each_class_comes_once()
-    ensures place { (classes : List ℕ) (c : ℕ) → c ≤ slice_index classes 255 → slice_get (symbols classes) c ≡ Some (byte c) }
+    ensures index { (classes : List ℕ) (c : ℕ) → c ≤ slice_index classes 255 → slice_get (symbols classes) c ≡ Some (byte c) }
     ensures end { (classes : List ℕ) → slice_get (symbols classes) (slice_index classes 255 + 1) ≡ Some (end_of classes) }
     ensures count { (classes : List ℕ) → length (symbols classes) ≡ symbol_count classes }
     ensures within { (p : ℕ → Bool) (b : ℕ) → b < 256 → slice_index (class_map p) b ≤ slice_index (class_map p) 255 }
@@ -61,9 +62,9 @@ pub fn each_class_is_represented()
 {}
 
 /// The boundaries of a set's maximal runs are where membership changes from one byte to the next.
-#[tactic(auto, using(crate::proofs::PartitionsLemmas::changes_are_edges))]
-pub fn edges_of_runs_are_changes()
-    ensures { (s : Numbers) (k : ℕ) → sets.contains (edges_of_each (runs s)) k ≡ changes_at s k }
+#[tactic(auto, using(crate::proofs::PartitionsLemmas::boundaries_of_runs_are))]
+pub fn a_set_has_the_boundaries_of_its_runs()
+    ensures { (s : Numbers) (k : ℕ) → sets.contains (boundaries_of_ranges (runs s)) k ≡ is_boundary_of_set s k }
 {}
 
 /// The members that [`crate::ByteSet::iter`] gives are all members below 256, ascending.
@@ -82,18 +83,18 @@ pub fn runs_are_maximal()
 
 /// The boundaries of a range are those before its first byte and after its last; and two bytes that are together for a
 /// partition with them are both in the range or both outside it.
-pub fn edges_part_a_range()
-    ensures edges { (start end k : ℕ) → sets.contains (edges_of (start, end)) k ≡ (k + 1 == start || (k == end && nat_lt end 255)) }
-    ensures boundary { (r : ℕ × ℕ) (k : ℕ) → k < 255 → (sets.contains (edges_of r) k ≡ true) ↔ ((k + 1 ≡ r.0) ⊎ (k ≡ r.1)) }
+pub fn boundaries_part_a_range()
+    ensures members { (start end k : ℕ) → sets.contains (boundaries_of_range (start, end)) k ≡ (k + 1 == start || (k == end && nat_lt end 255)) }
+    ensures boundary { (r : ℕ × ℕ) (k : ℕ) → k < 255 → (sets.contains (boundaries_of_range r) k ≡ true) ↔ ((k + 1 ≡ r.0) ⊎ (k ≡ r.1)) }
     ensures together { (p : ℕ → Bool) (r : ℕ × ℕ) (b c : ℕ) → b < 256 → c < 256 →
-        ((k : ℕ) → k < 255 → sets.contains (edges_of r) k ≡ true → p k ≡ true) → Together p b c → holds r b ≡ holds r c }
+        HasBoundariesOf p (sets.contains (boundaries_of_range r)) → Together p b c → holds r b ≡ holds r c }
 {}
 
 /// Two bytes that are together for a partition with the boundaries of each of several ranges, whose first bytes are at most their last, are
 /// alike for the ranges.
 pub fn together_is_alike()
     ensures { (p : ℕ → Bool) (ranges : List (ℕ × ℕ)) → All (λ r. r.0 ≤ r.1) ranges →
-        ((r : ℕ × ℕ) → Contains ranges r → (k : ℕ) → k < 255 → sets.contains (edges_of r) k ≡ true → p k ≡ true) →
+        ((r : ℕ × ℕ) → Contains ranges r → HasBoundariesOf p (sets.contains (boundaries_of_range r))) →
         (b c : ℕ) → b < 256 → c < 256 → Together p b c → IsTrue (are_alike ranges b c) }
 {}
 

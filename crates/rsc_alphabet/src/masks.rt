@@ -1,28 +1,28 @@
 //! The bits of the numbers that hold a set of bytes.
 ghost use Rattle.std.specs.Prelude.{◌≡◌, ◌==◌, ◌&&◌, ◌||◌, ◌↔◌, ℕ, ◌+◌, ◌-◌, ◌%◌, ◌<◌, ◌≤◌, nat_le, true, false, not, IsTrue};
 ghost use Rattle.std.specs.Int.{bit_at};
-ghost use Rattle.rsc_primitives.specs.BitsLaws.{has_bit};
+ghost use Rattle.rsc_primitives.specs.Bits.{has_bit};
 ghost use Rattle.rsc_alphabet.specs.Partitions.{class_of};
 
-// Whether a bit is 1. One word is shifted, which takes less time than two, and no branch hangs on the bit.
+// Whether a bit is 1. One block is shifted, which takes less time than two, and no branch hangs on the bit.
 #[tactic(auto, using(std::proofs::lemmas::Nat::Bits::shr_and_one))]
 #[inline(always)]
 pub(crate) fn has_bit(mask: u128, bit: u8) -> bool
     requires { bit < 128 }
     ensures { result ≡ has_bit mask bit }
 {
-    (word_with_bit(mask, bit) >> (bit % 64)) & 1 == 1
+    (block_with_bit(mask, bit) >> (bit % 64)) & 1 == 1
 }
 
 #[inline(always)]
-fn word_with_bit(mask: u128, bit: u8) -> u64
+fn block_with_bit(mask: u128, bit: u8) -> u64
     requires { bit < 128 }
     ensures { has_bit result (bit % 64) ≡ has_bit mask bit }
 {
     if bit < 64 {
-        lower_word(mask)
+        lower_block(mask)
     } else {
-        upper_word(mask)
+        upper_block(mask)
     }
 }
 
@@ -35,17 +35,17 @@ pub(crate) fn with_bit(mask: u128, bit: u8) -> u128
     one_bit(bit) | mask
 }
 
-// The number of which this bit alone is 1. One word is shifted, which takes less time than two.
+// The number of which this bit alone is 1. One block is shifted, which takes less time than two.
 #[inline(always)]
 fn one_bit(bit: u8) -> u128
     requires { bit < 128 }
     ensures { (i : ℕ) → has_bit result i ≡ (i == bit) }
 {
-    let word = 1 << (bit % 64);
+    let block = 1 << (bit % 64);
     if bit < 64 {
-        joined(word, 0)
+        joined(block, 0)
     } else {
-        joined(0, word)
+        joined(0, block)
     }
 }
 
@@ -117,14 +117,14 @@ pub(crate) fn shifted_right(mask: u128, above: u128) -> u128
 }
 
 #[inline(always)]
-pub(crate) fn lower_word(mask: u128) -> u64
+pub(crate) fn lower_block(mask: u128) -> u64
     ensures { (i : ℕ) → i < 64 → has_bit result i ≡ has_bit mask i }
 {
     (mask & 0xFFFF_FFFF_FFFF_FFFF) as u64
 }
 
 #[inline(always)]
-pub(crate) fn upper_word(mask: u128) -> u64
+pub(crate) fn upper_block(mask: u128) -> u64
     ensures { (i : ℕ) → i < 64 → has_bit result i ≡ has_bit mask (64 + i) }
 {
     (mask >> 64) as u64
@@ -138,34 +138,34 @@ pub(crate) fn joined(lower: u64, upper: u64) -> u128
     (u128::from(upper) << 64) | u128::from(lower)
 }
 
-// The place of the lowest bit that is 1.
+// The index of the lowest bit that is 1.
 #[inline(always)]
-pub(crate) fn lowest_bit(word: u64) -> u8
-    requires { 0 < word }
+pub(crate) fn lowest_bit(block: u64) -> u8
+    requires { 0 < block }
     ensures fits { result < 64 }
-    ensures here { bit_at word result ≡ 1 }
-    ensures below { (i : ℕ) → i < result → bit_at word i ≡ 0 }
+    ensures here { bit_at block result ≡ 1 }
+    ensures below { (i : ℕ) → i < result → bit_at block i ≡ 0 }
 {
-    word.trailing_zeros() as u8
+    block.trailing_zeros() as u8
 }
 
 // All bits shifted left by one. The lowest is 0.
 #[inline(always)]
-pub(crate) fn word_shifted_left(word: u64) -> u64
+pub(crate) fn block_shifted_left(block: u64) -> u64
     ensures first { has_bit result 0 ≡ false }
-    ensures others { (i : ℕ) → 0 < i → i < 64 → has_bit result i ≡ has_bit word (i - 1) }
+    ensures others { (i : ℕ) → 0 < i → i < 64 → has_bit result i ≡ has_bit block (i - 1) }
 {
-    word << 1
+    block << 1
 }
 
-// All bits shifted right by some places.
+// All bits shifted right by some bits.
 #[tactic(auto, using(crate::proofs::ByteSetLayoutLemmas::bit_at_shr))]
 #[inline(always)]
-pub(crate) fn word_shifted_right(word: u64, places: u8) -> u64
-    requires { places < 64 }
-    ensures { (i : ℕ) → bit_at result i ≡ bit_at word (places + i) }
+pub(crate) fn block_shifted_right(block: u64, bits: u8) -> u64
+    requires { bits < 64 }
+    ensures { (i : ℕ) → bit_at result i ≡ bit_at block (bits + i) }
 {
-    word >> places
+    block >> bits
 }
 
 // How many bits below a bit are 1.

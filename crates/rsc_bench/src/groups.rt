@@ -1,6 +1,6 @@
 //! The commands `groups` and `limited`: the slots of a list of groups, or why it is refused.
 ghost use Rattle.std.specs.Prelude.{◌≤◌, IfSome};
-ghost use Rattle.rsc_captures.specs.Faults.{LIMIT_OF_IDS};
+ghost use Rattle.rsc_primitives.specs.Indices.{max_index};
 
 use crate::tokens::parse_short_number;
 use rsc_captures::{GroupInfo, GroupInfoError, GroupInfoErrorKind};
@@ -39,7 +39,7 @@ pub fn answer_limited<A: Allocator + Copy + Drop>(
 
 // The limit that one to ten decimal digits write, or `None` where it is above the greatest.
 fn parse_limit(token: &[u8]) -> Option<usize>
-    ensures { IfSome result (λ limit. limit ≤ LIMIT_OF_IDS) }
+    ensures { IfSome result (λ limit. limit ≤ max_index) }
 {
     let limit = parse_short_number(token)?;
     if limit <= GREATEST_LIMIT {
@@ -55,7 +55,7 @@ fn answer_within<A: Allocator + Copy + Drop>(
     limit: Option<usize>,
     arguments: &[&[u8]],
 ) -> Result<Option<String<A>>, AllocError>
-    requires { IfSome limit (λ limit. limit ≤ LIMIT_OF_IDS) }
+    requires { IfSome limit (λ limit. limit ≤ max_index) }
 {
     match arguments {
         [] => Ok(Some(answer_lists(alloc, limit, &[])?)),
@@ -76,7 +76,7 @@ fn answer_lists<A: Allocator + Copy + Drop>(
     limit: Option<usize>,
     lists: &[&[Option<&str>]],
 ) -> Result<String<A>, AllocError>
-    requires { IfSome limit (λ limit. limit ≤ LIMIT_OF_IDS) }
+    requires { IfSome limit (λ limit. limit ≤ max_index) }
 {
     let made = match limit {
         None => GroupInfo::new(alloc, lists),

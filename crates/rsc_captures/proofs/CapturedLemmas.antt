@@ -1,7 +1,7 @@
 -- The span of a group, the spans of all groups, and the pieces that they cut.
 use Rattle.std.proofs.Common.{◌≡◌, ℕ, ◌+◌, ◌≤◌, List, length, get_or, Option, Some, None, refl, option_and_then, suc, ◌-◌, ◌<◌, ◌∷◌, map, ap, arith, zero, Bool, true, false, cond, [], ◌++◌, take, sym, ◌∙◌, eqb, append_assoc, option_map}
 use Rattle.std.proofs.lemmas.List.{get_or_past, map-append, length_push}
-use Rattle.rsc_captures.proofs.Words.{Span, span_at, Captured, group_span, matched_groups, matched_spans, participating, spans_from, participating_from, all_some, pieces}
+use Rattle.rsc_captures.proofs.Prelude.{Span, span_at, Captured, group_span, matched_groups, matched_spans, participating, spans_from, participating_from, all_some, pieces}
 use Rattle.std.specs.List.{filter_map, range_with_len}
 use Rattle.std.proofs.lemmas.List.FromFn.{length-map-range_with_len, get_or-map-range_with_len}
 use Rattle.std.proofs.lemmas.Grind.{common_steps}
@@ -81,9 +81,9 @@ participating_step c i lt = ap (filter_map (group_span c)) (range_step c i lt)
 pub all_participating : (c : Captured) → participating c ≡ participating_from c 0
 all_participating c = let all : matched_groups c ≡ matched_groups c - 0 = omega arith in ap (λ n. filter_map (group_span c) (range_with_len 0 n)) all
 
--- the span of a group is at its place
-pub span_by_place : (c : Captured) (i : ℕ) → i < matched_groups c → get_or (matched_spans c) i None ≡ group_span c i
-span_by_place c i lt = get_or-map-range_with_len (group_span c) 0 (matched_groups c) i i None (omega arith) (omega arith)
+-- the span of a group is at its group
+pub span_by_index : (c : Captured) (i : ℕ) → i < matched_groups c → get_or (matched_spans c) i None ≡ group_span c i
+span_by_index c i lt = get_or-map-range_with_len (group_span c) 0 (matched_groups c) i i None (omega arith) (omega arith)
 
 -- ---- the pieces that the first groups cut, as a loop over the groups finds them
 

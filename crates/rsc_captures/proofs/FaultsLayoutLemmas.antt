@@ -4,8 +4,8 @@ use Rattle.std.specs.Prelude.{⊤}
 use mathlib.Core.Bool.{true≢false}
 use borrow.Author.Count.{below_more}
 use Rattle.rsc_captures.specs.declared.faults.Fault as declared
-use Rattle.rsc_captures.proofs.Words.{Groups, GroupLists, groups_of, group_count, name_of, explicit_groups, explicit_before, Fault, TooManyGroups, Duplicate, ComesBefore, IsPlace, pattern_fault, name_fault, place_fault, slots_end, IsFirstFault, IsFaultless, FirstIsDuplicate, RefusesFor, fault_found, IsDuplicate, HasNoOtherBefore, HasNoOtherFault, IsFirstOther, is_repeat, AreDistinctBelow, IsFirstRepeat, HasNoRepeatBefore, IsFirstRepeatBefore}
-use Rattle.rsc_captures.proofs.FaultsLemmas.{before_more, explicit_place, group_clear, name_fault_clear, name_fault_repeat, name_fault_none, no_repeat_at_zero}
+use Rattle.rsc_captures.proofs.Prelude.{Groups, GroupLists, groups_of, group_count, name_of, explicit_groups, explicit_before, Fault, TooManyGroups, Duplicate, ComesBefore, IsChecked, pattern_fault, name_fault, fault_at, slots_end, IsFirstFault, IsFaultless, FirstIsDuplicate, RefusesFor, fault_found, IsDuplicate, HasNoOtherBefore, HasNoOtherFault, IsFirstOther, is_repeat, AreDistinctBelow, IsFirstRepeat, HasNoRepeatBefore, IsFirstRepeatBefore}
+use Rattle.rsc_captures.proofs.FaultsLemmas.{before_more, explicit_group_at, group_clear, name_fault_clear, name_fault_repeat, name_fault_none, no_repeat_at_zero}
 use Rattle.rsc_captures.proofs.GroupsLemmas.{sum_rises}
 use Rattle.rsc_captures.proofs.SlotOwnersLemmas.{pattern_in}
 use Rattle.rsc_captures.proofs.RepeatsLayoutLemmas.{repeat_name, repeat_of_pattern, none_before, none_more}
@@ -15,7 +15,7 @@ pub clear_distinct : {limit : ℕ} {lists : GroupLists} → IsFaultless limit li
     → AreDistinctBelow (groups_of lists p) (group_count lists p)
 clear_distinct {lists = lists} faultless p lt zero below = no_repeat_at_zero (groups_of lists p)
 clear_distinct {limit = limit} {lists = lists} faultless p lt (suc g) below =
-    let clear = sym (explicit_place limit lists p (suc g) (omega arith)) ∙ faultless.clear p (suc g) (lt, omega (arith, below)) in
+    let clear = sym (explicit_group_at limit lists p (suc g) (omega arith)) ∙ faultless.clear p (suc g) (lt, omega (arith, below)) in
     name_fault_none (groups_of lists p) p (suc g) (name_of lists p (suc g)) (group_clear limit lists p (suc g) clear).1
 
 earlier_still : {r k q h p g : ℕ} → ComesBefore r k q h → ComesBefore q h p g → ComesBefore r k p g
@@ -27,7 +27,7 @@ earlier_still {r = r} {k = k} {q = q} {h = h} {p = p} {g = g} one other =
     one
 
 module _ {limit : ℕ} {lists : GroupLists} {p g : ℕ} (before : HasNoOtherBefore limit lists p g) where
-  -- the pattern of a place before has no fault as a whole
+  -- the pattern of a group before has no fault as a whole
   pub pattern_before : (q h : ℕ) → ComesBefore q h p g → pattern_fault lists q ≡ None
   pattern_before q h = ⊎_elim (λ (lt : q < p). before.patterns q lt) (λ (same : (q ≡ p) × (h < g)). rw same.0 (before.first (omega (arith, same.1))))
 
@@ -39,44 +39,44 @@ module _ {limit : ℕ} {lists : GroupLists} {p g : ℕ} (before : HasNoOtherBefo
       omega (arith, before_more lists q (pattern_in lists q h group), rises, before.within, group))
       (λ (same : (q ≡ p) × (h < g)). rw same.0 (omega (arith, same.1, before.within)))
 
-  place_before : (q h : ℕ) → 0 < h → h < group_count lists q → ComesBefore q h p g
-      → place_fault limit lists q h ≡ name_fault (groups_of lists q) q h (name_of lists q h)
-  place_before q h some group earlier =
+  group_before : (q h : ℕ) → 0 < h → h < group_count lists q → ComesBefore q h p g
+      → fault_at limit lists q h ≡ name_fault (groups_of lists q) q h (name_of lists q h)
+  group_before q h some group earlier =
       let no_limit : ltb limit (2 * (explicit_before lists q + h)) ≡ false =
       le-ltb limit (2 * (explicit_before lists q + h)) (limit_before q h group earlier) in
-      explicit_place limit lists q h some ∙ rw no_limit refl
+      explicit_group_at limit lists q h some ∙ rw no_limit refl
 
-  clear_at : (q h : ℕ) → IsPlace lists q h → ComesBefore q h p g → (h < group_count lists q → is_repeat (groups_of lists q) h ≡ false)
-      → place_fault limit lists q h ≡ None
-  clear_at q zero place earlier distinct = pattern_before q 0 earlier
-  clear_at q (suc h) place earlier distinct =
-      let group : suc h < group_count lists q = omega (arith, place.1) in
-      place_before q (suc h) (omega arith) group earlier ∙ name_fault_clear (groups_of lists q) q (suc h) (name_of lists q (suc h)) (distinct group)
+  clear_at : (q h : ℕ) → IsChecked lists q h → ComesBefore q h p g → (h < group_count lists q → is_repeat (groups_of lists q) h ≡ false)
+      → fault_at limit lists q h ≡ None
+  clear_at q zero group earlier distinct = pattern_before q 0 earlier
+  clear_at q (suc h) group earlier distinct =
+      let group : suc h < group_count lists q = omega (arith, group.1) in
+      group_before q (suc h) (omega arith) group earlier ∙ name_fault_clear (groups_of lists q) q (suc h) (name_of lists q (suc h)) (distinct group)
 
   repeat_at : (q h : ℕ) (name : List ℕ) → h < group_count lists q → ComesBefore q h p g → is_repeat (groups_of lists q) h ≡ true → name_of lists q h ≡ Some name
-      → place_fault limit lists q h ≡ Some (Duplicate q name)
+      → fault_at limit lists q h ≡ Some (Duplicate q name)
   repeat_at q zero name group earlier repeats named = absurd (true≢false (sym repeats ∙ no_repeat_at_zero (groups_of lists q)))
   repeat_at q (suc h) name group earlier repeats named =
-      place_before q (suc h) (omega arith) group earlier ∙ rw named (name_fault_repeat (groups_of lists q) q (suc h) name (rw named at repeats))
+      group_before q (suc h) (omega arith) group earlier ∙ rw named (name_fault_repeat (groups_of lists q) q (suc h) name (rw named at repeats))
 
-  clear_before : HasNoRepeatBefore lists p g → (q h : ℕ) → IsPlace lists q h → ComesBefore q h p g → place_fault limit lists q h ≡ None
-  clear_before none q h place earlier = clear_at q h place earlier (λ group. none q h group earlier)
+  clear_before : HasNoRepeatBefore lists p g → (q h : ℕ) → IsChecked lists q h → ComesBefore q h p g → fault_at limit lists q h ≡ None
+  clear_before none q h group earlier = clear_at q h group earlier (λ group. none q h group earlier)
 
-  -- another fault at the place
-  pub other_at : (f : Fault) → IsPlace lists p g → place_fault limit lists p g ≡ Some f → IsFirstOther limit lists p g f
-  other_at f place fault = record {
+  -- another fault at the group
+  pub other_at : (f : Fault) → IsChecked lists p g → fault_at limit lists p g ≡ Some f → IsFirstOther limit lists p g f
+  other_at f group fault = record {
     before = before;
-    first = λ none. inl (record { p = p; g = g; place = place; fault = fault; least = clear_before none });
+    first = λ none. inl (record { p = p; g = g; group = group; fault = fault; least = clear_before none });
   }
 
-  -- the first repeated name before the place is the first fault
+  -- the first repeated name before the group is the first fault
   pub repeat_first : (f : Fault) → IsFirstRepeatBefore lists p g f → IsFirstFault limit lists f
   repeat_first f r = rw r.fault (inl (record {
     p = r.q;
     g = r.h;
-    place = (pattern_in lists r.q r.h r.group, omega (arith, r.group));
+    group = (pattern_in lists r.q r.h r.group, omega (arith, r.group));
     fault = repeat_at r.q r.h r.name r.group r.before r.repeats r.named;
-    least = λ q h place earlier. clear_at q h place (earlier_still earlier r.before) (λ group. r.least q h group earlier);
+    least = λ q h group earlier. clear_at q h group (earlier_still earlier r.before) (λ group. r.least q h group earlier);
   }))
 
 -- more groups than the limit has room for
@@ -87,7 +87,7 @@ too_many {limit = limit} {lists = lists} p room earlier clear pattern more withi
     let limited : ltb limit (2 * (explicit_before lists p + (room + 1))) ≡ true = lt-ltb limit (2 * (explicit_before lists p + (room + 1))) past in
     other_at (record { patterns = earlier.patterns; first = λ _. clear; within = omega (arith, within) }) (TooManyGroups p (room + 1))
     (pattern, omega (arith, more))
-    (explicit_place limit lists p (room + 1) (omega arith) ∙ rw limited refl)
+    (explicit_group_at limit lists p (room + 1) (omega arith) ∙ rw limited refl)
 
 -- the limit on the slots of all groups
 pub past_limit : {limit : ℕ} {lists : GroupLists} (n p : ℕ) → length lists ≡ n → HasNoOtherBefore limit lists n 0 → p < n → limit < slots_end lists p
@@ -95,7 +95,7 @@ pub past_limit : {limit : ℕ} {lists : GroupLists} (n p : ℕ) → length lists
 past_limit n p all before pattern past least = record {
   before = before;
   first = λ none. inr (record {
-    clear = λ q h place. clear_before before none q h place (inl (rw all at place.0));
+    clear = λ q h group. clear_before before none q h group (inl (rw all at group.0));
     p = p;
     pattern = rw all pattern;
     past =
@@ -128,7 +128,7 @@ first_repeat groups (suc n) le =
 module _ {limit : ℕ} {lists : GroupLists} (no_other : HasNoOtherFault limit lists) where
   -- lists without another fault and without a repeated name are faultless
   pub faultless_from : HasNoRepeatBefore lists (length lists) 0 → IsFaultless limit lists
-  faultless_from none = record { clear = λ p g place. clear_before no_other.places none p g place (inl place.0); within = no_other.slots }
+  faultless_from none = record { clear = λ p g group. clear_before no_other.groups none p g group (inl group.0); within = no_other.slots }
 
   -- no name is repeated in the first n patterns, or a repeated name is the first fault
   first_of : (n : ℕ) → n ≤ length lists → HasNoRepeatBefore lists n 0 ⊎ FirstIsDuplicate limit lists
@@ -144,7 +144,7 @@ module _ {limit : ℕ} {lists : GroupLists} (no_other : HasNoOtherFault limit li
                   inr (
                     n,
                     named.0,
-                    repeat_first no_other.places (Duplicate n named.0) (repeat_of_pattern lists n _ _ _ _ none found.1 named.1 (inl (omega arith))),
+                    repeat_first no_other.groups (Duplicate n named.0) (repeat_of_pattern lists n _ _ _ _ none found.1 named.1 (inl (omega arith))),
                   )
             ]
         | inr found ↦ inr found
@@ -156,7 +156,7 @@ module _ {limit : ℕ} {lists : GroupLists} (no_other : HasNoOtherFault limit li
   refuses_from n all None m =
       elim (first_of (length lists) (omega arith)) as (λ _. IsFaultless limit lists
       ⊎ FirstIsDuplicate limit lists) [ inl none ↦ inl (faultless_from none) | inr found ↦ inr found ]
-  refuses_from n all (Some f) m = repeat_first no_other.places f (rw all m)
+  refuses_from n all (Some f) m = repeat_first no_other.groups f (rw all m)
 
 -- what holds of a fault, if there is one
 pub MatchOption-some_weaker : {X : Type 0} (o : Option X) (R : Type 0) (P Q : X → Type 0) → ((x : X) → P x → Q x) → MatchOption o R P → MatchOption o ⊤ Q

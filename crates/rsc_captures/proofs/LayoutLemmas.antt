@@ -5,7 +5,7 @@ use Rattle.std.proofs.lemmas.List.{ext_get_or, get_or-drop, get_or-take, length-
 use Rattle.std.proofs.lemmas.List.FromFn.{length-map-range_with_len, get_or-map-range_with_len}
 use Rattle.std.proofs.lemmas.List.Sums.{sum_by-cons}
 use Rattle.std.proofs.Math.Seq.{take-append_seam, drop-append-add}
-use Rattle.rsc_captures.proofs.Words.{Groups, GroupLists, groups_of, group_count, name_of, LIMIT_OF_IDS, IsFaultless, HasNoOtherFault, AreDistinctBelow, HasNoRepeatBefore, IsOrder, groups_before, names_of, lists_held, AreFirsts, AreOrdered, IsLayout}
+use Rattle.rsc_captures.proofs.Prelude.{Groups, GroupLists, groups_of, group_count, name_of, max_index, IsFaultless, HasNoOtherFault, AreDistinctBelow, HasNoRepeatBefore, IsOrder, groups_before, names_of, lists_held, AreFirsts, AreOrdered, IsLayout}
 use Rattle.rsc_captures.proofs.FaultsLayoutLemmas.{clear_distinct, faultless_from}
 use Rattle.rsc_captures.proofs.FaultsLemmas.{some_group}
 use Rattle.rsc_captures.proofs.SlotOwnersLemmas.{pattern_in}
@@ -13,7 +13,7 @@ use Rattle.rsc_captures.proofs.NamesLayoutLemmas.{groups_more}
 use Rattle.rsc_captures.proofs.GroupsLemmas.{sum_rises}
 
 -- the names of each pattern are distinct
-pub distinct_in : (lists : GroupLists) → IsFaultless LIMIT_OF_IDS lists → (p : ℕ) → AreDistinctBelow (groups_of lists p) (group_count lists p)
+pub distinct_in : (lists : GroupLists) → IsFaultless max_index lists → (p : ℕ) → AreDistinctBelow (groups_of lists p) (group_count lists p)
 distinct_in lists faultless p g lt = clear_distinct faultless p (pattern_in lists p g lt) g lt
 
 -- a pattern's groups are before those of the patterns after it
@@ -63,13 +63,13 @@ module _ (firsts order : List ℕ) (names : Groups) (lists : GroupLists) (are : 
   part_is : (p : ℕ) → p < length lists → groups_of lists p ≡ take (group_count lists p) (drop (groups_before lists p) names)
   part_is p lt = ap (λ lists. groups_of lists p) (sym are) ∙ held_at here.firsts_are names p lt
 
-  -- the name of a group is at its place
+  -- the name of a group is at its group
   pub name_in : (p g first : ℕ) → first ≡ groups_before lists p → g < group_count lists p → get_or names (first + g) None ≡ name_of lists p g
   name_in p g first is lt =
       rw is (sym (ap (λ (groups : Groups). get_or groups g None) (part_is p (pattern_in lists p g lt))
       ∙ get_or-take (group_count lists p) (drop (groups_before lists p) names) g None lt ∙ get_or-drop (groups_before lists p) names g None))
 
-  -- each group has a place in the list of all names
+  -- each group has a group in the list of all names
   pub within_names : (p g first : ℕ) → first ≡ groups_before lists p → g < group_count lists p → first + g < length names
   within_names p g first is lt =
       let count : group_count lists p ≡ length (take (group_count lists p) (drop (groups_before lists p) names)) =
@@ -130,7 +130,7 @@ module _ {firsts : List ℕ} {names : Groups} {lists : GroupLists} {n : ℕ} (fi
   held_are = rw are (lists_are (rw all_patterns firsts_are))
 
   -- lists without a fault, in order, are a layout
-  pub layout_is : {order : List ℕ} → HasNoOtherFault LIMIT_OF_IDS lists → HasNoRepeatBefore lists n 0 → AreOrdered order lists n
+  pub layout_is : {order : List ℕ} → HasNoOtherFault max_index lists → HasNoRepeatBefore lists n 0 → AreOrdered order lists n
       → IsLayout firsts order (lists_held firsts names)
   layout_is no_other none ordered = rw held_are (record {
     faultless = faultless_from no_other (rw all_patterns none);

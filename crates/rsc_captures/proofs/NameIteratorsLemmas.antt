@@ -1,7 +1,7 @@
 -- The steps of the iterator over all groups, and how many it gives.
 use Rattle.std.proofs.Common.{◌≡◌, ℕ, ◌+◌, ◌<◌, ◌≤◌, [], ◌∷◌, ◌++◌, length, drop, None, refl, ap, ◌∙◌, arith, sym, ap₂, length-append}
 use Rattle.std.proofs.lemmas.List.{drop_more, drop_all}
-use Rattle.rsc_captures.proofs.Words.{Groups, GroupLists, groups_of, group_count, name_of, groups_from, patterns_from, names_left, LIMIT_OF_IDS, IsFaultless, groups_before, IsAt, all_groups, all_names_of}
+use Rattle.rsc_captures.proofs.Prelude.{Groups, GroupLists, groups_of, group_count, name_of, groups_from, patterns_from, names_left, max_index, IsFaultless, groups_before, IsAt, all_groups, all_names_of}
 use Rattle.rsc_captures.proofs.FaultsLemmas.{some_group}
 use Rattle.rsc_captures.proofs.NamesLayoutLemmas.{groups_more}
 use Rattle.std.proofs.lemmas.List.Sums.{sum_by-cons}
@@ -35,7 +35,7 @@ pub next_stays : (lists : GroupLists) (p g next end : ℕ) → IsAt lists p g ne
 next_stays lists p g next end at more = record { at = at; group = grind (arith, at.group, at.at, at.ends, more); left = refl }
 
 -- the walk enters the next pattern
-pub next_enters : (lists : GroupLists) (p g next end first : ℕ) → IsFaultless LIMIT_OF_IDS lists → IsAt lists p g next end → next ≡ end → p + 1 < length lists
+pub next_enters : (lists : GroupLists) (p g next end first : ℕ) → IsFaultless max_index lists → IsAt lists p g next end → next ≡ end → p + 1 < length lists
     → first ≡ groups_before lists (p + 1 + 1) → IsNext lists p g (p + 1) 0 next first
 next_enters lists p g next end first faultless at done lt is = record {
   at = record {

@@ -6,7 +6,7 @@ use Rattle.std.proofs.lemmas.List.{drop-append-le, take-append-le, get_or_append
 use Rattle.std.proofs.lemmas.List.Elements.{All-push, All-tail}
 use Rattle.std.proofs.Math.Seq.{drop-append_seam, take-length, get_or-append_seam}
 use Rattle.std.proofs.lemmas.Str.{IsCharBoundary-at_seam, IsCharBoundary-end}
-use Rattle.rsc_captures.proofs.Words.{Place, NO_NAME, Groups, lists_in, name_held, names_held, place_held, IsCut, AreCut, AreHeld, GroupLists, group_count, explicit_before, all_groups, LIMIT_OF_IDS, IsFaultless, groups_before, AreFirsts}
+use Rattle.rsc_captures.proofs.Prelude.{Entry, NO_NAME, Groups, lists_in, name_held, names_held, entry_held, IsCut, AreCut, AreHeld, GroupLists, group_count, explicit_before, all_groups, max_index, IsFaultless, groups_before, AreFirsts}
 use borrow.Author.Count.{below_more}
 use Rattle.std.proofs.lemmas.List.Sums.{sum_by_more}
 use Rattle.rsc_captures.proofs.GroupsLemmas.{Handed, handed, in_lists, group_count_in}
@@ -15,7 +15,7 @@ use Rattle.rsc_captures.proofs.FaultsLemmas.{some_group, before_more}
 -- ---- names in one text, as one more is added
 
 module _ (text more : List ℕ) where
-  -- a place where the text may be cut is one of the longer text
+  -- a entry where the text may be cut is one of the longer text
   boundary_stays : (i : ℕ) → IsUtf8 more → IsCharBoundary text i → IsCharBoundary (text ++ more) i
   boundary_stays i utf8 boundary =
       ⊎_elim
@@ -25,17 +25,17 @@ module _ (text more : List ℕ) where
       rw at_seam (IsCharBoundary-at_seam (text ++ more) text more refl utf8))
       (cases_lt i (length text))
 
-  cut_stays : (p : Place) → IsUtf8 more → IsCut text p → IsCut (text ++ more) p
+  cut_stays : (p : Entry) → IsUtf8 more → IsCut text p → IsCut (text ++ more) p
   cut_stays p utf8 cut = record { start = boundary_stays p.start utf8 cut.start; end = boundary_stays (p.start + p.length) utf8 cut.end }
 
-  -- what is at a place of the text is there in the longer text
-  part_stays : (p : Place) → IsCut text p → slice_range (text ++ more) p.start (p.start + p.length) ≡ slice_range text p.start (p.start + p.length)
+  -- what is at a entry of the text is there in the longer text
+  part_stays : (p : Entry) → IsCut text p → slice_range (text ++ more) p.start (p.start + p.length) ≡ slice_range text p.start (p.start + p.length)
   part_stays p cut =
       let rest : (p.start + p.length) - p.start ≤ length (drop p.start text) = rw length-drop (omega (arith, cut.end.0)) in
       ap (take ((p.start + p.length) - p.start)) (drop-append-le p.start text more cut.start.0)
       ∙ take-append-le ((p.start + p.length) - p.start) (drop p.start text) more rest
 
-  name_stays : (p : Place) → (p.length ≢ NO_NAME → IsCut text p) → name_held (text ++ more) p ≡ name_held text p
+  name_stays : (p : Entry) → (p.length ≢ NO_NAME → IsCut text p) → name_held (text ++ more) p ≡ name_held text p
   name_stays p cut =
       elim (eqb p.length NO_NAME) as (λ b. eqb p.length NO_NAME ≡ b
       → cond b None (Some (slice_range (text ++ more) p.start (p.start + p.length))) ≡ cond b None (Some (slice_range text p.start (p.start + p.length)))) [
@@ -43,17 +43,17 @@ module _ (text more : List ℕ) where
         | false ↦ λ some. ap Some (part_stays p (cut (eqb-false p.length NO_NAME some)))
       ] refl
 
-  names_stay : (places : List Place) → AreCut text places → names_held (text ++ more) places ≡ names_held text places
+  names_stay : (entries : List Entry) → AreCut text entries → names_held (text ++ more) entries ≡ names_held text entries
   names_stay [] cuts = refl
-  names_stay (p ∷ places) cuts = ap₂ (λ name names. name ∷ names) (name_stays p (cuts 0 p (omega arith)))
-      (names_stay places (All-tail (λ p. p.length ≢ NO_NAME → IsCut text p) p places cuts))
+  names_stay (p ∷ entries) cuts = ap₂ (λ name names. name ∷ names) (name_stays p (cuts 0 p (omega arith)))
+      (names_stay entries (All-tail (λ p. p.length ≢ NO_NAME → IsCut text p) p entries cuts))
 
-  cuts_stay : (places : List Place) → IsUtf8 more → AreCut text places → AreCut (text ++ more) places
-  cuts_stay places utf8 cuts k d lt le = cut_stays (get_or places k d) utf8 (cuts k d lt le)
+  cuts_stay : (entries : List Entry) → IsUtf8 more → AreCut text entries → AreCut (text ++ more) entries
+  cuts_stay entries utf8 cuts k d lt le = cut_stays (get_or entries k d) utf8 (cuts k d lt le)
 
--- the name that is added is at its place
+-- the name that is added is at its entry
 name_added : (text : List ℕ) (name : Option (List ℕ)) → length (unwrap_or name []) < NO_NAME
-    → name_held (text ++ unwrap_or name []) (place_held text name) ≡ name
+    → name_held (text ++ unwrap_or name []) (entry_held text name) ≡ name
 name_added text None short = refl
 name_added text (Some bytes) short =
     let some : eqb (length bytes) NO_NAME ≡ false = grind (arith, common_steps) in
@@ -61,8 +61,8 @@ name_added text (Some bytes) short =
     rw some (ap Some (ap (take ((length text + length bytes) - length text)) (drop-append_seam text bytes) ∙ ap (λ n. take n bytes) all
     ∙ take-length bytes))
 
-cut_added : (text : List ℕ) (name : Option (List ℕ)) → IsUtf8 (unwrap_or name []) → (place_held text name).length ≢ NO_NAME
-    → IsCut (text ++ unwrap_or name []) (place_held text name)
+cut_added : (text : List ℕ) (name : Option (List ℕ)) → IsUtf8 (unwrap_or name []) → (entry_held text name).length ≢ NO_NAME
+    → IsCut (text ++ unwrap_or name []) (entry_held text name)
 cut_added text None utf8 some = absurd (some refl)
 cut_added text (Some bytes) utf8 some = record {
   start = IsCharBoundary-at_seam (text ++ bytes) text bytes refl utf8;
@@ -70,14 +70,14 @@ cut_added text (Some bytes) utf8 some = record {
 }
 
 -- one more group
-pub held_more : (text : List ℕ) (places : List Place) (groups : Groups) (name : Option (List ℕ)) → IsUtf8 (unwrap_or name [])
-    → length (unwrap_or name []) < NO_NAME → AreHeld text places groups
-    → AreHeld (text ++ unwrap_or name []) (places ++ place_held text name ∷ []) (groups ++ name ∷ [])
-held_more text places groups name utf8 short held = record {
-  are = map-append (name_held (text ++ unwrap_or name [])) places (place_held text name ∷ [])
-      ∙ ap₂ (λ names one. names ++ one ∷ []) (names_stay text (unwrap_or name []) places held.cuts ∙ held.are) (name_added text name short);
-  cuts = All-push (λ p. p.length ≢ NO_NAME → IsCut (text ++ unwrap_or name []) p) places (place_held text name)
-      (cuts_stay text (unwrap_or name []) places utf8 held.cuts) (cut_added text name utf8);
+pub held_more : (text : List ℕ) (entries : List Entry) (groups : Groups) (name : Option (List ℕ)) → IsUtf8 (unwrap_or name [])
+    → length (unwrap_or name []) < NO_NAME → AreHeld text entries groups
+    → AreHeld (text ++ unwrap_or name []) (entries ++ entry_held text name ∷ []) (groups ++ name ∷ [])
+held_more text entries groups name utf8 short held = record {
+  are = map-append (name_held (text ++ unwrap_or name [])) entries (entry_held text name ∷ [])
+      ∙ ap₂ (λ names one. names ++ one ∷ []) (names_stay text (unwrap_or name []) entries held.cuts ∙ held.are) (name_added text name short);
+  cuts = All-push (λ p. p.length ≢ NO_NAME → IsCut (text ++ unwrap_or name []) p) entries (entry_held text name)
+      (cuts_stay text (unwrap_or name []) entries utf8 held.cuts) (cut_added text name utf8);
 }
 
 -- ---- where the names of the patterns begin, as one more is pushed
@@ -122,6 +122,6 @@ pub all_before : (lists : GroupLists) → groups_before lists (length lists) ≡
 all_before lists = ap (sum_by length) (take-length lists)
 
 -- all groups are the first of each pattern and the explicit ones
-pub all_groups_are : (lists : GroupLists) → IsFaultless LIMIT_OF_IDS lists → all_groups lists ≡ length lists + explicit_before lists (length lists)
+pub all_groups_are : (lists : GroupLists) → IsFaultless max_index lists → all_groups lists ≡ length lists + explicit_before lists (length lists)
 all_groups_are lists faultless = sym (all_before lists)
     ∙ groups_so_far lists (length lists) (omega arith) (some_group lists faultless)

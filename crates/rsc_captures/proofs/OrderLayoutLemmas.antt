@@ -17,7 +17,7 @@ use borrow.Rule.Slice.PartMut.{mid_of, put_mid}
 use Rattle.std.proofs.lemmas.List.Sorted.{length_permutation, searchable_from_sorted, sorted_far, ranks_by}
 use Rattle.std.proofs.lemmas.Map.Keys.{ge_from_not_lt}
 use Rattle.std.proofs.lemmas.Map.Lookups.{exact_bytes}
-use Rattle.rsc_captures.proofs.Words.{Groups, groups_in, has_name, index_of, stands_before, name_at, name_cmp, named_cmp, named_group, has_name_of, HasGroups, IsSortedByName, IsOrder, is_repeat, AreDistinctBelow}
+use Rattle.rsc_captures.proofs.Prelude.{Groups, groups_in, has_name, index_of, stands_before, name_at, name_cmp, named_cmp, group_with_name, has_name_of, HasGroups, IsSortedByName, IsOrder, is_repeat, AreDistinctBelow}
 use Rattle.rsc_captures.proofs.GroupsLemmas.{Handed, index_of-is, has_name-is, get_or_past}
 
 -- the order of names is total, and tells names apart
@@ -143,7 +143,7 @@ repeat_of_pair groups g h name lt one other =
     let at_g : get_or (take h groups) g None ≡ Some name = get_or-take h groups g None lt ∙ one in
     rw other (list_any_at (has_name name) (take h groups) g None (omega (arith, taken)) (rw at_g (has_name-itself name)))
 
--- no group below the bound comes right after one with its name, among the first i places of the order
+-- no group below the bound comes right after one with its name, among the first i indices of the order
 abbrev pub IsBound : Groups → List ℕ → ℕ → ℕ → Type 0
 IsBound groups order i bound = (k : ℕ) → k + 1 < i → has_name_of groups (get_or order k 0) (get_or order (k + 1) 0) ≡ true
     → bound ≤ get_or order (k + 1) 0
@@ -176,10 +176,10 @@ module _ (groups : Groups) where
   module _ (order : List ℕ) (sorted : IsSortedByName order groups) where
     -- what is later isn't less
     not_before : (i j : ℕ) → i ≤ j → j < length order
-        → is_lt (named_cmp (named_group groups (get_or order j 0)) (named_group groups (get_or order i 0))) ≡ false
-    not_before i j le lt = sorted_far _ (ranks_by named_total (named_group groups)) order sorted i j 0 le lt
+        → is_lt (named_cmp (group_with_name groups (get_or order j 0)) (group_with_name groups (get_or order i 0))) ≡ false
+    not_before i j le lt = sorted_far _ (ranks_by named_total (group_with_name groups)) order sorted i j 0 le lt
 
-    -- of two places with groups of one name, the lesser group is first
+    -- of two indices with groups of one name, the lesser group is first
     groups_rise : (i j : ℕ) → i ≤ j → j < length order → name_at groups (get_or order j 0) ≡ name_at groups (get_or order i 0)
         → get_or order i 0 ≤ get_or order j 0
     groups_rise i j le lt same =
@@ -187,7 +187,7 @@ module _ (groups : Groups) where
         rw same (tied_itself name_total (name_at groups (get_or order i 0))) in
         ge_from_not_lt (get_or order j 0) (get_or order i 0) (not_less_then _ _ (not_before i j le lt) tied)
 
-    -- between two places with one name all have it
+    -- between two indices with one name all have it
     name_between : (i k j : ℕ) → i ≤ k → k ≤ j → j < length order → name_at groups (get_or order i 0) ≡ name_at groups (get_or order j 0)
         → name_at groups (get_or order k 0) ≡ name_at groups (get_or order j 0)
     name_between i k j from to lt same =
@@ -235,13 +235,13 @@ module _ (groups : Groups) where
   pub none_at_split : (order : List ℕ) (name : List ℕ) (k g : ℕ)
       → IsPartitionPoint (λ h. name_cmp (name_at groups h) (Some name) ≡ Less) (λ h. name_cmp (name_at groups h) (Some name) ≡ Greater) order k
       → Contains order g → name_at groups g ≡ Some name → ⊥
-  none_at_split order name k g parts place named =
-      let equal : name_cmp (name_at groups (get_or order place.0 0)) (Some name) ≡ Equal =
-      rw (get_or_default order place.0 0 g place.1, place.2, named) (tied_itself name_total (Some name)) in
+  none_at_split order name k g parts index named =
+      let equal : name_cmp (name_at groups (get_or order index.0 0)) (Some name) ≡ Equal =
+      rw (get_or_default order index.0 0 g index.1, index.2, named) (tied_itself name_total (Some name)) in
       ⊎_elim
-      (λ (lt : place.0 < k). let less : name_cmp (name_at groups (get_or order place.0 0)) (Some name) ≡ Less = parts.0 place.0 0 (omega arith) lt in cc)
-      (λ (ge : k ≤ place.0). let greater : name_cmp (name_at groups (get_or order place.0 0)) (Some name) ≡ Greater = parts.1 place.0 0 ge place.1 in cc)
-      (cases_lt place.0 k)
+      (λ (lt : index.0 < k). let less : name_cmp (name_at groups (get_or order index.0 0)) (Some name) ≡ Less = parts.0 index.0 0 (omega arith) lt in cc)
+      (λ (ge : k ≤ index.0). let greater : name_cmp (name_at groups (get_or order index.0 0)) (Some name) ≡ Greater = parts.1 index.0 0 ge index.1 in cc)
+      (cases_lt index.0 k)
 
   -- groups in their order are sorted by their names
   pub names_sorted : (order : List ℕ) → IsSortedByName order groups → IsSortedByKey (name_at groups) name_cmp order

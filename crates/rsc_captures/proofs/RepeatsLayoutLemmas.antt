@@ -1,4 +1,4 @@
--- Repeated names: in a sorted block, of a pattern's first groups, and before a place.
+-- Repeated names: in a sorted block, of a pattern's first groups, and before a group.
 use Rattle.std.proofs.Common.{◌≡◌, ℕ, true≢false, ◌+◌, ◌-◌, ◌<◌, ◌≤◌, ◌≢◌, ⊎_elim, true, List, length, take, drop, get_or, Bor, option_copied, Some, None, Err, Less, Equal, Greater, ap, sym, ◌∙◌, arith, false, refl, ap₂, inl}
 use Rattle.std.specs.List.Sorted.{IsBinarySearchResult, IsPartitionPoint, IsNonDecreasingBy}
 use Rattle.std.specs.Ordering.{ordering_index}
@@ -6,7 +6,7 @@ use Rattle.std.proofs.lemmas.Bool.{cases_lt, cases_eq, false_from_ne_true}
 use Rattle.rsc_captures.proofs.GroupsLemmas.{Handed, handed, groups_of_in, group_count_in, get_or_past}
 use Rattle.std.proofs.lemmas.List.{get_or-take, get_or-drop, length-map, length-take-le, length-drop, take-take, take-map}
 use Rattle.std.proofs.lemmas.List.Sorted.{searchable_from_sorted}
-use Rattle.rsc_captures.proofs.Words.{Groups, groups_in, name_at, name_cmp, IsOrder, is_repeat, AreDistinctBelow, IsFirstRepeat, AreApart, IsRepeatOf, GroupLists, lists_in, groups_of, group_count, name_of, stands_before, has_name, Duplicate, ComesBefore, HasNoRepeatBefore, IsFirstRepeatBefore}
+use Rattle.rsc_captures.proofs.Prelude.{Groups, groups_in, name_at, name_cmp, IsOrder, is_repeat, AreDistinctBelow, IsFirstRepeat, AreApart, IsRepeatOf, GroupLists, lists_in, groups_of, group_count, name_of, stands_before, has_name, Duplicate, ComesBefore, HasNoRepeatBefore, IsFirstRepeatBefore}
 use Rattle.rsc_captures.proofs.OrderLayoutLemmas.{name_total, name_exact, name_at_in, repeat_pair, repeat_of_pair, none_at_split, names_sorted}
 use Rattle.std.specs.List.{list_any}
 use Rattle.std.specs.Option.{option_map_or}
@@ -114,7 +114,7 @@ module _ (groups : Handed) (from end : ℕ) (within : end ≤ length groups) whe
       ∙ ap option_copied (get_or-take (end - from) (drop from groups) (g - from) None (omega arith) ∙ get_or-drop from groups (g - from) None)
       ∙ sym (name_at_in groups (from + (g - from))) ∙ ap (name_at (groups_in groups)) same
 
-  -- the groups from one place to another are as many as the places
+  -- the groups from one group to another are as many as the groups
   pub length_rest : length (take (end - from) (drop from groups)) ≡ end - from
   length_rest = length-take-le (end - from) (drop from groups) (rw length-drop (omega arith))
 
@@ -139,7 +139,7 @@ module _ (groups : Handed) (from end : ℕ) (within : end ≤ length groups) whe
             (name_of_rest found.g (omega (arith, found.lesser)) ∙ found.one) (name_of_rest h (omega arith) ∙ found.other),
       )
 
--- ---- repeated names: of a pattern's first groups, as they are handed in, and before a place
+-- ---- repeated names: of a pattern's first groups, as they are handed in, and before a group
 
 -- a group of the first groups is a repeat there exactly if it is one
 repeat_in_take : (groups : Groups) (end g : ℕ) → g < end → is_repeat (take end groups) g ≡ is_repeat groups g
@@ -176,7 +176,7 @@ repeat_name groups g e =
     elim (get_or groups g None) as (λ o. option_map_or (stands_before groups g) o false ≡ true → (name : List ℕ)
     × (o ≡ Some name)) [ None ↦ λ q. cc | Some name ↦ λ _. (name, refl) ] e
 
--- no group before place (r, s), of the patterns before p, repeats a name
+-- no group before group (r, s), of the patterns before p, repeats a name
 abbrev pub NoneSoFar : GroupLists → ℕ → ℕ → ℕ → Type 0
 NoneSoFar lists p r s = (q h : ℕ) → q < p → h < group_count lists q → ComesBefore q h r s → is_repeat (groups_of lists q) h ≡ false
 
@@ -201,7 +201,7 @@ module _ (lists : GroupLists) (p : ℕ) where
   none_before r s le none q h group =
       ⊎_elim (λ (lt : q < p). none q h lt group (inl (omega arith))) (λ (same : (q ≡ p) × (h < 0)). absurd (omega (arith, same.1)))
 
-  -- one more pattern, of whose groups those before the place are distinct
+  -- one more pattern, of whose groups those before the group are distinct
   pub none_so_far : (r s end : ℕ) → NoneSoFar lists p r s → ((h : ℕ) → h < group_count lists p → ComesBefore p h r s → h < end)
       → AreDistinctBelow (groups_of lists p) end → NoneSoFar lists (p + 1) r s
   none_so_far r s end none all distinct q h lt group before =

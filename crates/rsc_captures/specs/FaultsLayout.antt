@@ -18,7 +18,7 @@ fault_found (found.Duplicate p name) = Duplicate p name.now
 abbrev pub IsDuplicate : Fault → Type 0
 IsDuplicate f = (p : ℕ) × (name : List ℕ) × (f ≡ Duplicate p name)
 
--- no place before place g of pattern p has another fault than a repeated name
+-- no group before group g of pattern p has another fault than a repeated name
 pub record HasNoOtherBefore (limit : ℕ) (lists : GroupLists) (p g : ℕ) : Type 0 where
   pub patterns : (q : ℕ) → q < p → pattern_fault lists q ≡ None
   pub first : 0 < g → pattern_fault lists p ≡ None
@@ -26,10 +26,10 @@ pub record HasNoOtherBefore (limit : ℕ) (lists : GroupLists) (p g : ℕ) : Typ
 
 -- the list has no other fault than repeated names
 pub record HasNoOtherFault (limit : ℕ) (lists : GroupLists) : Type 0 where
-  pub places : HasNoOtherBefore limit lists (length lists) 0
+  pub groups : HasNoOtherBefore limit lists (length lists) 0
   pub slots : (p : ℕ) → p < length lists → slots_end lists p ≤ limit
 
--- f, at place g of pattern p, is the first other fault: it is the first fault where no name is repeated before it
+-- f, at group g of pattern p, is the first other fault: it is the first fault where no name is repeated before it
 pub record IsFirstOther (limit : ℕ) (lists : GroupLists) (p g : ℕ) (f : Fault) : Type 0 where
   pub before : HasNoOtherBefore limit lists p g
   pub first : HasNoRepeatBefore lists p g → IsFirstFault limit lists f

@@ -29,12 +29,12 @@ abbrev pub named_cmp : Option (List ℕ) × ℕ → Option (List ℕ) × ℕ →
 named_cmp x y = ordering_then (name_cmp x.0 y.0) (nat_cmp x.1 y.1)
 
 -- a group, as it is ordered
-abbrev pub named_group : Groups → ℕ → Option (List ℕ) × ℕ
-named_group groups g = (name_at groups g, g)
+abbrev pub group_with_name : Groups → ℕ → Option (List ℕ) × ℕ
+group_with_name groups g = (name_at groups g, g)
 
 -- the groups are sorted by their names, and those of one name by their numbers
 abbrev pub IsSortedByName : List ℕ → Groups → Type 0
-IsSortedByName order groups = IsSortedByKey (named_group groups) named_cmp order
+IsSortedByName order groups = IsSortedByKey (group_with_name groups) named_cmp order
 
 -- the list has the groups, in the order of their names
 pub record IsOrder (order : List ℕ) (groups : Groups) : Type 0 where

@@ -35,11 +35,11 @@ pub record IsRepeatOf (groups : Groups) (n h : ℕ) : Type 0 where
   pub other : slice_index_or groups h None ≡ Some name
   pub apart : AreApart groups n h
 
--- no group before place g of pattern p repeats a name
+-- no group before group g of pattern p repeats a name
 abbrev pub HasNoRepeatBefore : GroupLists → ℕ → ℕ → Type 0
 HasNoRepeatBefore lists p g = (q h : ℕ) → h < group_count lists q → ComesBefore q h p g → is_repeat (groups_of lists q) h ≡ false
 
--- f is the fault of the first group before place g of pattern p that repeats a name
+-- f is the fault of the first group before group g of pattern p that repeats a name
 pub record IsFirstRepeatBefore (lists : GroupLists) (p g : ℕ) (f : Fault) : Type 0 where
   pub q : ℕ
   pub h : ℕ

@@ -44,7 +44,7 @@ impl Haystack for &[u8] {
 }
 
 impl<A: Allocator + Clone + Drop> Captures<A> {
-    // The first group from `from` on that participates, and the place after it.
+    // The first group from `from` on that participates, and the group after it.
     #[tactic(auto, using(crate::proofs::CapturedLemmas::participating_step))]
     #[inline(always)]
     fn next_participating(&self, from: usize, group_len: usize) -> Option<(Span, usize)>

@@ -2,7 +2,8 @@
 ghost use Rattle.std.specs.Prelude.{◌≡◌, ◌+◌, ◌*◌, ◌<◌, ◌≤◌, length, Some, None, IfOk, IfErr, MatchOption};
 ghost use Rattle.std.specs.Bool.{MatchBool};
 ghost use Rattle.rsc_captures.specs.Groups.{lists_in, group_count};
-ghost use Rattle.rsc_captures.specs.Faults.{LIMIT_OF_IDS, pattern_fault};
+ghost use Rattle.rsc_primitives.specs.Indices.{max_index};
+ghost use Rattle.rsc_captures.specs.Faults.{pattern_fault};
 ghost use Rattle.rsc_captures.specs.FaultsLayout.{fault_found, HasNoOtherFault, IsFirstOther};
 
 use rsc_primitives::{PatternID, PatternIDError};
@@ -17,13 +18,13 @@ pub(crate) enum Fault<'a> {
     Duplicate(PatternID, &'a str),
 }
 
-/// The first place with a fault that is no repeated name, and that fault. A place is a pattern and one of its groups; the limit on
-/// the slots of all groups is the place after the last.
+/// The first group with a fault that is no repeated name, and that fault. A group is a pattern and one of its groups; the limit on
+/// the slots of all groups is the group after the last.
 pub(crate) fn first_other_fault<'a>(
     limit: usize,
     lists: &[&[Option<&'a str>]],
 ) -> Option<((usize, usize), Fault<'a>)>
-    requires { limit ≤ LIMIT_OF_IDS }
+    requires { limit ≤ max_index }
     ensures { MatchOption result (HasNoOtherFault limit (lists_in lists.now))
         (λ found. IsFirstOther limit (lists_in lists.now) found.0.0 found.0.1 (fault_found found.1)) }
 {

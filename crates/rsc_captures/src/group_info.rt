@@ -2,7 +2,8 @@
 ghost use Rattle.std.specs.Prelude.{◌≡◌, ℕ, ◌+◌, ◌-◌, ◌*◌, ◌<◌, ◌≤◌, ◌↔◌, length, ⊤, [], Some, None, IfOk, IfErr, IfSome, OnOk, MatchOption, MatchResult};
 ghost use Rattle.std.specs.Option.{option_copied};
 ghost use Rattle.rsc_captures.specs.Groups.{lists_in, groups_of, group_count, name_of, index_of, slot_of, slots_of, all_groups};
-ghost use Rattle.rsc_captures.specs.Faults.{LIMIT_OF_IDS, IsFaultless, RefusesFor};
+ghost use Rattle.rsc_primitives.specs.Indices.{max_index};
+ghost use Rattle.rsc_captures.specs.Faults.{IsFaultless, RefusesFor};
 ghost use Rattle.rsc_captures.specs.FaultsLayout.{HasNoOtherFault};
 ghost use Rattle.rsc_captures.specs.NameIterators.{all_names_of};
 ghost use Rattle.rsc_captures.specs.SlotOwners.{IsSlotOf, IsOwned};
@@ -72,8 +73,8 @@ impl<A: Allocator + Clone + Drop> GroupInfo<A> {
     /// sorted in blocks, in a table on the stack, and the names after a block are looked up there by binary search.
     pub fn new(alloc: A, lists: &[&[Option<&str>]]) -> Result<GroupInfo<A>, GroupInfoError<A>>
         ensures groups { IfOk result (λ info. info ≡ lists_in lists.now) }
-        ensures faultless { OnOk result (IsFaultless LIMIT_OF_IDS (lists_in lists.now)) }
-        ensures refused { IfErr result (RefusesFor LIMIT_OF_IDS (lists_in lists.now)) }
+        ensures faultless { OnOk result (IsFaultless max_index (lists_in lists.now)) }
+        ensures refused { IfErr result (RefusesFor max_index (lists_in lists.now)) }
     {
         GroupInfo::new_limited(alloc, SLOT_LIMIT, lists)
     }
@@ -100,15 +101,15 @@ impl<A: Allocator + Clone + Drop> GroupInfo<A> {
         limit: usize,
         lists: &[&[Option<&str>]],
     ) -> Result<GroupInfo<A>, GroupInfoError<A>>
-        requires { limit ≤ LIMIT_OF_IDS }
+        requires { limit ≤ max_index }
         ensures groups { IfOk result (λ info. info ≡ lists_in lists.now) }
         ensures faultless { OnOk result (IsFaultless limit (lists_in lists.now)) }
         ensures refused { IfErr result (RefusesFor limit (lists_in lists.now)) }
     {
-        let Some((place, other)) = first_other_fault(limit, lists) else {
+        let Some((group, other)) = first_other_fault(limit, lists) else {
             return build(alloc, lists);
         };
-        let first = first_repeat_before(lists, place).unwrap_or(other);
+        let first = first_repeat_before(lists, group).unwrap_or(other);
         Err(refusal(alloc, first))
     }
 
@@ -148,7 +149,7 @@ impl<A: Allocator + Clone + Drop> GroupInfo<A> {
     pub fn all_names(&self) -> GroupInfoAllNames<'_, A>
         ensures groups { result ≡ all_names_of self.now }
         ensures count { length result ≡ all_groups self.now }
-        ensures limit { 2 * length result ≤ LIMIT_OF_IDS }
+        ensures limit { 2 * length result ≤ max_index }
     {
         GroupInfoAllNames::new(self.lists())
     }
@@ -170,7 +171,7 @@ impl<A: Allocator + Clone + Drop> GroupInfo<A> {
     #[inline]
     pub fn pattern_len(&self) -> usize
         ensures value { result ≡ length self.now }
-        ensures indices { result ≤ LIMIT_OF_IDS + 1 }
+        ensures indices { result ≤ max_index + 1 }
     {
         self.lists().len()
     }
@@ -227,7 +228,7 @@ impl<A: Allocator + Clone + Drop> GroupInfo<A> {
     #[inline]
     pub fn slot_len(&self) -> usize
         ensures value { result ≡ 2 * all_groups self.now }
-        ensures limit { result ≤ LIMIT_OF_IDS }
+        ensures limit { result ≤ max_index }
         ensures owned { (s : ℕ) → s < result → IsOwned self.now s }
         ensures once { (s p g q h : ℕ) → IsSlotOf self.now p g s → IsSlotOf self.now q h s → (p ≡ q) × (g ≡ h) }
     {
@@ -276,7 +277,7 @@ fn build<A: Allocator + Clone + Drop>(
     alloc: A,
     lists: &[&[Option<&str>]],
 ) -> Result<GroupInfo<A>, GroupInfoError<A>>
-    requires { HasNoOtherFault LIMIT_OF_IDS (lists_in lists.now) }
+    requires { HasNoOtherFault max_index (lists_in lists.now) }
     ensures ok { IfOk result (λ info. info ≡ lists_in lists.now) }
     ensures distinct { OnOk result (HasNoRepeatBefore (lists_in lists.now) (length lists.now) 0) }
     ensures err { IfErr result (λ e. MatchOption e ⊤ (IsFirstRepeatBefore (lists_in lists.now) (length lists.now) 0)) }
@@ -302,7 +303,7 @@ fn order_of<A: Allocator + Clone + Drop>(
     lists: &[&[Option<&str>]],
     len: usize,
 ) -> Result<Vec<u32, A>, GroupInfoError<A>>
-    requires { HasNoOtherFault LIMIT_OF_IDS (lists_in lists.now) }
+    requires { HasNoOtherFault max_index (lists_in lists.now) }
     ensures ok { IfOk result (λ order. AreOrdered order.items (lists_in lists.now) (length lists.now)) }
     ensures distinct { OnOk result (HasNoRepeatBefore (lists_in lists.now) (length lists.now) 0) }
     ensures err { IfErr result (λ e. MatchOption e ⊤ (IsFirstRepeatBefore (lists_in lists.now) (length lists.now) 0)) }

@@ -25,9 +25,9 @@ pub fn slots_are_apart()
 {}
 
 /// The spans that [`crate::Captures::iter`] gives are as many as the groups of the pattern that matched, and each is the
-/// span of the group at its place.
-#[tactic(auto, using(crate::proofs::CapturedLemmas::spans_counted, crate::proofs::CapturedLemmas::span_by_place))]
-pub fn spans_by_place()
+/// span of the group at its group.
+#[tactic(auto, using(crate::proofs::CapturedLemmas::spans_counted, crate::proofs::CapturedLemmas::span_by_index))]
+pub fn spans_by_index()
     ensures count { (c : Captured) → length (matched_spans c) ≡ matched_groups c }
     ensures each { (c : Captured) (i : ℕ) → i < matched_groups c → slice_index_or (matched_spans c) i None ≡ group_span c i }
 {}

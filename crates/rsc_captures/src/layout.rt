@@ -6,7 +6,8 @@
 ghost use Rattle.std.specs.Prelude.{◌≡◌, ◌*◌, ◌<◌, ◌≤◌, length, IfOk, IfSome, Some};
 ghost use Rattle.std.specs.Option.{option_copied};
 ghost use Rattle.rsc_captures.specs.Groups.{lists_in, groups_of, group_count, name_of, index_of, slot_of, all_groups};
-ghost use Rattle.rsc_captures.specs.Faults.{LIMIT_OF_IDS, IsFaultless};
+ghost use Rattle.rsc_primitives.specs.Indices.{max_index};
+ghost use Rattle.rsc_captures.specs.Faults.{IsFaultless};
 ghost use Rattle.rsc_captures.specs.FaultsLayout.{HasNoOtherFault};
 ghost use Rattle.rsc_captures.specs.Layout.{groups_before, AreFirsts};
 ghost use Rattle.rsc_captures.specs.OrderLayout.{name_cmp};
@@ -52,7 +53,7 @@ impl<A: Allocator + Clone + Drop> SharedLists<A> {
     #[inline]
     pub(crate) fn len(&self) -> usize
         ensures value { result ≡ length self.now }
-        ensures faultless { IsFaultless LIMIT_OF_IDS self.now }
+        ensures faultless { IsFaultless max_index self.now }
     {
         self.firsts.len() - 1
     }
@@ -62,7 +63,7 @@ impl<A: Allocator + Clone + Drop> SharedLists<A> {
     pub(crate) fn first(&self, p: usize) -> usize
         requires { p ≤ length self.now }
         ensures value { result ≡ groups_before self.now p }
-        ensures faultless { IsFaultless LIMIT_OF_IDS self.now }
+        ensures faultless { IsFaultless max_index self.now }
     {
         self.firsts[p]
     }
@@ -71,8 +72,8 @@ impl<A: Allocator + Clone + Drop> SharedLists<A> {
     #[inline]
     pub(crate) fn all_group_len(&self) -> usize
         ensures value { result ≡ all_groups self.now }
-        ensures limit { 2 * result ≤ LIMIT_OF_IDS }
-        ensures faultless { IsFaultless LIMIT_OF_IDS self.now }
+        ensures limit { 2 * result ≤ max_index }
+        ensures faultless { IsFaultless max_index self.now }
     {
         self.first(self.len())
     }
@@ -82,7 +83,7 @@ impl<A: Allocator + Clone + Drop> SharedLists<A> {
     #[inline]
     pub(crate) fn group_len(&self, p: usize) -> usize
         ensures value { result ≡ group_count self.now p }
-        ensures faultless { IsFaultless LIMIT_OF_IDS self.now }
+        ensures faultless { IsFaultless max_index self.now }
     {
         if p >= self.len() {
             return 0;
@@ -94,7 +95,7 @@ impl<A: Allocator + Clone + Drop> SharedLists<A> {
     #[inline]
     pub(crate) fn slot(&self, p: usize, group: usize) -> Option<usize>
         ensures value { result ≡ slot_of self.now p group }
-        ensures faultless { IsFaultless LIMIT_OF_IDS self.now }
+        ensures faultless { IsFaultless max_index self.now }
     {
         if group >= self.group_len(p) {
             None
@@ -120,7 +121,7 @@ impl<A: Allocator + Clone + Drop> SharedLists<A> {
     #[inline]
     pub(crate) fn index(&self, p: usize, name: &str) -> Option<usize>
         ensures value { result ≡ index_of (groups_of self.now p) name.now }
-        ensures faultless { IsFaultless LIMIT_OF_IDS self.now }
+        ensures faultless { IsFaultless max_index self.now }
     {
         let count = self.group_len(p);
         if count == 0 {
@@ -187,7 +188,7 @@ impl<A: Allocator + Clone + Drop> SharedLists<A> {
         let first = self.first(p);
         let order = &self.order[first..first + self.group_len(p)];
         match order.binary_search_by(|g| self.name_cmp(p, *g as usize, name)) {
-            Ok(place) => Some(order[place] as usize),
+            Ok(group) => Some(order[group] as usize),
             Err(_) => None,
         }
     }
@@ -231,7 +232,7 @@ pub(crate) fn firsts_of<A: Allocator>(
     alloc: A,
     lists: &[&[Option<&str>]],
 ) -> Result<Vec<usize, A>, AllocError>
-    requires { HasNoOtherFault LIMIT_OF_IDS (lists_in lists.now) }
+    requires { HasNoOtherFault max_index (lists_in lists.now) }
     ensures { IfOk result (λ firsts. AreFirsts firsts.items (lists_in lists.now) (length lists.now)) }
 {
     let mut firsts: Vec<usize, A> = Vec::with_capacity(alloc, lists.len() + 1)?;

@@ -3,7 +3,8 @@ ghost use Rattle.std.specs.Prelude.{◌≡◌, length, Some, IfSome};
 ghost use Rattle.std.specs.Option.{option_copied};
 ghost use Rattle.std.specs.Iterator.{YieldsFirstBy, UpTo, item_count};
 ghost use Rattle.std.specs.Iterator.SizeHint.{IsWithinCount};
-ghost use Rattle.rsc_captures.specs.Faults.{LIMIT_OF_IDS, IsFaultless};
+ghost use Rattle.rsc_primitives.specs.Indices.{max_index};
+ghost use Rattle.rsc_captures.specs.Faults.{IsFaultless};
 ghost use Rattle.rsc_captures.specs.Groups.{groups_of};
 ghost use Rattle.rsc_captures.specs.NameIterators.{named_group, all_names_of};
 
@@ -97,7 +98,7 @@ pub struct GroupInfoAllNames<'a, A: Allocator = Global> {
     lists: &'a SharedLists<A>,
     pattern: usize,
     group: usize,
-    // The group's place in the list of all names, and where the pattern's end there.
+    // The group's group in the list of all names, and where the pattern's end there.
     next: usize,
     end: usize,
 }
@@ -118,7 +119,7 @@ impl<'a, A: Allocator + Clone + Drop> GroupInfoAllNames<'a, A> {
     #[inline]
     pub(crate) fn new(lists: &'a SharedLists<A>) -> GroupInfoAllNames<'a, A>
         ensures groups { result ≡ all_names_of lists.now }
-        ensures faultless { IsFaultless LIMIT_OF_IDS lists.now }
+        ensures faultless { IsFaultless max_index lists.now }
     {
         GroupInfoAllNames {
             lists,

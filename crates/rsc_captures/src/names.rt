@@ -5,17 +5,17 @@ ghost use Rattle.std.specs.Option.{option_copied, unwrap_or};
 ghost use Rattle.std.specs.Str.{IsUtf8};
 ghost use Rattle.std.specs.String.{string_bytes};
 ghost use Rattle.rsc_captures.specs.Groups.{groups_in, lists_in, has_name};
-ghost use Rattle.rsc_captures.specs.NamesLayout.{names_held, place_held, AreCut, AreHeld};
+ghost use Rattle.rsc_captures.specs.NamesLayout.{names_held, entry_held, AreCut, AreHeld};
 
 use std::alloc::{AllocError, Allocator};
 use std::marker::Model;
 
-// The length of a place where the group has no name. No name has this length.
+// The length of a entry where the group has no name. No name has this length.
 const NO_NAME: usize = usize::MAX;
 
 // Where a name begins in the text, and how many bytes it has: a caller who wants no more than its length needs no sum.
 #[derive(Clone, Copy, Debug)]
-struct Place {
+struct Entry {
     start: usize,
     length: usize,
 }
@@ -25,7 +25,7 @@ struct Place {
 #[derive_where(Debug)]
 pub(crate) struct NameList<A: Allocator> {
     text: String<A>,
-    places: Vec<Place, A>,
+    entries: Vec<Entry, A>,
 }
 
 impl<A: Allocator> Model for NameList<A> {
@@ -35,9 +35,9 @@ impl<A: Allocator> Model for NameList<A> {
 
     ghost Value = { Groups };
 
-    ghost view = { λ n. names_held (string_bytes n.text) n.places.items };
+    ghost view = { λ n. names_held (string_bytes n.text) n.entries.items };
 
-    ghost invariant = { λ n. AreCut (string_bytes n.text) n.places.items };
+    ghost invariant = { λ n. AreCut (string_bytes n.text) n.entries.items };
 }
 
 impl<A: Allocator + Clone + Drop> NameList<A> {
@@ -48,16 +48,16 @@ impl<A: Allocator + Clone + Drop> NameList<A> {
     {
         let (len, bytes) = room_for(lists);
         let mut text = String::with_capacity(alloc.clone()?, bytes)?;
-        let mut places: Vec<Place, A> = Vec::with_capacity(alloc, len)?;
+        let mut entries: Vec<Entry, A> = Vec::with_capacity(alloc, len)?;
         for groups in lists {
-            hold_names(&mut text, &mut places, groups)?;
+            hold_names(&mut text, &mut entries, groups)?;
         }
-        Ok(NameList { text, places })
+        Ok(NameList { text, entries })
     }
 
     /// How many groups there are.
     pub(crate) fn len(&self) -> usize {
-        self.places.len()
+        self.entries.len()
     }
 
     /// The group's name in the list, if it has one.
@@ -66,11 +66,11 @@ impl<A: Allocator + Clone + Drop> NameList<A> {
         requires { i < length self.now }
         ensures { option_copied result ≡ slice_index_or self.now i None }
     {
-        let place = self.places[i];
-        if place.length == NO_NAME {
+        let entry = self.entries[i];
+        if entry.length == NO_NAME {
             return None;
         }
-        Some(&self.text.as_str()[place.start..place.start + place.length])
+        Some(&self.text.as_str()[entry.start..entry.start + entry.length])
     }
 }
 
@@ -99,21 +99,21 @@ fn room_for(lists: &[&[Option<&str>]]) -> (usize, usize) {
 }
 
 // Adds the name of a group to the text, and says where it is there.
-fn hold_name<A: Allocator>(text: &mut String<A>, group: Option<&str>) -> Result<Place, AllocError>
+fn hold_name<A: Allocator>(text: &mut String<A>, group: Option<&str>) -> Result<Entry, AllocError>
     ensures text { OnOk result (string_bytes text.new ≡ string_bytes text.old ++ unwrap_or (option_copied group.entry) []) }
-    ensures place { IfOk result (λ place. place ≡ place_held (string_bytes text.old) (option_copied group.entry)) }
+    ensures entry { IfOk result (λ entry. entry ≡ entry_held (string_bytes text.old) (option_copied group.entry)) }
     ensures utf8 { IsUtf8 (unwrap_or (option_copied group.entry) []) }
     ensures length { length (unwrap_or (option_copied group.entry) []) < NO_NAME }
 {
     let Some(name) = group else {
-        return Ok(Place {
+        return Ok(Entry {
             start: 0,
             length: NO_NAME,
         });
     };
     let start = text.len();
     text.push_str(name)?;
-    Ok(Place {
+    Ok(Entry {
         start,
         length: name.len(),
     })
@@ -122,15 +122,15 @@ fn hold_name<A: Allocator>(text: &mut String<A>, group: Option<&str>) -> Result<
 // Adds the names of these groups, and where each of them is.
 fn hold_names<A: Allocator>(
     text: &mut String<A>,
-    places: &mut Vec<Place, A>,
+    entries: &mut Vec<Entry, A>,
     groups: &[Option<&str>],
 ) -> Result<(), AllocError>
-    requires { AreCut (string_bytes text.old) places.old.items }
-    ensures { OnOk result (AreHeld (string_bytes text.new) places.new.items (names_held (string_bytes text.old) places.old.items ++ groups_in groups.now)) }
+    requires { AreCut (string_bytes text.old) entries.old.items }
+    ensures { OnOk result (AreHeld (string_bytes text.new) entries.new.items (names_held (string_bytes text.old) entries.old.items ++ groups_in groups.now)) }
 {
     for group in groups {
-        let place = hold_name(text, *group)?;
-        places.push(place)?;
+        let entry = hold_name(text, *group)?;
+        entries.push(entry)?;
     }
     Ok(())
 }

@@ -3,7 +3,7 @@ ghost use Rattle.std.specs.Prelude.{◌≡◌, ◌+◌, ◌≤◌, ◌++◌, len
 ghost use Rattle.std.specs.List.{range_with_len};
 ghost use Rattle.std.specs.List.Sorted.{IsPermutation};
 ghost use Rattle.rsc_captures.specs.Groups.{groups_in};
-ghost use Rattle.rsc_captures.specs.Faults.{LIMIT_OF_IDS};
+ghost use Rattle.rsc_primitives.specs.Indices.{max_index};
 ghost use Rattle.rsc_captures.specs.OrderLayout.{IsSortedByName, IsOrder};
 
 use std::alloc::{AllocError, Allocator};
@@ -22,7 +22,7 @@ pub(crate) fn name_at<'a>(groups: &[Option<&'a str>], g: usize) -> Option<&'a st
 /// Fills the list with the numbers of the groups, in the order of their names.
 pub(crate) fn put_in_order(groups: &[Option<&str>], order: &mut [u32])
     requires len { length order.old ≡ length groups.now }
-    requires limit { length order.old ≤ LIMIT_OF_IDS }
+    requires limit { length order.old ≤ max_index }
     ensures order { IsOrder order.new (groups_in groups.now) }
     ensures len { length order.new ≡ length order.old }
 {
@@ -35,7 +35,7 @@ pub(crate) fn add_order<A: Allocator>(
     order: &mut Vec<u32, A>,
     groups: &[Option<&str>],
 ) -> Result<(), AllocError>
-    requires { length groups.now ≤ LIMIT_OF_IDS }
+    requires { length groups.now ≤ max_index }
     ensures kept { OnOk result (take (length order.old.items) order.new.items ≡ order.old.items) }
     ensures len { OnOk result (length order.new.items ≡ length order.old.items + length groups.now) }
     ensures order { OnOk result (IsOrder (drop (length order.old.items) order.new.items) (groups_in groups.now)) }
@@ -49,7 +49,7 @@ pub(crate) fn add_order<A: Allocator>(
 // Adds that many numbers from 0 on.
 #[tactic(auto, using(crate::proofs::OrderLayoutLemmas::counted_more, std::proofs::lemmas::List::append_assoc))]
 fn add_numbers<A: Allocator>(order: &mut Vec<u32, A>, count: usize) -> Result<(), AllocError>
-    requires { count ≤ LIMIT_OF_IDS }
+    requires { count ≤ max_index }
     ensures { OnOk result (order.new.items ≡ order.old.items ++ range_with_len 0 count) }
 {
     for number in 0..count {
@@ -60,7 +60,7 @@ fn add_numbers<A: Allocator>(order: &mut Vec<u32, A>, count: usize) -> Result<()
 
 // Fills the list with the numbers from 0 on.
 fn number(order: &mut [u32])
-    requires { length order.old ≤ LIMIT_OF_IDS }
+    requires { length order.old ≤ max_index }
     ensures { order.new ≡ range_with_len 0 (length order.old) }
 {
     for i in 0..order.len() {

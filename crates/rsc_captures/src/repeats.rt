@@ -5,7 +5,8 @@
 ghost use Rattle.std.specs.Prelude.{◌≡◌, ℕ, List, ◌+◌, ◌<◌, ◌≤◌, length, take, true, slice_index_or, Some, None, MatchOption};
 ghost use Rattle.std.specs.List.Sorted.{IsBinarySearchResult, IsSearchInRange};
 ghost use Rattle.rsc_captures.specs.Groups.{groups_in, lists_in, groups_of, name_of};
-ghost use Rattle.rsc_captures.specs.Faults.{GREATEST_PATTERN, LIMIT_OF_IDS, Duplicate, ComesBefore};
+ghost use Rattle.rsc_primitives.specs.Indices.{max_index};
+ghost use Rattle.rsc_captures.specs.Faults.{Duplicate, ComesBefore};
 ghost use Rattle.rsc_captures.specs.FaultsLayout.{fault_found};
 ghost use Rattle.rsc_captures.specs.OrderLayout.{name_cmp, has_name_of, IsOrder};
 ghost use Rattle.rsc_captures.specs.RepeatsLayout.{is_repeat, AreDistinctBelow, IsFirstRepeat, AreApart, IsRepeatOf, HasNoRepeatBefore, IsFirstRepeatBefore};
@@ -19,18 +20,18 @@ use std::cmp::Ordering;
 // How many groups the table has room for.
 const TABLE: usize = 4096;
 
-/// The first repeated name before a place, which is a pattern and one of its groups. Takes no memory.
+/// The first repeated name before a group, which is a pattern and one of its groups. Takes no memory.
 pub(crate) fn first_repeat_before<'a>(
     lists: &[&[Option<&'a str>]],
-    place: (usize, usize),
+    group: (usize, usize),
 ) -> Option<Fault<'a>>
-    requires { (p : ℕ) → ComesBefore p 0 place.0 place.1 → p ≤ GREATEST_PATTERN }
-    ensures { MatchOption result (HasNoRepeatBefore (lists_in lists.now) place.0 place.1)
-        (λ fault. IsFirstRepeatBefore (lists_in lists.now) place.0 place.1 (fault_found fault)) }
+    requires { (p : ℕ) → ComesBefore p 0 group.0 group.1 → p ≤ max_index }
+    ensures { MatchOption result (HasNoRepeatBefore (lists_in lists.now) group.0 group.1)
+        (λ fault. IsFirstRepeatBefore (lists_in lists.now) group.0 group.1 (fault_found fault)) }
 {
     let mut table = [0u32; TABLE];
-    for p in 0..lists.len().min(place.0.saturating_add(1)) {
-        let end = count_before(lists[p].len(), p, place);
+    for p in 0..lists.len().min(group.0.saturating_add(1)) {
+        let end = count_before(lists[p].len(), p, group);
         if let Some(g) = first_repeat(&lists[p][..end], &mut table) {
             return Some(repeated(lists, p, g));
         }
@@ -41,7 +42,7 @@ pub(crate) fn first_repeat_before<'a>(
 /// The fault of a group that repeats a name.
 pub(crate) fn repeated<'a>(lists: &[&[Option<&'a str>]], p: usize, g: usize) -> Fault<'a>
     requires pattern { p < length lists.now }
-    requires number { p ≤ GREATEST_PATTERN }
+    requires number { p ≤ max_index }
     requires repeats { is_repeat (groups_of (lists_in lists.now) p) g ≡ true }
     ensures { (name : List ℕ) × (name_of (lists_in lists.now) p g ≡ Some name) × (fault_found result ≡ Duplicate p name) }
 {
@@ -61,24 +62,24 @@ pub(crate) fn repeat_in_order(groups: &[Option<&str>], order: &[u32]) -> Option<
     }
 }
 
-// How many of the groups of a pattern are before the place.
-fn count_before(count: usize, p: usize, place: (usize, usize)) -> usize
-    requires { p ≤ place.0 }
+// How many of the groups of a pattern are before the group.
+fn count_before(count: usize, p: usize, group: (usize, usize)) -> usize
+    requires { p ≤ group.0 }
     ensures within { result ≤ count }
-    ensures before { (g : ℕ) → g < result → ComesBefore p g place.0 place.1 }
-    ensures all { (g : ℕ) → g < count → ComesBefore p g place.0 place.1 → g < result }
+    ensures before { (g : ℕ) → g < result → ComesBefore p g group.0 group.1 }
+    ensures all { (g : ℕ) → g < count → ComesBefore p g group.0 group.1 → g < result }
 {
-    if p < place.0 {
+    if p < group.0 {
         count
     } else {
-        count.min(place.1)
+        count.min(group.1)
     }
 }
 
 // The same without their order, block by block: a later block is looked at only before the repeat of an earlier one.
 fn first_repeat(groups: &[Option<&str>], table: &mut [u32]) -> Option<usize>
     requires some { 0 < length table.old }
-    requires table { length table.old ≤ LIMIT_OF_IDS }
+    requires table { length table.old ≤ max_index }
     ensures repeat { MatchOption result (AreDistinctBelow (groups_in groups.now) (length groups.now)) (IsFirstRepeat (groups_in groups.now)) }
     ensures table { length table.new ≡ length table.old }
 {

@@ -1,6 +1,6 @@
 //! The commands of group infos, and how group lists are read.
 ghost use Rattle.std.specs.Prelude.{◌≤◌};
-ghost use Rattle.rsc_captures.specs.Faults.{LIMIT_OF_IDS};
+ghost use Rattle.rsc_primitives.specs.Indices.{max_index};
 
 use crate::answer::Answer;
 use crate::line::{Line, NONE};
@@ -26,7 +26,7 @@ pub const GREATEST_LIMIT: usize = PatternID::LIMIT - 1;
 
 /// Reads group lists; returns their group info where no more slots than the limit are allowed, or its refusal.
 pub fn group_info(line: &mut Line<'_>, limit: usize) -> Result<GroupInfo, GroupInfoError>
-    requires { limit ≤ LIMIT_OF_IDS }
+    requires { limit ≤ max_index }
 {
     let patterns = patterns(line);
     let lent = lend(line.alloc(), patterns.as_slice())?;
@@ -69,7 +69,7 @@ fn name(line: &mut Line<'_>) -> Option<String> {
 }
 
 fn describe(line: &mut Line<'_>, answer: &mut Answer, limit: usize)
-    requires { limit ≤ LIMIT_OF_IDS }
+    requires { limit ≤ max_index }
 {
     match group_info(line, limit) {
         Ok(info) => {

@@ -11,9 +11,9 @@ use Rattle.rsc_search.specs.declared.anchored.Anchored.TheVariants.{No, Yes, Pat
 use Rattle.rsc_search.specs.declared.anchored.Anchored.{Anchored}
 use Rattle.rsc_engine.specs.Searches.{Search}
 use Rattle.rsc_engine.specs.Runs.{Leads, IsPlace, accepts, IsMatchRun, HasNoMatch}
-use Rattle.rsc_engine.specs.Preferred.{IsOnce, IsBefore, IsPreferred, IsLeftmostFirst, HasNone}
+use Rattle.rsc_engine.specs.Preferred.{IsOnce, IsPreferredTo, IsPreferred, IsLeftmostFirst, HasNone}
 use Rattle.rsc_engine.specs.Moves.{IsMove, other_of}
-use Rattle.rsc_engine.specs.Walks.{IsTrail, IsOnward, IsOn, IsDone, IsClosed, IsClosedFrom, IsBarred, IsFirstWay, IsExplored, IsAfter, IsLess, HasFlags, is_flagged, number_in, left_to_do}
+use Rattle.rsc_engine.specs.Walks.{IsTrail, IsOnward, IsOn, IsDone, IsClosed, IsClosedFrom, IsBarred, IsFirstWay, IsExplored, StandsAfter, IsLess, HasFlags, is_flagged, number_in, left_to_do}
 use Rattle.rsc_engine.specs.declared.moves.Move.{Move}
 use Rattle.rsc_engine.specs.declared.moves.Move.TheVariants.{Fails, Goes, Forks, Accepts}
 use Rattle.rsc_engine.proofs.WalksLemmas.{IsTrail-more, IsOnward-more, IsMatchRun-more, place-before, place-after, leads-rises}
@@ -323,7 +323,7 @@ preferred-more e from seen run others p t n x fresh accepted = record {
       (rw (← before.together before.at (omega arith)) before.fork));
 }
   where
-    rest : (other : List (ℕ × ℕ)) → IsMatchRun e from other → (b : IsBefore e other (run ++ p ∷ []))
+    rest : (other : List (ℕ × ℕ)) → IsMatchRun e from other → (b : IsPreferredTo e other (run ++ p ∷ []))
         → IsMatchRun e (b.a, (place (run ++ p ∷ []) b.at).1) (drop (b.at + 1) other)
     rest other m b =
         let step : Leads e (place other b.at) (place other (b.at + 1)) = m.is_run.steps b.at b.within in
@@ -331,7 +331,7 @@ preferred-more e from seen run others p t n x fresh accepted = record {
         rw (← b.together b.at (omega arith), pair_is (place other (b.at + 1)) b.a (place other b.at).1 b.first position)
         (match_drop e from other (b.at + 1) m b.within)
 
-    apart : (other : List (ℕ × ℕ)) → IsOnce other → (b : IsBefore e other (run ++ p ∷ [])) → (j k : ℕ) → j < length (take (b.at + 1) (run ++ p ∷ []))
+    apart : (other : List (ℕ × ℕ)) → IsOnce other → (b : IsPreferredTo e other (run ++ p ∷ [])) → (j k : ℕ) → j < length (take (b.at + 1) (run ++ p ∷ []))
         → k < length (drop (b.at + 1) other) → place (take (b.at + 1) (run ++ p ∷ [])) j ≢ place (drop (b.at + 1) other) k
     apart other once b j k l h =
         let short : j < b.at + 1 = omega (arith, l, length-take-le (b.at + 1) (run ++ p ∷ []) (omega (arith, b.other_within))) in
@@ -345,21 +345,21 @@ some_fork a b c d h = cc
 no_way : (q : ℕ × ℕ) → None ≡ Some q → (a : ℕ) → q.0 ≡ a
 no_way q h a = absurd (none_is_none q h)
 
-pub IsAfter-more : (e : Search) (from : ℕ × ℕ) (seen after : ℕ × ℕ → Bool) (run : List (ℕ × ℕ)) (others : List (Option ℕ)) (p : ℕ × ℕ) (step : Move)
+pub StandsAfter-more : (e : Search) (from : ℕ × ℕ) (seen after : ℕ × ℕ → Bool) (run : List (ℕ × ℕ)) (others : List (Option ℕ)) (p : ℕ × ℕ) (step : Move)
     → IsTrail e from run others → IsOnward e from run p → IsExplored e from seen run others (Some p) → IsSeenMore e seen p after → IsMove e p step
-    → IsAfter e from p after (run ++ p ∷ []) (others ++ other_of step ∷ []) step
-IsAfter-more e from seen after run others p Fails t n x g m = (
+    → StandsAfter e from p after (run ++ p ∷ []) (others ++ other_of step ∷ []) step
+StandsAfter-more e from seen after run others p Fails t n x g m = (
   IsTrail-more e from run others p None t n (λ b h. absurd (none_is_number b h)),
   explored-more e from seen after run others p None None t x g m.0 (λ q l. absurd (m.1 q l)) (λ q h a b fork. no_way q h a),
 )
-IsAfter-more e from seen after run others p (Goes s i) t n x g m = (
+StandsAfter-more e from seen after run others p (Goes s i) t n x g m = (
   IsTrail-more e from run others p None t n (λ b h. absurd (none_is_number b h)),
   IsOnward-more e from run p (s, i) (m.1, omega (arith, n.there.1, m.4), m.2) m.3,
   explored-more e from seen after run others p None (Some (s, i)) t x g m.0
       (λ q l. inr (ap (λ (r : ℕ × ℕ). Some r) (pair_is q s i (m.5 q l).0 (m.5 q l).1)))
       (λ q h a b fork. ap (λ (r : ℕ × ℕ). r.0) (sym (some_same (s, i) q h)) ∙ sym (m.5 (a, p.1) (fork_leads e p a b fork)).0),
 )
-IsAfter-more e from seen after run others p (Forks a b) t n x g m = (
+StandsAfter-more e from seen after run others p (Forks a b) t n x g m = (
   IsTrail-more e from run others p (Some b) t n (λ c h. (rw (← same_number b c h) m.2, rw (← same_number b c h) m.4)),
   IsOnward-more e from run p (a, p.1) (m.1, n.there.1, n.there.2) m.3,
   explored-more e from seen after run others p (Some b) (Some (a, p.1)) t x g m.0
@@ -369,7 +369,7 @@ IsAfter-more e from seen after run others p (Forks a b) t n x g m = (
       (m.5 q l).0)
       (λ q h c d fork. ap (λ (r : ℕ × ℕ). r.0) (sym (some_same (a, p.1) q h)) ∙ some_fork a b c d (sym m.6 ∙ fork)),
 )
-IsAfter-more e from seen after run others p Accepts t n x g m = preferred-more e from seen run others p t n x g.fresh m
+StandsAfter-more e from seen after run others p Accepts t n x g m = preferred-more e from seen run others p t n x g.fresh m
 
 -- ---- the leftmost match
 

@@ -14,7 +14,7 @@ use Rattle.rsc_engine.proofs.LinksLemmas.{choice_to, choice_first, choice_next}
 use Rattle.rsc_engine.proofs.BuilderLemmas.{Adds-one, Adds-both, Adds-is}
 use Rattle.rsc_search.specs.Inputs.{InputParts}
 use Rattle.rsc_search.specs.Matches.{Matched}
-use Rattle.rsc_search.specs.Modes.{pattern_of as pattern_wanted}
+use Rattle.rsc_search.specs.Modes.{pattern_of_mode as pattern_wanted}
 use Rattle.rsc_engine.specs.Searches.{Search, Compiled, search_in}
 use Rattle.rsc_engine.specs.Runs.{Leads, IsPlace, IsMatchRun, IsMatchOf, accepts, is_accepting, is_wanted}
 use Rattle.rsc_captures.specs.Captured.{Captured}

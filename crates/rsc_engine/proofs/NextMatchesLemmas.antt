@@ -10,10 +10,10 @@ use Rattle.rsc_primitives.specs.Utf8.{IsBoundary}
 use Rattle.rsc_search.specs.Inputs.{InputParts}
 use Rattle.rsc_search.specs.Matches.{Matched}
 use Rattle.rsc_search.specs.declared.anchored.Anchored.TheVariants.{No}
-use Rattle.rsc_search.specs.Modes.{pattern_of}
+use Rattle.rsc_search.specs.Modes.{pattern_of_mode}
 use Rattle.rsc_engine.specs.Searches.{Search, Compiled, search_in}
 use Rattle.rsc_engine.specs.Runs.{Leads, accepts, is_accepting, IsMatchRun, IsMatchOf, HasNoMatch}
-use Rattle.rsc_engine.specs.Preferred.{IsBefore, IsPreferred, IsLeftmostFirst, HasNone, IsOf}
+use Rattle.rsc_engine.specs.Preferred.{IsPreferredTo, IsPreferred, IsLeftmostFirst, HasNone, IsOf}
 use Rattle.rsc_engine.specs.NextMatches.{IsRepeat, IsSplit, IsRepeated, IsPassed, IsOpen, IsNext, IsOver, from_start}
 use Rattle.rsc_engine.proofs.WalksLemmas.{run-rises}
 use Rattle.rsc_engine.proofs.BacktrackLemmas.{is_no}
@@ -24,7 +24,7 @@ use Rattle.rsc_engine.proofs.BacktrackLemmas.{is_no}
 accepts_stops : (e : Search) (p q : ℕ × ℕ) → accepts e p ≡ true → Leads e p q → ⊥
 accepts_stops e p q accepted leads = go (slice_get e.states p.0) accepted leads
   where
-    go : (o : Option State) → is_accepting (pattern_of e.mode) o ≡ true
+    go : (o : Option State) → is_accepting (pattern_of_mode e.mode) o ≡ true
         → MatchOption o ⊥ (λ (state : State). StepsTo state e.terminator e.words e.haystack e.end p.1 q) → ⊥
     go None h x = x
     go (Some (ByteRange a b next)) h x = true≢false (sym h)
@@ -69,7 +69,7 @@ two_steps e p q r x y = go (slice_get e.states p.0) refl x y
         second n a b way apart = ⊎_elim (λ (h : n ≡ a). absurd (apart h)) (λ (h : n ≡ b). h) way
 
 forked : (e : Search) (one other : List (ℕ × ℕ)) (m : ℕ) → ((k : ℕ) → k ≤ m → place one k ≡ place other k) → m + 1 < length one → m + 1 < length other
-    → IsForkOf e (place one m) (place one (m + 1)) (place other (m + 1)) → IsBefore e one other
+    → IsForkOf e (place one m) (place one (m + 1)) (place other (m + 1)) → IsPreferredTo e one other
 unfolding IsForkOf
 forked e one other m together within other_within f = record {
   at = m;
@@ -147,7 +147,7 @@ match_shift e i j from run low m = record {
     begins : (place run 0).1 ≡ from.1
     begins = ap (λ (p : ℕ × ℕ). p.1) m.begins
 
-before_shift : (e : Search) (i j : ℕ) (one other : List (ℕ × ℕ)) → IsBefore (record e { start = i }) one other → IsBefore (record e { start = j }) one other
+before_shift : (e : Search) (i j : ℕ) (one other : List (ℕ × ℕ)) → IsPreferredTo (record e { start = i }) one other → IsPreferredTo (record e { start = j }) one other
 before_shift e i j one other b = record {
   at = b.at;
   a = b.a;

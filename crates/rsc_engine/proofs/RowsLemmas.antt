@@ -4,7 +4,7 @@ use Rattle.std.specs.List.{Contains}
 use Rattle.std.proofs.lemmas.Bool.{cases_lt}
 use Rattle.std.proofs.lemmas.List.{get_or_default}
 use Rattle.std.proofs.lemmas.List.Elements.{Contains-get_or, Contains-push_cases}
-use Rattle.rsc_search.specs.Modes.{pattern_of}
+use Rattle.rsc_search.specs.Modes.{pattern_of_mode}
 use Rattle.rsc_search.specs.declared.anchored.Anchored.{Anchored}
 use Rattle.rsc_search.specs.declared.anchored.Anchored.TheVariants.{No, Yes, Pattern}
 use Rattle.rsc_nfa.specs.declared.state.State.{State}
@@ -72,7 +72,7 @@ start_of e i x = record {
 same_place : (p : ℕ × ℕ) (s : ℕ) → p.0 ≡ s → p ≡ (s, p.1)
 same_place p s e = rw (← e) refl
 
-match_end : (e : Search) (s i : ℕ) → Reaches e s i → is_accepting (pattern_of e.mode) (slice_get e.states s) ≡ true → IsMatchEnd e i
+match_end : (e : Search) (s i : ℕ) → Reaches e s i → is_accepting (pattern_of_mode e.mode) (slice_get e.states s) ≡ true → IsMatchEnd e i
 match_end e s i r accepted = record {
   from = (place r.run 0).1;
   run = r.run;
@@ -85,7 +85,7 @@ match_end e s i r accepted = record {
     is_run = r.from_start.is_run;
     some = r.from_start.some;
     begins = same_place (place r.run 0) e.first r.from_start.begins;
-    ends = subst (λ (x : ℕ). is_accepting (pattern_of e.mode) (slice_get e.states x) ≡ true) (sym r.state) accepted;
+    ends = subst (λ (x : ℕ). is_accepting (pattern_of_mode e.mode) (slice_get e.states x) ≡ true) (sym r.state) accepted;
   };
   ends = r.position;
 }

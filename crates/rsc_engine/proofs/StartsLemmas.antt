@@ -2,7 +2,7 @@
 use Rattle.std.proofs.Common.{◌≡◌, ℕ, zero, suc, ◌+◌, ◌-◌, ◌<◌, ◌≤◌, ◌∙◌, ⊎_elim, Bool, true, false, ◌&&◌, List, length, slice_get, slice_index_or, Option, Some, None, MatchOption, refl, sym, arith, true≢false, IsTrue, nat_le}
 use Rattle.std.proofs.lemmas.Bool.{leb-true, cases_lt}
 use Rattle.std.proofs.lemmas.Option.{slice_get_within}
-use Rattle.rsc_search.specs.Modes.{pattern_of}
+use Rattle.rsc_search.specs.Modes.{pattern_of_mode}
 use Rattle.rsc_nfa.specs.declared.state.State.{State}
 use Rattle.rsc_nfa.specs.declared.state.State.TheVariants.{ByteRange, Assert, Fork, Capture, Accept}
 use Rattle.rsc_nfa.specs.Steps.{StepsTo, place, is_between}
@@ -78,7 +78,7 @@ none_begins e marks bytes at x off run m = go (slice_get e.states (place run las
         let before = stays k (omega (arith, h)) in
         rw same (step e marks bytes x at off (place run k) (place run (k + 1)) before.0 before.1 (m.is_run.steps k h))
 
-    go : (o : Option State) → slice_get e.states (place run last).0 ≡ o → is_accepting (pattern_of e.mode) o ≡ true → ⊥
+    go : (o : Option State) → slice_get e.states (place run last).0 ≡ o → is_accepting (pattern_of_mode e.mode) o ≡ true → ⊥
     go None is a = true≢false (sym a)
     go (Some (ByteRange a b next)) is h = true≢false (sym h)
     go (Some (Assert look next)) is h = true≢false (sym h)

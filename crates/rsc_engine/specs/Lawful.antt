@@ -7,7 +7,7 @@ use Rattle.rsc_look.specs.Holds.{Holds, byte_before, byte_after}
 use Rattle.rsc_look.specs.Keeping.{AgreesWithAscii}
 use Rattle.rsc_nfa.specs.declared.state.State.{State}
 use Rattle.rsc_nfa.specs.Classes.{has_unicode, KeepsRuns, AreInterchangedBy}
-use Rattle.rsc_nfa.specs.Faults.{IsFaultless}
+use Rattle.rsc_nfa.specs.Faults.{AreFaultless}
 use Rattle.rsc_nfa.specs.Steps.{IsStep, IsRun, IsWithin, place}
 
 pub record Lawful : Type 0 where
@@ -21,7 +21,7 @@ pub record Lawful : Type 0 where
       → IsStep states t W h end p q ↔ IsStep states t W k end p q
   pub position : (states : List State) (t : ℕ) (W : ℕ → Bool) (h : List ℕ) (end : ℕ) (p q : ℕ × ℕ) → IsStep states t W h end p q
       → (q.1 ≡ p.1) ⊎ ((q.1 ≡ p.1 + 1) × (p.1 < end))
-  pub to : (groups : GroupLists) (states : List State) (t : ℕ) (W : ℕ → Bool) (h : List ℕ) (end : ℕ) (p q : ℕ × ℕ) → IsFaultless groups states
+  pub to : (groups : GroupLists) (states : List State) (t : ℕ) (W : ℕ → Bool) (h : List ℕ) (end : ℕ) (p q : ℕ × ℕ) → AreFaultless groups states
       → IsStep states t W h end p q → q.0 < length states
   pub one : (states : List State) (t : ℕ) (W : ℕ → Bool) (h : List ℕ) (start end : ℕ) (p : ℕ × ℕ) → IsWithin states start end p
       → IsRun states t W h start end (p ∷ [])

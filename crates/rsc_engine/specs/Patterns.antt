@@ -5,7 +5,7 @@ use Rattle.rsc_look.specs.declared.assertion.Look.{Look}
 use Rattle.rsc_look.specs.Holds.{Holds}
 use Rattle.rsc_search.specs.Inputs.{InputParts}
 use Rattle.rsc_search.specs.Matches.{Matched}
-use Rattle.rsc_search.specs.Modes.{pattern_of as pattern_wanted}
+use Rattle.rsc_search.specs.Modes.{pattern_of_mode as pattern_wanted}
 use Rattle.rsc_nfa.specs.Steps.{is_between, place}
 use Rattle.rsc_engine.specs.Searches.{Compiled, Search, search_in}
 use Rattle.rsc_engine.specs.Runs.{IsMatchRun, IsMatchOf, is_wanted}

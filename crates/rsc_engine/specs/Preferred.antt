@@ -13,7 +13,7 @@ abbrev pub IsOnce : List (ℕ × ℕ) → Type 0
 IsOnce run = (j k : ℕ) → j < k → k < length run → place run j ≢ place run k
 
 -- two runs go together up to a fork, at which the one goes the first way and the other doesn't
-pub record IsBefore (e : Search) (one other : List (ℕ × ℕ)) : Type 0 where
+pub record IsPreferredTo (e : Search) (one other : List (ℕ × ℕ)) : Type 0 where
   pub at : ℕ
   pub a : ℕ
   pub b : ℕ
@@ -24,11 +24,11 @@ pub record IsBefore (e : Search) (one other : List (ℕ × ℕ)) : Type 0 where
   pub first : (place one (at + 1)).0 ≡ a
   pub apart : (place other (at + 1)).0 ≢ a
 
--- of the runs from a place to a match that come to no place twice, none is before it
+-- of the runs from a place to a match that come to no place twice, none is preferred to it
 pub record IsPreferred (e : Search) (from : ℕ × ℕ) (run : List (ℕ × ℕ)) : Type 0 where
   pub is_match : IsMatchRun e from run
   pub once : IsOnce run
-  pub first : (other : List (ℕ × ℕ)) → IsMatchRun e from other → IsOnce other → ¬ (IsBefore e other run)
+  pub first : (other : List (ℕ × ℕ)) → IsMatchRun e from other → IsOnce other → ¬ (IsPreferredTo e other run)
 
 -- a match may begin at the position: it's in the span, and at its start, if the search is anchored
 pub record MayBegin (e : Search) (at : ℕ) : Type 0 where

@@ -3,15 +3,15 @@ use Rattle.std.specs.Prelude.{◌≡◌, ◌↔◌, ◌⊎◌, ℕ, ◌+◌, ◌
 use Rattle.std.specs.List.{All, Contains}
 use Rattle.rsc_look.specs.Keeping.{AgreesWithAscii}
 use Rattle.rsc_captures.specs.Groups.{GroupLists}
-use Rattle.rsc_search.specs.Modes.{pattern_of}
+use Rattle.rsc_search.specs.Modes.{pattern_of_mode}
 use Rattle.rsc_search.specs.declared.anchored.Anchored.{Anchored}
 use Rattle.rsc_search.specs.declared.anchored.Anchored.TheVariants.{No, Yes, Pattern}
 use Rattle.rsc_nfa.specs.declared.state.State.{State}
 use Rattle.rsc_nfa.specs.declared.state.State.TheVariants.{ByteRange}
 use Rattle.rsc_nfa.specs.Classes.{KeepsRuns, has_unicode}
-use Rattle.rsc_nfa.specs.Faults.{IsFaultless}
+use Rattle.rsc_nfa.specs.Faults.{AreFaultless}
 use Rattle.rsc_nfa.specs.Steps.{IsStep, IsRun, place}
-use Rattle.rsc_alphabet.specs.Partitions.{ClassesRise}
+use Rattle.rsc_alphabet.specs.Partitions.{LastClassIsGreatest}
 use Rattle.rsc_alphabet.specs.Iterators.{symbol_count}
 use Rattle.rsc_engine.specs.Searches.{Search, Compiled}
 use Rattle.rsc_engine.specs.Runs.{is_accepting}
@@ -68,7 +68,7 @@ pub record IsClosure (m : Machine) (near : List ℕ) (at : ℕ) (set closure : L
 pub record HasMatch (m : Machine) (mode : Anchored) (closure : List ℕ) : Type 0 where
   pub state : ℕ
   pub there : Contains closure state
-  pub accepts : is_accepting (pattern_of mode) (slice_get m.states state) ≡ true
+  pub accepts : is_accepting (pattern_of_mode mode) (slice_get m.states state) ≡ true
 
 -- a state of the list leads to the state over the byte
 pub record IsMoved (m : Machine) (near : List ℕ) (at : ℕ) (closure : List ℕ) (u : ℕ) : Type 0 where
@@ -158,11 +158,11 @@ IsPlainUnit m unit = has_unicode m.states ≡ true → IfSome unit (λ b. b < 12
 -- what a DFA is made from: the classes keep runs, and if an assertion looks at characters, no class has bytes on both sides of 128
 pub record IsPlan (m : Machine) (classes : List ℕ) (stride : ℕ) (unicode : Bool) : Type 0 where
   pub groups : GroupLists
-  pub faultless : IsFaultless groups m.states
+  pub faultless : AreFaultless groups m.states
   pub there : m.first < length m.states
   pub looks : unicode ≡ has_unicode m.states
   pub keeps : KeepsRuns classes m.states m.terminator m.words
   pub agreed : AgreesWithAscii m.words
   pub parted : has_unicode m.states ≡ true → (b c : ℕ) → b < 128 → c < 256 → slice_index classes b ≡ slice_index classes c → c < 128
   pub columns : stride ≡ symbol_count classes
-  pub rise : ClassesRise classes
+  pub rise : LastClassIsGreatest classes

@@ -2,7 +2,7 @@
 use Rattle.std.specs.Prelude.{◌≡◌, ℕ, ◌-◌, ◌<◌, ◌==◌, Bool, true, false, List, length, slice_get, slice_index_or, Option, Some, None}
 use Rattle.rsc_nfa.specs.declared.state.State.{State}
 use Rattle.rsc_nfa.specs.declared.state.State.TheVariants.{Accept}
-use Rattle.rsc_search.specs.Modes.{pattern_of}
+use Rattle.rsc_search.specs.Modes.{pattern_of_mode}
 use Rattle.rsc_search.specs.Matches.{Matched}
 use Rattle.rsc_nfa.specs.Steps.{IsStep, IsRun, IsWithin, place, recorded}
 use Rattle.rsc_engine.specs.Searches.{Search}
@@ -26,7 +26,7 @@ is_accepting wanted (Some (Accept q)) = is_wanted wanted q
 is_accepting wanted _ = false
 
 abbrev pub accepts : Search → ℕ × ℕ → Bool
-accepts e p = is_accepting (pattern_of e.mode) (slice_get e.states p.0)
+accepts e p = is_accepting (pattern_of_mode e.mode) (slice_get e.states p.0)
 
 -- the list is a run from a place to a match
 pub record IsMatchRun (e : Search) (from : ℕ × ℕ) (run : List (ℕ × ℕ)) : Type 0 where

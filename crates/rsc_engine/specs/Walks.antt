@@ -60,11 +60,11 @@ pub record IsExplored (e : Search) (from : ℕ × ℕ) (seen : ℕ × ℕ → Bo
   pub last : (q : ℕ × ℕ) → next ≡ Some q → 0 < length run → IsFirstWay e run (place run (length run - 1)) q
 
 -- what is on hand after a visit: the trail, and where it goes on, or the run of a match
-abbrev pub IsAfter : Search → ℕ × ℕ → ℕ × ℕ → (ℕ × ℕ → Bool) → List (ℕ × ℕ) → List (Option ℕ) → Move → Type 0
-IsAfter e from p seen run others Fails = IsTrail e from run others × IsExplored e from seen run others None
-IsAfter e from p seen run others (Goes s i) = IsTrail e from run others × IsOnward e from run (s, i) × IsExplored e from seen run others (Some (s, i))
-IsAfter e from p seen run others (Forks a b) = IsTrail e from run others × IsOnward e from run (a, p.1) × IsExplored e from seen run others (Some (a, p.1))
-IsAfter e from p seen run others Accepts = IsPreferred e from run
+abbrev pub StandsAfter : Search → ℕ × ℕ → ℕ × ℕ → (ℕ × ℕ → Bool) → List (ℕ × ℕ) → List (Option ℕ) → Move → Type 0
+StandsAfter e from p seen run others Fails = IsTrail e from run others × IsExplored e from seen run others None
+StandsAfter e from p seen run others (Goes s i) = IsTrail e from run others × IsOnward e from run (s, i) × IsExplored e from seen run others (Some (s, i))
+StandsAfter e from p seen run others (Forks a b) = IsTrail e from run others × IsOnward e from run (a, p.1) × IsExplored e from seen run others (Some (a, p.1))
+StandsAfter e from p seen run others Accepts = IsPreferred e from run
 
 -- ---- the flags of places, those of the last position first, so that they stay where they are as a search's start moves on
 

@@ -9,7 +9,7 @@ ghost use Rattle.rsc_engine.specs.Runs.{HasNoMatch};
 ghost use Rattle.rsc_engine.specs.Ends.{BeginsFrom};
 ghost use Rattle.rsc_engine.specs.Starts.{AreStarts};
 ghost use Rattle.rsc_engine.specs.Preferred.{IsPreferred, IsLeftmostFirst, HasNone};
-ghost use Rattle.rsc_engine.specs.Walks.{HasFlags, IsTrail, IsOnward, IsClosed, IsClosedFrom, IsExplored, is_flagged, IsAfter, IsLess, left_to_do};
+ghost use Rattle.rsc_engine.specs.Walks.{HasFlags, IsTrail, IsOnward, IsClosed, IsClosedFrom, IsExplored, is_flagged, StandsAfter, IsLess, left_to_do};
 
 use crate::flags::Flags;
 use crate::moves::{Move, move_of, other_way};
@@ -196,7 +196,7 @@ impl Walk {
         ensures room { HasFlags (search_in W.word_chars program.now input.now) self.new.visited }
         ensures size { length self.new.visited ≡ length self.old.visited }
         ensures memory { IfErr result (λ e. e ≡ OutOfMemory) }
-        ensures after { IfOk result (IsAfter (search_in W.word_chars program.now input.now) self.old.from next
+        ensures after { IfOk result (StandsAfter (search_in W.word_chars program.now input.now) self.old.from next
             (is_flagged (search_in W.word_chars program.now input.now) self.new.visited) self.new.run.items self.new.others.items) }
         ensures beyond { IfOk result (λ step. step ≡ Accepts → IsClosedFrom (search_in W.word_chars program.now input.now) (next.1 + 1)
             (is_flagged (search_in W.word_chars program.now input.now) self.new.visited)) }

@@ -3,7 +3,7 @@ ghost use Rattle.std.specs.Prelude.{◌≡◌, ◌<◌, ◌≤◌, length};
 ghost use Rattle.rsc_engine.specs.Searches.{search_in};
 ghost use Rattle.rsc_engine.specs.Moves.{IsMove, other_of};
 ghost use Rattle.rsc_engine.specs.Runs.{is_wanted};
-ghost use Rattle.rsc_search.specs.Modes.{pattern_of};
+ghost use Rattle.rsc_search.specs.Modes.{pattern_of_mode};
 
 use crate::Program;
 use rsc_look::WordClass;
@@ -80,7 +80,7 @@ pub fn move_of<W: WordClass>(
 
 // Whether the pattern may match.
 fn is_wanted(input: &Input<'_>, pattern: PatternID) -> bool
-    ensures { result ≡ is_wanted (pattern_of input.now.anchored) pattern }
+    ensures { result ≡ is_wanted (pattern_of_mode input.now.anchored) pattern }
 {
     match input.get_anchored().pattern() {
         None => true,

@@ -6,7 +6,7 @@ use Rattle.std.specs.FinSet.{contains-empty, contains-from_list_nat}
 use Rattle.std.proofs.lemmas.List.{take_all, take_more}
 use Rattle.std.proofs.lemmas.List.Folds.{list_any-append}
 use Rattle.std.proofs.Math.Bool.{or-false}
-use Rattle.rsc_look.proofs.Words.{Numbers, edges_of, class_map, contains-joined, contains-edges_of, class_map_same, Look, Start, End, StartLF, EndLF, StartCRLF, EndCRLF, is_word_byte, WordAscii, WordAsciiNegate, WordStartAscii, WordEndAscii, WordStartHalfAscii, WordEndHalfAscii, byte_before, is_byte, is_word_neighbor, holds_at_bytes, Together, AreInterchanged}
+use Rattle.rsc_look.proofs.Prelude.{HasBoundariesOf, Numbers, boundaries_of_range, class_map, contains-joined, contains-boundaries_of_range, class_map_same, Look, Start, End, StartLF, EndLF, StartCRLF, EndCRLF, is_word_byte, WordAscii, WordAsciiNegate, WordStartAscii, WordEndAscii, WordStartHalfAscii, WordEndHalfAscii, byte_before, is_byte, is_word_neighbor, holds_at_bytes, Together, AreInterchanged}
 use Rattle.rsc_look.specs.Boundaries.{word_boundaries, boundaries_of, boundaries_of_each}
 use Rattle.std.proofs.lemmas.Bool.Decides.{nat_tests}
 use Rattle.std.proofs.lemmas.Option.{slice_get-get_or, slice_get_past}
@@ -15,51 +15,51 @@ use Rattle.std.proofs.lemmas.Bool.{or_left, or_right, cases_lt}
 -- ---- the boundaries of an assertion as tests that compute
 
 -- a boundary of the byte t alone
-abbrev pub is_edge : ℕ → ℕ → Bool
-is_edge t b = (nat_lt 0 t && nat_eq (t - 1) b) || (nat_lt t 255 && nat_eq t b)
+abbrev pub is_boundary_of_byte : ℕ → ℕ → Bool
+is_boundary_of_byte t b = (nat_lt 0 t && nat_eq (t - 1) b) || (nat_lt t 255 && nat_eq t b)
 
 -- the boundaries of the word bytes
-abbrev pub word_marks : List ℕ
-word_marks = 0x2F ∷ 0x39 ∷ 0x40 ∷ 0x5A ∷ 0x5E ∷ 0x5F ∷ 0x60 ∷ 0x7A ∷ []
+abbrev pub word_boundary_numbers : List ℕ
+word_boundary_numbers = 0x2F ∷ 0x39 ∷ 0x40 ∷ 0x5A ∷ 0x5E ∷ 0x5F ∷ 0x60 ∷ 0x7A ∷ []
 
 -- whether a word byte and another are next to each other
-abbrev pub is_word_mark : ℕ → Bool
-is_word_mark b = list_any (λ x. nat_eq x b) word_marks
+abbrev pub is_word_boundary : ℕ → Bool
+is_word_boundary b = list_any (λ x. nat_eq x b) word_boundary_numbers
 
 -- the boundaries of an assertion, and of a list of assertions
-abbrev pub is_mark : Look → ℕ → ℕ → Bool
-is_mark Start t b = false
-is_mark End t b = false
-is_mark StartLF t b = is_edge t b
-is_mark EndLF t b = is_edge t b
-is_mark StartCRLF t b = is_edge 13 b || is_edge 10 b
-is_mark EndCRLF t b = is_edge 13 b || is_edge 10 b
-is_mark _ t b = is_word_mark b
+abbrev pub is_boundary_of : Look → ℕ → ℕ → Bool
+is_boundary_of Start t b = false
+is_boundary_of End t b = false
+is_boundary_of StartLF t b = is_boundary_of_byte t b
+is_boundary_of EndLF t b = is_boundary_of_byte t b
+is_boundary_of StartCRLF t b = is_boundary_of_byte 13 b || is_boundary_of_byte 10 b
+is_boundary_of EndCRLF t b = is_boundary_of_byte 13 b || is_boundary_of_byte 10 b
+is_boundary_of _ t b = is_word_boundary b
 
 -- the boundaries of a list's assertions as a test
-abbrev pub marks_of : List Look → ℕ → ℕ → Bool
-marks_of looks t b = list_any (λ l. is_mark l t b) looks
+abbrev pub is_boundary_of_each : List Look → ℕ → ℕ → Bool
+is_boundary_of_each looks t b = list_any (λ l. is_boundary_of l t b) looks
 
 -- the tests agree with the sets that the definitions name
-pub contains-word_boundaries : (b : ℕ) → sets.contains word_boundaries b ≡ is_word_mark b
+pub contains-word_boundaries : (b : ℕ) → sets.contains word_boundaries b ≡ is_word_boundary b
 unfolding word_boundaries
-contains-word_boundaries b = contains-from_list_nat word_marks b
+contains-word_boundaries b = contains-from_list_nat word_boundary_numbers b
 
-crlf : (b : ℕ) → sets.contains (sets.union (edges_of (13, 13)) (edges_of (10, 10))) b ≡ (is_edge 13 b || is_edge 10 b)
-crlf b = contains-joined (edges_of (13, 13)) (edges_of (10, 10)) b ∙ ap₂ (λ x y. x || y) (contains-edges_of 13 13 b) (contains-edges_of 10 10 b)
+crlf : (b : ℕ) → sets.contains (sets.union (boundaries_of_range (13, 13)) (boundaries_of_range (10, 10))) b ≡ (is_boundary_of_byte 13 b || is_boundary_of_byte 10 b)
+crlf b = contains-joined (boundaries_of_range (13, 13)) (boundaries_of_range (10, 10)) b ∙ ap₂ (λ x y. x || y) (contains-boundaries_of_range 13 13 b) (contains-boundaries_of_range 10 10 b)
 
 -- the test of one assertion tells its boundaries
-pub contains-boundaries_of : (l : Look) (t b : ℕ) → sets.contains (boundaries_of l t) b ≡ is_mark l t b
+pub contains-boundaries_of : (l : Look) (t b : ℕ) → sets.contains (boundaries_of l t) b ≡ is_boundary_of l t b
 contains-boundaries_of Start t b = contains-empty nat_cmp b
 contains-boundaries_of End t b = contains-empty nat_cmp b
-contains-boundaries_of StartLF t b = contains-edges_of t t b
-contains-boundaries_of EndLF t b = contains-edges_of t t b
+contains-boundaries_of StartLF t b = contains-boundaries_of_range t t b
+contains-boundaries_of EndLF t b = contains-boundaries_of_range t t b
 contains-boundaries_of StartCRLF t b = crlf b
 contains-boundaries_of EndCRLF t b = crlf b
 contains-boundaries_of _ t b = contains-word_boundaries b
 
 -- the test of a list tells the boundaries of its members
-pub contains-boundaries_of_each : (looks : List Look) (t b : ℕ) → sets.contains (boundaries_of_each looks t) b ≡ marks_of looks t b
+pub contains-boundaries_of_each : (looks : List Look) (t b : ℕ) → sets.contains (boundaries_of_each looks t) b ≡ is_boundary_of_each looks t b
 contains-boundaries_of_each [] t b = contains-empty nat_cmp b
 contains-boundaries_of_each (l ∷ rest) t b =
     contains-joined (boundaries_of l t) (boundaries_of_each rest t) b
@@ -68,50 +68,46 @@ contains-boundaries_of_each (l ∷ rest) t b =
 -- ---- a loop over a list, for a set that has the boundaries of its members so far
 
 -- a set has the boundaries of these assertions
-abbrev pub HasBoundaries : Numbers → List Look → ℕ → Type 0
-HasBoundaries s looks t = (b : ℕ) → sets.contains s b ≡ marks_of looks t b
+abbrev pub AreGathered : Numbers → List Look → ℕ → Type 0
+AreGathered s looks t = (b : ℕ) → sets.contains s b ≡ is_boundary_of_each looks t b
 
 -- before the loop, and after one assertion more
-pub HasBoundaries-none : (looks : List Look) (t : ℕ) (s : Numbers) → s ≡ sets.empty → HasBoundaries s [] t
-HasBoundaries-none looks t s e b = ap (λ u. sets.contains u b) e ∙ contains-empty nat_cmp b
+pub AreGathered-none : (looks : List Look) (t : ℕ) (s : Numbers) → s ≡ sets.empty → AreGathered s [] t
+AreGathered-none looks t s e b = ap (λ u. sets.contains u b) e ∙ contains-empty nat_cmp b
 
 -- one more assertion's boundaries
-pub HasBoundaries-more : (s new : Numbers) (looks : List Look) (i : ℕ) (d : Look) (t : ℕ) → i < length looks → HasBoundaries s (take i looks) t
-    → new ≡ sets.union s (boundaries_of (get_or looks i d) t) → HasBoundaries new (take (i + 1) looks) t
-HasBoundaries-more s new looks i d t h has e b =
+pub AreGathered-more : (s new : Numbers) (looks : List Look) (i : ℕ) (d : Look) (t : ℕ) → i < length looks → AreGathered s (take i looks) t
+    → new ≡ sets.union s (boundaries_of (get_or looks i d) t) → AreGathered new (take (i + 1) looks) t
+AreGathered-more s new looks i d t h has e b =
     let l = get_or looks i d in
     ap (λ u. sets.contains u b) e ∙ contains-joined s (boundaries_of l t) b
-    ∙ ap₂ (λ x y. x || y) (has b) (contains-boundaries_of l t b ∙ sym (or-false (is_mark l t b)))
-    ∙ sym (ap (λ (x : List Look). marks_of x t b) (take_more looks i d h) ∙ list_any-append (λ x. is_mark x t b) (take i looks) (l ∷ []))
+    ∙ ap₂ (λ x y. x || y) (has b) (contains-boundaries_of l t b ∙ sym (or-false (is_boundary_of l t b)))
+    ∙ sym (ap (λ (x : List Look). is_boundary_of_each x t b) (take_more looks i d h) ∙ list_any-append (λ x. is_boundary_of x t b) (take i looks) (l ∷ []))
 
 -- after the loop over the whole list
-pub classes_whole : (looks : List Look) (t n : ℕ) (s : Numbers) (m : List ℕ) → length looks ≤ n → HasBoundaries s (take n looks) t
+pub classes_whole : (looks : List Look) (t n : ℕ) (s : Numbers) (m : List ℕ) → length looks ≤ n → AreGathered s (take n looks) t
     → m ≡ class_map (sets.contains s) → m ≡ class_map (sets.contains (boundaries_of_each looks t))
 classes_whole looks t n s m l has is =
     is ∙ class_map_same (sets.contains s) (sets.contains (boundaries_of_each looks t)) (λ b lt.
-    has b ∙ ap (λ (x : List Look). marks_of x t b) (take_all n looks l) ∙ sym (contains-boundaries_of_each looks t b))
+    has b ∙ ap (λ (x : List Look). is_boundary_of_each x t b) (take_all n looks l) ∙ sym (contains-boundaries_of_each looks t b))
 
 -- ---- the twelve assertions on bytes are kept by a partition that has their boundaries
-
--- the partition has these boundaries
-abbrev pub HasMarks : (ℕ → Bool) → (ℕ → Bool) → Type 0
-HasMarks p m = (b : ℕ) → b < 255 → m b ≡ true → p b ≡ true
 
 -- two bytes that are together lie on one side of each boundary
 pub Together-leb : (p : ℕ → Bool) (a b x : ℕ) → Together p a b → p x ≡ true → leb a x ≡ leb b x
 Together-leb p a b x t h =
     grind (arith, nat_tests)
 
-Together-leb-mark : (p m : ℕ → Bool) (a b x : ℕ) → HasMarks p m → Together p a b → x < 255 → m x ≡ true → leb a x ≡ leb b x
-Together-leb-mark p m a b x s t l h = Together-leb p a b x t (s x l h)
+Together-leb-boundary : (p m : ℕ → Bool) (a b x : ℕ) → HasBoundariesOf p m → Together p a b → x < 255 → m x ≡ true → leb a x ≡ leb b x
+Together-leb-boundary p m a b x s t l h = Together-leb p a b x t (s x l h)
 
 same_eqb : (a b t : ℕ) → a < 256 → b < 256 → (t < 255 → leb a t ≡ leb b t) → (0 < t → t < 256 → leb a (t - 1) ≡ leb b (t - 1)) → eqb a t ≡ eqb b t
 same_eqb a b t la lb f g = grind (arith, nat_tests)
 
-pub Together-eqb : (p : ℕ → Bool) (a b t : ℕ) → a < 256 → b < 256 → HasMarks p (is_edge t) → Together p a b → eqb a t ≡ eqb b t
+pub Together-eqb : (p : ℕ → Bool) (a b t : ℕ) → a < 256 → b < 256 → HasBoundariesOf p (is_boundary_of_byte t) → Together p a b → eqb a t ≡ eqb b t
 Together-eqb p a b t la lb s h =
-    same_eqb a b t la lb (λ l. Together-leb-mark p (is_edge t) a b t s h l (grind (arith, nat_tests)))
-    (λ l lt. Together-leb-mark p (is_edge t) a b (t - 1) s h (omega arith) (grind (arith, nat_tests)))
+    same_eqb a b t la lb (λ l. Together-leb-boundary p (is_boundary_of_byte t) a b t s h l (grind (arith, nat_tests)))
+    (λ l lt. Together-leb-boundary p (is_boundary_of_byte t) a b (t - 1) s h (omega arith) (grind (arith, nat_tests)))
 
 -- the word bytes, by the boundaries that they lie between
 abbrev word_between : Bool → Bool → Bool → Bool → Bool → Bool → Bool → Bool → Bool
@@ -133,9 +129,9 @@ is_word_byte-between a =
     rw (e1, e2, e3, e4)
 
 -- bytes that are together are both word bytes, or neither is
-pub Together-is_word_byte : (p : ℕ → Bool) (a b : ℕ) → HasMarks p is_word_mark → Together p a b → is_word_byte a ≡ is_word_byte b
+pub Together-is_word_byte : (p : ℕ → Bool) (a b : ℕ) → HasBoundariesOf p is_word_boundary → Together p a b → is_word_byte a ≡ is_word_byte b
 Together-is_word_byte p a b s h =
-    let go : (x : ℕ) → x < 255 → is_word_mark x ≡ true → leb a x ≡ leb b x = λ x l m. Together-leb-mark p is_word_mark a b x s h l m in
+    let go : (x : ℕ) → x < 255 → is_word_boundary x ≡ true → leb a x ≡ leb b x = λ x l m. Together-leb-boundary p is_word_boundary a b x s h l m in
     let e1 = go 0x2F (omega arith) refl in
     let e2 = go 0x39 (omega arith) refl in
     let e3 = go 0x40 (omega arith) refl in
@@ -178,26 +174,26 @@ same_none p (Some a) (Some b) t = refl
 same_none p None (Some b) t = absurd t
 same_none p (Some a) None t = absurd t
 
-same_byte : (p : ℕ → Bool) (a b : Option ℕ) (t : ℕ) → HasMarks p (is_edge t) → TogetherAt p a b → is_byte t a ≡ is_byte t b
+same_byte : (p : ℕ → Bool) (a b : Option ℕ) (t : ℕ) → HasBoundariesOf p (is_boundary_of_byte t) → TogetherAt p a b → is_byte t a ≡ is_byte t b
 same_byte p None None t s h = refl
 same_byte p (Some a) (Some b) t s h = Together-eqb p a b t h.0 h.1 s h.2
 same_byte p None (Some b) t s h = absurd h
 same_byte p (Some a) None t s h = absurd h
 
-same_word : (p : ℕ → Bool) (a b : Option ℕ) → HasMarks p is_word_mark → TogetherAt p a b → is_word_neighbor a ≡ is_word_neighbor b
+same_word : (p : ℕ → Bool) (a b : Option ℕ) → HasBoundariesOf p is_word_boundary → TogetherAt p a b → is_word_neighbor a ≡ is_word_neighbor b
 same_word p None None s h = refl
 same_word p (Some a) (Some b) s h = Together-is_word_byte p a b s h.2
 same_word p None (Some b) s h = absurd h
 same_word p (Some a) None s h = absurd h
 
-crlf_cr : (p : ℕ → Bool) → HasMarks p (λ b. is_edge 13 b || is_edge 10 b) → HasMarks p (is_edge 13)
-crlf_cr p s b l e = s b l (or_left (is_edge 13 b) (is_edge 10 b) e)
+crlf_cr : (p : ℕ → Bool) → HasBoundariesOf p (λ b. is_boundary_of_byte 13 b || is_boundary_of_byte 10 b) → HasBoundariesOf p (is_boundary_of_byte 13)
+crlf_cr p s b l e = s b l (or_left (is_boundary_of_byte 13 b) (is_boundary_of_byte 10 b) e)
 
-crlf_lf : (p : ℕ → Bool) → HasMarks p (λ b. is_edge 13 b || is_edge 10 b) → HasMarks p (is_edge 10)
-crlf_lf p s b l e = s b l (or_right (is_edge 13 b) (is_edge 10 b) e)
+crlf_lf : (p : ℕ → Bool) → HasBoundariesOf p (λ b. is_boundary_of_byte 13 b || is_boundary_of_byte 10 b) → HasBoundariesOf p (is_boundary_of_byte 10)
+crlf_lf p s b l e = s b l (or_right (is_boundary_of_byte 13 b) (is_boundary_of_byte 10 b) e)
 
 -- the table gives the same at neighbours that are together
-pub holds_at_bytes-same : (p : ℕ → Bool) (l : Look) (t : ℕ) → HasMarks p (is_mark l t) → (a b x y : Option ℕ) → TogetherAt p a b → TogetherAt p x y
+pub holds_at_bytes-same : (p : ℕ → Bool) (l : Look) (t : ℕ) → HasBoundariesOf p (is_boundary_of l t) → (a b x y : Option ℕ) → TogetherAt p a b → TogetherAt p x y
     → holds_at_bytes l t a x ≡ holds_at_bytes l t b y
 holds_at_bytes-same p Start t s a b x y h k = same_none p a b h
 holds_at_bytes-same p End t s a b x y h k = same_none p x y k

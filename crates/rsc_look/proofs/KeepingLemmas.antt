@@ -2,9 +2,9 @@
 use Rattle.std.proofs.Common.{◌≡◌, ℕ, zero, suc, ◌+◌, ◌<◌, ◌≤◌, Bool, true, false, ◌&&◌, ◌||◌, eqb, nat_eq, nat_lt, cond, List, [], ◌∷◌, refl, sym, ap, ◌∙◌, arith, ◌⊎◌, inl, inr, true≢false, not, ltb, ◌↔◌, subst, slice_index, length, Contains, nat_cmp}
 use Rattle.std.specs.List.{list_any, list_all}
 use Rattle.std.proofs.lemmas.Bool.Decides.{nat_tests}
-use Rattle.rsc_look.proofs.Words.{is_word_byte, EncodedFrom, Look, Start, End, StartLF, EndLF, StartCRLF, EndCRLF, WordAscii, WordAsciiNegate, WordUnicode, WordUnicodeNegate, WordStartAscii, WordEndAscii, WordStartUnicode, WordEndUnicode, WordStartHalfAscii, WordEndHalfAscii, WordStartHalfUnicode, WordEndHalfUnicode, Side, Absent, Word, Other, exactly_one, byte_before, byte_after, holds_at_bytes, IsBefore, IsAfter, holds_at_sides, is_unicode, AgreesWithAscii, Tells, Numbers, changes_at, contains-joined, word_boundaries, Together, class_map, Holds, boundaries_of_each, IsHaystack, AreInterchanged, DifferInAscii, Keeps, IsCoarsest, AgreesWhereAsked, IsNeeded, IsCoarsestMap, alike_alone, not_told, IsExactFor, boundaries_of, only, first}
-use Rattle.rsc_look.proofs.BoundariesLemmas.{is_edge, word_marks, is_word_mark, is_mark, contains-word_boundaries, marks_of, contains-boundaries_of_each, contains-boundaries_of, HasMarks, TogetherAt-slice_get, TogetherAt-before, holds_at_bytes-same}
-use Rattle.rsc_look.proofs.SideLayoutLemmas.{at_sides, Holds-bytes, Holds-sides, HoldsAtSides-moves, Interchange, Interchange-from, Interchange-sym}
+use Rattle.rsc_look.proofs.Prelude.{HasBoundariesOf, is_word_byte, EncodedFrom, Look, Start, End, StartLF, EndLF, StartCRLF, EndCRLF, WordAscii, WordAsciiNegate, WordUnicode, WordUnicodeNegate, WordStartAscii, WordEndAscii, WordStartUnicode, WordEndUnicode, WordStartHalfAscii, WordEndHalfAscii, WordStartHalfUnicode, WordEndHalfUnicode, Side, Absent, Word, Other, exactly_one, byte_before, byte_after, holds_at_bytes, IsBefore, IsAfter, holds_at_sides, is_unicode, AgreesWithAscii, Tells, Numbers, is_boundary_of_set, contains-joined, word_boundaries, Together, class_map, Holds, boundaries_of_each, IsHaystack, AreInterchanged, DifferInAscii, Keeps, IsCoarsest, AgreesWhereAsked, IsNeeded, IsCoarsestMap, alike_alone, not_told, IsExactFor, boundaries_of, same_as_only, is_its_member}
+use Rattle.rsc_look.proofs.BoundariesLemmas.{is_boundary_of_byte, word_boundary_numbers, is_word_boundary, is_boundary_of, contains-word_boundaries, is_boundary_of_each, contains-boundaries_of_each, contains-boundaries_of, TogetherAt-slice_get, TogetherAt-before, holds_at_bytes-same}
+use Rattle.rsc_look.proofs.HoldsLemmas.{at_sides, Holds-bytes, Holds-sides, HoldsAtSides-moves, Interchange, Interchange-from, Interchange-sym}
 use Rattle.std.proofs.lemmas.Bool.{agree_below_at, true_from_ne_false, or_right}
 use Rattle.std.specs.Cmp.{nat_cmp_total}
 use Rattle.std.specs.FinSet as sets
@@ -14,23 +14,23 @@ use Rattle.std.proofs.lemmas.List.Folds.{list_any_at, Any-from_list_any}
 -- ---- each boundary of an assertion is needed: at one end of a haystack of one byte the assertion tells that byte from the next
 
 -- the end of a haystack of one byte at which the assertion looks at that byte
-abbrev pub place_of : Look → ℕ
-place_of StartLF = 1
-place_of StartCRLF = 1
-place_of WordEndAscii = 1
-place_of WordEndUnicode = 1
-place_of WordStartHalfAscii = 1
-place_of WordStartHalfUnicode = 1
-place_of _ = 0
+abbrev pub told_at : Look → ℕ
+told_at StartLF = 1
+told_at StartCRLF = 1
+told_at WordEndAscii = 1
+told_at WordEndUnicode = 1
+told_at WordStartHalfAscii = 1
+told_at WordStartHalfUnicode = 1
+told_at _ = 0
 
-pub place_of_le : (l : Look) → place_of l ≤ 1
-place_of_le StartLF = omega arith
-place_of_le StartCRLF = omega arith
-place_of_le WordEndAscii = omega arith
-place_of_le WordEndUnicode = omega arith
-place_of_le WordStartHalfAscii = omega arith
-place_of_le WordStartHalfUnicode = omega arith
-place_of_le _ = omega arith
+pub told_at_le : (l : Look) → told_at l ≤ 1
+told_at_le StartLF = omega arith
+told_at_le StartCRLF = omega arith
+told_at_le WordEndAscii = omega arith
+told_at_le WordEndUnicode = omega arith
+told_at_le WordStartHalfAscii = omega arith
+told_at_le WordStartHalfUnicode = omega arith
+told_at_le _ = omega arith
 
 -- the side that a byte below 128 makes
 abbrev side_of : ℕ → Side
@@ -38,14 +38,14 @@ side_of b = cond (is_word_byte b) Word Other
 
 -- what the assertion says of a haystack of one byte, as a test
 abbrev alone_at_bytes : Look → ℕ → ℕ → Bool
-alone_at_bytes l t b = holds_at_bytes l t (byte_before (b ∷ []) (place_of l)) (byte_after (b ∷ []) (place_of l))
+alone_at_bytes l t b = holds_at_bytes l t (byte_before (b ∷ []) (told_at l)) (byte_after (b ∷ []) (told_at l))
 
 abbrev sides_at : ℕ → ℕ → Side × Side
 sides_at zero b = (Absent, side_of b)
 sides_at (suc i) b = (side_of b, Absent)
 
 abbrev alone_at_sides : Look → ℕ → Bool
-alone_at_sides l b = holds_at_sides l (sides_at (place_of l) b).0 (sides_at (place_of l) b).1
+alone_at_sides l b = holds_at_sides l (sides_at (told_at l) b).0 (sides_at (told_at l) b).1
 
 -- ---- a haystack of one byte below 128
 
@@ -81,18 +81,18 @@ Tells-from A B false true f g m n e = inr ((λ a. true≢false (sym (f a))), n r
 Tells-from A B false false f g m n e = absurd (true≢false (sym e))
 
 tells_bytes : (l : Look) (t : ℕ) (W : ℕ → Bool) (b : ℕ) → is_unicode l ≡ false → exactly_one (alone_at_bytes l t b) (alone_at_bytes l t (b + 1)) ≡ true
-    → Tells l t W (b ∷ []) ((b + 1) ∷ []) (place_of l)
+    → Tells l t W (b ∷ []) ((b + 1) ∷ []) (told_at l)
 tells_bytes l t W b e x =
     rw e (Tells-from _ _ (alone_at_bytes l t b) (alone_at_bytes l t (b + 1)) (λ q. q) (λ q. q) (λ q. q) (λ q. q) x)
 
 tells_sides : (l : Look) (t : ℕ) (W : ℕ → Bool) (b : ℕ) → is_unicode l ≡ true → AgreesWithAscii W → b + 1 < 128
-    → exactly_one (alone_at_sides l b) (alone_at_sides l (b + 1)) ≡ true → Tells l t W (b ∷ []) ((b + 1) ∷ []) (place_of l)
+    → exactly_one (alone_at_sides l b) (alone_at_sides l (b + 1)) ≡ true → Tells l t W (b ∷ []) ((b + 1) ∷ []) (told_at l)
 tells_sides l t W b e a lt x =
     let here : b < 128 = omega arith in
-    let s = sides_alone W b (place_of l) here (a b here) (place_of_le l) in
-    let u = sides_alone W (b + 1) (place_of l) lt (a (b + 1) lt) (place_of_le l) in
-    let p = at_sides l W (b ∷ []) (place_of l) _ _ s.0 s.1 in
-    let q = at_sides l W ((b + 1) ∷ []) (place_of l) _ _ u.0 u.1 in
+    let s = sides_alone W b (told_at l) here (a b here) (told_at_le l) in
+    let u = sides_alone W (b + 1) (told_at l) lt (a (b + 1) lt) (told_at_le l) in
+    let p = at_sides l W (b ∷ []) (told_at l) _ _ s.0 s.1 in
+    let q = at_sides l W ((b + 1) ∷ []) (told_at l) _ _ u.0 u.1 in
     rw e (Tells-from _ _ (alone_at_sides l b) (alone_at_sides l (b + 1)) p.1 p.0 q.1 q.0 x)
 
 -- ---- the boundaries, one by one
@@ -110,71 +110,71 @@ each_passes test (x ∷ xs) b m h = each_passes_step test x b (list_any (λ x. n
     (each_passes test xs b) m h
 
 -- a boundary of the word bytes lies below 127
-pub below_127 : (b : ℕ) → is_word_mark b ≡ true → b + 1 < 128
-below_127 b m = let e = each_passes (λ x. nat_lt (x + 1) 128) word_marks b m refl in grind (arith, nat_tests)
+pub below_127 : (b : ℕ) → is_word_boundary b ≡ true → b + 1 < 128
+below_127 b m = let e = each_passes (λ x. nat_lt (x + 1) 128) word_boundary_numbers b m refl in grind (arith, nat_tests)
 
 tells_word_bytes : (l : Look) (t : ℕ) (W : ℕ → Bool) (b : ℕ) → is_unicode l ≡ false
-    → list_all (λ x. exactly_one (alone_at_bytes l t x) (alone_at_bytes l t (x + 1))) word_marks ≡ true → is_word_mark b ≡ true
-    → Tells l t W (b ∷ []) ((b + 1) ∷ []) (place_of l)
-tells_word_bytes l t W b e h m = tells_bytes l t W b e (each_passes (λ x. exactly_one (alone_at_bytes l t x) (alone_at_bytes l t (x + 1))) word_marks b m h)
+    → list_all (λ x. exactly_one (alone_at_bytes l t x) (alone_at_bytes l t (x + 1))) word_boundary_numbers ≡ true → is_word_boundary b ≡ true
+    → Tells l t W (b ∷ []) ((b + 1) ∷ []) (told_at l)
+tells_word_bytes l t W b e h m = tells_bytes l t W b e (each_passes (λ x. exactly_one (alone_at_bytes l t x) (alone_at_bytes l t (x + 1))) word_boundary_numbers b m h)
 
 tells_word_sides : (l : Look) (t : ℕ) (W : ℕ → Bool) (b : ℕ) → is_unicode l ≡ true → AgreesWithAscii W
-    → list_all (λ x. exactly_one (alone_at_sides l x) (alone_at_sides l (x + 1))) word_marks ≡ true → is_word_mark b ≡ true
-    → Tells l t W (b ∷ []) ((b + 1) ∷ []) (place_of l)
+    → list_all (λ x. exactly_one (alone_at_sides l x) (alone_at_sides l (x + 1))) word_boundary_numbers ≡ true → is_word_boundary b ≡ true
+    → Tells l t W (b ∷ []) ((b + 1) ∷ []) (told_at l)
 tells_word_sides l t W b e a h m = tells_sides l t W b e a (below_127 b m)
-    (each_passes (λ x. exactly_one (alone_at_sides l x) (alone_at_sides l (x + 1))) word_marks b m h)
+    (each_passes (λ x. exactly_one (alone_at_sides l x) (alone_at_sides l (x + 1))) word_boundary_numbers b m h)
 
-tells_line : (t b : ℕ) → is_edge t b ≡ true → exactly_one (eqb b t) (eqb (b + 1) t) ≡ true
+tells_line : (t b : ℕ) → is_boundary_of_byte t b ≡ true → exactly_one (eqb b t) (eqb (b + 1) t) ≡ true
 tells_line t b m = grind (arith, nat_tests)
 
-crlf_listed : (b : ℕ) → (is_edge 13 b || is_edge 10 b) ≡ true → list_any (λ x. nat_eq x b) (12 ∷ 13 ∷ 9 ∷ 10 ∷ []) ≡ true
+crlf_listed : (b : ℕ) → (is_boundary_of_byte 13 b || is_boundary_of_byte 10 b) ≡ true → list_any (λ x. nat_eq x b) (12 ∷ 13 ∷ 9 ∷ 10 ∷ []) ≡ true
 crlf_listed b m = grind (arith, nat_tests)
 
 -- each boundary of an assertion is told by it
-pub Tells-mark : (l : Look) (t : ℕ) (W : ℕ → Bool) (b : ℕ) → (is_unicode l ≡ true → AgreesWithAscii W) → is_mark l t b ≡ true
-    → Tells l t W (b ∷ []) ((b + 1) ∷ []) (place_of l)
-Tells-mark Start t W b a m = absurd (true≢false (sym m))
-Tells-mark End t W b a m = absurd (true≢false (sym m))
-Tells-mark StartLF t W b a m = tells_bytes StartLF t W b refl (tells_line t b m)
-Tells-mark EndLF t W b a m = tells_bytes EndLF t W b refl (tells_line t b m)
-Tells-mark StartCRLF t W b a m = tells_bytes StartCRLF t W b refl
+pub Tells-boundary : (l : Look) (t : ℕ) (W : ℕ → Bool) (b : ℕ) → (is_unicode l ≡ true → AgreesWithAscii W) → is_boundary_of l t b ≡ true
+    → Tells l t W (b ∷ []) ((b + 1) ∷ []) (told_at l)
+Tells-boundary Start t W b a m = absurd (true≢false (sym m))
+Tells-boundary End t W b a m = absurd (true≢false (sym m))
+Tells-boundary StartLF t W b a m = tells_bytes StartLF t W b refl (tells_line t b m)
+Tells-boundary EndLF t W b a m = tells_bytes EndLF t W b refl (tells_line t b m)
+Tells-boundary StartCRLF t W b a m = tells_bytes StartCRLF t W b refl
     (each_passes (λ x. exactly_one (alone_at_bytes StartCRLF t x) (alone_at_bytes StartCRLF t (x + 1))) (12 ∷ 13 ∷ 9 ∷ 10 ∷ []) b (crlf_listed b m)
     refl)
-Tells-mark EndCRLF t W b a m = tells_bytes EndCRLF t W b refl
+Tells-boundary EndCRLF t W b a m = tells_bytes EndCRLF t W b refl
     (each_passes (λ x. exactly_one (alone_at_bytes EndCRLF t x) (alone_at_bytes EndCRLF t (x + 1))) (12 ∷ 13 ∷ 9 ∷ 10 ∷ []) b (crlf_listed b m) refl)
-Tells-mark WordAscii t W b a m = tells_word_bytes WordAscii t W b refl refl m
-Tells-mark WordAsciiNegate t W b a m = tells_word_bytes WordAsciiNegate t W b refl refl m
-Tells-mark WordUnicode t W b a m = tells_word_sides WordUnicode t W b refl (a refl) refl m
-Tells-mark WordUnicodeNegate t W b a m = tells_word_sides WordUnicodeNegate t W b refl (a refl) refl m
-Tells-mark WordStartAscii t W b a m = tells_word_bytes WordStartAscii t W b refl refl m
-Tells-mark WordEndAscii t W b a m = tells_word_bytes WordEndAscii t W b refl refl m
-Tells-mark WordStartUnicode t W b a m = tells_word_sides WordStartUnicode t W b refl (a refl) refl m
-Tells-mark WordEndUnicode t W b a m = tells_word_sides WordEndUnicode t W b refl (a refl) refl m
-Tells-mark WordStartHalfAscii t W b a m = tells_word_bytes WordStartHalfAscii t W b refl refl m
-Tells-mark WordEndHalfAscii t W b a m = tells_word_bytes WordEndHalfAscii t W b refl refl m
-Tells-mark WordStartHalfUnicode t W b a m = tells_word_sides WordStartHalfUnicode t W b refl (a refl) refl m
-Tells-mark WordEndHalfUnicode t W b a m = tells_word_sides WordEndHalfUnicode t W b refl (a refl) refl m
+Tells-boundary WordAscii t W b a m = tells_word_bytes WordAscii t W b refl refl m
+Tells-boundary WordAsciiNegate t W b a m = tells_word_bytes WordAsciiNegate t W b refl refl m
+Tells-boundary WordUnicode t W b a m = tells_word_sides WordUnicode t W b refl (a refl) refl m
+Tells-boundary WordUnicodeNegate t W b a m = tells_word_sides WordUnicodeNegate t W b refl (a refl) refl m
+Tells-boundary WordStartAscii t W b a m = tells_word_bytes WordStartAscii t W b refl refl m
+Tells-boundary WordEndAscii t W b a m = tells_word_bytes WordEndAscii t W b refl refl m
+Tells-boundary WordStartUnicode t W b a m = tells_word_sides WordStartUnicode t W b refl (a refl) refl m
+Tells-boundary WordEndUnicode t W b a m = tells_word_sides WordEndUnicode t W b refl (a refl) refl m
+Tells-boundary WordStartHalfAscii t W b a m = tells_word_bytes WordStartHalfAscii t W b refl refl m
+Tells-boundary WordEndHalfAscii t W b a m = tells_word_bytes WordEndHalfAscii t W b refl refl m
+Tells-boundary WordStartHalfUnicode t W b a m = tells_word_sides WordStartHalfUnicode t W b refl (a refl) refl m
+Tells-boundary WordEndHalfUnicode t W b a m = tells_word_sides WordEndHalfUnicode t W b refl (a refl) refl m
 
 -- ---- the boundaries of the word bytes are where two neighbouring bytes differ: computed for all 255 of them
 
 -- of b and the next byte, one is a word byte
-abbrev pub changes : ℕ → Bool
-changes b = exactly_one (is_word_byte b) (is_word_byte (b + 1))
+abbrev pub differs : ℕ → Bool
+differs b = exactly_one (is_word_byte b) (is_word_byte (b + 1))
 
 -- below 255 a change is a boundary, and there is no boundary above
-pub changes-is_word_mark : (b : ℕ) → (ltb b 255 && changes b) ≡ is_word_mark b
-changes-is_word_mark b = go (ltb b 255) (is_word_mark b) refl refl
+pub differs-is_word_boundary : (b : ℕ) → (ltb b 255 && differs b) ≡ is_word_boundary b
+differs-is_word_boundary b = go (ltb b 255) (is_word_boundary b) refl refl
   where
-    go : (x y : Bool) → ltb b 255 ≡ x → is_word_mark b ≡ y → (x && changes b) ≡ y
-    go true y e f = agree_below_at changes is_word_mark 255 b refl (grind (arith, nat_tests)) ∙ f
+    go : (x y : Bool) → ltb b 255 ≡ x → is_word_boundary b ≡ y → (x && differs b) ≡ y
+    go true y e f = agree_below_at differs is_word_boundary 255 b refl (grind (arith, nat_tests)) ∙ f
     go false false e f = refl
     go false true e f = absurd (let s = below_127 b f in grind (arith, nat_tests))
 
 -- ---- the boundaries of the runs of the word bytes
 
--- a set's membership changes where exactly one of two neighbours is a member
-changes_at-is : (words : Numbers) → ((b : ℕ) → sets.contains words b ≡ is_word_byte b) → (b : ℕ) → changes_at words b ≡ (ltb b 255 && changes b)
-changes_at-is words same b = rw (same b, same (b + 1)) (ap (λ x. ltb b 255 && x) (by_cases (is_word_byte b) (is_word_byte (b + 1))))
+-- a set's membership differs where exactly one of two neighbours is a member
+is_boundary_of_set-is : (words : Numbers) → ((b : ℕ) → sets.contains words b ≡ is_word_byte b) → (b : ℕ) → is_boundary_of_set words b ≡ (ltb b 255 && differs b)
+is_boundary_of_set-is words same b = rw (same b, same (b + 1)) (ap (λ x. ltb b 255 && x) (by_cases (is_word_byte b) (is_word_byte (b + 1))))
   where
     by_cases : (x y : Bool) → ((x && not y) || (not x && y)) ≡ exactly_one x y
     by_cases true true = refl
@@ -182,27 +182,27 @@ changes_at-is words same b = rw (same b, same (b + 1)) (ap (λ x. ltb b 255 && x
 
 -- what `add_set` of the word bytes leaves of a set of boundaries
 pub word_boundaries-added : (old new words : Numbers) → ((b : ℕ) → sets.contains words b ≡ is_word_byte b)
-    → ((b : ℕ) → sets.contains new b ≡ (sets.contains old b || changes_at words b)) → new ≡ sets.union old word_boundaries
+    → ((b : ℕ) → sets.contains new b ≡ (sets.contains old b || is_boundary_of_set words b)) → new ≡ sets.union old word_boundaries
 word_boundaries-added old new words same added = same_set nat_cmp_total nat_cmp-IsAntisymmetric new (sets.union old word_boundaries) (λ b.
-    added b ∙ ap (λ x. sets.contains old b || x) (changes_at-is words same b ∙ changes-is_word_mark b ∙ sym (contains-word_boundaries b))
+    added b ∙ ap (λ x. sets.contains old b || x) (is_boundary_of_set-is words same b ∙ differs-is_word_boundary b ∙ sym (contains-word_boundaries b))
     ∙ sym (contains-joined old word_boundaries b))
 
 -- ---- the boundaries of a list's members make the coarsest partition that keeps them
 
 -- the six have the boundaries of the word bytes
-pub is_mark-unicode : (l : Look) (t b : ℕ) → is_unicode l ≡ true → is_mark l t b ≡ is_word_mark b
-is_mark-unicode Start t b e = absurd (true≢false (sym e))
-is_mark-unicode End t b e = absurd (true≢false (sym e))
-is_mark-unicode StartLF t b e = absurd (true≢false (sym e))
-is_mark-unicode EndLF t b e = absurd (true≢false (sym e))
-is_mark-unicode StartCRLF t b e = absurd (true≢false (sym e))
-is_mark-unicode EndCRLF t b e = absurd (true≢false (sym e))
-is_mark-unicode _ t b e = refl
+pub is_boundary_of-unicode : (l : Look) (t b : ℕ) → is_unicode l ≡ true → is_boundary_of l t b ≡ is_word_boundary b
+is_boundary_of-unicode Start t b e = absurd (true≢false (sym e))
+is_boundary_of-unicode End t b e = absurd (true≢false (sym e))
+is_boundary_of-unicode StartLF t b e = absurd (true≢false (sym e))
+is_boundary_of-unicode EndLF t b e = absurd (true≢false (sym e))
+is_boundary_of-unicode StartCRLF t b e = absurd (true≢false (sym e))
+is_boundary_of-unicode EndCRLF t b e = absurd (true≢false (sym e))
+is_boundary_of-unicode _ t b e = refl
 
 -- ---- one assertion is kept by every partition that has its boundaries
 
 -- the twelve assertions on bytes are kept
-pub kept_at_bytes : (p : ℕ → Bool) (l : Look) (t : ℕ) (W : ℕ → Bool) → HasMarks p (is_mark l t) → is_unicode l ≡ false → (h k : List ℕ) → AreInterchanged p h k
+pub kept_at_bytes : (p : ℕ → Bool) (l : Look) (t : ℕ) (W : ℕ → Bool) → HasBoundariesOf p (is_boundary_of l t) → is_unicode l ≡ false → (h k : List ℕ) → AreInterchanged p h k
     → (i : ℕ) → Holds l t W h i ↔ Holds l t W k i
 kept_at_bytes p l t W m e h k s i =
     let same : holds_at_bytes l t (byte_before h i) (byte_after h i) ≡ holds_at_bytes l t (byte_before k i) (byte_after k i) =
@@ -213,23 +213,23 @@ kept_at_bytes p l t W m e h k s i =
     ((λ x. b.1 (sym same ∙ a.0 x)), (λ x. a.1 (same ∙ b.0 x)))
 
 -- the six assertions on characters are kept
-pub kept_at_characters : (p : ℕ → Bool) (l : Look) (t : ℕ) (W : ℕ → Bool) → AgreesWithAscii W → HasMarks p (is_mark l t) → is_unicode l ≡ true → (h k : List ℕ)
+pub kept_at_characters : (p : ℕ → Bool) (l : Look) (t : ℕ) (W : ℕ → Bool) → AgreesWithAscii W → HasBoundariesOf p (is_boundary_of l t) → is_unicode l ≡ true → (h k : List ℕ)
     → AreInterchanged p h k → DifferInAscii h k → (i : ℕ) → Holds l t W h i ↔ Holds l t W k i
 kept_at_characters p l t W ascii m e h k s d i =
-    let words : HasMarks p is_word_mark = λ b q x. m b q (is_mark-unicode l t b e ∙ x) in
+    let words : HasBoundariesOf p is_word_boundary = λ b q x. m b q (is_boundary_of-unicode l t b e ∙ x) in
     let w : Interchange W h k = Interchange-from p W h k ascii words s d in
     let a = Holds-sides l t W h i e in
     let b = Holds-sides l t W k i e in
     ((λ x. b.1 (HoldsAtSides-moves l W h k i w (a.0 x))), (λ x. a.1 (HoldsAtSides-moves l W k h i (Interchange-sym W h k w) (b.0 x))))
 
 -- a partition with the boundaries of a list has those of each member
-members_marks : (p : ℕ → Bool) (looks : List Look) (l : Look) (t : ℕ) → HasMarks p (marks_of looks t) → Contains looks l → HasMarks p (is_mark l t)
-members_marks p looks l t has c b lt m = has b lt (list_any_at (λ x. is_mark x t b) looks c.0 l c.1 (ap (λ x. is_mark x t b) c.2 ∙ m))
+members_boundaries : (p : ℕ → Bool) (looks : List Look) (l : Look) (t : ℕ) → HasBoundariesOf p (is_boundary_of_each looks t) → Contains looks l → HasBoundariesOf p (is_boundary_of l t)
+members_boundaries p looks l t has c b lt m = has b lt (list_any_at (λ x. is_boundary_of x t b) looks c.0 l c.1 (ap (λ x. is_boundary_of x t b) c.2 ∙ m))
 
-pub Keeps-from : (p : ℕ → Bool) (looks : List Look) (t : ℕ) (W : ℕ → Bool) → HasMarks p (marks_of looks t) → AgreesWhereAsked W looks → Keeps p looks t W
+pub Keeps-from : (p : ℕ → Bool) (looks : List Look) (t : ℕ) (W : ℕ → Bool) → HasBoundariesOf p (is_boundary_of_each looks t) → AgreesWhereAsked W looks → Keeps p looks t W
 Keeps-from p looks t W has a = record {
-  at_bytes = λ l c e h k s i r. kept_at_bytes p l t W (members_marks p looks l t has c) e h k s i;
-  at_characters = λ l c e h k s d i r. kept_at_characters p l t W (a l c e) (members_marks p looks l t has c) e h k s d i;
+  at_bytes = λ l c e h k s i r. kept_at_bytes p l t W (members_boundaries p looks l t has c) e h k s i;
+  at_characters = λ l c e h k s d i r. kept_at_characters p l t W (a l c e) (members_boundaries p looks l t has c) e h k s d i;
 }
 
 -- ---- each boundary is needed
@@ -239,37 +239,37 @@ differ_alone b h zero l n = (omega arith, h)
 differ_alone b h (suc i) l n = absurd (omega arith)
 
 -- a partition that keeps an assertion has each boundary of it
-pub mark_is_needed : (q : ℕ → Bool) (looks : List Look) (l : Look) (t : ℕ) (W : ℕ → Bool) (b : ℕ) → (is_unicode l ≡ true → AgreesWithAscii W)
-    → Keeps q looks t W → Contains looks l → b < 255 → is_mark l t b ≡ true → q b ≡ true
-mark_is_needed q looks l t W b a keeps c lt m = true_from_ne_false (q b) (λ e. go e (is_unicode l) refl)
+pub boundary_is_needed : (q : ℕ → Bool) (looks : List Look) (l : Look) (t : ℕ) (W : ℕ → Bool) (b : ℕ) → (is_unicode l ≡ true → AgreesWithAscii W)
+    → Keeps q looks t W → Contains looks l → b < 255 → is_boundary_of l t b ≡ true → q b ≡ true
+boundary_is_needed q looks l t W b a keeps c lt m = true_from_ne_false (q b) (λ e. go e (is_unicode l) refl)
   where
-    told : Tells l t W (b ∷ []) ((b + 1) ∷ []) (place_of l)
-    told = Tells-mark l t W b a m
+    told : Tells l t W (b ∷ []) ((b + 1) ∷ []) (told_at l)
+    told = Tells-boundary l t W b a m
 
     go : q b ≡ false → (u : Bool) → is_unicode l ≡ u → ⊥
-    go e false f = not_told _ _ (keeps.at_bytes l c f (b ∷ []) ((b + 1) ∷ []) (alike_alone q b lt e) (place_of l) (place_of_le l)) told
+    go e false f = not_told _ _ (keeps.at_bytes l c f (b ∷ []) ((b + 1) ∷ []) (alike_alone q b lt e) (told_at l) (told_at_le l)) told
     go e true f = not_told _ _
-        (keeps.at_characters l c f (b ∷ []) ((b + 1) ∷ []) (alike_alone q b lt e) (differ_alone b (below_127 b (sym (is_mark-unicode l t b f) ∙ m)))
-        (place_of l) (place_of_le l)) told
+        (keeps.at_characters l c f (b ∷ []) ((b + 1) ∷ []) (alike_alone q b lt e) (differ_alone b (below_127 b (sym (is_boundary_of-unicode l t b f) ∙ m)))
+        (told_at l) (told_at_le l)) told
 
 -- the member whose boundary it is
-member_with : (looks : List Look) (t b : ℕ) → sets.contains (boundaries_of_each looks t) b ≡ true → (l : Look) × Contains looks l × (is_mark l t b ≡ true)
+member_with : (looks : List Look) (t b : ℕ) → sets.contains (boundaries_of_each looks t) b ≡ true → (l : Look) × Contains looks l × (is_boundary_of l t b ≡ true)
 member_with looks t b m =
-    let found = Any-from_list_any (λ l. is_mark l t b) looks (sym (contains-boundaries_of_each looks t b) ∙ m) in
+    let found = Any-from_list_any (λ l. is_boundary_of l t b) looks (sym (contains-boundaries_of_each looks t b) ∙ m) in
     (found.1, (found.0, found.2, found.3), found.4)
 
 boundaries-IsCoarsest : (looks : List Look) (t : ℕ) (W : ℕ → Bool) → AgreesWhereAsked W looks
     → IsCoarsest (sets.contains (boundaries_of_each looks t)) looks t W
 boundaries-IsCoarsest looks t W a = record {
   keeps = Keeps-from (sets.contains (boundaries_of_each looks t)) looks t W (λ b lt m. contains-boundaries_of_each looks t b ∙ m) a;
-  least = λ q keeps b lt m. let y = member_with looks t b m in mark_is_needed q looks y.0 t W b (a y.0 y.1) keeps y.1 lt y.2;
+  least = λ q keeps b lt m. let y = member_with looks t b m in boundary_is_needed q looks y.0 t W b (a y.0 y.1) keeps y.1 lt y.2;
 }
 
 boundaries-IsNeeded : (looks : List Look) (t : ℕ) (W : ℕ → Bool) (b : ℕ) → AgreesWhereAsked W looks → sets.contains (boundaries_of_each looks t) b ≡ true
     → IsNeeded b looks t W
 boundaries-IsNeeded looks t W b a m =
     let y = member_with looks t b m in
-    record { look = y.0; listed = y.1; position = place_of y.0; at_an_end = place_of_le y.0; tells = Tells-mark y.0 t W b (a y.0 y.1) y.2 }
+    record { look = y.0; listed = y.1; position = told_at y.0; at_an_end = told_at_le y.0; tells = Tells-boundary y.0 t W b (a y.0 y.1) y.2 }
 
 -- the class map of the members' boundaries is that of the coarsest partition
 pub IsCoarsestMap-from : (m : List ℕ) (looks : List Look) (t : ℕ) (W : ℕ → Bool) → m ≡ class_map (sets.contains (boundaries_of_each looks t))
@@ -297,8 +297,8 @@ AreInterchanged-from_classes m p h k one classes first second len same = record 
 -- ---- one assertion and its boundaries
 
 -- a set that got the boundaries of an assertion has them
-has_marks : (old new : Numbers) (l : Look) (t : ℕ) → new ≡ sets.union old (boundaries_of l t) → HasMarks (sets.contains new) (is_mark l t)
-has_marks old new l t e b lt m =
+has_boundaries : (old new : Numbers) (l : Look) (t : ℕ) → new ≡ sets.union old (boundaries_of l t) → HasBoundariesOf (sets.contains new) (is_boundary_of l t)
+has_boundaries old new l t e b lt m =
     ap (λ s. sets.contains s b) e ∙ contains-joined old (boundaries_of l t) b
     ∙ or_right (sets.contains old b) (sets.contains (boundaries_of l t) b) (contains-boundaries_of l t b ∙ m)
 
@@ -307,22 +307,22 @@ pub IsExactFor-from : (old new : Numbers) (l : Look) (t : ℕ) (W : ℕ → Bool
     → (is_unicode l ≡ true → AgreesWithAscii W) → IsExactFor (sets.contains new) l t W
 IsExactFor-from old new l t W e a = record {
   kept = λ q f.
-      let m : HasMarks q (is_mark l t) = λ b lt x. f b lt (has_marks old new l t e b lt x) in
+      let m : HasBoundariesOf q (is_boundary_of l t) = λ b lt x. f b lt (has_boundaries old new l t e b lt x) in
       record {
-        at_bytes = λ k c u h j s i r. let z = only l k c in let v : is_unicode l ≡ false = ap is_unicode z
+        at_bytes = λ k c u h j s i r. let z = same_as_only l k c in let v : is_unicode l ≡ false = ap is_unicode z
             ∙ u in subst (λ x. Holds x t W h i ↔ Holds x t W j i) z (kept_at_bytes q l t W m v h j s i);
-        at_characters = λ k c u h j s d i r. let z = only l k c in let v : is_unicode l ≡ true = ap is_unicode z
+        at_characters = λ k c u h j s d i r. let z = same_as_only l k c in let v : is_unicode l ≡ true = ap is_unicode z
             ∙ u in subst (λ x. Holds x t W h i ↔ Holds x t W j i) z
             (kept_at_characters q l t W (a v) m v h j s d i);
       };
-  least = λ q keeps b lt m. mark_is_needed q (l ∷ []) l t W b a keeps (first l) lt (sym (contains-boundaries_of l t b) ∙ m);
+  least = λ q keeps b lt m. boundary_is_needed q (l ∷ []) l t W b a keeps (is_its_member l) lt (sym (contains-boundaries_of l t b) ∙ m);
   needed = λ b lt m. record {
     look = l;
-    listed = first l;
-    position = place_of l;
-    at_an_end = place_of_le l;
+    listed = is_its_member l;
+    position = told_at l;
+    at_an_end = told_at_le l;
     tells =
-        Tells-mark l t W b a (sym (contains-boundaries_of l t b) ∙ m);
+        Tells-boundary l t W b a (sym (contains-boundaries_of l t b) ∙ m);
   };
 }
 

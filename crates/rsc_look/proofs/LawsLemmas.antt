@@ -2,11 +2,7 @@
 use Rattle.std.proofs.Common.{◌≡◌, ℕ, ◌<◌, Bool, true, ◌||◌, List, ◌++◌, arith, ⊎_elim, Contains}
 use Rattle.std.proofs.lemmas.Bool.{or_cases, or_right, or_left}
 use Rattle.std.proofs.lemmas.List.Elements.{Contains-append_cases, Contains-append_left, Contains-append_right}
-use Rattle.rsc_look.proofs.Words.{Look, AreInterchanged, Keeps, IsCoarsest}
-
--- the one has the boundaries of the other
-abbrev pub HasBoundariesOf : (ℕ → Bool) → (ℕ → Bool) → Type 0
-HasBoundariesOf q p = (b : ℕ) → b < 255 → p b ≡ true → q b ≡ true
+use Rattle.rsc_look.proofs.Prelude.{HasBoundariesOf, Look, AreInterchanged, Keeps, IsCoarsest}
 
 AreInterchanged-coarser : (p q : ℕ → Bool) (h k : List ℕ) → HasBoundariesOf q p → AreInterchanged q h k → AreInterchanged p h k
 AreInterchanged-coarser p q h k has s = record {

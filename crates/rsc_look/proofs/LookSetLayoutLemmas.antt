@@ -14,30 +14,30 @@ use Rattle.std.proofs.lemmas.Simd.{mask_l-lt, bit_mask_l, ones-mask_l}
 use Rattle.std.proofs.Math.Bool.{or_comm, and_comm, and-false, or-true}
 use Rattle.std.proofs.lemmas.Option.{same_Some, none-some}
 use lib.Lanes.{mask_l}
-use Rattle.rsc_look.proofs.Words.{Look, Start, look_cmp, Looks, members, bits_of, look_cmp_total, look_cmp-IsAntisymmetric, same_looks, repr_of-injective, repr_of-pow, place_of-look_at, place_of-lt, contains-looks_of, bits_of-looks_of, looks_of-bits_of, bits_of-lt, every_look_has, tied, same_members, same_bools, same_from, same_to, from_to, from_to_parts, filter_none, filter_first, filter_same, repr_of-look_at, every_look-is, contains-filtered}
+use Rattle.rsc_look.proofs.Prelude.{Look, Start, look_cmp, Looks, members, bits_of, look_cmp_total, look_cmp-IsAntisymmetric, same_looks, repr_of-injective, repr_of-pow, bit_of-look_at, bit_of-lt, contains-looks_of, bits_of-looks_of, looks_of-bits_of, bits_of-lt, every_look_has, tied, same_members, same_bools, same_from, same_to, from_to, from_to_parts, filter_none, filter_first, filter_same, repr_of-look_at, every_look-is, contains-filtered}
 use Rattle.rsc_look.specs.Looks.{repr_of, every_look}
 use Rattle.rsc_look.specs.LookSets.{look_text, text_of_looks}
-use Rattle.rsc_look.specs.LookSetLayout.{place_of, has_bit, looks_of, look_at, look_at-place_of}
+use Rattle.rsc_look.specs.LookSetLayout.{bit_of, has_look, looks_of, look_at, look_at-bit_of}
 use Rattle.std.proofs.lemmas.List.Elements.{filter-append}
 use Rattle.std.specs.Cmp.{unsigned_tied}
 
 -- ---- single assertions
 
-place_of-injective : (l m : Look) → place_of l ≡ place_of m → l ≡ m
-place_of-injective l m e = sym (look_at-place_of l) ∙ ap look_at e ∙ look_at-place_of m
+bit_of-injective : (l m : Look) → bit_of l ≡ bit_of m → l ≡ m
+bit_of-injective l m e = sym (look_at-bit_of l) ∙ ap look_at e ∙ look_at-bit_of m
 
 -- the bit of an assertion alone
-single_bit : (l m : Look) → has_bit (repr_of l) m ≡ nat_eq (repr_of m) (repr_of l)
+single_bit : (l m : Look) → has_look (repr_of l) m ≡ nat_eq (repr_of m) (repr_of l)
 single_bit l m = ⊎_elim
-    (λ (e : place_of m ≡ place_of l).
-    let same : m ≡ l = place_of-injective m l e in
-    ap (λ n. nat_eq (bit_at n (place_of m)) 1) (repr_of-pow l) ∙ ap (λ k. nat_eq (bit_at (2 ^ place_of l) k) 1) e
-    ∙ ap (λ n. nat_eq n 1) (bit_at-pow_same (place_of l))
+    (λ (e : bit_of m ≡ bit_of l).
+    let same : m ≡ l = bit_of-injective m l e in
+    ap (λ n. nat_eq (bit_at n (bit_of m)) 1) (repr_of-pow l) ∙ ap (λ k. nat_eq (bit_at (2 ^ bit_of l) k) 1) e
+    ∙ ap (λ n. nat_eq n 1) (bit_at-pow_same (bit_of l))
     ∙ sym (eq-eqb (repr_of m) (repr_of l) (ap repr_of same)))
-    (λ (ne : place_of m ≢ place_of l).
-    ap (λ n. nat_eq (bit_at n (place_of m)) 1) (repr_of-pow l) ∙ ap (λ n. nat_eq n 1) (bit_at-pow_other (place_of l) (place_of m) ne)
-    ∙ sym (ne_eqb (repr_of m) (repr_of l) (λ e. ne (ap place_of (repr_of-injective m l e)))))
-    (cases_eq (place_of m) (place_of l))
+    (λ (ne : bit_of m ≢ bit_of l).
+    ap (λ n. nat_eq (bit_at n (bit_of m)) 1) (repr_of-pow l) ∙ ap (λ n. nat_eq n 1) (bit_at-pow_other (bit_of l) (bit_of m) ne)
+    ∙ sym (ne_eqb (repr_of m) (repr_of l) (λ e. ne (ap bit_of (repr_of-injective m l e)))))
+    (cases_eq (bit_of m) (bit_of l))
 
 -- an assertion's bit is one of the lowest eighteen
 pub repr_of-lt : (l : Look) → repr_of l < 2 ^ 18
@@ -59,24 +59,24 @@ min_is x y lx ly = grind (arith, nat_tests)
 minus_is : (x : ℕ) → x < 2 → nat_eq (1 - x) 1 ≡ not (nat_eq x 1)
 minus_is x l = grind (arith, nat_tests)
 
-has_bit-or : (a b : ℕ) (l : Look) → has_bit (bit_or a b) l ≡ (has_bit a l || has_bit b l)
-has_bit-or a b l = ap (λ n. nat_eq n 1) (bit_at_or a b (place_of l)) ∙ max_is _ _ (bit_at-lt a (place_of l)) (bit_at-lt b (place_of l))
+has_look-or : (a b : ℕ) (l : Look) → has_look (bit_or a b) l ≡ (has_look a l || has_look b l)
+has_look-or a b l = ap (λ n. nat_eq n 1) (bit_at_or a b (bit_of l)) ∙ max_is _ _ (bit_at-lt a (bit_of l)) (bit_at-lt b (bit_of l))
 
-has_bit-and : (a b : ℕ) (l : Look) → has_bit (bit_and a b) l ≡ (has_bit a l && has_bit b l)
-has_bit-and a b l = ap (λ n. nat_eq n 1) (bit_at_and a b (place_of l)) ∙ min_is _ _ (bit_at-lt a (place_of l)) (bit_at-lt b (place_of l))
+has_look-and : (a b : ℕ) (l : Look) → has_look (bit_and a b) l ≡ (has_look a l && has_look b l)
+has_look-and a b l = ap (λ n. nat_eq n 1) (bit_at_and a b (bit_of l)) ∙ min_is _ _ (bit_at-lt a (bit_of l)) (bit_at-lt b (bit_of l))
 
-has_bit-not : (b : ℕ) (l : Look) → b < 2 ^ 32 → has_bit (4294967295 - b) l ≡ not (has_bit b l)
-has_bit-not b l h =
-    ap (λ n. nat_eq n 1) (bit_at_not w32 b (place_of l) h (let p = place_of-lt l in omega arith)) ∙ minus_is (bit_at b (place_of l)) (bit_at-lt b (place_of l))
+has_look-not : (b : ℕ) (l : Look) → b < 2 ^ 32 → has_look (4294967295 - b) l ≡ not (has_look b l)
+has_look-not b l h =
+    ap (λ n. nat_eq n 1) (bit_at_not w32 b (bit_of l) h (let p = bit_of-lt l in omega arith)) ∙ minus_is (bit_at b (bit_of l)) (bit_at-lt b (bit_of l))
 
 -- ---- the operations
 
 -- 0 is the empty set, and eighteen ones are the full one
 pub looks_of-none : looks_of 0 ≡ sets.empty
-looks_of-none = same_looks (looks_of 0) sets.empty (λ l. contains-looks_of 0 l ∙ ap (λ n. nat_eq n 1) (bit_at-zero (place_of l))
+looks_of-none = same_looks (looks_of 0) sets.empty (λ l. contains-looks_of 0 l ∙ ap (λ n. nat_eq n 1) (bit_at-zero (bit_of l))
     ∙ sym (contains-empty look_cmp l))
 
-all_bits : (l : Look) → has_bit 262143 l ≡ true
+all_bits : (l : Look) → has_look 262143 l ≡ true
 all_bits Start = refl
 all_bits _ = refl
 
@@ -93,7 +93,7 @@ looks_of-all = same_looks (looks_of 262143) (sets.from_list every_look) (λ l.
 -- each operation on bits is that operation on sets
 pub looks_of-insert : (n : ℕ) (l : Look) → looks_of (bit_or n (repr_of l)) ≡ sets.insert (looks_of n) l
 looks_of-insert n l = same_looks (looks_of (bit_or n (repr_of l))) (sets.insert (looks_of n) l) (λ m.
-    contains-looks_of (bit_or n (repr_of l)) m ∙ has_bit-or n (repr_of l) m ∙ or_comm (has_bit n m) (has_bit (repr_of l) m)
+    contains-looks_of (bit_or n (repr_of l)) m ∙ has_look-or n (repr_of l) m ∙ or_comm (has_look n m) (has_look (repr_of l) m)
     ∙ sym (contains-insert look_cmp_total (looks_of n) l m ∙ ap₂ (λ x y. x || y) (tied m l ∙ sym (single_bit l m)) (contains-looks_of n m)))
 
 -- an insertion stays within eighteen bits
@@ -104,27 +104,27 @@ insert_fits n l h = or_lt 18 n (repr_of l) h (repr_of-lt l)
 pub looks_of-remove : (n : ℕ) (l : Look) → looks_of (bit_and n (4294967295 - repr_of l)) ≡ sets.remove (looks_of n) l
 looks_of-remove n l = same_looks (looks_of (bit_and n (4294967295 - repr_of l))) (sets.remove (looks_of n) l) (λ m.
     let small = repr_of-lt l in
-    contains-looks_of (bit_and n (4294967295 - repr_of l)) m ∙ has_bit-and n (4294967295 - repr_of l) m
-    ∙ ap (λ b. has_bit n m && b) (has_bit-not (repr_of l) m (omega arith) ∙ ap not (single_bit l m))
-    ∙ and_comm (has_bit n m) (not (nat_eq (repr_of m) (repr_of l)))
+    contains-looks_of (bit_and n (4294967295 - repr_of l)) m ∙ has_look-and n (4294967295 - repr_of l) m
+    ∙ ap (λ b. has_look n m && b) (has_look-not (repr_of l) m (omega arith) ∙ ap not (single_bit l m))
+    ∙ and_comm (has_look n m) (not (nat_eq (repr_of m) (repr_of l)))
     ∙ sym (contains-remove look_cmp_total (looks_of n) l m ∙ ap₂ (λ x y. not x && y) (tied m l) (contains-looks_of n m)))
 
 -- the bits of either number stand for the union
 pub looks_of-union : (a b : ℕ) → looks_of (bit_or a b) ≡ sets.union (looks_of a) (looks_of b)
 looks_of-union a b = same_looks (looks_of (bit_or a b)) (sets.union (looks_of a) (looks_of b)) (λ m.
-    contains-looks_of (bit_or a b) m ∙ has_bit-or a b m
+    contains-looks_of (bit_or a b) m ∙ has_look-or a b m
     ∙ sym (contains-union look_cmp_total (looks_of a) (looks_of b) m ∙ ap₂ (λ x y. x || y) (contains-looks_of a m) (contains-looks_of b m)))
 
 -- the bits of both stand for the intersection
 pub looks_of-intersection : (a b : ℕ) → looks_of (bit_and a b) ≡ sets.intersection (looks_of a) (looks_of b)
 looks_of-intersection a b = same_looks (looks_of (bit_and a b)) (sets.intersection (looks_of a) (looks_of b)) (λ m.
-    contains-looks_of (bit_and a b) m ∙ has_bit-and a b m
+    contains-looks_of (bit_and a b) m ∙ has_look-and a b m
     ∙ sym (contains-intersection look_cmp_total (looks_of a) (looks_of b) m ∙ ap₂ (λ x y. x && y) (contains-looks_of a m) (contains-looks_of b m)))
 
 -- the bits of one without those of the other stand for the difference
 pub looks_of-difference : (a b : ℕ) → b < 2 ^ 18 → looks_of (bit_and a (4294967295 - b)) ≡ sets.difference (looks_of a) (looks_of b)
 looks_of-difference a b h = same_looks (looks_of (bit_and a (4294967295 - b))) (sets.difference (looks_of a) (looks_of b)) (λ m.
-    contains-looks_of (bit_and a (4294967295 - b)) m ∙ has_bit-and a (4294967295 - b) m ∙ ap (λ x. has_bit a m && x) (has_bit-not b m (omega arith))
+    contains-looks_of (bit_and a (4294967295 - b)) m ∙ has_look-and a (4294967295 - b) m ∙ ap (λ x. has_look a m && x) (has_look-not b m (omega arith))
     ∙ sym (contains-difference look_cmp_total (looks_of a) (looks_of b) m ∙ ap₂ (λ x y. x && not y) (contains-looks_of a m) (contains-looks_of b m)))
 
 -- ---- the questions
@@ -132,12 +132,12 @@ looks_of-difference a b h = same_looks (looks_of (bit_and a (4294967295 - b))) (
 -- each question on bits is that question on sets
 pub contains_by_and : (n : ℕ) (l : Look) → not (nat_eq (bit_and n (repr_of l)) 0) ≡ sets.contains (looks_of n) l
 contains_by_and n l =
-    ap (λ r. not (nat_eq (bit_and n r) 0)) (repr_of-pow l) ∙ ap (λ x. not (nat_eq x 0)) (and_pow n (place_of l))
-    ∙ by_bit (bit_at n (place_of l)) (bit_at-lt n (place_of l)) ∙ sym (contains-looks_of n l)
+    ap (λ r. not (nat_eq (bit_and n r) 0)) (repr_of-pow l) ∙ ap (λ x. not (nat_eq x 0)) (and_pow n (bit_of l))
+    ∙ by_bit (bit_at n (bit_of l)) (bit_at-lt n (bit_of l)) ∙ sym (contains-looks_of n l)
   where
-    by_bit : (x : ℕ) → x < 2 → not (nat_eq (x * 2 ^ place_of l) 0) ≡ nat_eq x 1
-    by_bit zero h = let e : 0 * 2 ^ place_of l ≡ 0 = grind arith in rw e
-    by_bit (suc zero) h = let e : 1 * 2 ^ place_of l ≡ 2 ^ place_of l = omega arith in rw (e, ← repr_of-pow l) (ap not (repr_of-nonzero l))
+    by_bit : (x : ℕ) → x < 2 → not (nat_eq (x * 2 ^ bit_of l) 0) ≡ nat_eq x 1
+    by_bit zero h = let e : 0 * 2 ^ bit_of l ≡ 0 = grind arith in rw e
+    by_bit (suc zero) h = let e : 1 * 2 ^ bit_of l ≡ 2 ^ bit_of l = omega arith in rw (e, ← repr_of-pow l) (ap not (repr_of-nonzero l))
     by_bit (suc (suc x)) h = absurd (omega arith)
 
 zero_test : (n : ℕ) → IsTrue (nat_eq n 0) ↔ (n ≡ 0)
@@ -162,30 +162,30 @@ pub eighteen : length every_look ≡ 18
 unfolding every_look
 eighteen = refl
 
-at : (k : ℕ) → k < 18 → place_of (get_or every_look k Start) ≡ k
+at : (k : ℕ) → k < 18 → bit_of (get_or every_look k Start) ≡ k
 unfolding look_at
-at k l = place_of-look_at k l
+at k l = bit_of-look_at k l
 
 -- a number below 2 ^ 18 is the mask of its eighteen bits
-as_mask : (n : ℕ) → n < 2 ^ 18 → n ≡ mask_l (map (has_bit n) every_look)
-as_mask n h = same_from_bits_below 18 n (mask_l (map (has_bit n) every_look)) h fits (λ k l.
-    sym (bit_mask_l (map (has_bit n) every_look) k
-    ∙ ap (λ b. cond b 1 0) (get_or-map (has_bit n) every_look k Start false (let e = eighteen in omega arith) ∙ ap (λ p. nat_eq (bit_at n p) 1) (at k l))
+as_mask : (n : ℕ) → n < 2 ^ 18 → n ≡ mask_l (map (has_look n) every_look)
+as_mask n h = same_from_bits_below 18 n (mask_l (map (has_look n) every_look)) h fits (λ k l.
+    sym (bit_mask_l (map (has_look n) every_look) k
+    ∙ ap (λ b. cond b 1 0) (get_or-map (has_look n) every_look k Start false (let e = eighteen in omega arith) ∙ ap (λ p. nat_eq (bit_at n p) 1) (at k l))
     ∙ as_bit (bit_at n k) (bit_at-lt n k)))
   where
-    fits : mask_l (map (has_bit n) every_look) < 2 ^ 18
-    fits = let e = mask_l-lt (map (has_bit n) every_look) in let f = length-map every_look (has_bit n) ∙ eighteen in rw f at e
+    fits : mask_l (map (has_look n) every_look) < 2 ^ 18
+    fits = let e = mask_l-lt (map (has_look n) every_look) in let f = length-map every_look (has_look n) ∙ eighteen in rw f at e
 
     as_bit : (x : ℕ) → x < 2 → cond (nat_eq x 1) 1 0 ≡ x
     as_bit x l = grind (arith, nat_tests)
 
-members-looks_of : (n : ℕ) → members (looks_of n) ≡ filter (has_bit n) every_look
+members-looks_of : (n : ℕ) → members (looks_of n) ≡ filter (has_look n) every_look
 members-looks_of n = ap (λ (p : Look → Bool). filter p every_look) (λ i l. contains-looks_of n l i)
 
 -- the number of ones is the number of members
 pub count_by_bits : (n : ℕ) → n < 2 ^ 18 → count_ones n ≡ length (members (looks_of n))
 count_by_bits n h =
-    ap count_ones (as_mask n h) ∙ ones-mask_l (has_bit n) every_look ∙ sym (length-filter (has_bit n) every_look)
+    ap count_ones (as_mask n h) ∙ ones-mask_l (has_look n) every_look ∙ sym (length-filter (has_look n) every_look)
     ∙ sym (ap (λ (x : List Look). length x) (members-looks_of n))
 
 -- ---- a set from its bits
@@ -215,8 +215,8 @@ filter-map p (k ∷ ks) =
 members-at : (s : Looks) → members s ≡ map look_at (filter (λ k. sets.contains s (look_at k)) (from_to 0 18))
 members-at s = ap (λ (x : List Look). filter (λ l. sets.contains s l) x) every_look-is ∙ filter-map (λ l. sets.contains s l) (from_to 0 18)
 
-from_place : (p : ℕ → Bool) (k : ℕ) → k ≤ 18 → ((j : ℕ) → j < k → p j ≡ false) → filter p (from_to 0 18) ≡ filter p (from_to k 18)
-from_place p k l none =
+from_bit : (p : ℕ → Bool) (k : ℕ) → k ≤ 18 → ((j : ℕ) → j < k → p j ≡ false) → filter p (from_to 0 18) ≡ filter p (from_to k 18)
+from_bit p k l none =
     ap (filter p) (from_to_parts 0 k 18 (omega arith) l) ∙ filter-append p (from_to 0 k) (from_to k 18)
     ∙ ap (λ x. x ++ filter p (from_to k 18)) (filter_none p 0 k (λ j low high. none j high))
 
@@ -224,8 +224,8 @@ from_place p k l none =
 pub first_member : (s : Looks) (k : ℕ) → k < 18 → sets.contains s (look_at k) ≡ true → ((j : ℕ) → j < k → sets.contains s (look_at j) ≡ false)
     → members s ≡ look_at k ∷ members (sets.remove s (look_at k))
 first_member s k l is none =
-    members-at s ∙ ap (map look_at) (from_place p k (omega arith) none ∙ filter_first p k 18 l is)
-    ∙ ap (λ x. look_at k ∷ map look_at x) (sym (from_place q (k + 1) (omega arith) gone ∙ filter_same q p (k + 1) 18 kept))
+    members-at s ∙ ap (map look_at) (from_bit p k (omega arith) none ∙ filter_first p k 18 l is)
+    ∙ ap (λ x. look_at k ∷ map look_at x) (sym (from_bit q (k + 1) (omega arith) gone ∙ filter_same q p (k + 1) 18 kept))
     ∙ ap (λ x. look_at k ∷ x) (sym (members-at (sets.remove s (look_at k))))
   where
     p : ℕ → Bool
@@ -247,8 +247,8 @@ first_member s k l is none =
 
     kept : (j : ℕ) → k + 1 ≤ j → j < 18 → q j ≡ p j
     kept j low high = without j ∙ ap (λ b. not b && p j) (ne_eqb (repr_of (look_at j)) (repr_of (look_at k)) (λ e.
-        let same : j ≡ k = sym (place_of-look_at j high) ∙ ap place_of (repr_of-injective (look_at j) (look_at k) e)
-        ∙ place_of-look_at k l in omega arith))
+        let same : j ≡ k = sym (bit_of-look_at j high) ∙ ap bit_of (repr_of-injective (look_at j) (look_at k) e)
+        ∙ bit_of-look_at k l in omega arith))
 
 pub no_member : (s : Looks) → s ≡ sets.empty → members s ≡ []
 no_member s e = members-at s
@@ -264,8 +264,8 @@ first_by_bits n pos h k e =
     let small : k < 18 = below n k h one in (
       small,
       first_member (looks_of n) k small
-          (contains-looks_of n (look_at k) ∙ ap (λ p. nat_eq (bit_at n p) 1) (place_of-look_at k small) ∙ ap (λ x. nat_eq x 1) one)
-          (λ j l. contains-looks_of n (look_at j) ∙ ap (λ p. nat_eq (bit_at n p) 1) (place_of-look_at j (omega arith))
+          (contains-looks_of n (look_at k) ∙ ap (λ p. nat_eq (bit_at n p) 1) (bit_of-look_at k small) ∙ ap (λ x. nat_eq x 1) one)
+          (λ j l. contains-looks_of n (look_at j) ∙ ap (λ p. nat_eq (bit_at n p) 1) (bit_of-look_at j (omega arith))
           ∙ ap (λ x. nat_eq x 1) (found.2 j (rw e at l))),
     )
   where

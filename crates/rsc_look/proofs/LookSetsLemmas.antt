@@ -4,7 +4,7 @@ use Rattle.std.specs.FinSet as sets
 use Rattle.std.specs.FinSet.{contains-insert, contains-remove}
 use Rattle.std.specs.Ordering.{eq_by_cmp}
 use Rattle.std.proofs.lemmas.Bool.{cases_eq, eq-eqb, ne_eqb}
-use Rattle.rsc_look.proofs.Words.{Look, repr_of, look_cmp, Looks, look_cmp_total, repr_of-injective, tied}
+use Rattle.rsc_look.proofs.Prelude.{Look, repr_of, look_cmp, Looks, look_cmp_total, repr_of-injective, tied}
 
 itself : (l : Look) → eq_by_cmp look_cmp l l ≡ true
 itself l = tied l l ∙ eq-eqb (repr_of l) (repr_of l) refl

@@ -6,8 +6,8 @@ use Rattle.rsc_primitives.specs.Utf8Laws.{slice_one}
 use Rattle.rsc_look.specs.Looks.{ascii_of}
 use Rattle.std.specs.Int.{is_in_range}
 use Rattle.std.proofs.lemmas.Bool.Decides.{nat_tests}
-use Rattle.rsc_look.proofs.Words.{EncodedFrom, BeginsAt, EndsAt, Look, WordUnicode, WordUnicodeNegate, WordStartUnicode, WordEndUnicode, WordStartHalfUnicode, WordEndHalfUnicode, Side, Absent, Word, Other, byte_before, byte_after, is_word_neighbor, exactly_one, is_invalid, is_word_side, is_edge_or_non_word, holds_at_bytes, holds_at_sides, IsBefore, IsAfter, Holds, is_unicode, AgreesWithAscii}
-use Rattle.rsc_look.proofs.SideLayoutLemmas.{at_sides, Holds-bytes, Holds-sides}
+use Rattle.rsc_look.proofs.Prelude.{EncodedFrom, BeginsAt, EndsAt, Look, WordUnicode, WordUnicodeNegate, WordStartUnicode, WordEndUnicode, WordStartHalfUnicode, WordEndHalfUnicode, Side, Absent, Word, Other, byte_before, byte_after, is_word_neighbor, exactly_one, is_invalid, is_word_side, is_absent_or_other, holds_at_bytes, holds_at_sides, IsBefore, IsAfter, Holds, is_unicode, AgreesWithAscii}
+use Rattle.rsc_look.proofs.HoldsLemmas.{at_sides, Holds-bytes, Holds-sides}
 
 -- ---- the assertions that hold at a position
 
@@ -129,7 +129,7 @@ of_bytes _ t p n u = absurd (true≢false (sym u))
 record IsValid (a : Side) (word : Bool) : Type 0 where
   invalid : is_invalid a ≡ false
   is_word : is_word_side a ≡ word
-  edge : is_edge_or_non_word a ≡ not word
+  absent_or_other : is_absent_or_other a ≡ not word
 
 of_sides : (l : Look) (a b : Side) (x y : Bool) → is_unicode l ≡ true → IsValid a x → IsValid b y → holds_at_sides l a b ≡ by_words l x y
 unfolding by_words
@@ -137,18 +137,18 @@ of_sides WordUnicode a b x y u v w = rw (v.is_word, w.is_word) refl
 of_sides WordUnicodeNegate a b x y u v w = rw (v.invalid, w.invalid, v.is_word, w.is_word) refl
 of_sides WordStartUnicode a b x y u v w = rw (v.is_word, w.is_word) refl
 of_sides WordEndUnicode a b x y u v w = rw (v.is_word, w.is_word) refl
-of_sides WordStartHalfUnicode a b x y u v w = v.edge
-of_sides WordEndHalfUnicode a b x y u v w = w.edge
+of_sides WordStartHalfUnicode a b x y u v w = v.absent_or_other
+of_sides WordEndHalfUnicode a b x y u v w = w.absent_or_other
 of_sides _ a b x y u v w = absurd (true≢false (sym u))
 
 valid : (W : ℕ → Bool) (p : Option ℕ) → AgreesWithAscii W → IfSome p (λ b. b < 128) → IsValid (ascii_side W p) (is_word_neighbor p)
 unfolding ascii_side
-valid W None agrees low = record { invalid = refl; is_word = refl; edge = refl }
+valid W None agrees low = record { invalid = refl; is_word = refl; absent_or_other = refl }
 valid W (Some b) agrees low = subst (λ x. IsValid (cond (W b) Word Other) x) (agrees b low) (go (W b))
   where
     go : (v : Bool) → IsValid (cond v Word Other) v
-    go true = record { invalid = refl; is_word = refl; edge = refl }
-    go false = record { invalid = refl; is_word = refl; edge = refl }
+    go true = record { invalid = refl; is_word = refl; absent_or_other = refl }
+    go false = record { invalid = refl; is_word = refl; absent_or_other = refl }
 
 ascii_is_bytes : (l : Look) → is_unicode (ascii_of l) ≡ false
 ascii_is_bytes WordUnicode = refl

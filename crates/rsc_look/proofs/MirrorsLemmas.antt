@@ -1,4 +1,4 @@
--- An assertion at a place is the reversed one at the same place of the mirror.
+-- An assertion at a position is the reversed one at the same position of the mirror.
 use Rattle.std.proofs.Common.{◌≡◌, ◌↔◌, ℕ, zero, suc, ◌+◌, ◌-◌, ◌<◌, ◌≤◌, Bool, true, false, not, ◌&&◌, cond, List, [], ◌∷◌, length, take, get_or, map, reverse, Option, Some, None, is_none, refl, sym, ap, ◌∙◌, arith, ⊎_elim, true≢false, slice_get, IsTrue, option_map}
 use mathlib.Core.List.{reverse_aux}
 use lib.Utf8.{scalar}
@@ -8,8 +8,8 @@ use Rattle.std.proofs.lemmas.List.{get_or-reverse, length-reverse, take_all}
 use Rattle.std.proofs.lemmas.Option.{slice_get-get_or, slice_get_past, slice_get-map}
 use Rattle.std.proofs.Math.Bool.{and_comm}
 use Rattle.std.proofs.lemmas.Bool.{and_parts, cases_lt}
-use Rattle.rsc_look.proofs.Words.{EncodesAll-std, place, BeginsAt-place, EndsAt-place, Look, Start, StartCRLF, EndCRLF, WordAscii, WordAsciiNegate, WordUnicode, WordUnicodeNegate, Side, Absent, Word, Other, byte_before, byte_after, is_byte, is_word_neighbor, exactly_one, holds_at_bytes, holds_at_sides, is_invalid, is_word_side, IsBefore, IsAfter, Holds, is_unicode, reversed, is_crlf, exchanged, mirror, EndsFirst, IsTextMirrored}
-use Rattle.rsc_look.proofs.SideLayoutLemmas.{Holds-bytes, Holds-sides, at_sides}
+use Rattle.rsc_look.proofs.Prelude.{EncodesAll-std, position, BeginsAt-position, EndsAt-position, Look, Start, StartCRLF, EndCRLF, WordAscii, WordAsciiNegate, WordUnicode, WordUnicodeNegate, Side, Absent, Word, Other, byte_before, byte_after, is_byte, is_word_neighbor, exactly_one, holds_at_bytes, holds_at_sides, is_invalid, is_word_side, IsBefore, IsAfter, Holds, is_unicode, reversed, is_crlf, exchanged, mirror, EndsFirst, IsTextMirrored}
+use Rattle.rsc_look.proofs.HoldsLemmas.{Holds-bytes, Holds-sides, at_sides}
 
 -- ---- neighbours in a list read from the other end
 
@@ -109,40 +109,40 @@ pub Holds-mirror : (l : Look) (t : ℕ) (W : ℕ → Bool) (h : List ℕ) (i : �
 Holds-mirror l t W h i u o = same_tests _ _ _ _ (Holds-bytes l t W h i u)
     (Holds-bytes (reversed l) t W (mirror l h) (length h - i) (is_unicode-reversed l ∙ u)) (bytes_mirrored l t h i o)
 
--- ---- the assertions on characters, at the places of a text
+-- ---- the assertions on characters, at the positions of a text
 
 side_by : (ℕ → Bool) → Option ℕ → Side
 side_by W None = Absent
 side_by W (Some c) = cond (W c) Word Other
 
-before_place : (W : ℕ → Bool) (cs : List ℕ) (k : ℕ) → all_scalars cs ≡ true → k ≤ length cs
-    → IsBefore W (encode_utf8_all cs) (place cs k) (side_by W (byte_before cs k))
+before_position : (W : ℕ → Bool) (cs : List ℕ) (k : ℕ) → all_scalars cs ≡ true → k ≤ length cs
+    → IsBefore W (encode_utf8_all cs) (position cs k) (side_by W (byte_before cs k))
 unfolding side_by
-before_place W cs zero s l = refl
-before_place W cs (suc k) s l = let g = slice_get-get_or cs k 0 l in rw g (go (W (get_or cs k 0)) refl)
+before_position W cs zero s l = refl
+before_position W cs (suc k) s l = let g = slice_get-get_or cs k 0 l in rw g (go (W (get_or cs k 0)) refl)
   where
-    go : (x : Bool) → W (get_or cs k 0) ≡ x → IsBefore W (encode_utf8_all cs) (place cs (suc k)) (cond x Word Other)
-    go true e = (get_or cs k 0, EndsAt-place cs k s l, e)
-    go false e = (get_or cs k 0, EndsAt-place cs k s l, e)
+    go : (x : Bool) → W (get_or cs k 0) ≡ x → IsBefore W (encode_utf8_all cs) (position cs (suc k)) (cond x Word Other)
+    go true e = (get_or cs k 0, EndsAt-position cs k s l, e)
+    go false e = (get_or cs k 0, EndsAt-position cs k s l, e)
 
-after_place : (W : ℕ → Bool) (cs : List ℕ) (k : ℕ) → all_scalars cs ≡ true → k ≤ length cs
-    → IsAfter W (encode_utf8_all cs) (place cs k) (side_by W (byte_after cs k))
+after_position : (W : ℕ → Bool) (cs : List ℕ) (k : ℕ) → all_scalars cs ≡ true → k ≤ length cs
+    → IsAfter W (encode_utf8_all cs) (position cs k) (side_by W (byte_after cs k))
 unfolding side_by
-after_place W cs k s l =
+after_position W cs k s l =
     ⊎_elim
     (λ (i : k < length cs). let g = slice_get-get_or cs k 0 i in rw g (go i (W (get_or cs k 0)) refl))
     (λ (i : length cs ≤ k). let g = slice_get_past cs k i in rw g (ap (λ (x : List ℕ). length (encode_utf8_all x)) (take_all k cs i)))
     (cases_lt k (length cs))
   where
-    go : k < length cs → (x : Bool) → W (get_or cs k 0) ≡ x → IsAfter W (encode_utf8_all cs) (place cs k) (cond x Word Other)
-    go i true e = (get_or cs k 0, BeginsAt-place cs k s i, e)
-    go i false e = (get_or cs k 0, BeginsAt-place cs k s i, e)
+    go : k < length cs → (x : Bool) → W (get_or cs k 0) ≡ x → IsAfter W (encode_utf8_all cs) (position cs k) (cond x Word Other)
+    go i true e = (get_or cs k 0, BeginsAt-position cs k s i, e)
+    go i false e = (get_or cs k 0, BeginsAt-position cs k s i, e)
 
-Holds-place : (l : Look) (t : ℕ) (W : ℕ → Bool) (cs : List ℕ) (k : ℕ) → is_unicode l ≡ true → all_scalars cs ≡ true → k ≤ length cs
-    → Holds l t W (encode_utf8_all cs) (place cs k) ↔ IsTrue (holds_at_sides l (side_by W (byte_before cs k)) (side_by W (byte_after cs k)))
-Holds-place l t W cs k u s o =
-    let h = Holds-sides l t W (encode_utf8_all cs) (place cs k) u in
-    let a = at_sides l W (encode_utf8_all cs) (place cs k) _ _ (before_place W cs k s o) (after_place W cs k s o) in
+Holds-position : (l : Look) (t : ℕ) (W : ℕ → Bool) (cs : List ℕ) (k : ℕ) → is_unicode l ≡ true → all_scalars cs ≡ true → k ≤ length cs
+    → Holds l t W (encode_utf8_all cs) (position cs k) ↔ IsTrue (holds_at_sides l (side_by W (byte_before cs k)) (side_by W (byte_after cs k)))
+Holds-position l t W cs k u s o =
+    let h = Holds-sides l t W (encode_utf8_all cs) (position cs k) u in
+    let a = at_sides l W (encode_utf8_all cs) (position cs k) _ _ (before_position W cs k s o) (after_position W cs k s o) in
     ((λ x. a.1 (h.0 x)), (λ x. h.1 (a.0 x)))
 
 scalars_reversed : (xs ys : List ℕ) → all_scalars xs ≡ true → all_scalars ys ≡ true → all_scalars (reverse_aux xs ys) ≡ true
@@ -155,7 +155,7 @@ pub matches_mirror : (l : Look) (t : ℕ) (W : ℕ → Bool) (h : List ℕ) (i :
 matches_mirror l t W h i r o e u = let m = Holds-mirror l t W h i u o in ((λ x. m.0 (e.0 x)), (λ x. e.1 (m.1 x)))
 
 pub Holds-text_mirror : (l : Look) (t : ℕ) (W : ℕ → Bool) (cs : List ℕ) (k : ℕ) → is_unicode l ≡ true → all_scalars cs ≡ true → k ≤ length cs
-    → Holds l t W (encode_utf8_all cs) (place cs k) ↔ Holds (reversed l) t W (encode_utf8_all (reverse cs)) (place (reverse cs) (length cs - k))
+    → Holds l t W (encode_utf8_all cs) (position cs k) ↔ Holds (reversed l) t W (encode_utf8_all (reverse cs)) (position (reverse cs) (length cs - k))
 Holds-text_mirror l t W cs k u s o =
     let r = scalars_reversed cs [] s refl in
     let n = length-reverse cs in
@@ -163,11 +163,11 @@ Holds-text_mirror l t W cs k u s o =
     let p = before-reverse cs k (length cs - k) e in
     let q = after-reverse cs k (length cs - k) e in
     let i : length cs - k ≤ length (reverse cs) = omega arith in
-    let m = Holds-place (reversed l) t W (reverse cs) (length cs - k) (is_unicode-reversed l ∙ u) r i in
-    same_tests _ _ _ _ (Holds-place l t W cs k u s o) m (rw (p, q) (sym (sides_reversed l (side_by W (byte_before cs k)) (side_by W (byte_after cs k)))))
+    let m = Holds-position (reversed l) t W (reverse cs) (length cs - k) (is_unicode-reversed l ∙ u) r i in
+    same_tests _ _ _ _ (Holds-position l t W cs k u s o) m (rw (p, q) (sym (sides_reversed l (side_by W (byte_before cs k)) (side_by W (byte_after cs k)))))
 
 -- in the words of the encodings
-ends_first : (h : List ℕ) (i : ℕ) (cs : List ℕ) (k : ℕ) → EndsFirst h i cs k → (all_scalars cs ≡ true) × (h ≡ encode_utf8_all cs) × (i ≡ place cs k)
+ends_first : (h : List ℕ) (i : ℕ) (cs : List ℕ) (k : ℕ) → EndsFirst h i cs k → (all_scalars cs ≡ true) × (h ≡ encode_utf8_all cs) × (i ≡ position cs k)
 ends_first h i cs k e =
     let whole = (EncodesAll-std h cs).0 e.text in
     let front = (EncodesAll-std e.front (take k cs)).0 e.front_text in

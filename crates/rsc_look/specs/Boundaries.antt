@@ -2,7 +2,7 @@
 use Rattle.std.specs.Prelude.{ℕ, List, [], ◌∷◌}
 use Rattle.std.specs.FinSet as sets
 use Rattle.rsc_alphabet.specs.ByteSets.{Numbers}
-use Rattle.rsc_alphabet.specs.Partitions.{edges_of}
+use Rattle.rsc_alphabet.specs.Partitions.{boundaries_of_range}
 use Rattle.rsc_look.specs.declared.assertion.Look.{Look}
 use Rattle.rsc_look.specs.declared.assertion.Look.TheVariants.{Start, End, StartLF, EndLF, StartCRLF, EndCRLF}
 use Rattle.rsc_look.specs.Looks.{line_feed, carriage_return}
@@ -15,10 +15,10 @@ word_boundaries = sets.from_list (0x2F ∷ 0x39 ∷ 0x40 ∷ 0x5A ∷ 0x5E ∷ 0
 abbrev pub boundaries_of : Look → ℕ → Numbers
 boundaries_of Start t = sets.empty
 boundaries_of End t = sets.empty
-boundaries_of StartLF t = edges_of (t, t)
-boundaries_of EndLF t = edges_of (t, t)
-boundaries_of StartCRLF t = sets.union (edges_of (carriage_return, carriage_return)) (edges_of (line_feed, line_feed))
-boundaries_of EndCRLF t = sets.union (edges_of (carriage_return, carriage_return)) (edges_of (line_feed, line_feed))
+boundaries_of StartLF t = boundaries_of_range (t, t)
+boundaries_of EndLF t = boundaries_of_range (t, t)
+boundaries_of StartCRLF t = sets.union (boundaries_of_range (carriage_return, carriage_return)) (boundaries_of_range (line_feed, line_feed))
+boundaries_of EndCRLF t = sets.union (boundaries_of_range (carriage_return, carriage_return)) (boundaries_of_range (line_feed, line_feed))
 boundaries_of _ t = word_boundaries
 
 -- the boundaries of all members of a list

@@ -67,10 +67,10 @@ abbrev pub is_word_side : Side → Bool
 is_word_side Word = true
 is_word_side _ = false
 
-abbrev pub is_edge_or_non_word : Side → Bool
-is_edge_or_non_word Absent = true
-is_edge_or_non_word Other = true
-is_edge_or_non_word _ = false
+abbrev pub is_absent_or_other : Side → Bool
+is_absent_or_other Absent = true
+is_absent_or_other Other = true
+is_absent_or_other _ = false
 
 -- the table of the six: a is the side before and b the side after
 abbrev pub holds_at_sides : Look → Side → Side → Bool
@@ -78,8 +78,8 @@ holds_at_sides WordUnicode a b = exactly_one (is_word_side a) (is_word_side b)
 holds_at_sides WordUnicodeNegate a b = not (is_invalid a) && not (is_invalid b) && not (exactly_one (is_word_side a) (is_word_side b))
 holds_at_sides WordStartUnicode a b = is_word_side b && not (is_word_side a)
 holds_at_sides WordEndUnicode a b = is_word_side a && not (is_word_side b)
-holds_at_sides WordStartHalfUnicode a b = is_edge_or_non_word a
-holds_at_sides WordEndHalfUnicode a b = is_edge_or_non_word b
+holds_at_sides WordStartHalfUnicode a b = is_absent_or_other a
+holds_at_sides WordEndHalfUnicode a b = is_absent_or_other b
 holds_at_sides _ a b = false
 
 -- the sides of a position are such that the assertion holds there

@@ -4,7 +4,7 @@ use Rattle.std.specs.Prelude.{◌≡◌, ◌≢◌, ◌↔◌, ℕ, ◌+◌, ◌
 use Rattle.std.specs.List.{All, Contains}
 use Rattle.std.specs.FinSet as sets
 use Rattle.rsc_primitives.specs.Utf8.{is_word_byte}
-use Rattle.rsc_alphabet.specs.Partitions.{Together, class_map}
+use Rattle.rsc_alphabet.specs.Partitions.{Together, HasBoundariesOf, class_map}
 use Rattle.rsc_look.specs.declared.assertion.Look.{Look}
 use Rattle.rsc_look.specs.Looks.{is_unicode}
 use Rattle.rsc_look.specs.Holds.{Holds}
@@ -68,6 +68,6 @@ pub record IsCoarsestMap (m : List ℕ) (looks : List Look) (t : ℕ) (W : ℕ �
 -- every partition with the boundaries of p keeps the assertion l, each boundary of l belongs to every partition that keeps l,
 -- and l tells the bytes on both sides of it
 pub record IsExactFor (p : ℕ → Bool) (l : Look) (t : ℕ) (W : ℕ → Bool) : Type 0 where
-  pub kept : (q : ℕ → Bool) → ((b : ℕ) → b < 255 → p b ≡ true → q b ≡ true) → Keeps q (l ∷ []) t W
+  pub kept : (q : ℕ → Bool) → HasBoundariesOf q p → Keeps q (l ∷ []) t W
   pub least : (q : ℕ → Bool) → Keeps q (l ∷ []) t W → (b : ℕ) → b < 255 → sets.contains (boundaries_of l t) b ≡ true → q b ≡ true
   pub needed : (b : ℕ) → b < 255 → sets.contains (boundaries_of l t) b ≡ true → IsNeeded b (l ∷ []) t W

@@ -16,7 +16,7 @@ one_byte_haystack b h = All-cons (λ x. x < 256) b [] h (All-nil (λ x. x < 256)
 pub next_together : (q : ℕ → Bool) (b : ℕ) → q b ≡ false → Together q b (b + 1)
 next_together q b e x low high is = let same : b ≡ x = omega arith in true≢false (sym is ∙ ap q (sym same) ∙ e)
 
--- and the two haystacks of one byte differ only within classes
+-- and the two haystacks of one byte differ same_as_only within classes
 pub alike_alone : (q : ℕ → Bool) (b : ℕ) → b < 255 → q b ≡ false → AreInterchanged q (b ∷ []) ((b + 1) ∷ [])
 alike_alone q b h e = record {
   first = one_byte_haystack b (omega arith);
@@ -34,12 +34,12 @@ pub not_told : (A B : Type 0) → A ↔ B → (A × (B → ⊥)) ⊎ ((A → ⊥
 not_told A B e t = ⊎_elim (λ p. p.1 (e.0 p.0)) (λ p. p.0 (e.1 p.1)) t
 
 -- a list of one assertion has no other member
-pub only : (l m : Look) → Contains (l ∷ []) m → l ≡ m
-only l m (zero, p, e) = e
-only l m (suc k, p, e) = absurd (omega arith)
+pub same_as_only : (l m : Look) → Contains (l ∷ []) m → l ≡ m
+same_as_only l m (zero, p, e) = e
+same_as_only l m (suc k, p, e) = absurd (omega arith)
 
-pub first : (l : Look) → Contains (l ∷ []) l
-first l = (0, omega arith, refl)
+pub is_its_member : (l : Look) → Contains (l ∷ []) l
+is_its_member l = (0, omega arith, refl)
 
 below : (c : ℕ) → c < 128 → ltb c 128 ≡ true
 below c l = grind (arith, nat_tests)

@@ -14,12 +14,13 @@ use Rattle.std.proofs.Math.Bool.{and-true}
 use Rattle.std.proofs.lemmas.Map.Views.{any-filter_same}
 use Rattle.rsc_alphabet.specs.Bytes.{from_to}
 use Rattle.rsc_alphabet.specs.BytesLaws.{from_to_none, from_to_last}
-use Rattle.rsc_primitives.specs.BitsLaws.{mask_of, mask_of-lt, has_bit-mask_of, mask_of_bits}
+use Rattle.rsc_primitives.specs.Bits.{mask_of}
+use Rattle.rsc_primitives.specs.BitsLaws.{mask_of-lt, has_bit-mask_of, mask_of_bits}
 use Rattle.rsc_look.specs.declared.assertion.Look.{Look}
 use Rattle.rsc_look.specs.declared.assertion.Look.TheVariants.{Start}
 use Rattle.rsc_look.specs.Looks.{repr_of, every_look}
 use Rattle.rsc_look.specs.LookSets.{look_cmp, Looks, bits_of}
-use Rattle.rsc_look.specs.LookSetLayout.{place_of, has_bit, looks_of, look_at, look_at-place_of}
+use Rattle.rsc_look.specs.LookSetLayout.{bit_of, has_look, looks_of, look_at, look_at-bit_of}
 
 -- ---- the order of the assertions
 
@@ -50,19 +51,19 @@ tied l m = unsigned_tied (repr_of l) (repr_of m)
 
 -- ---- the assertion of a bit
 
-pub place_of-look_at : (k : ℕ) → k < 18 → place_of (look_at k) ≡ k
+pub bit_of-look_at : (k : ℕ) → k < 18 → bit_of (look_at k) ≡ k
 unfolding look_at
-place_of-look_at k l = eqb-true _ _ (agree_below_at (λ j. nat_eq (place_of (look_at j)) j) (λ j. true) 18 k refl l)
+bit_of-look_at k l = eqb-true _ _ (agree_below_at (λ j. nat_eq (bit_of (look_at j)) j) (λ j. true) 18 k refl l)
 
 pub repr_of-look_at : (k : ℕ) → k < 18 → repr_of (look_at k) ≡ 2 ^ k
 unfolding look_at
 repr_of-look_at k l = eqb-true _ _ (agree_below_at (λ j. nat_eq (repr_of (look_at j)) (2 ^ j)) (λ j. true) 18 k refl l)
 
-pub place_of-lt : (l : Look) → place_of l < 18
-place_of-lt Start = omega arith
-place_of-lt _ = omega arith
+pub bit_of-lt : (l : Look) → bit_of l < 18
+bit_of-lt Start = omega arith
+bit_of-lt _ = omega arith
 
-pub repr_of-pow : (l : Look) → repr_of l ≡ 2 ^ place_of l
+pub repr_of-pow : (l : Look) → repr_of l ≡ 2 ^ bit_of l
 repr_of-pow Start = refl
 repr_of-pow _ = refl
 
@@ -84,8 +85,8 @@ contains-filtered p l =
     ∙ any-filter_same (eq_by_cmp look_cmp l) p (p l) (λ m same. ap p (sym (repr_of-injective l m (eqb-true _ _ (sym (tied l m) ∙ same))))) every_look
     ∙ ap (λ (t : Look → Bool). p l && list_any t every_look) (λ i m. tied l m i) ∙ ap (λ b. p l && b) (every_look_has l) ∙ and-true (p l)
 
-pub contains-looks_of : (n : ℕ) (l : Look) → sets.contains (looks_of n) l ≡ has_bit n l
-contains-looks_of n l = contains-filtered (has_bit n) l
+pub contains-looks_of : (n : ℕ) (l : Look) → sets.contains (looks_of n) l ≡ has_look n l
+contains-looks_of n l = contains-filtered (has_look n) l
 
 -- ---- the sum of the numbers of a set
 
@@ -120,9 +121,9 @@ bits_of-lt s = rw (bits_of-is s) (mask_of-lt (λ j. sets.contains s (look_at j))
 pub bits_of-looks_of : (n : ℕ) → n < 2 ^ 18 → bits_of (looks_of n) ≡ n
 bits_of-looks_of n l =
     bits_of-is (looks_of n) ∙ mask_of_bits n 18 (λ j. sets.contains (looks_of n) (look_at j)) l (λ k h.
-    contains-looks_of n (look_at k) ∙ ap (λ p. nat_eq (bit_at n p) 1) (place_of-look_at k h))
+    contains-looks_of n (look_at k) ∙ ap (λ p. nat_eq (bit_at n p) 1) (bit_of-look_at k h))
 
 pub looks_of-bits_of : (s : Looks) → looks_of (bits_of s) ≡ s
 looks_of-bits_of s = same_looks (looks_of (bits_of s)) s (λ l.
-    contains-looks_of (bits_of s) l ∙ ap (λ n. nat_eq (bit_at n (place_of l)) 1) (bits_of-is s)
-    ∙ has_bit-mask_of (λ j. sets.contains s (look_at j)) 18 (place_of l) (place_of-lt l) ∙ ap (λ m. sets.contains s m) (look_at-place_of l))
+    contains-looks_of (bits_of s) l ∙ ap (λ n. nat_eq (bit_at n (bit_of l)) 1) (bits_of-is s)
+    ∙ has_bit-mask_of (λ j. sets.contains s (look_at j)) 18 (bit_of l) (bit_of-lt l) ∙ ap (λ m. sets.contains s m) (look_at-bit_of l))

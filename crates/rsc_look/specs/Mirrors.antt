@@ -12,7 +12,7 @@ is_crlf StartCRLF = true
 is_crlf EndCRLF = true
 is_crlf _ = false
 
--- `\r` and `\n` in each other's place
+-- `\r` and `\n` in each other's position
 abbrev pub exchanged : ℕ → ℕ
 exchanged b = if b == carriage_return then line_feed else if b == line_feed then carriage_return else b
 

@@ -7,7 +7,7 @@ ghost use Rattle.std.specs.List.{list_any};
 ghost use Rattle.std.specs.FinSet as sets;
 ghost use Rattle.std.specs.Int.{is_in_range};
 ghost use Rattle.rsc_primitives.specs.Utf8.{is_word_byte};
-ghost use Rattle.rsc_alphabet.specs.Partitions.{ClassesRise, class_map};
+ghost use Rattle.rsc_alphabet.specs.Partitions.{LastClassIsGreatest, class_map};
 ghost use Rattle.rsc_look.specs.Looks.{is_unicode};
 ghost use Rattle.rsc_look.specs.Boundaries.{word_boundaries, boundaries_of, boundaries_of_each};
 ghost use Rattle.rsc_look.specs.Keeping.{AgreesWithAscii, AgreesWhereAsked, IsCoarsestMap, IsExactFor};
@@ -59,7 +59,7 @@ impl<W: WordClass> LookMatcher<W> {
         ensures classes { result ≡ class_map (sets.contains (boundaries_of_each looks.now self.now.0)) }
         ensures coarsest { AgreesWhereAsked (W.word_chars self.now.1) looks.now →
             IsCoarsestMap result looks.now self.now.0 (W.word_chars self.now.1) }
-        ensures rise { ClassesRise result }
+        ensures bounded { LastClassIsGreatest result }
     {
         let mut set = ByteClassSet::empty();
         for look in looks {

@@ -3,6 +3,7 @@ ghost use Rattle.std.specs.Prelude.{true, false, ◌≡◌, ◌↔◌, ◌⊎◌
 ghost use Rattle.std.specs.List.{Contains};
 ghost use Rattle.std.specs.FinSet as sets;
 ghost use Rattle.rsc_primitives.specs.Utf8.{is_word_byte};
+ghost use Rattle.rsc_alphabet.specs.Partitions.{HasBoundariesOf};
 ghost use Rattle.rsc_look.specs.declared.assertion.Look.{Look};
 ghost use Rattle.rsc_look.specs.declared.side.Side.{Side};
 ghost use Rattle.rsc_look.specs.Looks.{is_unicode, ascii_of, line_feed};
@@ -55,7 +56,7 @@ pub fn kept_lists_are_joined()
 /// coarsest of each, and no others.
 pub fn coarsest_lists_are_joined()
     ensures finer { (p q : ℕ → Bool) (looks : List Look) (t : ℕ) (W : ℕ → Bool) →
-        ((b : ℕ) → b < 255 → p b ≡ true → q b ≡ true) → Keeps p looks t W → Keeps q looks t W }
+        HasBoundariesOf q p → Keeps p looks t W → Keeps q looks t W }
     ensures both { (p q : ℕ → Bool) (some others : List Look) (t : ℕ) (W : ℕ → Bool) →
         IsCoarsest p some t W → IsCoarsest q others t W → IsCoarsest (λ b. p b || q b) (some ++ others) t W }
 {}

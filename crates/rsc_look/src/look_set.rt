@@ -5,7 +5,7 @@ ghost use Rattle.std.specs.FinSet as sets;
 ghost use Rattle.rsc_look.specs.declared.assertion.Look.{Look};
 ghost use Rattle.rsc_look.specs.Looks.{every_look};
 ghost use Rattle.rsc_look.specs.LookSets.{Looks, members, bits_of};
-ghost use Rattle.rsc_look.specs.LookSetLayout.{has_bit};
+ghost use Rattle.rsc_look.specs.LookSetLayout.{has_look};
 
 mod iter;
 mod kinds;
@@ -151,7 +151,7 @@ impl LookSet {
     #[inline(always)]
     pub(crate) fn of_bits(bits: u32) -> LookSet
         requires { bits < 2 ^ 18 }
-        ensures { (look : Look) → sets.contains result look ≡ has_bit bits look }
+        ensures { (look : Look) → sets.contains result look ≡ has_look bits look }
     {
         LookSet { bits }
     }

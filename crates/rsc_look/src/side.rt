@@ -18,7 +18,7 @@ pub(crate) enum Side {
 }
 
 impl Side {
-    ghost use Rattle.rsc_look.specs.Holds.{is_invalid, is_word_side, is_edge_or_non_word};
+    ghost use Rattle.rsc_look.specs.Holds.{is_invalid, is_word_side, is_absent_or_other};
     ghost use Rattle.rsc_look.specs.HoldingLayout.{entry_of};
 
     #[inline(always)]
@@ -49,8 +49,8 @@ impl Side {
     }
 
     #[inline(always)]
-    pub(crate) fn is_edge_or_non_word(self) -> bool
-        ensures { result ≡ is_edge_or_non_word self }
+    pub(crate) fn is_absent_or_other(self) -> bool
+        ensures { result ≡ is_absent_or_other self }
     {
         matches!(self, Side::Absent | Side::Other)
     }

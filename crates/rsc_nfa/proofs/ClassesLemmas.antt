@@ -13,8 +13,8 @@ use Rattle.rsc_nfa.specs.declared.state.State.{State}
 use Rattle.rsc_nfa.specs.declared.state.State.TheVariants.{ByteRange, Assert, Fork, Capture, Accept}
 use Rattle.rsc_nfa.specs.Classes.{boundaries_of_state, boundaries_of_states, asks_characters, has_unicode, AreInterchangedBy, KeepsRuns, IsStepNeeded, IsEachNeeded, KeepsRunsUnder, IsCoarsestForRuns}
 use Rattle.std.proofs.lemmas.Option.{slice_get-get_or, get_or_from_slice_get, slice_get_within}
-use Rattle.rsc_look.specs.KeepingLaws.{first, next_together, alike_alone, not_told, only}
-use Rattle.rsc_alphabet.specs.Partitions.{Together, class_map, edges_of}
+use Rattle.rsc_look.specs.KeepingLaws.{is_its_member, next_together, alike_alone, not_told, same_as_only}
+use Rattle.rsc_alphabet.specs.Partitions.{Together, class_map, boundaries_of_range}
 use Rattle.rsc_alphabet.specs.Ranges.{holds}
 use Rattle.rsc_look.specs.declared.assertion.Look.{Look}
 use Rattle.rsc_look.specs.Looks.{is_unicode}
@@ -25,7 +25,7 @@ use Rattle.rsc_nfa.specs.Steps.{is_between, StepsTo, IsStep, IsRun, place, IsWit
 use Rattle.std.proofs.lemmas.Bool.Decides.{nat_tests}
 use Rattle.std.proofs.lemmas.Bool.{true_from_ne_false}
 use Rattle.rsc_captures.specs.Groups.{GroupLists}
-use Rattle.rsc_nfa.specs.Faults.{fault_in, IsFaultless}
+use Rattle.rsc_nfa.specs.Faults.{fault_in, AreFaultless}
 use Rattle.rsc_nfa.proofs.FaultsLemmas.{fault-none}
 
 -- ---- a set that gathers the boundaries of states, one after the other
@@ -41,17 +41,17 @@ contains-boundaries (s ∷ rest) t b =
 -- ---- one state more
 
 -- the set has the boundaries of the states
-abbrev pub HasGathered : Numbers → List State → ℕ → Type 0
-HasGathered set states t = (b : ℕ) → sets.contains set b ≡ sets.contains (boundaries_of_states states t) b
+abbrev pub AreGathered : Numbers → List State → ℕ → Type 0
+AreGathered set states t = (b : ℕ) → sets.contains set b ≡ sets.contains (boundaries_of_states states t) b
 
 -- before the first state
-pub HasGathered-none : (set : Numbers) (states : List State) (t : ℕ) → set ≡ sets.empty → HasGathered set [] t
-HasGathered-none set states t e b = ap (λ u. sets.contains u b) e
+pub AreGathered-none : (set : Numbers) (states : List State) (t : ℕ) → set ≡ sets.empty → AreGathered set [] t
+AreGathered-none set states t e b = ap (λ u. sets.contains u b) e
 
 -- after one state more
-pub HasGathered-more : (set new : Numbers) (states : List State) (t i : ℕ) (state : State) → i < length states → state ≡ get_or states i state
-    → HasGathered set (take i states) t → new ≡ sets.union set (boundaries_of_state state t) → HasGathered new (take (i + 1) states) t
-HasGathered-more set new states t i state lt at gathered adds b =
+pub AreGathered-more : (set new : Numbers) (states : List State) (t i : ℕ) (state : State) → i < length states → state ≡ get_or states i state
+    → AreGathered set (take i states) t → new ≡ sets.union set (boundaries_of_state state t) → AreGathered new (take (i + 1) states) t
+AreGathered-more set new states t i state lt at gathered adds b =
     let s : State = get_or states i state in
     ap (λ u. sets.contains u b) (adds ∙ ap (λ (x : State). sets.union set (boundaries_of_state x t)) at) ∙ contains-joined set (boundaries_of_state s t) b
     ∙ ap₂ (λ x y. x || y) (gathered b ∙ contains-boundaries (take i states) t b) (sym (or-false (sets.contains (boundaries_of_state s t) b))) ∙ sym
@@ -81,9 +81,9 @@ pub owner : (states : List State) (t b : ℕ) → sets.contains (boundaries_of_s
 owner states t b m = Any-from_list_any (λ s. sets.contains (boundaries_of_state s t) b) states (sym (contains-boundaries states t b) ∙ m)
 
 -- after the last state
-pub HasGathered-all : (set : Numbers) (states : List State) (t n : ℕ) → length states ≤ n → HasGathered set (take n states) t
+pub AreGathered-all : (set : Numbers) (states : List State) (t n : ℕ) → length states ≤ n → AreGathered set (take n states) t
     → set ≡ boundaries_of_states states t
-HasGathered-all set states t n l gathered =
+AreGathered-all set states t n l gathered =
     same_set nat_cmp_total nat_cmp-IsAntisymmetric set (boundaries_of_states states t) (λ b.
     gathered b ∙ ap (λ (x : List State). sets.contains (boundaries_of_states x t) b) (take_all n states l))
 
@@ -96,7 +96,7 @@ OneClassIsTogether p = (b c : ℕ) → b < 256 → c < 256 → (slice_index (cla
 -- bytes that are together are both in a range or both outside, where the partition has its boundaries
 abbrev pub RangesAreKept : (ℕ → Bool) → Type 0
 RangesAreKept p =
-    (r : ℕ × ℕ) (b c : ℕ) → b < 256 → c < 256 → ((k : ℕ) → k < 255 → sets.contains (edges_of r) k ≡ true → p k ≡ true)
+    (r : ℕ × ℕ) (b c : ℕ) → b < 256 → c < 256 → ((k : ℕ) → k < 255 → sets.contains (boundaries_of_range r) k ≡ true → p k ≡ true)
     → Together p b c → holds r b ≡ holds r c
 
 -- the boundaries of an assertion are exact for it
@@ -104,8 +104,8 @@ abbrev pub AreExact : ℕ → (ℕ → Bool) → Type 0
 AreExact t W = (l : Look) → (is_unicode l ≡ true → AgreesWithAscii W) → IsExactFor (sets.contains (boundaries_of l t)) l t W
 
 -- the partition has the boundaries of the state
-abbrev pub HasEdges : (ℕ → Bool) → State → ℕ → Type 0
-HasEdges p state t = (q : ℕ) → sets.contains (boundaries_of_state state t) q ≡ true → p q ≡ true
+abbrev pub HasBoundariesOfState : (ℕ → Bool) → State → ℕ → Type 0
+HasBoundariesOfState p state t = (q : ℕ) → sets.contains (boundaries_of_state state t) q ≡ true → p q ≡ true
 
 -- ---- a step
 
@@ -129,7 +129,7 @@ AreInterchanged-from p m u h k law is s = record {
       (subst (λ x. slice_index x (slice_index h i) ≡ slice_index x (slice_index k i)) is (s.same_class i l));
 }
 
-same_between : (p : ℕ → Bool) (a b i : ℕ) (h k : List ℕ) → RangesAreKept p → ((q : ℕ) → sets.contains (edges_of (a, b)) q ≡ true → p q ≡ true)
+same_between : (p : ℕ → Bool) (a b i : ℕ) (h k : List ℕ) → RangesAreKept p → ((q : ℕ) → sets.contains (boundaries_of_range (a, b)) q ≡ true → p q ≡ true)
     → AreInterchanged p h k → i < length h → is_between a b (slice_get h i) ≡ is_between a b (slice_get k i)
 same_between p a b i h k ranges has s l =
     let u : i < length k = omega (arith, s.same_length) in
@@ -146,11 +146,11 @@ Holds-moves p l t W h k i e has s d r x = go (is_unicode l) refl
     keeps = e.kept p (λ b lt m. has b m)
 
     go : (u : Bool) → is_unicode l ≡ u → Holds l t W k i
-    go true f = (keeps.at_characters l (first l) f h k s (d f) i r).0 x
-    go false f = (keeps.at_bytes l (first l) f h k s i r).0 x
+    go true f = (keeps.at_characters l (is_its_member l) f h k s (d f) i r).0 x
+    go false f = (keeps.at_bytes l (is_its_member l) f h k s i r).0 x
 
 StepsTo-moves : (p : ℕ → Bool) (state : State) (t : ℕ) (W : ℕ → Bool) (h k : List ℕ) (end i : ℕ) (to : ℕ × ℕ) → RangesAreKept p → AreExact t W
-    → HasEdges p state t → (asks_characters state ≡ true → AgreesWithAscii W) → AreInterchanged p h k → (asks_characters state ≡ true → DifferInAscii h k)
+    → HasBoundariesOfState p state t → (asks_characters state ≡ true → AgreesWithAscii W) → AreInterchanged p h k → (asks_characters state ≡ true → DifferInAscii h k)
     → end ≤ length h → i ≤ end → StepsTo state t W h end i to → StepsTo state t W k end i to
 StepsTo-moves p (ByteRange a b next) t W h k end i to ranges exact has g s d e r x =
     (x.0, sym (same_between p a b i h k ranges has s (omega (arith, x.0))) ∙ x.1, x.2, x.3)
@@ -165,11 +165,11 @@ asks-listed states s state e a =
     list_any_at asks_characters states s state (slice_get_within states s state e) (ap asks_characters (get_or_from_slice_get states s state state e) ∙ a)
 
 -- the partition has the boundaries of each state
-abbrev pub HasEdgesOfAll : (ℕ → Bool) → List State → ℕ → Type 0
-HasEdgesOfAll p states t = (s : ℕ) (state : State) → slice_get states s ≡ Some state → HasEdges p state t
+abbrev pub HasBoundariesOfStates : (ℕ → Bool) → List State → ℕ → Type 0
+HasBoundariesOfStates p states t = (s : ℕ) (state : State) → slice_get states s ≡ Some state → HasBoundariesOfState p state t
 
 module _ (p : ℕ → Bool) (states : List State) (t : ℕ) (W : ℕ → Bool) (ranges : RangesAreKept p) (exact : AreExact t W)
-    (all : HasEdgesOfAll p states t)
+    (all : HasBoundariesOfStates p states t)
     (ascii : has_unicode states ≡ true → AgreesWithAscii W) where
   IsStep-moves : (h k : List ℕ) (end : ℕ) (from to : ℕ × ℕ) → AreInterchanged p h k → (has_unicode states ≡ true → DifferInAscii h k) → end ≤ length h
       → from.1 ≤ end → IsStep states t W h end from to → IsStep states t W k end from to
@@ -202,8 +202,8 @@ module _ (p : ℕ → Bool) (states : List State) (t : ℕ) (W : ℕ → Bool) (
           )
 
 -- the boundaries of all states are those of each
-pub HasEdgesOfAll-from : (states : List State) (t : ℕ) → HasEdgesOfAll (sets.contains (boundaries_of_states states t)) states t
-HasEdgesOfAll-from states t s state e q m =
+pub HasBoundariesOfStates-from : (states : List State) (t : ℕ) → HasBoundariesOfStates (sets.contains (boundaries_of_states states t)) states t
+HasBoundariesOfStates-from states t s state e q m =
     contains-boundaries states t q ∙ list_any_at (λ u. sets.contains (boundaries_of_state u t) q) states s state (slice_get_within states s state e)
     (ap (λ u. sets.contains (boundaries_of_state u t) q) (get_or_from_slice_get states s state state e) ∙ m)
 
@@ -224,7 +224,7 @@ record StepTells (n : ℕ) (state : State) (t : ℕ) (W : ℕ → Bool) (b : ℕ
 
 -- the boundaries of a range are before its first byte and after its last
 abbrev pub RangesHaveEdges : Type 0
-RangesHaveEdges = (r : ℕ × ℕ) (k : ℕ) → k < 255 → (sets.contains (edges_of r) k ≡ true) ↔ ((k + 1 ≡ r.0) ⊎ (k ≡ r.1))
+RangesHaveEdges = (r : ℕ × ℕ) (k : ℕ) → k < 255 → (sets.contains (boundaries_of_range r) k ≡ true) ↔ ((k + 1 ≡ r.0) ⊎ (k ≡ r.1))
 
 inside : (a e x : ℕ) → a ≤ x → x ≤ e → IsTrue (nat_le a x && nat_le x e)
 inside a e x l u = grind (arith, nat_tests)
@@ -272,7 +272,7 @@ state-tells edges groups n s (Assert l next) t W b lt faultless g exact m =
       at_an_end = y.at_an_end;
       known = fault-none groups n s (Assert l next) faultless;
       arrives = y.at_an_end;
-      tells = assert-tells l next t W b y.look y.position (only l y.look y.listed) y.tells;
+      tells = assert-tells l next t W b y.look y.position (same_as_only l y.look y.listed) y.tells;
     }
 state-tells edges groups n s _ t W b lt faultless g exact m = absurd (true≢false (sym m ∙ contains-empty nat_cmp b))
 
@@ -293,7 +293,7 @@ step-needed states t W b s state lt e told = record {
 
 -- each boundary is needed by a state
 pub IsEachNeeded-from : (groups : GroupLists) (states : List State) (t : ℕ) (W : ℕ → Bool) (m : List ℕ) → RangesHaveEdges → AreExact t W
-    → IsFaultless groups states → (has_unicode states ≡ true → AgreesWithAscii W) → OneClassIsTogether (sets.contains (boundaries_of_states states t))
+    → AreFaultless groups states → (has_unicode states ≡ true → AgreesWithAscii W) → OneClassIsTogether (sets.contains (boundaries_of_states states t))
     → m ≡ class_map (sets.contains (boundaries_of_states states t)) → IsEachNeeded m states t W
 IsEachNeeded-from groups states t W m edges exact faultless ascii law is b lt differ =
     let marked : sets.contains (boundaries_of_states states t) b ≡ true = true_from_ne_false (sets.contains (boundaries_of_states states t) b) (λ e.

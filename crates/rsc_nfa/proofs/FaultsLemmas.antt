@@ -6,7 +6,7 @@ use Rattle.rsc_captures.specs.Groups.{GroupLists, all_groups}
 use Rattle.rsc_nfa.specs.declared.state.State.{State}
 use Rattle.rsc_nfa.specs.declared.state.State.TheVariants.{ByteRange, Assert, Fork, Capture, Accept}
 use Rattle.rsc_nfa.specs.declared.error.BuildError.{BuildError}
-use Rattle.rsc_nfa.specs.Faults.{or_else, target_fault, fault_of, fault_in, IsFaultless, NamesWithin}
+use Rattle.rsc_nfa.specs.Faults.{or_else, target_fault, fault_of_state, fault_in, AreFaultless, NamesWithin}
 
 -- where a test decides between no fault and one, and there is none, it passed; or it didn't, where the fault comes first
 passed : (x : Bool) (e : BuildError) → cond x None (Some e) ≡ None → x ≡ true
@@ -36,7 +36,7 @@ fault-none groups n s (Capture slot next) q =
 fault-none groups n s (Accept p) q = let e : nat_lt p (length groups) ≡ true = passed _ _ q in grind (arith, nat_tests)
 
 -- and so in a list of states without a fault
-pub faultless-names : (groups : GroupLists) (states : List State) → IsFaultless groups states → (s : ℕ) (state : State) → slice_get states s ≡ Some state
+pub faultless-names : (groups : GroupLists) (states : List State) → AreFaultless groups states → (s : ℕ) (state : State) → slice_get states s ≡ Some state
     → NamesWithin groups (length states) state
 faultless-names groups states faultless s state is =
     fault-none groups (length states) s state

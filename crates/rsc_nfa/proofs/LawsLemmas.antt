@@ -11,7 +11,7 @@ use Rattle.rsc_look.specs.Holds.{Holds, HoldsAtSides, holds_at_bytes, byte_befor
 use Rattle.rsc_nfa.specs.declared.state.State.{State}
 use Rattle.rsc_nfa.specs.declared.state.State.TheVariants.{ByteRange, Assert, Fork, Capture, Accept}
 use Rattle.rsc_nfa.specs.Classes.{asks_characters, has_unicode, KeepsRuns, AreInterchangedBy}
-use Rattle.rsc_nfa.specs.Faults.{IsFaultless, NamesWithin}
+use Rattle.rsc_nfa.specs.Faults.{AreFaultless, NamesWithin}
 use Rattle.rsc_nfa.specs.Steps.{is_between, StepsTo, IsStep, IsRun, IsWithin, place, recorded, AreClosed}
 use Rattle.rsc_nfa.proofs.StepsLemmas.{recorded-last}
 use Rattle.rsc_nfa.proofs.ClassesLemmas.{asks-listed, AreInterchangedBy-sym}
@@ -98,7 +98,7 @@ leads_within groups n (Capture slot next) t W h end i q named x = subst (λ (y :
 leads_within groups n (Accept p) t W h end i q named x = absurd x
 
 -- and in a list without a fault, so is the one to which it leads
-pub step-to : (groups : GroupLists) (states : List State) (t : ℕ) (W : ℕ → Bool) (h : List ℕ) (end : ℕ) (p q : ℕ × ℕ) → IsFaultless groups states
+pub step-to : (groups : GroupLists) (states : List State) (t : ℕ) (W : ℕ → Bool) (h : List ℕ) (end : ℕ) (p q : ℕ × ℕ) → AreFaultless groups states
     → IsStep states t W h end p q → q.0 < length states
 step-to groups states t W h end p q faultless x = go (slice_get states p.0) refl x
   where

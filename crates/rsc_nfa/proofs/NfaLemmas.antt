@@ -16,16 +16,16 @@ use Rattle.rsc_nfa.specs.declared.state.State.TheVariants.{ByteRange, Assert, Fo
 use Rattle.rsc_nfa.specs.Classes.{boundaries_of_state, boundaries_of_states, asks_characters, has_unicode, asserts, IsFiner, KeepsRuns, AreInterchangedBy}
 use Rattle.rsc_nfa.specs.Steps.{is_capture_of, or_earlier, recorded}
 use Rattle.rsc_nfa.specs.StepsLayout.{slot_recorded, put_offset}
-use Rattle.rsc_nfa.proofs.ClassesLemmas.{OneClassIsTogether, HasEdgesOfAll, HasEdgesOfAll-from}
+use Rattle.rsc_nfa.proofs.ClassesLemmas.{OneClassIsTogether, HasBoundariesOfStates, HasBoundariesOfStates-from}
 
 -- ---- more boundaries
 
 -- the boundaries of all states are among those and others
-pub HasEdgesOfAll-joined : (states : List State) (t : ℕ) (more : Numbers)
-    → HasEdgesOfAll (sets.contains (sets.union (boundaries_of_states states t) more)) states t
-HasEdgesOfAll-joined states t more s state e q m =
+pub HasBoundariesOfStates-joined : (states : List State) (t : ℕ) (more : Numbers)
+    → HasBoundariesOfStates (sets.contains (sets.union (boundaries_of_states states t) more)) states t
+HasBoundariesOfStates-joined states t more s state e q m =
     contains-joined (boundaries_of_states states t) more q
-    ∙ or_left (sets.contains (boundaries_of_states states t) q) (sets.contains more q) (HasEdgesOfAll-from states t s state e q m)
+    ∙ or_left (sets.contains (boundaries_of_states states t) q) (sets.contains more q) (HasBoundariesOfStates-from states t s state e q m)
 
 -- a boundary parts the bytes on both sides of it
 pub parts_neighbours : (p : ℕ → Bool) (classes : List ℕ) (b : ℕ) → OneClassIsTogether p → classes ≡ class_map p → b < 255 → p b ≡ true

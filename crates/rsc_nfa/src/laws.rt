@@ -5,7 +5,7 @@ ghost use Rattle.rsc_look.specs.Holds.{byte_before, byte_after};
 ghost use Rattle.rsc_nfa.specs.declared.state.State.{State};
 ghost use Rattle.rsc_nfa.specs.declared.error.BuildError.{BuildError};
 ghost use Rattle.rsc_nfa.specs.Classes.{has_unicode, KeepsRuns, AreInterchangedBy, IsFiner};
-ghost use Rattle.rsc_nfa.specs.Faults.{IsFaultless, NamesWithin};
+ghost use Rattle.rsc_nfa.specs.Faults.{AreFaultless, NamesWithin};
 ghost use Rattle.rsc_nfa.specs.Steps.{IsStep, IsRun, IsWithin, place, recorded, IsLastRecord, AreClosed};
 
 use crate::{BuildError, State};
@@ -41,10 +41,10 @@ pub fn where_a_step_leads()
         IsStep states t W h end p q → p.0 < length states }
     ensures position { (states : List State) (t : ℕ) (W : ℕ → Bool) (h : List ℕ) (end : ℕ) (p q : ℕ × ℕ) →
         IsStep states t W h end p q → (q.1 ≡ p.1) ⊎ ((q.1 ≡ p.1 + 1) × (p.1 < end)) }
-    ensures names { (groups : GroupLists) (states : List State) → IsFaultless groups states →
+    ensures names { (groups : GroupLists) (states : List State) → AreFaultless groups states →
         (s : ℕ) (state : State) → slice_get states s ≡ Some state → NamesWithin groups (length states) state }
     ensures to { (groups : GroupLists) (states : List State) (t : ℕ) (W : ℕ → Bool) (h : List ℕ) (end : ℕ) (p q : ℕ × ℕ) →
-        IsFaultless groups states → IsStep states t W h end p q → q.0 < length states }
+        AreFaultless groups states → IsStep states t W h end p q → q.0 < length states }
 {}
 
 /// A place is a run, and so are a run and a step from its last place to a state of the list. Positions along a run never fall.

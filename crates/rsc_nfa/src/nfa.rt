@@ -2,11 +2,11 @@
 ghost use Rattle.std.specs.Prelude.{◌≡◌, ◌≤◌, ◌<◌, ◌+◌, ◌⊎◌, ◌↔◌, ◌||◌, ℕ, true, false, IsTrue, All, None, length, slice_get, slice_index, slice_index_or, IfOk, IfErr, OnOk};
 ghost use Rattle.std.specs.List.{list_any};
 ghost use Rattle.std.specs.FinSet as sets;
-ghost use Rattle.rsc_alphabet.specs.Partitions.{ClassesRise, class_map};
+ghost use Rattle.rsc_alphabet.specs.Partitions.{LastClassIsGreatest, class_map};
 ghost use Rattle.rsc_look.specs.Keeping.{AgreesWithAscii};
 ghost use Rattle.rsc_nfa.specs.Automata.{Automaton};
 ghost use Rattle.rsc_nfa.specs.Classes.{IsOrdered, IsFiner, asserts, boundaries_of_state, boundaries_of_states, has_unicode, KeepsRuns, IsEachNeeded, IsCoarsestForRuns};
-ghost use Rattle.rsc_nfa.specs.Faults.{target_fault, fault_of, IsFaultless, IsFirstFault};
+ghost use Rattle.rsc_nfa.specs.Faults.{target_fault, fault_of_state, AreFaultless, IsFirstFaulty};
 ghost use Rattle.rsc_look.specs.declared.assertion.Look.{Look};
 ghost use Rattle.rsc_look.specs.LookSets.{has_one_of, unicode_words};
 ghost use Rattle.rsc_nfa.specs.Steps.{IsStep, IsRun, IsWithin, recorded};
@@ -53,13 +53,13 @@ pub struct Nfa<W: WordClass, A: Allocator = Global> {
 
 impl<W: WordClass, A: Allocator> Model for Nfa<W, A> {
     ghost use Rattle.rsc_nfa.specs.Automata.{Automaton};
-    ghost use Rattle.rsc_nfa.specs.Faults.{IsFaultless};
+    ghost use Rattle.rsc_nfa.specs.Faults.{AreFaultless};
 
     ghost Value = { Automaton W };
 
     ghost view = { λ n. record { states = n.states.items; groups = n.group_info; matcher = n.matcher } };
 
-    ghost invariant = { λ n. IsFaultless n.group_info n.states.items };
+    ghost invariant = { λ n. AreFaultless n.group_info n.states.items };
 }
 
 // The fault of a state that names another, if that isn't below `count`.
@@ -80,7 +80,7 @@ fn check_state<A: Allocator + Clone + Drop>(
     s: usize,
     state: State,
 ) -> Option<BuildError>
-    ensures { result ≡ fault_of group_info.now count s state }
+    ensures { result ≡ fault_of_state group_info.now count s state }
 {
     match state {
         State::ByteRange { start, end, next } => {
@@ -120,8 +120,8 @@ fn check<A: Allocator + Clone + Drop>(
     group_info: &GroupInfo<A>,
     states: &[State],
 ) -> Result<(), BuildError>
-    ensures faultless { OnOk result (IsFaultless group_info.now states.now) }
-    ensures refused { IfErr result (IsFirstFault group_info.now states.now) }
+    ensures faultless { OnOk result (AreFaultless group_info.now states.now) }
+    ensures refused { IfErr result (IsFirstFaulty group_info.now states.now) }
 {
     for (s, state) in states.iter().enumerate() {
         if let Some(fault) = check_state(group_info, states.len(), s, *state) {
@@ -182,8 +182,8 @@ impl<W: WordClass, A: Allocator + Clone + Drop> Nfa<W, A> {
         states: &[State],
     ) -> Result<Nfa<W, A>, BuildError>
         ensures made { IfOk result (λ n. n ≡ record { states = states.now; groups = group_info; matcher = matcher }) }
-        ensures faultless { OnOk result (IsFaultless group_info states.now) }
-        ensures refused { IfErr result (λ e. ((e ≡ OutOfMemory) × IsFaultless group_info states.now) ⊎ IsFirstFault group_info states.now e) }
+        ensures faultless { OnOk result (AreFaultless group_info states.now) }
+        ensures refused { IfErr result (λ e. ((e ≡ OutOfMemory) × AreFaultless group_info states.now) ⊎ IsFirstFaulty group_info states.now e) }
     {
         check(&group_info, states)?;
         let states = Vec::from_slice(alloc, states)?;
@@ -198,7 +198,7 @@ impl<W: WordClass, A: Allocator + Clone + Drop> Nfa<W, A> {
     #[inline]
     pub fn states(&self) -> &[State]
         ensures states { result.now ≡ self.now.states }
-        ensures faultless { IsFaultless self.now.groups self.now.states }
+        ensures faultless { AreFaultless self.now.groups self.now.states }
     {
         &self.states
     }
@@ -207,7 +207,7 @@ impl<W: WordClass, A: Allocator + Clone + Drop> Nfa<W, A> {
     #[inline]
     pub fn group_info(&self) -> &GroupInfo<A>
         ensures groups { result.now ≡ self.now.groups }
-        ensures faultless { IsFaultless self.now.groups self.now.states }
+        ensures faultless { AreFaultless self.now.groups self.now.states }
     {
         &self.group_info
     }
@@ -228,8 +228,8 @@ impl<W: WordClass, A: Allocator + Clone + Drop> Nfa<W, A> {
     /// that below 128 are the word bytes, and the first covers replacements within ASCII. Without one the classes are the coarsest.
     pub fn classes(&self) -> ByteClasses
         ensures classes { result ≡ class_map (sets.contains (boundaries_of_states self.now.states self.now.matcher.0)) }
-        ensures rise { ClassesRise result }
-        ensures faultless { IsFaultless self.now.groups self.now.states }
+        ensures bounded { LastClassIsGreatest result }
+        ensures faultless { AreFaultless self.now.groups self.now.states }
         ensures kept { (has_unicode self.now.states ≡ true → AgreesWithAscii (W.word_chars self.now.matcher.1)) →
             KeepsRuns result self.now.states self.now.matcher.0 (W.word_chars self.now.matcher.1) }
         ensures needed { (has_unicode self.now.states ≡ true → AgreesWithAscii (W.word_chars self.now.matcher.1)) →
@@ -239,7 +239,7 @@ impl<W: WordClass, A: Allocator + Clone + Drop> Nfa<W, A> {
     {
         rsc_alphabet::laws::one_class_is_together();
         rsc_alphabet::laws::each_class_comes_once();
-        rsc_alphabet::laws::edges_part_a_range();
+        rsc_alphabet::laws::boundaries_part_a_range();
         rsc_look::laws::boundaries_are_exact();
         let set = self.boundaries();
         set.byte_classes()
@@ -248,7 +248,7 @@ impl<W: WordClass, A: Allocator + Clone + Drop> Nfa<W, A> {
     // The boundaries of the ranges and the assertions of the states.
     fn boundaries(&self) -> ByteClassSet
         ensures set { result ≡ boundaries_of_states self.now.states self.now.matcher.0 }
-        ensures faultless { IsFaultless self.now.groups self.now.states }
+        ensures faultless { AreFaultless self.now.groups self.now.states }
     {
         let mut set = ByteClassSet::empty();
         for state in &self.states {
@@ -271,14 +271,14 @@ impl<W: WordClass, A: Allocator + Clone + Drop> Nfa<W, A> {
     /// ```
     pub fn classes_with(&self, more: &ByteClassSet) -> ByteClasses
         ensures classes { result ≡ class_map (sets.contains (sets.union (boundaries_of_states self.now.states self.now.matcher.0) more.now)) }
-        ensures rise { ClassesRise result }
+        ensures bounded { LastClassIsGreatest result }
         ensures parted { (b : ℕ) → b < 255 → sets.contains more.now b ≡ true → ¬ (slice_index result b ≡ slice_index result (b + 1)) }
         ensures finer { IsFiner result (class_map (sets.contains (boundaries_of_states self.now.states self.now.matcher.0))) }
         ensures kept { (has_unicode self.now.states ≡ true → AgreesWithAscii (W.word_chars self.now.matcher.1)) →
             KeepsRuns result self.now.states self.now.matcher.0 (W.word_chars self.now.matcher.1) }
     {
         rsc_alphabet::laws::one_class_is_together();
-        rsc_alphabet::laws::edges_part_a_range();
+        rsc_alphabet::laws::boundaries_part_a_range();
         rsc_look::laws::boundaries_are_exact();
         let mut joined = self.boundaries();
         joined.union(more);

@@ -6,10 +6,10 @@ use Rattle.std.specs.Str.{bytes_eq}
 use Rattle.rsc_primitives.specs.Utf8.{is_word_byte}
 
 -- what all options hold, if each holds something
-abbrev pub all_some : {X : Type 0} → List (Option X) → Option (List X)
-all_some [] = Some []
-all_some (None ∷ rest) = None
-all_some (Some x ∷ rest) = option_map (λ xs. x ∷ xs) (all_some rest)
+abbrev pub all_there : {X : Type 0} → List (Option X) → Option (List X)
+all_there [] = Some []
+all_there (None ∷ rest) = None
+all_there (Some x ∷ rest) = option_map (λ xs. x ∷ xs) (all_there rest)
 
 -- the name that a text writes: `-` is none, and a name is one or more word bytes
 abbrev pub group_of : List ℕ → Option (Option (List ℕ))
@@ -20,10 +20,10 @@ group_of (b ∷ bytes) =
     else None
 
 -- the groups that a text writes, which is cut at each comma; the empty one has none
-abbrev pub groups_of : List ℕ → Option (List (Option (List ℕ)))
-groups_of [] = Some []
-groups_of (b ∷ bytes) = all_some (map group_of (slice_split (λ c. c == 44) (b ∷ bytes)))
+abbrev pub groups_in_text : List ℕ → Option (List (Option (List ℕ)))
+groups_in_text [] = Some []
+groups_in_text (b ∷ bytes) = all_there (map group_of (slice_split (λ c. c == 44) (b ∷ bytes)))
 
 -- the patterns that a text writes, which is cut at each semicolon
-abbrev pub patterns_of : List ℕ → Option (List (List (Option (List ℕ))))
-patterns_of text = all_some (map groups_of (slice_split (λ c. c == 59) text))
+abbrev pub patterns_in_text : List ℕ → Option (List (List (Option (List ℕ))))
+patterns_in_text text = all_there (map groups_in_text (slice_split (λ c. c == 59) text))

@@ -3,7 +3,7 @@ ghost use Rattle.std.specs.Prelude.{◌≡◌, ◌==◌, map, IfOk};
 ghost use Rattle.std.specs.List.{list_all, slice_split};
 ghost use Rattle.std.specs.Option.{option_map};
 ghost use Rattle.rsc_primitives.specs.Utf8.{is_word_byte};
-ghost use Rattle.rsc_notation.specs.GroupTexts.{group_of, groups_of, patterns_of};
+ghost use Rattle.rsc_notation.specs.GroupTexts.{group_of, groups_in_text, patterns_in_text};
 
 use rsc_primitives::utf8::is_word_byte;
 use std::alloc::{AllocError, Allocator};
@@ -38,7 +38,7 @@ pub fn parse_patterns<'a, A: Allocator + Copy + Drop>(
     text: &'a [u8],
 ) -> Result<Option<Vec<Vec<Option<&'a str>, A>, A>>, AllocError>
     ensures { IfOk result (λ patterns. option_map (λ ps. map (λ groups. map (option_map (λ name. name.now)) groups.items) ps.items) patterns
-        ≡ patterns_of text.now) }
+        ≡ patterns_in_text text.now) }
 {
     let parts = parts_between(alloc, text, b';')?;
     let mut patterns = Vec::new(alloc);
@@ -56,7 +56,7 @@ fn parse_groups<'a, A: Allocator + Copy + Drop>(
     alloc: A,
     pattern: &'a [u8],
 ) -> Result<Option<Vec<Option<&'a str>, A>>, AllocError>
-    ensures { IfOk result (λ groups. option_map (λ gs. map (option_map (λ name. name.now)) gs.items) groups ≡ groups_of pattern.now) }
+    ensures { IfOk result (λ groups. option_map (λ gs. map (option_map (λ name. name.now)) gs.items) groups ≡ groups_in_text pattern.now) }
 {
     let mut groups = Vec::new(alloc);
     if pattern.is_empty() {

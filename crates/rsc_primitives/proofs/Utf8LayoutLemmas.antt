@@ -16,8 +16,8 @@ says_of r P {a} {b} {c} {d} {v} {w} {x} {y} e f g h s =
 -- byte k from the back is byte i
 pub back_at : (h : List ℕ) (k i : ℕ) → i + suc k ≡ length h → from_back h k ≡ get_or h i 0
 back_at h k i e =
-    let place : length h - 1 - k ≡ i = omega (arith, e) in
-    get_or-reverse h k 0 (omega (arith, e)) ∙ ap (λ j. get_or h j 0) place
+    let position : length h - 1 - k ≡ i = omega (arith, e) in
+    get_or-reverse h k 0 (omega (arith, e)) ∙ ap (λ j. get_or h j 0) position
 
 -- before the first byte there is 0
 pub back_past : (h : List ℕ) (k : ℕ) → length h ≤ k → from_back h k ≡ 0

@@ -1,19 +1,10 @@
--- Numbers by their bits: a number of n bits is made of them.
+-- A number of n bits is made of them.
 use Rattle.std.proofs.Common.{◌≡◌, ℕ, zero, suc, ◌+◌, ◌-◌, ◌*◌, ◌^◌, ◌<◌, ◌≤◌, Bool, true, false, cond, refl, ap, ◌∙◌, arith, nat_eq, ⊎_elim}
-use Rattle.std.specs.Prelude.{◌==◌, if◌then◌else◌}
 use Rattle.std.specs.Int.{bit_at}
 use Rattle.std.proofs.lemmas.Bool.{cases_lt}
 use Rattle.std.proofs.lemmas.Nat.Bits.{bit_at-lt, bit_at_cat_low, bit_at_cat_high, same_from_bits_below}
 use Rattle.std.proofs.Math.Nat.{pow-suc}
-
--- bit i of n is 1
-abbrev pub has_bit : ℕ → ℕ → Bool
-has_bit n i = bit_at n i == 1
-
--- the number whose n lowest bits are those at which the test gives true
-unfoldable pub mask_of : (ℕ → Bool) → ℕ → ℕ
-mask_of p zero = 0
-mask_of p (suc n) = (if p n then 1 else 0) * 2 ^ n + mask_of p n
+use Rattle.rsc_primitives.specs.Bits.{has_bit, mask_of}
 
 -- it fits in n bits
 pub mask_of-lt : (p : ℕ → Bool) (n : ℕ) → mask_of p n < 2 ^ n

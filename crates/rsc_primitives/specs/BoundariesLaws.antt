@@ -1,9 +1,9 @@
--- The boundaries of encoded text are the places where a character begins, and the end.
+-- The boundaries of encoded text are the positions where a character begins, and the end.
 use Rattle.std.proofs.Common.{◌≡◌, ℕ, zero, suc, ◌+◌, ◌-◌, ◌<◌, ◌≤◌, ◌⊎◌, ◌↔◌, List, [], ◌∷◌, ◌++◌, length, sym, subst, arith, inl, inr, ⊎_elim, length-append, get_or-append-add}
 use Rattle.std.proofs.lemmas.Bool.{cases_lt}
 use Rattle.std.proofs.lemmas.List.{get_or_append_left}
 use Rattle.rsc_primitives.specs.Utf8.{Encodes, EncodesAll, BeginsAt, IsBoundary}
-use Rattle.rsc_primitives.specs.Utf8Laws.{Placed-from, Encodes-rest}
+use Rattle.rsc_primitives.specs.Utf8Laws.{IsExtent-from, Encodes-rest}
 use Rattle.rsc_primitives.specs.TextsLaws.{with_suffix, with_prefix}
 
 abbrev pub BeginsOrEnds : List ℕ → ℕ → Type 0
@@ -11,7 +11,7 @@ BeginsOrEnds h i = ((c : ℕ) × BeginsAt h i c) ⊎ (i ≡ length h)
 
 -- where a character begins is a boundary, in any bytes
 pub IsBoundary-begins : (h : List ℕ) (i c : ℕ) → BeginsAt h i c → IsBoundary h i
-IsBoundary-begins h i c b = let p = Placed-from h i b.0 c b.1 in grind (arith, p.some, p.within, p.head)
+IsBoundary-begins h i c b = let p = IsExtent-from h i b.0 c b.1 in grind (arith, p.some, p.within, p.head)
 
 pub BeginsAt-with_prefix : (e t : List ℕ) (k : ℕ) → BeginsOrEnds t k → BeginsOrEnds (e ++ t) (length e + k)
 BeginsAt-with_prefix e t k b =

@@ -20,7 +20,7 @@ step_text b =
     if b == 0 then codes "\\0"
     else (if is_in_range 0x1A 0x1F b then escape_unicode b else escape_or b (hex_escape false b))
 
--- no character past ASCII is encoded in the bytes, at any place
+-- no character past ASCII is encoded in the bytes, at any position
 abbrev pub EncodesOnlyAscii : List ℕ → Type 0
 EncodesOnlyAscii h = (i c : ℕ) → BeginsAt h i c → c < 128
 

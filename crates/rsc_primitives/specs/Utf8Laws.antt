@@ -1,4 +1,4 @@
--- What the nine forms say of bytes and places, in numbers alone.
+-- What the nine forms say of bytes and positions, in numbers alone.
 use Rattle.std.proofs.Common.{◌≡◌, ℕ, zero, suc, ◌+◌, ◌-◌, ◌<◌, ◌≤◌, ◌⊎◌, cond, ltb, List, [], ◌∷◌, length, get_or, take, drop, refl, sym, ap, ◌∙◌, subst, arith, length-take, length-drop, get_or-take, get_or-drop, inl, inr, ⊎_elim, ext_get_or, drop-cons}
 use Rattle.std.specs.Char.{IsScalar, len_utf8}
 use Rattle.std.specs.Prelude.{slice_range}
@@ -31,8 +31,8 @@ pub Encodes-size : (e : List ℕ) (n : ℕ) → Encodes e n → ((length e ≡ 1
 Encodes-size (a ∷ b ∷ c ∷ d ∷ []) n h = grind arith
 Encodes-size _ n h = grind arith
 
--- an encoding by places
-pub record Placed (h : List ℕ) (i j : ℕ) : Type 0 where
+-- an encoding by positions
+pub record IsExtent (h : List ℕ) (i j : ℕ) : Type 0 where
   pub some : i < j
   pub within : j ≤ length h
   pub size : j ≡ i + lead_len (get_or h i 0)
@@ -55,8 +55,8 @@ lead_len_pos a = grind (arith, nat_tests)
 first_of_part : (h : List ℕ) (i j : ℕ) → 0 < j - i → get_or (slice_range h i j) 0 0 ≡ get_or h i 0
 first_of_part h i j room = get_or-slice h i j 0 room ∙ ap (λ x. get_or h x 0) (omega arith)
 
-pub Placed-from : (h : List ℕ) (i j c : ℕ) → EncodedFrom h i j c → Placed h i j
-Placed-from h i j c e =
+pub IsExtent-from : (h : List ℕ) (i j c : ℕ) → EncodedFrom h i j c → IsExtent h i j
+IsExtent-from h i j c e =
     let l = length-slice h i j e.ordered e.within in
     let s = length-Encodes (slice_range h i j) c e.encoded in
     let pos = lead_len_pos (get_or (slice_range h i j) 0 0) in
@@ -75,14 +75,14 @@ Placed-from h i j c e =
           subst IsTail at t;
     }
 
--- at most one character begins at a place, and at most one ends there
+-- at most one character begins at a position, and at most one ends there
 pub EncodedFrom-to : (h : List ℕ) (i j k c d : ℕ) → EncodedFrom h i j c → EncodedFrom h i k d → j ≡ k
-EncodedFrom-to h i j k c d p q = let a = Placed-from h i j c p in let b = Placed-from h i k d q in a.size ∙ sym b.size
+EncodedFrom-to h i j k c d p q = let a = IsExtent-from h i j c p in let b = IsExtent-from h i k d q in a.size ∙ sym b.size
 
 pub EncodedFrom-from : (h : List ℕ) (i j k c d : ℕ) → EncodedFrom h j i c → EncodedFrom h k i d → j ≡ k
 EncodedFrom-from h i j k c d p q =
-    let a = Placed-from h j i c p in
-    let b = Placed-from h k i d q in
+    let a = IsExtent-from h j i c p in
+    let b = IsExtent-from h k i d q in
     let before : j < k → ⊥ = λ l. b.head (a.rest k l b.some) in
     let after : k < j → ⊥ = λ l. a.head (b.rest j l a.some) in
     grind arith
@@ -95,18 +95,18 @@ pub EndsAt-same : (h : List ℕ) (i c d : ℕ) → EndsAt h i c → EndsAt h i d
 EndsAt-same h i c d p q =
     Encodes-same (slice_range h p.0 i) c d p.1.encoded (rw (EncodedFrom-from h i p.0 q.0 c d p.1 q.1) q.1.encoded)
 
--- the places of a character that i is inside of
-around : (h : List ℕ) (i : ℕ) (s : IsInside h i) → Placed h s.from s.to
-around h i s = Placed-from h s.from s.to s.char s.encoded
+-- the positions of a character that i is inside of
+around : (h : List ℕ) (i : ℕ) (s : IsInside h i) → IsExtent h s.from s.to
+around h i s = IsExtent-from h s.from s.to s.char s.encoded
 
 -- inside a character none begins and none ends
 pub IsInside-begins : (h : List ℕ) (i c : ℕ) → IsInside h i → BeginsAt h i c → ⊥
-IsInside-begins h i c s b = (Placed-from h i b.0 c b.1).head ((around h i s).rest i s.after_first s.before_last)
+IsInside-begins h i c s b = (IsExtent-from h i b.0 c b.1).head ((around h i s).rest i s.after_first s.before_last)
 
 pub IsInside-ends : (h : List ℕ) (i c : ℕ) → IsInside h i → EndsAt h i c → ⊥
 IsInside-ends h i c s b =
     let a = around h i s in
-    let p = Placed-from h b.0 i c b.1 in
+    let p = IsExtent-from h b.0 i c b.1 in
     let before : b.0 < s.from → ⊥ = λ l. a.head (p.rest s.from l s.after_first) in
     let after : s.from < b.0 → ⊥ = λ l. p.head (a.rest b.0 l (omega arith)) in
     let same : b.0 ≡ s.from = grind arith in
@@ -126,7 +126,7 @@ slice_one k i j one w =
 one_byte : (k : List ℕ) (i j : ℕ) → j ≡ i + 1 → i < length k → get_or k i 0 < 128 → Encodes (slice_range k i j) (get_or k i 0)
 one_byte k i j one w low = subst (λ (x : List ℕ). Encodes x (get_or k i 0)) (sym (slice_one k i j one w)) (omega arith, refl)
 
-same_slice : (h k : List ℕ) (i j : ℕ) → AgreePastAscii h k → Placed h i j → length (slice_range h i j) ≡ j - i → length (slice_range k i j) ≡ j - i
+same_slice : (h k : List ℕ) (i j : ℕ) → AgreePastAscii h k → IsExtent h i j → length (slice_range h i j) ≡ j - i → length (slice_range k i j) ≡ j - i
     → 128 ≤ get_or h i 0 → slice_range h i j ≡ slice_range k i j
 same_slice h k i j s p l lk big =
     ext_get_or 0 (slice_range h i j) (slice_range k i j) (l ∙ sym lk)
@@ -138,12 +138,12 @@ same_slice h k i j s p l lk big =
     ⊎_elim (λ e. e) (λ low. absurd (omega (arith, low.0))) (s.each (i + n) (omega (arith, p.within))) in
     get_or-slice h i j n here ∙ same ∙ sym (get_or-slice k i j n here))
 
--- such lists have the same characters past ASCII at the same places, and one-byte characters at the same places
+-- such lists have the same characters past ASCII at the same positions, and one-byte characters at the same positions
 pub EncodedFrom-agree : (h k : List ℕ) (i j c : ℕ) → AgreePastAscii h k → EncodedFrom h i j c
     → (EncodedFrom k i j c × (128 ≤ c)) ⊎ ((j ≡ i + 1) × (c ≡ get_or h i 0) × (c < 128) × (get_or k i 0 < 128) × EncodedFrom k i j
     (get_or k i 0))
 EncodedFrom-agree h k i j c s e =
-    let p = Placed-from h i j c e in
+    let p = IsExtent-from h i j c e in
     let within : j ≤ length k = omega (arith, e.within, s.same_length) in
     let l : length (slice_range h i j) ≡ j - i = length-slice h i j e.ordered e.within in
     let lk : length (slice_range k i j) ≡ j - i = length-slice k i j e.ordered within in

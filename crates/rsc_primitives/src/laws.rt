@@ -148,22 +148,22 @@ pub fn long_encodings_hold_no_ascii()
     ensures { (e : List ℕ) (c k : ℕ) → Encodes e c → 2 ≤ length e → k < length e → 128 ≤ slice_index e k }
 {}
 
-/// At most one character begins at a place.
+/// At most one character begins at a position.
 pub fn at_most_one_begins()
     ensures { (h : List ℕ) (i c d : ℕ) → BeginsAt h i c → BeginsAt h i d → c ≡ d }
 {}
 
-/// At most one character ends at a place.
+/// At most one character ends at a position.
 pub fn at_most_one_ends()
     ensures { (h : List ℕ) (i c d : ℕ) → EndsAt h i c → EndsAt h i d → c ≡ d }
 {}
 
-/// A character begins at a place, or none does.
+/// A character begins at a position, or none does.
 pub fn one_begins_or_none()
     ensures { (h : List ℕ) (i : ℕ) → ((c : ℕ) × BeginsAt h i c) ⊎ ((c : ℕ) → BeginsAt h i c → ⊥) }
 {}
 
-/// A character ends at a place, or none does.
+/// A character ends at a position, or none does.
 pub fn one_ends_or_none()
     ensures { (h : List ℕ) (i : ℕ) → ((c : ℕ) × EndsAt h i c) ⊎ ((c : ℕ) → EndsAt h i c → ⊥) }
 {}
@@ -174,7 +174,7 @@ pub fn none_begins_or_ends_inside()
     ensures ends { (h : List ℕ) (i c : ℕ) → IsInside h i → EndsAt h i c → ⊥ }
 {}
 
-/// In the encoding of a list of characters the boundaries are the places where a character begins, and the end.
+/// In the encoding of a list of characters the boundaries are the positions where a character begins, and the end.
 #[tactic(auto, using(crate::proofs::CitedLaws::is_boundary_encoded))]
 pub fn boundaries_of_encoded_text()
     ensures { (h cs : List ℕ) (i : ℕ) → EncodesAll h cs → IsBoundary h i ↔ (((c : ℕ) × BeginsAt h i c) ⊎ (i ≡ length h)) }

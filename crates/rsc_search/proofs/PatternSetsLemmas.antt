@@ -8,6 +8,7 @@ use Rattle.std.proofs.lemmas.List.Elements.{filter-append, All-cons, All-head, A
 use Rattle.std.proofs.lemmas.List.FromFn.{length-range_with_len}
 use Rattle.std.proofs.lemmas.List.Sums.{count_by-le-length, length-filter}
 use Rattle.std.specs.List.{filter, range_with_len, AllPairs, Contains}
+use Rattle.rsc_primitives.specs.RangesLaws.{range_append, range_filter_none, range_filter_same}
 use Rattle.rsc_search.specs.PatternSets.{has_member, Patterns, IsSet, numbers_below, with_member}
 use Rattle.std.proofs.lemmas.List.Folds.{list_any_at}
 use Rattle.std.proofs.lemmas.List.Kept.{AllPairs-from_increasing}
@@ -36,26 +37,11 @@ module _ (t : ℕ → Bool) where
   pub member_in : (a n q : ℕ) → a ≤ q → q < a + n → has_member (filter t (range_with_len a n)) q ≡ t q
   member_in a n q from below = member_is a n q ∙ rw (le-leb a q from, lt-ltb q (a + n) below) (and-true (t q))
 
-  -- where none passes, the list is empty
-  pub filter_none : (a n : ℕ) → ((q : ℕ) → a ≤ q → q < a + n → t q ≡ false) → filter t (range_with_len a n) ≡ []
-  filter_none a zero fails = refl
-  filter_none a (suc n) fails = rw (fails a (omega arith) (omega arith)) (filter_none (a + 1) n (λ q from below. fails q (omega arith) (omega arith)))
-
-  filter_parts : (a m n : ℕ) → filter t (range_with_len a (m + n)) ≡ filter t (range_with_len a m) ++ filter t (range_with_len (a + m) n)
-  filter_parts a m n = ap (filter t) (parts a m) ∙ filter-append t (range_with_len a m) (range_with_len (a + m) n)
-    where
-      parts : (a m : ℕ) → range_with_len a (m + n) ≡ range_with_len a m ++ range_with_len (a + m) n
-      parts a zero = let none : zero + n ≡ n = omega arith in let there : a + zero ≡ a = omega arith in rw (none, there) refl
-      parts a (suc m) =
-          let more : suc m + n ≡ suc (m + n) = omega arith in
-          let there : a + suc m ≡ (a + 1) + m = omega arith in
-          rw (more, there) (ap (λ (ps : List ℕ). a ∷ ps) (parts (a + 1) m))
-
   cut_at : (a c b : ℕ) → a ≤ c → c ≤ b → filter t (range_with_len a (b - a)) ≡ filter t (range_with_len a (c - a)) ++ filter t (range_with_len c (b - c))
   cut_at a c b from to =
       let parts : b - a ≡ (c - a) + (b - c) = omega arith in
       let there : a + (c - a) ≡ c = omega arith in
-      rw parts (filter_parts a (c - a) (b - c) ∙ rw there refl)
+      rw parts (ap (filter t) (range_append a (c - a) (b - c)) ∙ filter-append t (range_with_len a (c - a)) (range_with_len (a + (c - a)) (b - c)) ∙ rw there refl)
 
   -- from a on and below b: nothing between a and c passes, so it may begin at c
   pub skip_front : (a c b : ℕ) → a ≤ c → ((q : ℕ) → a ≤ q → q < c → t q ≡ false) → filter t (range_with_len a (b - a)) ≡ filter t (range_with_len c (b - c))
@@ -63,8 +49,8 @@ module _ (t : ℕ → Bool) where
       elim (cases_lt b c) [
         | inl short ↦
             let none : b - c ≡ 0 = omega arith in
-            rw none (filter_none a (b - a) (λ q from below. fails q from (omega arith)))
-        | inr long ↦ cut_at a c b order long ∙ rw (filter_none a (c - a) (λ q from below. fails q from (omega arith))) refl
+            rw none (range_filter_none t a (b - a) (λ q from below. fails q from (omega arith)))
+        | inr long ↦ cut_at a c b order long ∙ rw (range_filter_none t a (c - a) (λ q from below. fails q from (omega arith))) refl
       ]
 
   -- nothing between c and b passes, so it may end at c
@@ -73,8 +59,8 @@ module _ (t : ℕ → Bool) where
       elim (cases_lt c a) [
         | inl short ↦
             let none : c - a ≡ 0 = omega arith in
-            rw none (filter_none a (b - a) (λ q from below. fails q (omega arith) (omega arith)))
-        | inr long ↦ cut_at a c b long order ∙ rw (filter_none c (b - c) (λ q from below. fails q from (omega arith)), append-nil) refl
+            rw none (range_filter_none t a (b - a) (λ q from below. fails q (omega arith) (omega arith)))
+        | inr long ↦ cut_at a c b long order ∙ rw (range_filter_none t c (b - c) (λ q from below. fails q from (omega arith)), append-nil) refl
       ]
 
   -- the first and the last of the numbers that pass
@@ -86,14 +72,6 @@ module _ (t : ℕ → Bool) where
   last_passes a p le is = let one : (p + 1) - p ≡ 1 = omega arith in cut_at a p (p + 1) le (omega arith) ∙ rw (one, is) refl
 
 module _ (t u : ℕ → Bool) where
-  -- tests that agree on a range list the same
-  pub filter_alike : (a n : ℕ) → ((q : ℕ) → a ≤ q → q < a + n → t q ≡ u q) → filter t (range_with_len a n) ≡ filter u (range_with_len a n)
-  filter_alike a zero alike = refl
-  filter_alike a (suc n) alike =
-      let rest : filter t (range_with_len (a + 1) n) ≡ filter u (range_with_len (a + 1) n) =
-      filter_alike (a + 1) n (λ q from below. alike q (omega arith) (omega arith)) in
-      rw (alike a (omega arith) (omega arith), rest) refl
-
   -- one more number passes
   pub length_one_more : (a n p : ℕ) → a ≤ p → p < a + n → t p ≡ false → u p ≡ true → ((q : ℕ) → q ≢ p → t q ≡ u q)
       → length (filter u (range_with_len a n)) ≡ length (filter t (range_with_len a n)) + 1
@@ -101,7 +79,7 @@ module _ (t u : ℕ → Bool) where
   length_one_more a (suc n) p from below out in_set others =
       elim (cases_eq a p) [
         | inl here ↦
-            rw (ap t here ∙ out, ap u here ∙ in_set, filter_alike (a + 1) n (λ q from below. others q (λ e. absurd (omega arith)))) (omega arith)
+            rw (ap t here ∙ out, ap u here ∙ in_set, range_filter_same t u (a + 1) n (λ q from below. others q (λ e. absurd (omega arith)))) (omega arith)
         | inr other ↦
             let rest : length (filter u (range_with_len (a + 1) n)) ≡ length (filter t (range_with_len (a + 1) n)) + 1 =
             length_one_more (a + 1) n p (omega arith) (omega arith) out in_set others in
@@ -114,7 +92,7 @@ pub length_filter_le : (t : ℕ → Bool) (a n : ℕ) → length (filter t (rang
 length_filter_le t a n =
     omega (arith, length-filter t (range_with_len a n), count_by-le-length t (range_with_len a n), length-range_with_len a n)
 
--- ---- the test of membership, in std's words
+-- ---- the test of membership, in std's blocks
 
 to_contains : (members : List ℕ) (p : ℕ) → has_member members p ≡ true → Contains members p
 to_contains [] p h = absurd (true≢false (sym h))
@@ -154,18 +132,18 @@ no_member (m ∷ ms) a above =
 
 filtered : (ms : List ℕ) (a n : ℕ) → AllPairs (λ x y. x < y) ms → All (λ p. a ≤ p) ms → All (λ p. p < a + n) ms
     → filter (has_member ms) (range_with_len a n) ≡ ms
-filtered [] a n pairs low high = filter_none (has_member []) a n (λ q from below. refl)
+filtered [] a n pairs low high = range_filter_none (has_member []) a n (λ q from below. refl)
 filtered (m ∷ ms) a zero pairs low high = absurd (omega (arith, All-head (λ p. a ≤ p) m ms low, All-head (λ p. p < a + zero) m ms high))
 filtered (m ∷ ms) a (suc n) pairs low high =
-    let place : a + suc n ≡ (a + 1) + n = omega arith in
+    let index : a + suc n ≡ (a + 1) + n = omega arith in
     let later : All (λ p. m < p) ms = λ k d lt. pairs zero (suc k) d (omega arith) (omega (arith, lt)) in
     let rest : AllPairs (λ x y. x < y) ms = λ i j d order lt. pairs (suc i) (suc j) d (omega (arith, order)) (omega (arith, lt)) in
-    let within : All (λ p. p < (a + 1) + n) (m ∷ ms) = rw place at high in
+    let within : All (λ p. p < (a + 1) + n) (m ∷ ms) = rw index at high in
     elim (cases_eq m a) [
       | inl here ↦
           let above : All (λ p. a + 1 ≤ p) ms = All-weaker (λ p. m < p) (λ p. a + 1 ≤ p) (λ p lt. omega (arith, here, lt)) ms later in
           let same : filter (has_member (m ∷ ms)) (range_with_len (a + 1) n) ≡ filter (has_member ms) (range_with_len (a + 1) n) =
-          filter_alike (has_member (m ∷ ms)) (has_member ms) (a + 1) n (λ q from below. rw (ne_eqb m q (λ e. omega (arith, e, here, from))) refl) in
+          range_filter_same (has_member (m ∷ ms)) (has_member ms) (a + 1) n (λ q from below. rw (ne_eqb m q (λ e. omega (arith, e, here, from))) refl) in
           rw (eq-eqb m a here) (ap (λ (ps : List ℕ). a ∷ ps) (same ∙ filtered ms (a + 1) n rest above (All-tail (λ p. p < (a + 1) + n) m ms within))
           ∙ ap (λ x. x ∷ ms) (sym here))
       | inr other ↦
@@ -184,7 +162,7 @@ one_more s p is_set below =
     let all : numbers_below s.capacity (has_member s.members) ≡ s.members =
     filtered s.members 0 s.capacity (AllPairs-from_increasing s.members is_set.ascending) (λ k d lt. omega arith) within in
     elim (cases_Bool (has_member s.members p)) [
-      | inl is ↦ rw is (ap length (filter_alike (λ q. eqb q p || has_member s.members q) (has_member s.members) 0 s.capacity (λ q from lt. had is q) ∙
+      | inl is ↦ rw is (ap length (range_filter_same (λ q. eqb q p || has_member s.members q) (has_member s.members) 0 s.capacity (λ q from lt. had is q) ∙
           all))
       | inr out ↦ rw out (length_one_more (has_member s.members) (λ q. eqb q p || has_member s.members q) 0 s.capacity p (omega arith)
           (omega (arith, below)) out (rw (eq-eqb p p refl) refl) (λ q ne. rw (ne_eqb q p ne) refl) ∙ ap (λ (ms : List ℕ). length ms + 1) all)

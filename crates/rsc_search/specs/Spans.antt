@@ -7,11 +7,11 @@ use Rattle.rsc_search.specs.declared.span.Span.{Span}
 abbrev pub same_span : Span → Span → Bool
 same_span s t = s.start == t.start && s.end == t.end
 
--- the place is the end of the text, or a byte is there that continues no character
+-- the position is the end of the text, or a byte is there that continues no character
 abbrev pub is_boundary : List ℕ → ℕ → Bool
 is_boundary text i = i == length text || (nat_lt i (length text) && (nat_le (slice_index text i) 0x7F || nat_le 0xC0 (slice_index text i)))
 
--- the bytes from the span's start to its end, where these are places of the haystack in this order
+-- the bytes from the span's start to its end, where these are positions of the haystack in this order
 abbrev pub cut : List ℕ → Span → Option (List ℕ)
 cut haystack s = if nat_le s.start s.end && nat_le s.end (length haystack) then Some (slice_range haystack s.start s.end) else None
 

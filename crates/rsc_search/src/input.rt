@@ -257,7 +257,7 @@ impl<'h> Input<'h> {
         self.earliest
     }
 
-    /// Whether a position is a character boundary: the haystack's length, or the place of a byte that continues no
+    /// Whether a position is a character boundary: the haystack's length, or the position of a byte that continues no
     /// character. Any number is allowed; above the length it is false. In valid UTF-8 it is true exactly where a
     /// character begins and at the end.
     #[inline]

@@ -22,7 +22,7 @@ pub mod laws;
 mod matches;
 mod pattern_set;
 mod span;
-mod words;
+mod blocks;
 
 pub use anchored::{Anchored, MatchKind};
 pub use error::{MatchError, MatchErrorKind};

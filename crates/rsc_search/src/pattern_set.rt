@@ -1,6 +1,6 @@
 //! Sets of patterns.
 //!
-//! A set is held as one bit for each number below its capacity. The Rust has a list of `bool`s: a word answers for 64 of them at
+//! A set is held as one bit for each number below its capacity. The Rust has a list of `bool`s: a block answers for 64 of them at
 //! once, where a set is cleared, compared, or gone through.
 ghost use Rattle.std.specs.Prelude.{◌≡◌, ℕ, ◌-◌, ◌<◌, ◌≤◌, ◌↔◌, ◌+◌, if◌then◌else◌, true, false, not, All, length, IsTrue, IsOk, IfOk, IfErr, IfSome, OnOk, OnErr, Some};
 ghost use Rattle.std.specs.List.Sorted.{IsStrictlyIncreasing};
@@ -9,7 +9,7 @@ ghost use Rattle.rsc_search.specs.PatternSets.{Patterns, IsSet, no_patterns, has
 mod error;
 mod iter;
 
-use crate::words::{BITS, clear_all, has_bit, have_same_bits, with_bit, word_at};
+use crate::blocks::{BITS, clear_all, have_same_bits, is_bit_set, with_bit, block_at};
 pub use error::PatternSetInsertError;
 pub use iter::PatternSetIter;
 use rsc_primitives::PatternID;
@@ -31,21 +31,21 @@ use std::marker::Model;
 /// ```
 #[derive(Debug, Drop)]
 pub struct PatternSet<A: Allocator = Global> {
-    // Pattern `p` is a member where bit `p % 64` of word `p / 64` is set.
-    words: Vec<u64, A>,
+    // Pattern `p` is a member where bit `p % 64` of block `p / 64` is set.
+    blocks: Vec<u64, A>,
     capacity: usize,
     count: usize,
 }
 
 impl<A: Allocator> Model for PatternSet<A> {
     ghost use Rattle.rsc_search.specs.PatternSets.{Patterns};
-    ghost use Rattle.rsc_search.specs.PatternSetLayout.{patterns_of, IsPacked};
+    ghost use Rattle.rsc_search.specs.PatternSetLayout.{patterns_held, IsPacked};
 
     ghost Value = { Patterns };
 
-    ghost view = { λ s. patterns_of s.capacity s.words.items };
+    ghost view = { λ s. patterns_held s.capacity s.blocks.items };
 
-    ghost invariant = { λ s. IsPacked s.capacity s.words.items s.count };
+    ghost invariant = { λ s. IsPacked s.capacity s.blocks.items s.count };
 }
 
 impl<A: Allocator> PatternSet<A> {
@@ -59,7 +59,7 @@ impl<A: Allocator> PatternSet<A> {
         ensures { IfOk result (λ set. set ≡ no_patterns capacity) }
     {
         Ok(PatternSet {
-            words: vec![in alloc; 0; capacity.div_ceil(BITS)]?,
+            blocks: vec![in alloc; 0; capacity.div_ceil(BITS)]?,
             capacity,
             count: 0,
         })
@@ -69,7 +69,7 @@ impl<A: Allocator> PatternSet<A> {
     pub fn clear(&mut self)
         ensures { self.new ≡ no_patterns self.old.capacity }
     {
-        clear_all(self.words.as_mut_slice());
+        clear_all(self.blocks.as_mut_slice());
         self.count = 0;
     }
 
@@ -81,7 +81,7 @@ impl<A: Allocator> PatternSet<A> {
         ensures set { IsSet self.now }
     {
         let p = pid.as_usize();
-        has_bit(word_at(self.words.as_slice(), p / BITS), p % BITS)
+        is_bit_set(block_at(self.blocks.as_slice(), p / BITS), p % BITS)
     }
 
     /// Makes a pattern below the capacity a member, and says whether it is new.
@@ -94,12 +94,12 @@ impl<A: Allocator> PatternSet<A> {
         ensures most { length self.new.members ≤ self.new.capacity }
     {
         let p = pid.as_usize();
-        let word = self.words[p / BITS];
-        let more = with_bit(word, p % BITS);
-        if more == word {
+        let block = self.blocks[p / BITS];
+        let more = with_bit(block, p % BITS);
+        if more == block {
             return false;
         }
-        self.words[p / BITS] = more;
+        self.blocks[p / BITS] = more;
         self.count += 1;
         true
     }
@@ -180,14 +180,14 @@ impl<A: Allocator> PatternSet<A> {
         ensures contained { All (λ p. has_member self.now.members p ≡ true) result }
         ensures set { IsSet self.now }
     {
-        let words = self.words.as_slice();
-        let last = words.len().saturating_sub(1);
+        let blocks = self.blocks.as_slice();
+        let last = blocks.len().saturating_sub(1);
         PatternSetIter {
-            words,
+            blocks,
             front_index: 0,
-            front: word_at(words, 0),
+            front: block_at(blocks, 0),
             back_index: last,
-            back: word_at(words, last),
+            back: block_at(blocks, last),
             left: self.count,
         }
     }
@@ -203,7 +203,7 @@ impl<A: Allocator + Clone + Drop> PatternSet<A> {
         ensures { IfOk result (λ set. set ≡ self.now) }
     {
         Ok(PatternSet {
-            words: self.words.clone()?,
+            blocks: self.blocks.clone()?,
             capacity: self.capacity,
             count: self.count,
         })
@@ -220,7 +220,7 @@ impl<A: Allocator> PartialEq for PatternSet<A> {
 
     fn eq(&self, other: &Self) -> bool {
         self.capacity == other.capacity
-            && have_same_bits(self.words.as_slice(), other.words.as_slice())
+            && have_same_bits(self.blocks.as_slice(), other.blocks.as_slice())
     }
 }
 

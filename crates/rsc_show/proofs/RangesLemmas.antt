@@ -7,19 +7,19 @@ use Rattle.rsc_alphabet.specs.Partitions.{class_map}
 use Rattle.rsc_look.specs.declared.assertion.Look.{Look}
 use Rattle.rsc_look.specs.Boundaries.{boundaries_of}
 use Rattle.rsc_look.specs.Keeping.{IsCoarsestMap, IsExactFor, IsNeeded, Keeps}
-use Rattle.rsc_look.specs.KeepingLaws.{only}
-use Rattle.rsc_show.specs.Ranges.{HasEdge, IsCoarsestParting, IsEdge, IsOfLook, Parts}
+use Rattle.rsc_look.specs.KeepingLaws.{same_as_only}
+use Rattle.rsc_show.specs.Ranges.{HasBoundary, IsCoarsestParting, IsBoundary, IsOfLook, Parts}
 
 -- one more range parts, if its edges are added and no boundary is lost
 pub parts_more : (p q : ℕ → Bool) (ranges : List (ℕ × ℕ)) (r : ℕ × ℕ) → ((b : ℕ) → p b ≡ true → q b ≡ true)
-    → (r.0 ≤ r.1 → (b : ℕ) → b < 255 → IsEdge b r → q b ≡ true) → Parts p ranges → Parts q (ranges ++ r ∷ [])
+    → (r.0 ≤ r.1 → (b : ℕ) → b < 255 → IsBoundary b r → q b ≡ true) → Parts p ranges → Parts q (ranges ++ r ∷ [])
 parts_more p q ranges r grows added before = λ x inside fills b lt edge.
     ⊎_elim (λ (old : Contains ranges x). grows b (before x old fills b lt edge))
-    (λ (same : r ≡ x). added (subst (λ y. y.0 ≤ y.1) (sym same) fills) b lt (subst (λ y. IsEdge b y) (sym same) edge))
+    (λ (same : r ≡ x). added (subst (λ y. y.0 ≤ y.1) (sym same) fills) b lt (subst (λ y. IsBoundary b y) (sym same) edge))
     (Contains-push_cases ranges r x inside)
 
 -- an edge of one of the ranges is one of them and one more
-pub edge_kept : (b : ℕ) (ranges : List (ℕ × ℕ)) (r : ℕ × ℕ) → HasEdge b ranges → HasEdge b (ranges ++ r ∷ [])
+pub edge_kept : (b : ℕ) (ranges : List (ℕ × ℕ)) (r : ℕ × ℕ) → HasBoundary b ranges → HasBoundary b (ranges ++ r ∷ [])
 edge_kept b ranges r e = record {
   range = e.range;
   listed = Contains-append_left ranges (r ∷ []) e.range e.listed;
@@ -27,19 +27,19 @@ edge_kept b ranges r e = record {
   edge = e.edge;
 }
 
-pub edge_added : (b : ℕ) (ranges : List (ℕ × ℕ)) (r : ℕ × ℕ) → r.0 ≤ r.1 → IsEdge b r → HasEdge b (ranges ++ r ∷ [])
+pub edge_added : (b : ℕ) (ranges : List (ℕ × ℕ)) (r : ℕ × ℕ) → r.0 ≤ r.1 → IsBoundary b r → HasBoundary b (ranges ++ r ∷ [])
 edge_added b ranges r fills edge = record { range = r; listed = Contains-push ranges r; holds_a_byte = fills; edge = edge }
 
 keeps_one : (q : ℕ → Bool) (looks : List Look) (l : Look) (t : ℕ) (W : ℕ → Bool) → Contains looks l → Keeps q looks t W → Keeps q (l ∷ []) t W
 keeps_one q looks l t W listed keeps = record {
-  at_bytes = λ m here. keeps.at_bytes m (subst (λ x. Contains looks x) (only l m here) listed);
-  at_characters = λ m here. keeps.at_characters m (subst (λ x. Contains looks x) (only l m here) listed);
+  at_bytes = λ m here. keeps.at_bytes m (subst (λ x. Contains looks x) (same_as_only l m here) listed);
+  at_characters = λ m here. keeps.at_characters m (subst (λ x. Contains looks x) (same_as_only l m here) listed);
 }
 
 needed_in : (b : ℕ) (looks : List Look) (l : Look) (t : ℕ) (W : ℕ → Bool) → Contains looks l → IsNeeded b (l ∷ []) t W → IsNeeded b looks t W
 needed_in b looks l t W listed needed = record {
   look = needed.look;
-  listed = subst (λ x. Contains looks x) (only l needed.look needed.listed) listed;
+  listed = subst (λ x. Contains looks x) (same_as_only l needed.look needed.listed) listed;
   position = needed.position;
   at_an_end = needed.at_an_end;
   tells = needed.tells;
@@ -48,18 +48,18 @@ needed_in b looks l t W listed needed = record {
 -- a partition that keeps and parts, and has no boundary but those of assertions and edges, is the coarsest one
 pub coarsest_parting : (p : ℕ → Bool) (ranges : List (ℕ × ℕ)) (looks : List Look) (t : ℕ) (W : ℕ → Bool)
     → ((l : Look) → IsExactFor (sets.contains (boundaries_of l t)) l t W) → Keeps p looks t W → Parts p ranges
-    → ((b : ℕ) → b < 255 → p b ≡ true → HasEdge b ranges ⊎ IsOfLook b looks t) → IsCoarsestParting (class_map p) ranges looks t W
+    → ((b : ℕ) → b < 255 → p b ≡ true → HasBoundary b ranges ⊎ IsOfLook b looks t) → IsCoarsestParting (class_map p) ranges looks t W
 coarsest_parting p ranges looks t W exact keeps parts only = record {
   boundaries = p;
   classes = refl;
   keeps = keeps;
   parts = parts;
   least = λ q kept parted b lt e.
-      ⊎_elim (λ (h : HasEdge b ranges). parted h.range h.listed h.holds_a_byte b lt h.edge)
+      ⊎_elim (λ (h : HasBoundary b ranges). parted h.range h.listed h.holds_a_byte b lt h.edge)
       (λ (f : IsOfLook b looks t). (exact f.look).least q (keeps_one q looks f.look t W f.listed kept) b lt f.boundary)
       (only b lt e);
   needed = λ b lt e.
-      ⊎_elim (λ (h : HasEdge b ranges). inr h)
+      ⊎_elim (λ (h : HasBoundary b ranges). inr h)
       (λ (f : IsOfLook b looks t). inl (needed_in b looks f.look t W f.listed ((exact f.look).needed b lt f.boundary)))
       (only b lt e);
 }
@@ -75,25 +75,25 @@ without_ranges m looks t W c = record {
   };
   needed = λ b lt e.
       ⊎_elim (λ (n : IsNeeded b looks t W). n)
-      (λ (h : HasEdge b []). let inside = h.listed.1 in absurd (omega (arith, inside)))
+      (λ (h : HasBoundary b []). let inside = h.listed.1 in absurd (omega (arith, inside)))
       (c.needed b lt e);
 }
 
 -- the same without ranges
 pub coarsest_map : (p : ℕ → Bool) (ranges : List (ℕ × ℕ)) (looks : List Look) (t : ℕ) (W : ℕ → Bool)
     → ((l : Look) → IsExactFor (sets.contains (boundaries_of l t)) l t W) → Keeps p looks t W → Parts p ranges
-    → ((b : ℕ) → b < 255 → p b ≡ true → HasEdge b ranges ⊎ IsOfLook b looks t) → ranges ≡ [] → IsCoarsestMap (class_map p) looks t W
+    → ((b : ℕ) → b < 255 → p b ≡ true → HasBoundary b ranges ⊎ IsOfLook b looks t) → ranges ≡ [] → IsCoarsestMap (class_map p) looks t W
 coarsest_map p ranges looks t W exact keeps parts only none =
     without_ranges (class_map p) looks t W
     (subst (λ r. IsCoarsestParting (class_map p) r looks t W) none (coarsest_parting p ranges looks t W exact keeps parts only))
 
 -- the set has the edges of the ranges, and no others
-abbrev pub HasEdgesOf : (ℕ → Bool) → List (ℕ × ℕ) → Type 0
-HasEdgesOf p ranges = Parts p ranges × ((b : ℕ) → b < 255 → p b ≡ true → HasEdge b ranges)
+abbrev pub AreBoundariesOf : (ℕ → Bool) → List (ℕ × ℕ) → Type 0
+AreBoundariesOf p ranges = Parts p ranges × ((b : ℕ) → b < 255 → p b ≡ true → HasBoundary b ranges)
 
 -- and so it has with those of one more range that holds a byte
 pub edges_added : (p q edges : ℕ → Bool) (ranges : List (ℕ × ℕ)) (r : ℕ × ℕ) → ((b : ℕ) → q b ≡ (p b || edges b))
-    → ((b : ℕ) → b < 255 → (edges b ≡ true) ↔ IsEdge b r) → r.0 ≤ r.1 → HasEdgesOf p ranges → HasEdgesOf q (ranges ++ r ∷ [])
+    → ((b : ℕ) → b < 255 → (edges b ≡ true) ↔ IsBoundary b r) → r.0 ≤ r.1 → AreBoundariesOf p ranges → AreBoundariesOf q (ranges ++ r ∷ [])
 edges_added p q edges ranges r joined edge fills before = (
   parts_more p q ranges r (λ b e. joined b ∙ or_left (p b) (edges b) e)
       (λ _ b lt at. joined b ∙ or_right (p b) (edges b) ((edge b lt).1 at)) before.0,
@@ -104,7 +104,7 @@ edges_added p q edges ranges r joined edge fills before = (
 )
 
 -- and as it is, with one more range that holds none
-pub edges_as_they_are : (p : ℕ → Bool) (ranges : List (ℕ × ℕ)) (r : ℕ × ℕ) → ¬ (r.0 ≤ r.1) → HasEdgesOf p ranges → HasEdgesOf p (ranges ++ r ∷ [])
+pub edges_as_they_are : (p : ℕ → Bool) (ranges : List (ℕ × ℕ)) (r : ℕ × ℕ) → ¬ (r.0 ≤ r.1) → AreBoundariesOf p ranges → AreBoundariesOf p (ranges ++ r ∷ [])
 edges_as_they_are p ranges r empty before = (
   parts_more p p ranges r (λ b e. e) (λ fills. absurd (empty fills)) before.0,
   λ b lt e. edge_kept b ranges r (before.1 b lt e),

@@ -35,8 +35,8 @@ haystack_arguments false (a ∷ rest) =
     if takes_value a then haystack_arguments true rest else (if begins_haystack a then a ∷ rest else haystack_arguments false rest)
 
 -- the haystack that these arguments give
-abbrev pub IsHaystack : List (List ℕ) → Haystack → Type 0
-IsHaystack arguments Missing = arguments ≡ []
-IsHaystack arguments (Given bytes) =
+abbrev pub IsGiven : List (List ℕ) → Haystack → Type 0
+IsGiven arguments Missing = arguments ≡ []
+IsGiven arguments (Given bytes) =
     (arguments ≡ codes "--" ∷ bytes.items ∷ []) ⊎ ((text : List ℕ) × (arguments ≡ codes "--hex" ∷ text ∷ []) × (decode_of text ≡ Ok bytes.items))
-IsHaystack arguments Standard = arguments ≡ codes "-" ∷ []
+IsGiven arguments Standard = arguments ≡ codes "-" ∷ []

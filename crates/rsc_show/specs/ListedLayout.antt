@@ -5,7 +5,7 @@ use Rattle.rsc_show.specs.declared.arguments.Next.{Next}
 use Rattle.rsc_show.specs.declared.arguments.Next.TheVariants.{Plain, Terminator, Words, Range, Color, Hex, Text, Nothing}
 use Rattle.rsc_show.specs.declared.arguments.Haystack.{Haystack}
 use Rattle.rsc_show.specs.declared.arguments.Haystack.TheVariants.{Missing}
-use Rattle.rsc_show.specs.Listed.{haystack_arguments, IsHaystack, listed}
+use Rattle.rsc_show.specs.Listed.{haystack_arguments, IsGiven, listed}
 
 -- the assertions that the rest lists, by what its first argument is
 abbrev pub left_of : Next → List (List ℕ) → List Look
@@ -27,4 +27,4 @@ SoFar Range h rest so_far = (so_far ≡ Missing) × (h ≡ haystack_arguments tr
 SoFar Color h rest so_far = (so_far ≡ Missing) × (h ≡ haystack_arguments true rest)
 SoFar Hex h rest so_far = (so_far ≡ Missing) × (h ≡ codes "--hex" ∷ rest)
 SoFar Text h rest so_far = (so_far ≡ Missing) × (h ≡ codes "--" ∷ rest)
-SoFar Nothing h rest so_far = (written : List (List ℕ)) × (h ≡ written ++ rest) × IsHaystack written so_far
+SoFar Nothing h rest so_far = (written : List (List ℕ)) × (h ≡ written ++ rest) × IsGiven written so_far

@@ -13,10 +13,10 @@ pub record IsSecond (groups : Groups) (name : List ℕ) (g : ℕ) : Type 0 where
 
 -- the pattern and its group that are reached with one more byte: 59 is `;`, after which the next pattern begins, and 44 is `,`, after which its next
 -- group does
-abbrev pub place_after : ℕ × ℕ → ℕ → ℕ × ℕ
-place_after at b = if b == 59 then (at.0 + 1, 0) else (if b == 44 then (at.0, at.1 + 1) else at)
+abbrev pub group_after : ℕ × ℕ → ℕ → ℕ × ℕ
+group_after at b = if b == 59 then (at.0 + 1, 0) else (if b == 44 then (at.0, at.1 + 1) else at)
 
 -- and with a text
 abbrev pub reached : ℕ × ℕ → List ℕ → ℕ × ℕ
 reached at [] = at
-reached at (b ∷ rest) = reached (place_after at b) rest
+reached at (b ∷ rest) = reached (group_after at b) rest

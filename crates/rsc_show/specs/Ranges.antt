@@ -8,15 +8,15 @@ use Rattle.rsc_look.specs.Boundaries.{boundaries_of}
 use Rattle.rsc_look.specs.Keeping.{IsNeeded, Keeps}
 
 -- the range begins at the byte after b, or ends at b
-abbrev pub IsEdge : ℕ → ℕ × ℕ → Type 0
-IsEdge b r = (b + 1 ≡ r.0) ⊎ (b ≡ r.1)
+abbrev pub IsBoundary : ℕ → ℕ × ℕ → Type 0
+IsBoundary b r = (b + 1 ≡ r.0) ⊎ (b ≡ r.1)
 
 -- a listed range that holds a byte begins or ends there
-pub record HasEdge (b : ℕ) (ranges : List (ℕ × ℕ)) : Type 0 where
+pub record HasBoundary (b : ℕ) (ranges : List (ℕ × ℕ)) : Type 0 where
   pub range : ℕ × ℕ
   pub listed : Contains ranges range
   pub holds_a_byte : range.0 ≤ range.1
-  pub edge : IsEdge b range
+  pub edge : IsBoundary b range
 
 -- a listed assertion has the boundary
 pub record IsOfLook (b : ℕ) (looks : List Look) (t : ℕ) : Type 0 where
@@ -26,7 +26,7 @@ pub record IsOfLook (b : ℕ) (looks : List Look) (t : ℕ) : Type 0 where
 
 -- the partition has a boundary where a listed range that holds a byte begins or ends
 abbrev pub Parts : (ℕ → Bool) → List (ℕ × ℕ) → Type 0
-Parts p ranges = (r : ℕ × ℕ) → Contains ranges r → r.0 ≤ r.1 → (b : ℕ) → b < 255 → IsEdge b r → p b ≡ true
+Parts p ranges = (r : ℕ × ℕ) → Contains ranges r → r.0 ≤ r.1 → (b : ℕ) → b < 255 → IsBoundary b r → p b ≡ true
 
 -- the map is the class map of the coarsest partition that keeps the assertions and parts the ranges; at each of its boundaries an
 -- assertion tells the two bytes apart, or a range begins or ends
@@ -36,4 +36,4 @@ pub record IsCoarsestParting (m : List ℕ) (ranges : List (ℕ × ℕ)) (looks 
   pub keeps : Keeps boundaries looks t W
   pub parts : Parts boundaries ranges
   pub least : (q : ℕ → Bool) → Keeps q looks t W → Parts q ranges → (b : ℕ) → b < 255 → boundaries b ≡ true → q b ≡ true
-  pub needed : (b : ℕ) → b < 255 → boundaries b ≡ true → IsNeeded b looks t W ⊎ HasEdge b ranges
+  pub needed : (b : ℕ) → b < 255 → boundaries b ≡ true → IsNeeded b looks t W ⊎ HasBoundary b ranges

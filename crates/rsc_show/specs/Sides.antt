@@ -5,18 +5,18 @@ use Rattle.rsc_show.specs.declared.positions.Side.{Side}
 use Rattle.rsc_show.specs.declared.positions.Side.TheVariants.{Character, Edge, Inside, NoCharacter}
 
 -- what is before the position i of h
-abbrev pub IsBefore : List ℕ → ℕ → Side → Type 0
-IsBefore h i Edge = i ≡ 0
-IsBefore h i (Character c) = EndsAt h i c
-IsBefore h i Inside = IsInside h i
-IsBefore h i NoCharacter = (0 < i) × ((c : ℕ) → ¬ (EndsAt h i c)) × ¬ (IsInside h i)
+abbrev pub IsPrevious : List ℕ → ℕ → Side → Type 0
+IsPrevious h i Edge = i ≡ 0
+IsPrevious h i (Character c) = EndsAt h i c
+IsPrevious h i Inside = IsInside h i
+IsPrevious h i NoCharacter = (0 < i) × ((c : ℕ) → ¬ (EndsAt h i c)) × ¬ (IsInside h i)
 
 -- what is after it
-abbrev pub IsAfter : List ℕ → ℕ → Side → Type 0
-IsAfter h i Edge = i ≡ length h
-IsAfter h i (Character c) = BeginsAt h i c
-IsAfter h i Inside = IsInside h i
-IsAfter h i NoCharacter = (i < length h) × ((c : ℕ) → ¬ (BeginsAt h i c)) × ¬ (IsInside h i)
+abbrev pub IsNext : List ℕ → ℕ → Side → Type 0
+IsNext h i Edge = i ≡ length h
+IsNext h i (Character c) = BeginsAt h i c
+IsNext h i Inside = IsInside h i
+IsNext h i NoCharacter = (i < length h) × ((c : ℕ) → ¬ (BeginsAt h i c)) × ¬ (IsInside h i)
 
 -- a character begins at s and ends after i
 pub record ReachesPast (h : List ℕ) (s i : ℕ) : Type 0 where

@@ -4,10 +4,10 @@ ghost use Rattle.std.specs.FinSet as sets;
 ghost use Rattle.rsc_alphabet.specs.Iterators.{symbol_count};
 ghost use Rattle.rsc_look.specs.Keeping.{IsCoarsestMap, Keeps};
 ghost use Rattle.rsc_show.specs.Chosen.{chosen_words};
-ghost use Rattle.rsc_show.specs.Ranges.{HasEdge, IsCoarsestParting, IsOfLook, Parts};
+ghost use Rattle.rsc_show.specs.Ranges.{HasBoundary, IsCoarsestParting, IsOfLook, Parts};
 
 use crate::choices::{Words, words_agree};
-use rsc_alphabet::laws::edges_part_a_range;
+use rsc_alphabet::laws::boundaries_part_a_range;
 use rsc_alphabet::{ByteClassSet, ByteClasses};
 use rsc_look::laws::{boundaries_are_exact, kept_lists_are_joined};
 use rsc_look::{Look, LookMatcher};
@@ -26,7 +26,7 @@ pub fn classes_of(matcher: &LookMatcher<Words>, looks: &[Look], ranges: &[(u8, u
 fn alphabet_of(matcher: &LookMatcher<Words>, looks: &[Look], ranges: &[(u8, u8)]) -> ByteClassSet
     ensures keeps { Keeps (sets.contains result) looks.now matcher.now.0 (chosen_words matcher.now.1) }
     ensures parts { Parts (sets.contains result) ranges.now }
-    ensures only { (b : ℕ) → b < 255 → sets.contains result b ≡ true → HasEdge b ranges.now ⊎ IsOfLook b looks.now matcher.now.0 }
+    ensures only { (b : ℕ) → b < 255 → sets.contains result b ≡ true → HasBoundary b ranges.now ⊎ IsOfLook b looks.now matcher.now.0 }
 {
     words_agree();
     kept_lists_are_joined();
@@ -40,9 +40,9 @@ fn alphabet_of(matcher: &LookMatcher<Words>, looks: &[Look], ranges: &[(u8, u8)]
 // The edges of ranges.
 fn set_of(ranges: &[(u8, u8)]) -> ByteClassSet
     ensures parts { Parts (sets.contains result) ranges.now }
-    ensures only { (b : ℕ) → b < 255 → sets.contains result b ≡ true → HasEdge b ranges.now }
+    ensures only { (b : ℕ) → b < 255 → sets.contains result b ≡ true → HasBoundary b ranges.now }
 {
-    edges_part_a_range();
+    boundaries_part_a_range();
     let mut set = ByteClassSet::empty();
     for (start, end) in ranges {
         if *start <= *end {

@@ -4,7 +4,7 @@ ghost use Rattle.std.specs.String.{string_bytes};
 ghost use Rattle.hex.specs.Hex.{decode_of};
 ghost use Rattle.rsc_show.specs.declared.arguments.Haystack.{Haystack};
 ghost use Rattle.rsc_show.specs.declared.arguments.Next.{Next};
-ghost use Rattle.rsc_show.specs.Listed.{haystack_arguments, IsHaystack, listed};
+ghost use Rattle.rsc_show.specs.Listed.{haystack_arguments, IsGiven, listed};
 ghost use Rattle.rsc_show.specs.ListedLayout.{left_of, SoFar};
 
 use crate::choices::{Color, Words, color_of, words_of};
@@ -91,7 +91,7 @@ impl Request {
 pub fn parse(alloc: Global, arguments: &[String]) -> Result<Request, ShowError>
     ensures ranges { IfOk result (λ request. All (λ r. r.0 ≤ r.1) request.ranges.items) }
     ensures looks { IfOk result (λ request. request.looks.items ≡ listed false (map (λ a. string_bytes a) arguments.now)) }
-    ensures haystack { IfOk result (λ request. IsHaystack (haystack_arguments false (map (λ a. string_bytes a) arguments.now)) request.haystack) }
+    ensures haystack { IfOk result (λ request. IsGiven (haystack_arguments false (map (λ a. string_bytes a) arguments.now)) request.haystack) }
 {
     let mut request = Request {
         terminator: b'\n',

@@ -2,7 +2,7 @@
 ghost use Rattle.std.specs.Prelude.{◌≡◌, ◌≢◌, ◌≤◌, ◌<◌, ◌+◌, ◌↔◌, ℕ, false, IsTrue, length, take, slice_index_or, IfSome, IsNone, None};
 ghost use Rattle.std.specs.Option.{option_copied};
 ghost use Rattle.rsc_captures.specs.Groups.{groups_in, has_name};
-ghost use Rattle.rsc_show.specs.Pointers.{place_after, IsSecond, reached};
+ghost use Rattle.rsc_show.specs.Pointers.{group_after, IsSecond, reached};
 ghost use Rattle.rsc_show.specs.PointersLayout.{IsFirstNamed};
 
 use crate::error::{ShowError, refused};
@@ -89,7 +89,7 @@ fn refusal(
     let mut page = Page::new(alloc);
     page.push_str(lists);
     page.push('\n');
-    page.push_spaces(place_of(lists.as_bytes(), pattern, group));
+    page.push_spaces(index_in_text(lists.as_bytes(), pattern, group));
     let _ = write!(page, "^\nrefused: {error}\n");
     Ok(page.finish()?)
 }
@@ -117,10 +117,10 @@ fn named_from(groups: &[Option<&str>], name: &str, from: usize) -> Option<usize>
     ensures none { IsNone result → (g : ℕ) → from ≤ g → g < length groups.now →
         has_name name.now (slice_index_or (groups_in groups.now) g None) ≡ false }
 {
-    for place in from..groups.len() {
-        let group = groups[place];
+    for index in from..groups.len() {
+        let group = groups[index];
         if has_name(group, name) {
-            return Some(place);
+            return Some(index);
         }
     }
     None
@@ -137,17 +137,17 @@ fn has_name(group: Option<&str>, name: &str) -> bool
 }
 
 /// Where a group of a pattern begins in the text of the lists, or the text's length where it has no such group.
-pub fn place_of(lists: &[u8], pattern: usize, group: usize) -> usize
+pub fn index_in_text(lists: &[u8], pattern: usize, group: usize) -> usize
     ensures within { result ≤ length lists.now }
     ensures reached { result < length lists.now → reached (0, 0) (take result lists.now) ≡ (pattern, group) }
     ensures first { (k : ℕ) → k < result → reached (0, 0) (take k lists.now) ≢ (pattern, group) }
 {
     let mut at = (0, 0);
-    for place in 0..lists.len() {
+    for index in 0..lists.len() {
         if is_at(at, pattern, group) {
-            return place;
+            return index;
         }
-        at = place_after(at, lists[place]);
+        at = group_after(at, lists[index]);
     }
     lists.len()
 }
@@ -160,9 +160,9 @@ fn is_at(at: (usize, usize), pattern: usize, group: usize) -> bool
 }
 
 // What a text reaches with one more byte.
-fn place_after(at: (usize, usize), byte: u8) -> (usize, usize)
+fn group_after(at: (usize, usize), byte: u8) -> (usize, usize)
     requires { at.0 + at.1 < usize.MAX }
-    ensures { result ≡ place_after at byte }
+    ensures { result ≡ group_after at byte }
 {
     match byte {
         b';' => (at.0 + 1, 0),

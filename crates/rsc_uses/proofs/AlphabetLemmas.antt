@@ -7,9 +7,9 @@ use Rattle.rsc_uses.specs.Leads.{lead_of, lead_in}
 use Rattle.rsc_alphabet.specs.Iterators.{class_at, end_of, symbols}
 
 -- each unit is still to come, or its entry has its value
-pub record Awaits (place value : Symbol → ℕ) (row : List ℕ) (left all : List Symbol) : Type 0 where
+pub record Awaits (entry value : Symbol → ℕ) (row : List ℕ) (left all : List Symbol) : Type 0 where
   pub among : (u : Symbol) → Contains left u → Contains all u
-  pub filled : (u : Symbol) → Contains all u → Contains left u ⊎ (slice_index row (place u) ≡ value u)
+  pub filled : (u : Symbol) → Contains all u → Contains left u ⊎ (slice_index row (entry u) ≡ value u)
 
 later : (x : Symbol) (xs : List Symbol) (q : Symbol) → Contains xs q → Contains (x ∷ xs) q
 later x xs q (k, l, e) = (suc k, omega (arith, l), e)
@@ -18,35 +18,35 @@ cases : (x : Symbol) (xs : List Symbol) (q : Symbol) → Contains (x ∷ xs) q �
 cases x xs q (zero, l, e) = inl e
 cases x xs q (suc k, l, e) = inr (k, omega (arith, l), e)
 
-module _ {place value : Symbol → ℕ} {row : List ℕ} {left all : List Symbol} (a : Awaits place value row left all) where
+module _ {entry value : Symbol → ℕ} {row : List ℕ} {left all : List Symbol} (a : Awaits entry value row left all) where
   -- the unit that comes next is one of all
   pub next_is_among : {u : Symbol} {rest : List Symbol} → left ≡ u ∷ rest → Contains all u
   next_is_among {u} e = a.among u (subst (λ xs. Contains xs u) (sym e) (0, omega arith, refl))
 
-  -- units with one place have one value, so an entry that is filled stays right
-  pub one_filled : {u : Symbol} {rest : List Symbol} {at n : ℕ} → left ≡ u ∷ rest → at ≡ place u → n ≡ value u → at < length row
-      → ((v w : Symbol) → Contains all v → Contains all w → place v ≡ place w → value v ≡ value w) → Awaits place value (slice_set row at n) rest all
-  one_filled {u} {rest} {at} {n} e is_place is_value within one = record {
+  -- units with one entry have one value, so an entry that is filled stays right
+  pub one_filled : {u : Symbol} {rest : List Symbol} {at n : ℕ} → left ≡ u ∷ rest → at ≡ entry u → n ≡ value u → at < length row
+      → ((v w : Symbol) → Contains all v → Contains all w → entry v ≡ entry w → value v ≡ value w) → Awaits entry value (slice_set row at n) rest all
+  one_filled {u} {rest} {at} {n} e is_entry is_value within one = record {
     among = λ v c. a.among v (subst (λ xs. Contains xs v) (sym e) (later u rest v c));
     filled = λ v c.
         ⊎_elim
-        (λ (same : place v ≡ at).
-        inr (rw same (get_or-set_same row at n 0 within ∙ is_value ∙ sym (one v u c (next_is_among e) (same ∙ is_place)))))
-        (λ (differs : ¬ (place v ≡ at)). ⊎_elim
+        (λ (same : entry v ≡ at).
+        inr (rw same (get_or-set_same row at n 0 within ∙ is_value ∙ sym (one v u c (next_is_among e) (same ∙ is_entry)))))
+        (λ (differs : ¬ (entry v ≡ at)). ⊎_elim
         (λ (coming : Contains left v). ⊎_elim
-        (λ (now : u ≡ v). absurd (differs (ap place (sym now) ∙ sym is_place)))
+        (λ (now : u ≡ v). absurd (differs (ap entry (sym now) ∙ sym is_entry)))
         (λ (c : Contains rest v). inl c)
         (cases u rest v (subst (λ xs. Contains xs v) e coming)))
-        (λ (held : slice_index row (place v) ≡ value v). inr (get_or-set_other row at (place v) n 0 differs ∙ held))
+        (λ (held : slice_index row (entry v) ≡ value v). inr (get_or-set_other row at (entry v) n 0 differs ∙ held))
         (a.filled v c))
-        (cases_eq (place v) at);
+        (cases_eq (entry v) at);
   }
 
   -- in the end each entry has its value
-  pub all_filled : left ≡ [] → {u : Symbol} → Contains all u → slice_index row (place u) ≡ value u
+  pub all_filled : left ≡ [] → {u : Symbol} → Contains all u → slice_index row (entry u) ≡ value u
   all_filled e {u} c =
       ⊎_elim (λ (coming : Contains left u). absurd (let none = subst (λ xs. Contains xs u) e coming in omega (arith, none.1)))
-      (λ (held : slice_index row (place u) ≡ value u). held) (a.filled u c)
+      (λ (held : slice_index row (entry u) ≡ value u). held) (a.filled u c)
 
 Contains-from_get : (xs : List Symbol) (i : ℕ) (u : Symbol) → slice_get xs i ≡ Some u → Contains xs u
 Contains-from_get xs i u e = (i, slice_get_within xs i u e, get_or_from_slice_get xs i u u e)
@@ -55,9 +55,9 @@ Contains-from_get xs i u e = (i, slice_get_within xs i u e, get_or_from_slice_ge
 pub unit_of_number : (classes : List ℕ) (k : ℕ) → ((c : ℕ) → c ≤ slice_index classes 255 → slice_get (symbols classes) c ≡ Some (byte c))
     → slice_get (symbols classes) (slice_index classes 255 + 1) ≡ Some (end_of classes)
     → k < slice_index classes 255 + 2 → (u : Symbol) × (Contains (symbols classes) u × (number_of u ≡ k))
-unit_of_number classes k places last small =
+unit_of_number classes k entries last small =
     ⊎_elim
-    (λ (low : k < slice_index classes 255 + 1). (byte k, (Contains-from_get (symbols classes) k (byte k) (places k (omega (arith, low))), refl)))
+    (λ (low : k < slice_index classes 255 + 1). (byte k, (Contains-from_get (symbols classes) k (byte k) (entries k (omega (arith, low))), refl)))
     (λ (high : slice_index classes 255 + 1 ≤ k). (
       end_of classes,
       (Contains-from_get (symbols classes) (slice_index classes 255 + 1) (end_of classes) last, omega (arith, small, high)),

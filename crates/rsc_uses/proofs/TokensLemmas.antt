@@ -2,7 +2,7 @@
 use Rattle.std.proofs.Common.{◌≡◌, ◌<◌, ◌≤◌, ◌+◌, ◌*◌, ℕ, List, length, slice_index, true, false, arith, subst, sym, ◌∙◌, ⊎_elim, true≢false, zero, suc, [], ◌∷◌, ◌++◌, All}
 use Rattle.std.proofs.lemmas.Bool.{cases_lt}
 use Rattle.std.proofs.lemmas.List.Elements.{All-append}
-use Rattle.rsc_uses.specs.Tokens.{accepts, IsRunOf, IsBound}
+use Rattle.rsc_uses.specs.Tokens.{kind_accepts, IsRunOf, IsBound}
 
 -- three rows in a table are each of its rows
 pub rows_whole : (s n : ℕ) → 3 * s ≤ n → (kind : ℕ) → kind < 3 → (kind + 1) * s ≤ n
@@ -17,16 +17,16 @@ run_none classes table kind h from = record { each = λ i l m. absurd (omega (ar
 
 -- one byte more
 pub run_more : (classes table : List ℕ) (kind : ℕ) (h : List ℕ) (from to : ℕ) → IsRunOf classes table kind h from to
-    → accepts classes table kind (slice_index h to) ≡ true → IsRunOf classes table kind h from (to + 1)
+    → kind_accepts classes table kind (slice_index h to) ≡ true → IsRunOf classes table kind h from (to + 1)
 run_more classes table kind h from to r a = record {
   each = λ i l m. ⊎_elim (λ (p : i < to). r.each i l p)
-      (λ p. let e : to ≡ i = omega (arith, m, p) in subst (λ j. accepts classes table kind (slice_index h j) ≡ true) e a)
+      (λ p. let e : to ≡ i = omega (arith, m, p) in subst (λ j. kind_accepts classes table kind (slice_index h j) ≡ true) e a)
       (cases_lt i to);
 }
 
 -- a byte of another kind ends every run
 pub run_stops : (classes table : List ℕ) (kind : ℕ) (h : List ℕ) (from to : ℕ) → from ≤ to
-    → (accepts classes table kind (slice_index h to) ≡ true → ⊥) → IsBound classes table kind h from to
+    → (kind_accepts classes table kind (slice_index h to) ≡ true → ⊥) → IsBound classes table kind h from to
 run_stops classes table kind h from to o n = record {
   none = λ e w r. ⊎_elim (λ (p : to < e). absurd (n (r.each to o p))) (λ p. p) (cases_lt to e);
 }

@@ -1,10 +1,10 @@
--- What a table over the classes of bytes accepts, and what a token is.
+-- What a table over the classes of bytes kind_accepts, and what a token is.
 use Rattle.std.specs.Prelude.{◌≡◌, ◌<◌, ◌≤◌, ◌+◌, ◌*◌, ◌^◌, ◌==◌, ℕ, Bool, List, length, slice_index, true}
 use Rattle.rsc_alphabet.specs.Iterators.{stride2_of}
 
 -- the table's entry of the kind and the byte's class is 1
-abbrev pub accepts : List ℕ → List ℕ → ℕ → ℕ → Bool
-accepts classes table kind byte = slice_index table (kind * 2 ^ stride2_of classes + slice_index classes byte) == 1
+abbrev pub kind_accepts : List ℕ → List ℕ → ℕ → ℕ → Bool
+kind_accepts classes table kind byte = slice_index table (kind * 2 ^ stride2_of classes + slice_index classes byte) == 1
 
 -- the table has a whole row for each of the three kinds
 abbrev pub HasRows : List ℕ → List ℕ → Type 0
@@ -12,7 +12,7 @@ HasRows classes table = (kind : ℕ) → kind < 3 → (kind + 1) * 2 ^ stride2_o
 
 -- all bytes from the one position up to the other are of the kind
 pub record IsRunOf (classes table : List ℕ) (kind : ℕ) (haystack : List ℕ) (from to : ℕ) : Type 0 where
-  pub each : (i : ℕ) → from ≤ i → i < to → accepts classes table kind (slice_index haystack i) ≡ true
+  pub each : (i : ℕ) → from ≤ i → i < to → kind_accepts classes table kind (slice_index haystack i) ≡ true
 
 -- no run of the kind from the one position on goes further than to the other
 pub record IsBound (classes table : List ℕ) (kind : ℕ) (haystack : List ℕ) (from to : ℕ) : Type 0 where

@@ -2,11 +2,11 @@
 ghost use Rattle.std.specs.Prelude.{◌≡◌, ◌↔◌, ◌+◌, ◌*◌, ◌^◌, ◌<◌, ◌≤◌, ℕ, All, IsTrue, IfSome, is_none, length, slice_get, slice_index, true, if◌then◌else◌};
 ghost use Rattle.std.specs.FinSet as sets;
 ghost use Rattle.rsc_alphabet.specs.ByteSets.{members, runs};
-ghost use Rattle.rsc_alphabet.specs.Partitions.{ClassesRise, Together, class_map, edges_of_each};
+ghost use Rattle.rsc_alphabet.specs.Partitions.{LastClassIsGreatest, Together, class_map, boundaries_of_ranges};
 ghost use Rattle.std.specs.declared.ops.Bound.TheVariants.{Unbounded};
 ghost use Rattle.rsc_alphabet.specs.Iterators.{stride2_of, symbol_count, symbols, elements_of, representatives_of};
 ghost use Rattle.std.specs.List.{Contains};
-ghost use Rattle.rsc_alphabet.specs.Ranges.{separates};
+ghost use Rattle.rsc_alphabet.specs.Ranges.{has_boundary};
 ghost use Rattle.rsc_uses.specs.Leads.{lead_of, in_ranges, lead_in};
 
 use rsc_alphabet::{ByteClassSet, ByteClasses, ByteSet, Unit, classes_of_ranges, laws};
@@ -15,7 +15,7 @@ use std::ops::Bound;
 /// Where the entry of a row and a byte is, in a table whose rows have `1 << stride2` entries.
 pub fn entry_index(map: &ByteClasses, row: usize, byte: u8) -> usize
     requires rows { row < 2147483647 }
-    requires rise { ClassesRise map.now }
+    requires rise { LastClassIsGreatest map.now }
     ensures { result ≡ row * 2 ^ stride2_of map.now + slice_index map.now byte }
 {
     (row << map.stride2()) + usize::from(map.get(byte))
@@ -25,7 +25,7 @@ pub fn entry_index(map: &ByteClasses, row: usize, byte: u8) -> usize
 pub fn transition(map: &ByteClasses, table: &[u32], row: usize, byte: u8) -> u32
     requires rows { row < 2147483647 }
     requires table { (row + 1) * 2 ^ stride2_of map.now ≤ length table.now }
-    requires rise { ClassesRise map.now }
+    requires rise { LastClassIsGreatest map.now }
     ensures { result ≡ slice_index table.now (row * 2 ^ stride2_of map.now + slice_index map.now byte) }
 {
     table[(row << map.stride2()) + usize::from(map.get(byte))]
@@ -104,7 +104,7 @@ pub fn lead_of(leads: &[u32; 256], end: u32, unit: Unit) -> u32
 /// Fills a state's row by one byte of each class alone, given where each byte leads. Where bytes of one class lead to one state, the
 /// row then answers for every byte: each byte's column is its class's. And it answers for the end of the input.
 pub fn fill_by_representatives(map: &ByteClasses, leads: &[u32; 256], end: u32, row: &mut [u32])
-    requires rise { ClassesRise map.now }
+    requires rise { LastClassIsGreatest map.now }
     requires alike { (b c : ℕ) → b < 256 → c < 256 → slice_index map.now b ≡ slice_index map.now c →
         slice_index leads.now b ≡ slice_index leads.now c }
     requires room { symbol_count map.now ≤ length row.old }
@@ -120,7 +120,7 @@ pub fn fill_by_representatives(map: &ByteClasses, leads: &[u32; 256], end: u32, 
 
 /// Adds the maximal runs of a set, one by one: what [`ByteClassSet::add_set`] does at once.
 pub fn add_runs(partition: &mut ByteClassSet, set: &ByteSet)
-    ensures { partition.new ≡ sets.union partition.old (edges_of_each (runs set.now)) }
+    ensures { partition.new ≡ sets.union partition.old (boundaries_of_ranges (runs set.now)) }
 {
     for (start, end) in set.iter_ranges() {
         partition.set_range(start, end);
@@ -133,7 +133,7 @@ pub fn range_separates(byte: u8) -> bool
     ensures { IsTrue result }
 {
     laws::one_class_is_together();
-    laws::edges_part_a_range();
+    laws::boundaries_part_a_range();
     let mut partition = ByteClassSet::empty();
     partition.set_range(0, byte);
     let map = partition.byte_classes();
@@ -189,7 +189,7 @@ pub fn elements_have_the_class(map: &ByteClasses, class: u8) -> bool
 /// The classes of two partitions together: two bytes have one class exactly if neither partition parts them.
 pub fn joined_classes(some: &mut ByteClassSet, others: &ByteClassSet) -> ByteClasses
     ensures classes { result ≡ class_map (sets.contains (sets.union some.old others.now)) }
-    ensures rise { ClassesRise result }
+    ensures bounded { LastClassIsGreatest result }
 {
     some.union(others);
     some.byte_classes()
@@ -233,7 +233,7 @@ pub fn fill_from_ranges(all: &[(u8, u8)], part: &[(u8, u8)], row: &mut [u32]) ->
     requires order { All (λ r. r.0 ≤ r.1) all.now }
     requires among { (r : ℕ × ℕ) → Contains part.now r → Contains all.now r }
     requires room { 257 ≤ length row.old }
-    ensures classes { result ≡ class_map (separates all.now) }
+    ensures classes { result ≡ class_map (has_boundary all.now) }
     ensures entries { (b : ℕ) → b < 256 → slice_index row.new (slice_index result b) ≡ lead_in part.now b }
 {
     laws::alike_bytes_share_their_ranges();

@@ -169,7 +169,7 @@ pub fn spans(alloc: Global, captures: &Captures) -> Result<Vec<Option<Span>>, Al
 pub fn iterator_agrees(alloc: Global, captures: &Captures, index: usize) -> Result<bool, AllocError>
     ensures { IfOk result (λ agrees. IsTrue agrees) }
 {
-    laws::spans_by_place();
+    laws::spans_by_index();
     let spans = spans(alloc, captures)?;
     Ok(index >= spans.len() || spans[index] == captures.get_group(index))
 }

@@ -415,7 +415,7 @@ fn tokens_of_a_text(rt: HostRuntime) -> Result<(), Fail> {
     let alloc = rt.alloc();
     let ranges = [(b'0', b'9'), (b'a', b'z'), (b' ', b' ')];
     let classes = classes_of_ranges(&ranges);
-    // The row of each kind accepts the class of its range alone.
+    // The row of each kind kind_accepts the class of its range alone.
     let mut table = Vec::new(alloc);
     for (start, _) in ranges {
         let accepted = usize::from(classes.get(start));
@@ -441,7 +441,7 @@ fn tokens_of_a_text(rt: HostRuntime) -> Result<(), Fail> {
     }
     assert!(rt; tokens::token_at(&classes, table, text, 5).is_none());
     assert!(rt; tokens::run_end(&classes, table, 1, text, 0) == 2);
-    assert!(rt; tokens::accepts(&classes, table, 2, b' '));
+    assert!(rt; tokens::kind_accepts(&classes, table, 2, b' '));
     let few = [
         Match::must(2, Span { start: 0, end: 1 }),
         Match::must(0, Span { start: 1, end: 2 }),

@@ -29,7 +29,7 @@ fn span(start: usize, end: usize) -> Option<Span> {
 }
 
 #[test]
-fn spans_of_one_pattern_go_by_place(rt: HostRuntime) -> Result<(), Fail> {
+fn spans_of_one_pattern_go_by_index(rt: HostRuntime) -> Result<(), Fail> {
     for (pid, start, end, group, want) in [
         (7, Some(3), Some(5), 0, span(3, 5)),
         (0, Some(5), Some(3), 0, span(5, 3)),

@@ -1,6 +1,6 @@
 //! What the bytes on both sides of a position make of a set of states.
 ghost use Rattle.std.specs.Prelude.{◌≡◌, ◌+◌, ◌*◌, ◌<◌, ◌≤◌, ◌⊎◌, ℕ, true, false, not, [], All, IfOk, IfErr, IfSome, IfNone, OnOk, None, Some, length, slice_get, count_by};
-ghost use Rattle.rsc_search.specs.Modes.{pattern_of};
+ghost use Rattle.rsc_search.specs.Modes.{pattern_of_mode};
 ghost use Rattle.rsc_engine.specs.declared.error.Error.TheVariants.{OutOfMemory};
 ghost use Rattle.rsc_engine.specs.Runs.{is_accepting};
 ghost use Rattle.rsc_engine.specs.Rows.{machine, Follows, Moves, IsClosure, HasMatch, IsSuccessor, Gathers, AddsOne, AddsSome, IsAfterByte, first_unless, around, middle, AreStates};
@@ -185,7 +185,7 @@ fn has_match<W: WordClass>(program: &Program<W>, mode: &Anchored, closure: &[Sta
 // Whether a state accepts a pattern that may match.
 fn accepts<W: WordClass>(program: &Program<W>, mode: &Anchored, sid: StateID) -> bool
     requires sid { sid < length program.now.automaton.states }
-    ensures { result ≡ is_accepting (pattern_of mode.now) (slice_get program.now.automaton.states sid) }
+    ensures { result ≡ is_accepting (pattern_of_mode mode.now) (slice_get program.now.automaton.states sid) }
 {
     match program.state(sid) {
         State::Accept { pattern } => match mode.pattern() {

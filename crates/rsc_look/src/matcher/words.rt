@@ -214,7 +214,7 @@ impl<W: WordClass> LookMatcher<W> {
         requires { at ≤ length haystack.now }
         ensures { IsOkAnd result (λ r. IsTrue r ↔ HoldsFor W.word_chars Look.WordStartHalfUnicode self.now haystack.now at) }
     {
-        Ok(self.side_before(haystack, at).is_edge_or_non_word())
+        Ok(self.side_before(haystack, at).is_absent_or_other())
     }
 
     /// Whether the haystack ends at the position, or a character that is no word character begins there.
@@ -231,6 +231,6 @@ impl<W: WordClass> LookMatcher<W> {
         requires { at ≤ length haystack.now }
         ensures { IsOkAnd result (λ r. IsTrue r ↔ HoldsFor W.word_chars Look.WordEndHalfUnicode self.now haystack.now at) }
     {
-        Ok(self.side_after(haystack, at).is_edge_or_non_word())
+        Ok(self.side_after(haystack, at).is_absent_or_other())
     }
 }

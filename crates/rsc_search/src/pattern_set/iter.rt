@@ -3,7 +3,7 @@ ghost use Rattle.std.specs.Prelude.{◌≡◌, length, IfSome, Some};
 ghost use Rattle.std.specs.Iterator.{YieldsFirst, YieldsLast, item_count, UpTo, at_most};
 ghost use Rattle.std.specs.Iterator.SizeHint.{IsWithinCount};
 
-use crate::words::{BITS, first_from, highest, last_until, without_highest, without_lowest};
+use crate::blocks::{BITS, first_from, highest, last_until, without_highest, without_lowest};
 use rsc_primitives::PatternID;
 use std::marker::Model;
 
@@ -23,8 +23,8 @@ use std::marker::Model;
 /// ```
 #[derive(Clone, Debug, Drop)]
 pub struct PatternSetIter<'a> {
-    pub(super) words: &'a [u64],
-    // Each end has the number of its word, and the bits of it that this end hasn't given yet. Where both have one word, what the
+    pub(super) blocks: &'a [u64],
+    // Each end has the number of its block, and the bits of it that this end hasn't given yet. Where both have one block, what the
     // other end has given is still in them: the count of the members that are left says when to stop.
     pub(super) front_index: usize,
     pub(super) front: u64,
@@ -39,9 +39,9 @@ impl<'a> Model for PatternSetIter<'a> {
 
     ghost Value = { List ℕ };
 
-    ghost view = { λ it. left_between it.words.now it.front_index it.front it.back_index it.back };
+    ghost view = { λ it. left_between it.blocks.now it.front_index it.front it.back_index it.back };
 
-    ghost invariant = { λ it. IsBetween it.words.now it.front_index it.front it.back_index it.back it.left };
+    ghost invariant = { λ it. IsBetween it.blocks.now it.front_index it.front it.back_index it.back it.left };
 }
 
 impl<'a> PatternSetIter<'a> {
@@ -66,10 +66,10 @@ impl<'a> Iterator for PatternSetIter<'a> {
         if self.left == 0 {
             return None;
         }
-        let (index, word) = first_from(self.words, self.front_index, self.front);
-        let p = BITS * index + word.trailing_zeros() as usize;
+        let (index, block) = first_from(self.blocks, self.front_index, self.front);
+        let p = BITS * index + block.trailing_zeros() as usize;
         self.front_index = index;
-        self.front = without_lowest(word);
+        self.front = without_lowest(block);
         self.left -= 1;
         Some(PatternID::must(p))
     }
@@ -93,10 +93,10 @@ impl<'a> DoubleEndedIterator for PatternSetIter<'a> {
         if self.left == 0 {
             return None;
         }
-        let (index, word) = last_until(self.words, self.back_index, self.back);
-        let p = BITS * index + highest(word);
+        let (index, block) = last_until(self.blocks, self.back_index, self.back);
+        let p = BITS * index + highest(block);
         self.back_index = index;
-        self.back = without_highest(word);
+        self.back = without_highest(block);
         self.left -= 1;
         Some(PatternID::must(p))
     }

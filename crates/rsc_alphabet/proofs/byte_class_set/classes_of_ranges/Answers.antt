@@ -1,8 +1,8 @@
 use Rattle.std.proofs.Common.{◌≡◌, ℕ, List, ◌≤◌, ◌<◌, sym, ap, ap₂, ◌∙◌, ◌||◌, take, length, take_all, nat_cmp}
 use Rattle.std.specs.FinSet as sets
 use Rattle.std.specs.FinSet.{contains-empty}
-use Rattle.rsc_alphabet.proofs.Words.{separates, class_map, contains-joined, class_map_same}
-use Rattle.rsc_alphabet.proofs.RangesLemmas.{contains-edges_of_range, separates_more, same_class_is}
+use Rattle.rsc_alphabet.proofs.Prelude.{has_boundary, class_map, contains-joined, class_map_same}
+use Rattle.rsc_alphabet.proofs.RangesLemmas.{boundary_if_unlike, has_boundary_more, same_class_is}
 use Rattle.rsc_alphabet.proofs.byte_class_set.classes_of_ranges.Goals as goal
 
 pub loop-start-init : goal.loop-start-init
@@ -11,12 +11,12 @@ loop-start-init c = λ k h. rw c.empty-partition.ensures.set (contains-empty nat
 pub loop-start-preserved : goal.loop-start-preserved
 loop-start-preserved c = λ k h.
     rw c.set_range.ensures.set (contains-joined c.loop-start.partition _ k
-    ∙ ap₂ (λ x y. x || y) (c.loop-start.invariant k h) (contains-edges_of_range _ k (c.requires c.loop-start.start-index (0, 0) c.loop-start-test.true) h)
-    ∙ sym (separates_more c.args.ranges.now c.loop-start.start-index _ k c.loop-start-test.true))
+    ∙ ap₂ (λ x y. x || y) (c.loop-start.invariant k h) (boundary_if_unlike _ k (c.requires c.loop-start.start-index (0, 0) c.loop-start-test.true) h)
+    ∙ sym (has_boundary_more c.args.ranges.now c.loop-start.start-index _ k c.loop-start-test.true))
 
-counts : (p : sets.FinSet nat_cmp) (ranges : List (ℕ × ℕ)) (i : ℕ) → ((k : ℕ) → k < 255 → sets.contains p k ≡ separates (take i ranges) k)
-    → length ranges ≤ i → class_map (sets.contains p) ≡ class_map (separates ranges)
-counts p ranges i same all = class_map_same (sets.contains p) (separates ranges) (λ k h. same k h ∙ ap (λ rs. separates rs k) (take_all i ranges all))
+counts : (p : sets.FinSet nat_cmp) (ranges : List (ℕ × ℕ)) (i : ℕ) → ((k : ℕ) → k < 255 → sets.contains p k ≡ has_boundary (take i ranges) k)
+    → length ranges ≤ i → class_map (sets.contains p) ≡ class_map (has_boundary ranges)
+counts p ranges i same all = class_map_same (sets.contains p) (has_boundary ranges) (λ k h. same k h ∙ ap (λ rs. has_boundary rs k) (take_all i ranges all))
 
 pub returns-clause-counts : goal.returns-clause-counts
 returns-clause-counts c =

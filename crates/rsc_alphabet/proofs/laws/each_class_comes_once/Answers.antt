@@ -2,8 +2,8 @@ use Rattle.rsc_alphabet.specs.PartitionsLaws.{class_within, class_reached}
 use Rattle.rsc_alphabet.proofs.IteratorsLemmas.{slice_get-symbols, length-symbols, end_comes_last}
 use Rattle.rsc_alphabet.proofs.laws.each_class_comes_once.Goals as goal
 
-pub returns-clause-place : goal.returns-clause-place
-returns-clause-place c = slice_get-symbols
+pub returns-clause-index : goal.returns-clause-index
+returns-clause-index c = slice_get-symbols
 
 pub returns-clause-end : goal.returns-clause-end
 returns-clause-end c = end_comes_last

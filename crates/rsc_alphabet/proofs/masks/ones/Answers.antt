@@ -1,6 +1,6 @@
 use Rattle.std.proofs.Common.{sym, ap, ◌∙◌, arith, mod-eq_of_lt}
 use Rattle.std.specs.Int.Count.{ones}
-use Rattle.rsc_alphabet.proofs.Words.{has_bit, class_of-le}
+use Rattle.rsc_alphabet.proofs.Prelude.{has_bit, class_of-le}
 use Rattle.rsc_alphabet.proofs.ByteSetLayoutLemmas.{ones_class_of}
 use Rattle.rsc_alphabet.proofs.masks.ones.Goals as goal
 

@@ -1,7 +1,7 @@
 use Rattle.std.proofs.Common.{◌≡◌, ◌+◌, ◌*◌, ◌/◌, ◌%◌, ◌^◌, refl, ◌∙◌, arith}
 use Rattle.std.proofs.Math.Bool.{or-false}
 use Rattle.std.proofs.lemmas.Nat.Bits.{bit_at_above}
-use Rattle.rsc_primitives.specs.BitsLaws.{has_bit}
+use Rattle.rsc_primitives.specs.Bits.{has_bit}
 use Rattle.rsc_alphabet.proofs.ByteSetLayoutLemmas.{bit_at_shl, bit_at_shl_below, bit_at_shr, has_bit_either}
 use Rattle.rsc_alphabet.proofs.masks.shifted_right.Goals as goal
 

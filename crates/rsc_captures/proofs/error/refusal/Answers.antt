@@ -1,5 +1,5 @@
 use Rattle.std.proofs.Common.{refl}
-use Rattle.rsc_captures.proofs.Words.{Duplicate, IsDuplicate}
+use Rattle.rsc_captures.proofs.Prelude.{Duplicate, IsDuplicate}
 use Rattle.rsc_captures.proofs.error.refusal.Goals as goal
 
 pub returns-in-Err : goal.returns-in-Err

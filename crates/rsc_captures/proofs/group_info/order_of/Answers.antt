@@ -1,5 +1,5 @@
 use Rattle.std.proofs.Common.{◌≡◌, ◌<◌, ◌≤◌, length, inl, arith}
-use Rattle.rsc_captures.proofs.Words.{lists_in, Fault, slots_end, fault_found, IsFirstRepeatBefore}
+use Rattle.rsc_captures.proofs.Prelude.{lists_in, Fault, slots_end, fault_found, IsFirstRepeatBefore}
 use Rattle.rsc_captures.proofs.FaultsLemmas.{pattern_clear, before_more}
 use Rattle.rsc_captures.proofs.FaultsLayoutLemmas.{MatchOption-some_weaker}
 use Rattle.rsc_captures.proofs.GroupsLemmas.{length-lists_in, in_lists, groups_of_in, group_count_in}
@@ -15,7 +15,7 @@ add_order-requires g c =
 
 pub repeated-requires-clause-number : goal.repeated-requires-clause-number
 repeated-requires-clause-number g c =
-    (pattern_clear (lists_in c.args.lists.now) c.loop-p.p (c.requires.places.patterns c.loop-p.p (rw length-lists_in (omega arith)))).0
+    (pattern_clear (lists_in c.args.lists.now) c.loop-p.p (c.requires.groups.patterns c.loop-p.p (rw length-lists_in (omega arith)))).0
 
 pub returns-in-Some-clause-err : goal.returns-in-Some-clause-err
 returns-in-Some-clause-err g c =

@@ -1,4 +1,4 @@
-use Rattle.rsc_captures.proofs.Words.{lists_in, AreOrdered, HasNoRepeatBefore}
+use Rattle.rsc_captures.proofs.Prelude.{lists_in, AreOrdered, HasNoRepeatBefore}
 use Rattle.rsc_captures.proofs.group_info.order_of.Given as goal
 
 -- the order has the groups of the patterns so far, none of which repeats a name

@@ -1,5 +1,5 @@
 use Rattle.std.proofs.Common.{◌≤◌, ◌+◌, arith}
-use Rattle.rsc_captures.proofs.Words.{lists_in, slots_end}
+use Rattle.rsc_captures.proofs.Prelude.{lists_in, slots_end}
 use Rattle.rsc_captures.proofs.FaultsLemmas.{pattern_clear}
 use Rattle.rsc_captures.proofs.GroupsLemmas.{in_lists}
 use Rattle.rsc_captures.proofs.NamesLayoutLemmas.{firsts_push, first_more, groups_so_far}
@@ -10,7 +10,7 @@ overflow_add-first g c =
     let p = c.loop-groups.groups-index in
     let within : slots_end (lists_in c.args.lists.now) p ≤ 2147483646 = c.requires.slots p (in_lists c.args.lists.now p (omega arith)) in
     let so_far = groups_so_far (lists_in c.args.lists.now) (p + 1) (omega (arith, in_lists c.args.lists.now p (omega arith)))
-    (λ q in_q. (pattern_clear (lists_in c.args.lists.now) q (c.requires.places.patterns q in_q)).1) in
+    (λ q in_q. (pattern_clear (lists_in c.args.lists.now) q (c.requires.groups.patterns q in_q)).1) in
     omega (
       arith,
       within,

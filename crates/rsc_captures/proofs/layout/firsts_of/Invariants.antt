@@ -1,5 +1,5 @@
 use Rattle.std.proofs.Common.{◌≡◌}
-use Rattle.rsc_captures.proofs.Words.{lists_in, groups_before, AreFirsts}
+use Rattle.rsc_captures.proofs.Prelude.{lists_in, groups_before, AreFirsts}
 use Rattle.rsc_captures.proofs.layout.firsts_of.Given as goal
 
 abbrev pub invariant-loop-groups : goal.invariant-loop-groups

@@ -1,6 +1,6 @@
 use Rattle.std.proofs.Common.{get_or, Some, None, rules}
 use Rattle.std.proofs.lemmas.Fn.{always_returns_same}
-use Rattle.rsc_captures.proofs.Words.{groups_in, name_cmp}
+use Rattle.rsc_captures.proofs.Prelude.{groups_in, name_cmp}
 use Rattle.rsc_captures.proofs.repeats.find.Goals as goal
 
 -- the closure answers how a group's name compares with the name

@@ -1,5 +1,5 @@
 use Rattle.std.proofs.Common.{◌-◌, ◌≡◌, ◌<◌, ◌≤◌, length, true}
-use Rattle.rsc_captures.proofs.Words.{groups_in, is_repeat, AreApart}
+use Rattle.rsc_captures.proofs.Prelude.{groups_in, is_repeat, AreApart}
 use Rattle.rsc_captures.proofs.repeats.first_repeat.Given as goal
 
 -- no group below the end has the name of a lesser one of the blocks so far, and one at the end is a repeat

@@ -1,7 +1,7 @@
 use Rattle.std.proofs.Common.{◌≡◌, ◌<◌, length, ◌∙◌, arith}
 use Rattle.rsc_captures.proofs.GroupsLemmas.{group_count_in}
 use Rattle.rsc_captures.proofs.RepeatsLayoutLemmas.{distinct_handed, first_handed, repeat_of_pattern, none_before, none_so_far}
-use Rattle.rsc_captures.proofs.Words.{lists_in, groups_of, IsFirstRepeat}
+use Rattle.rsc_captures.proofs.Prelude.{lists_in, groups_of, IsFirstRepeat}
 use Rattle.rsc_captures.proofs.repeats.first_repeat_before.Goals.{In-Some}
 use Rattle.rsc_captures.proofs.repeats.first_repeat_before.Goals as goal
 
@@ -19,7 +19,7 @@ repeated-requires-clause-repeats c = (found (goal.at.repeated-requires-clause-re
 pub returns-in-Some : goal.returns-in-Some
 returns-in-Some c =
     let first = found (goal.at.returns-in-Some c).In-Some in
-    let earlier = none_before _ c.loop-p.p c.args.place.0 _ (omega arith) c.loop-p.invariant.none in
+    let earlier = none_before _ c.loop-p.p c.args.group.0 _ (omega arith) c.loop-p.invariant.none in
     let before = c.count_before-end.ensures.before c.in-Some.g first.0 in
     rw c.repeated.ensures.2 (repeat_of_pattern _ _ _ _ _ _ earlier first.1 c.repeated.ensures.1 before)
 

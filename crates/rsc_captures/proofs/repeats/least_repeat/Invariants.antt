@@ -1,5 +1,5 @@
 use Rattle.std.proofs.Common.{◌≡◌, ◌<◌, ◌≤◌, true, length}
-use Rattle.rsc_captures.proofs.Words.{groups_in, is_repeat}
+use Rattle.rsc_captures.proofs.Prelude.{groups_in, is_repeat}
 use Rattle.rsc_captures.proofs.OrderLayoutLemmas.{IsBound}
 use Rattle.rsc_captures.proofs.repeats.least_repeat.Given as goal
 

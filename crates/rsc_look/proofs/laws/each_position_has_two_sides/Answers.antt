@@ -1,4 +1,4 @@
-use Rattle.rsc_look.proofs.SideLayoutLemmas.{has_before, has_after, IsBefore-same, IsAfter-same}
+use Rattle.rsc_look.proofs.HoldsLemmas.{has_before, has_after, IsBefore-same, IsAfter-same}
 use Rattle.rsc_look.proofs.laws.each_position_has_two_sides.Goals as goal
 
 pub returns-clause-before : goal.returns-clause-before

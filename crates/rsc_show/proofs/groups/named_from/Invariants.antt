@@ -3,6 +3,6 @@ use Rattle.rsc_captures.specs.Groups.{groups_in, has_name}
 use Rattle.rsc_show.proofs.groups.named_from.Given as goal
 
 -- no group so far has the name
-abbrev pub invariant-loop-place : goal.invariant-loop-place
-invariant-loop-place l =
-    (l.from ≤ l.place) × ((k : ℕ) → l.from ≤ k → k < l.place → has_name l.name (slice_index_or (groups_in l.groups) k None) ≡ false)
+abbrev pub invariant-loop-index : goal.invariant-loop-index
+invariant-loop-index l =
+    (l.from ≤ l.index) × ((k : ℕ) → l.from ≤ k → k < l.index → has_name l.name (slice_index_or (groups_in l.groups) k None) ≡ false)

@@ -1,25 +1,25 @@
 use Rattle.std.proofs.Common.{◌≡◌, ◌+◌, [], ◌∷◌, sym, ap, ◌∙◌, arith, rules}
 use Rattle.rsc_alphabet.specs.ByteSetLayout.{members_left}
-use Rattle.rsc_alphabet.proofs.ByteSetLayoutLemmas.{none_left, next_word, whole_word_fits, lowest_left, first_left}
+use Rattle.rsc_alphabet.proofs.ByteSetLayoutLemmas.{none_left, next_block, whole_block_fits, lowest_left, first_left}
 use Rattle.rsc_alphabet.proofs.ascending.AscendingIterator.next.Goals as goal
 
 pub returns-then-self-eq1-clause-steps : goal.returns-then-self-eq1-clause-steps
 returns-then-self-eq1-clause-steps c =
     let s = c.self.inside in
-    sym c.self.view_is ∙ first_left s.set s.number s.byte s.word c.word_shifted_right-self-inside.result (omega (arith, c.self.ranges)) c.if-self-eq1.true
-    c.word_shifted_right-self-inside.ensures
+    sym c.self.view_is ∙ first_left s.set s.number s.byte s.block c.block_shifted_right-self-inside.result (omega (arith, c.self.ranges)) c.if-self-eq1.true
+    c.block_shifted_right-self-inside.ensures
 
 pub returns-then-self-eq1-clause-goes : goal.returns-then-self-eq1-clause-goes
 returns-then-self-eq1-clause-goes c =
     let s = c.self.inside in
-    let steps : c.args.self.now ≡ s.byte ∷ members_left s.set s.number (s.byte + 1) c.word_shifted_right-self-inside.result =
+    let steps : c.args.self.now ≡ s.byte ∷ members_left s.set s.number (s.byte + 1) c.block_shifted_right-self-inside.result =
     returns-then-self-eq1-clause-steps c in
     search rules
 
 pub returns-then-self-eq3-clause-steps : goal.returns-then-self-eq3-clause-steps
 returns-then-self-eq3-clause-steps c =
     let s = c.loop-self.self-inside in
-    let none : members_left s.set s.number s.byte s.word ≡ [] =
+    let none : members_left s.set s.number s.byte s.block ≡ [] =
     ap (members_left s.set s.number s.byte) c.loop-self-test.true ∙ none_left s.set s.number s.byte c.if-self-eq3.true in
     (sym c.loop-self.invariant.2 ∙ none, none)
 
@@ -28,8 +28,8 @@ loop-self-preserved c =
     let s = c.loop-self.self-inside in
     rw c.from.ensures (
       omega (arith, c.loop-self.invariant.0),
-      whole_word_fits (s.number + 1) c.word-self-inside.result (omega (arith, c.loop-self.invariant.0)) (omega (arith, c.word-self-inside.type_inv)),
-      next_word s.set s.number s.byte c.word-self-inside.result (omega (arith, c.loop-self.invariant.0)) c.word-self-inside.ensures.bits
+      whole_block_fits (s.number + 1) c.block-self-inside.result (omega (arith, c.loop-self.invariant.0)) (omega (arith, c.block-self-inside.type_inv)),
+      next_block s.set s.number s.byte c.block-self-inside.result (omega (arith, c.loop-self.invariant.0)) c.block-self-inside.ensures.bits
           ∙ sym (ap (members_left s.set s.number s.byte) c.loop-self-test.true) ∙ c.loop-self.invariant.2,
     )
 
@@ -39,12 +39,12 @@ returns-clause-steps c =
     let low = c.lowest_bit-gap.ensures in
     rw c.from-2.ensures (
     sym c.loop-self.invariant.2
-    ∙ lowest_left s.set s.number s.byte s.word c.word_shifted_right-self-inside-2.result c.lowest_bit-gap.result (omega arith) low.fits low.here low.below
-    (λ i. c.word_shifted_right-self-inside-2.ensures i ∙ c.word_shifted_right.ensures (1 + i)))
+    ∙ lowest_left s.set s.number s.byte s.block c.block_shifted_right-self-inside-2.result c.lowest_bit-gap.result (omega arith) low.fits low.here low.below
+    (λ i. c.block_shifted_right-self-inside-2.ensures i ∙ c.block_shifted_right.ensures (1 + i)))
 
 pub returns-clause-goes : goal.returns-clause-goes
 returns-clause-goes c =
     let s = c.loop-self.self-inside in
     let steps : c.args.self.now ≡ (s.byte + c.from-2.result) ∷ members_left s.set s.number (s.byte + c.from-2.result + 1)
-    c.word_shifted_right-self-inside-2.result = returns-clause-steps c in
+    c.block_shifted_right-self-inside-2.result = returns-clause-steps c in
     search rules

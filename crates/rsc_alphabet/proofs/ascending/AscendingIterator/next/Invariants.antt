@@ -7,7 +7,7 @@ use Rattle.rsc_alphabet.proofs.ascending.AscendingIterator.next.Given as goal
 abbrev pub invariant-loop-self : goal.invariant-loop-self
 invariant-loop-self l =
     let s = l.self-inside in
-    (s.number < 4) × ((i : ℕ) → bit_at s.word i ≡ 1 → s.byte + i < 256) × (members_left s.set s.number s.byte s.word ≡ l.fn.self)
+    (s.number < 4) × ((i : ℕ) → bit_at s.block i ≡ 1 → s.byte + i < 256) × (members_left s.set s.number s.byte s.block ≡ l.fn.self)
 
 abbrev pub decreases-loop-self : goal.decreases-loop-self
 decreases-loop-self l = 3 - l.self-inside.number

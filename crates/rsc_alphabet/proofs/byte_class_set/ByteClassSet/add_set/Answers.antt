@@ -1,12 +1,12 @@
 use Rattle.std.proofs.Common.{◌||◌, ap, ◌∙◌}
 use Rattle.std.specs.FinSet as sets
-use Rattle.rsc_alphabet.proofs.PartitionsLemmas.{edges_of_ends, edges_added}
+use Rattle.rsc_alphabet.proofs.PartitionsLemmas.{boundaries_of_ends, boundaries_added}
 use Rattle.rsc_alphabet.proofs.byte_class_set.ByteClassSet.add_set.Goals as goal
 
 pub returns-clause-boundaries : goal.returns-clause-boundaries
 returns-clause-boundaries c = λ k.
-    c.add_edges.ensures k ∙ ap (λ x. sets.contains c.args.self.now k || x)
-    (edges_of_ends c.args.set.now c.run_starts.result c.run_ends.result c.run_starts.ensures c.run_ends.ensures k)
+    c.add_boundaries.ensures k ∙ ap (λ x. sets.contains c.args.self.now k || x)
+    (boundaries_of_ends c.args.set.now c.run_starts.result c.run_ends.result c.run_starts.ensures c.run_ends.ensures k)
 
 pub returns-clause-set : goal.returns-clause-set
-returns-clause-set c = edges_added c.args.set.now c.args.self.now c.add_edges.new.self (returns-clause-boundaries c)
+returns-clause-set c = boundaries_added c.args.set.now c.args.self.now c.add_boundaries.new.self (returns-clause-boundaries c)

@@ -1,6 +1,6 @@
 use Rattle.std.proofs.Common.{◌∙◌, sym, subst, arith, length-set}
 use Rattle.std.specs.FinSet as sets
-use Rattle.rsc_alphabet.proofs.Words.{ClassesRise, class_of, class_map-rises}
+use Rattle.rsc_alphabet.proofs.Prelude.{LastClassIsGreatest, class_of, class_map-bounded}
 use Rattle.rsc_alphabet.proofs.IteratorsLemmas.{class_more}
 use Rattle.rsc_alphabet.proofs.PartitionsLemmas.{boundary_below, map_of_counts}
 use Rattle.rsc_alphabet.proofs.byte_class_set.ByteClassSet.byte_classes.Goals as goal
@@ -22,5 +22,5 @@ returns-2-clause-map c =
 pub returns-2-clause-below : goal.returns-2-clause-below
 returns-2-clause-below c = rw (← c.self.view_is) (boundary_below c.self.inside.ends c.count_below.ensures.bytes)
 
-pub returns-2-clause-rise : goal.returns-2-clause-rise
-returns-2-clause-rise c = subst ClassesRise (sym (returns-2-clause-map c)) (class_map-rises (sets.contains c.args.self.now))
+pub returns-2-clause-bounded : goal.returns-2-clause-bounded
+returns-2-clause-bounded c = subst LastClassIsGreatest (sym (returns-2-clause-map c)) (class_map-bounded (sets.contains c.args.self.now))

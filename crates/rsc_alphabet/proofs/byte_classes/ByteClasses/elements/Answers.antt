@@ -1,5 +1,5 @@
 use Rattle.std.proofs.Common.{◌≡◌, ◌∙◌, ℕ, List, IsSome, true, sym, ap, subst, All}
-use Rattle.rsc_alphabet.proofs.Words.{Symbol, byte_of, members, elements_left, elements_of, number_of, class_at}
+use Rattle.rsc_alphabet.proofs.Prelude.{Symbol, byte_of, members, elements_left, elements_of, number_of, class_at}
 use Rattle.rsc_alphabet.proofs.IteratorsLemmas.{elements_of-byte, elements_of-end, members_none, elements_have_class, length-elements}
 use Rattle.rsc_alphabet.proofs.byte_classes.ByteClasses.elements.Goals as goal
 

@@ -8,5 +8,5 @@ returns-then-first-end c = ap members c.empty.ensures.set ∙ members_none ∙ s
 
 pub returns : goal.returns
 returns c =
-    representative_bytes_are c.args.self.now c.changes.result c.between-bytes.result c.add.new.self c.args.first c.args.end (omega arith) c.requires
-    c.changes.ensures c.between-bytes.ensures c.add.ensures.members
+    representative_bytes_are c.args.self.now c.class_starts.result c.between-bytes.result c.add.new.self c.args.first c.args.end (omega arith) c.requires
+    c.class_starts.ensures c.between-bytes.ensures c.add.ensures.members

@@ -20,5 +20,5 @@ pub returns-2-clause-list : goal.returns-2-clause-list
 returns-2-clause-list c =
     is_bytes _ (rw c.set.ensures (length-set c.loop-byte.classes c.loop-byte.byte c.loop-byte.byte ∙ c.loop-byte.invariant.0)) (returns-2-clause-own c)
 
-pub returns-2-clause-rise : goal.returns-2-clause-rise
-returns-2-clause-rise c = bytes_rise _ (returns-2-clause-own c)
+pub returns-2-clause-bounded : goal.returns-2-clause-bounded
+returns-2-clause-bounded c = bytes_rise _ (returns-2-clause-own c)

@@ -1,6 +1,6 @@
 use Rattle.std.proofs.Common.{◌≡◌, ◌+◌, ◌-◌, ap, ◌∙◌, arith}
 use Rattle.std.specs.FinSet as sets
-use Rattle.rsc_alphabet.proofs.Words.{class_of, masked}
+use Rattle.rsc_alphabet.proofs.Prelude.{class_of, masked}
 use Rattle.rsc_alphabet.proofs.PartitionsLemmas.{class_of-low, class_of-high}
 use Rattle.rsc_alphabet.proofs.byte_set.ByteSet.count_below.Goals as goal
 

@@ -1,7 +1,7 @@
 use Rattle.std.specs.Cmp.{nat_cmp_total}
 use Rattle.std.specs.FinSet.{nat_cmp-IsAntisymmetric}
 use Rattle.std.proofs.Common.{ap₂, arith, eq-eqb, eqb-true}
-use Rattle.rsc_alphabet.proofs.Words.{masked, same_bools, same_from, same_to}
+use Rattle.rsc_alphabet.proofs.Prelude.{masked, same_bools, same_from, same_to}
 use Rattle.rsc_alphabet.proofs.ByteSetLayoutLemmas.{masks_same}
 use Rattle.rsc_alphabet.proofs.byte_set.ByteSetPartialEq.eq.Goals as goal
 

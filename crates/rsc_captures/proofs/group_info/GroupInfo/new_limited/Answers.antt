@@ -10,7 +10,7 @@ pub returns-in_default-clause-refused : goal.returns-in_default-clause-refused
 returns-in_default-clause-refused g c =
     IfErr-weaker c.build.result _ _ (refuses_from c.in_default.ensures (length c.args.lists.now) (length-lists_in c.args.lists.now)) c.build.ensures.err
 
--- a pattern with a group before the place of another fault has a number
+-- a pattern with a group before the group of another fault has a number
 pub first_repeat_before-requires : goal.first_repeat_before-requires
 first_repeat_before-requires g c = λ p before. (pattern_clear (lists_in c.args.lists.now) p (pattern_before c.in-Some.ensures.before p 0 before)).0
 

@@ -1,5 +1,5 @@
 use Rattle.std.proofs.Common.{◌≡◌, true, ap, sym, ◌∙◌}
-use Rattle.rsc_captures.proofs.Words.{groups_of, group_count, name_of, has_name, AreDistinctBelow}
+use Rattle.rsc_captures.proofs.Prelude.{groups_of, group_count, name_of, has_name, AreDistinctBelow}
 use Rattle.rsc_captures.proofs.GroupsLemmas.{index_of-is, has_name-is}
 use Rattle.rsc_captures.proofs.LayoutLemmas.{distinct_in}
 use Rattle.rsc_captures.proofs.layout.SharedLists.find_by_hash.Goals as goal

@@ -1,6 +1,6 @@
 use Rattle.std.proofs.Common.{sym, rules, Some, Ok, Err}
 use Rattle.std.proofs.lemmas.Fn.{always_returns_same}
-use Rattle.rsc_captures.proofs.Words.{groups_of, name_of, name_cmp}
+use Rattle.rsc_captures.proofs.Prelude.{groups_of, name_of, name_cmp}
 use Rattle.rsc_captures.proofs.OrderLayoutLemmas.{index_from_search}
 use Rattle.rsc_captures.proofs.LayoutLemmas.{distinct_in, part_ordered}
 use Rattle.rsc_captures.proofs.layout.SharedLists.find_by_order.Goals as goal
@@ -17,7 +17,7 @@ returns-in-Ok g c =
     let found = c.in-Ok.ensures.position (λ h. name_cmp (name_of c.args.self.now c.args.p h) (Some c.args.name.now))
     (always_returns_same _ _ _ (λ a r f' k. search rules)) in
     sym (index_from_search (groups_of c.args.self.now c.args.p) _ part.1 (distinct_in c.args.self.now c.group_len.ensures.faultless c.args.p)
-    c.args.name.now (Ok c.in-Ok.place) found)
+    c.args.name.now (Ok c.in-Ok.group) found)
 
 pub returns-in-Err : goal.returns-in-Err
 returns-in-Err g c =

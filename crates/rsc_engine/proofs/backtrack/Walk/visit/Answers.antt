@@ -2,7 +2,7 @@ use Rattle.std.proofs.Common.{◌≡◌, ◌∙◌, sym, true, false, arith, get
 use Rattle.std.proofs.lemmas.Grind.{common_steps}
 use Rattle.rsc_engine.specs.Searches.{search_in}
 use Rattle.rsc_engine.specs.Walks.{number_in}
-use Rattle.rsc_engine.proofs.BacktrackLemmas.{IsAfter-more, explored-same, flagged_more, beyond, IsLess-flags}
+use Rattle.rsc_engine.proofs.BacktrackLemmas.{StandsAfter-more, explored-same, flagged_more, beyond, IsLess-flags}
 use Rattle.rsc_engine.proofs.backtrack.Walk.visit.Goals as goal
 
 pub returns-then-get-clause-after : goal.returns-then-get-clause-after
@@ -18,7 +18,7 @@ returns-clause-after g c =
     let at : c.number_of-number.result ≡ number_in e c.args.next = first_of (cc, grind (arith, common_steps)) in
     let none : get_or c.args.self.now.visited c.number_of-number.result false ≡ false = sym c.get.ensures ∙ c.if-get.false in
     rw (c.in_ok-push.ensures.run, c.in_ok-push.ensures.others, c.other_way-other.ensures, c.push.ensures.visited, c.set.ensures)
-    (IsAfter-more _ _ _ _ _ _ _ _ c.requires.trail c.requires.next c.requires.explored
+    (StandsAfter-more _ _ _ _ _ _ _ _ c.requires.trail c.requires.next c.requires.explored
     (flagged_more _ c.args.self.now.visited c.args.next c.number_of-number.result c.requires.room c.requires.next.there at none) c.move_of-step.ensures)
 
 pub returns-clause-beyond : goal.returns-clause-beyond

@@ -1,6 +1,6 @@
 use Rattle.std.proofs.Common.{◌≡◌, ◌-◌, ℕ, ◌∷◌, Some, None, bit_and, refl, sym, ap, ◌∙◌, subst}
 use Rattle.std.specs.FinSet as sets
-use Rattle.rsc_look.proofs.Words.{members, looks_of}
+use Rattle.rsc_look.proofs.Prelude.{members, looks_of}
 use Rattle.rsc_look.proofs.LookSetLayoutLemmas.{first_none, first_some, looks_of-remove}
 use Rattle.rsc_look.proofs.look_set.LookSet.first_member_and_rest.Goals as goal
 

@@ -1,6 +1,6 @@
 use Rattle.std.proofs.Common.{ap, ◌∙◌}
 use Rattle.std.specs.FinSet as sets
-use Rattle.rsc_look.proofs.Words.{contains-joined, boundaries_of}
+use Rattle.rsc_look.proofs.Prelude.{contains-joined, boundaries_of}
 use Rattle.rsc_look.proofs.KeepingLemmas.{IsExactFor-from}
 use Rattle.rsc_look.proofs.matcher.LookMatcher.add_to_byteset.Goals as goal
 

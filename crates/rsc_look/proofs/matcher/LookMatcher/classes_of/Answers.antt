@@ -1,15 +1,15 @@
 -- The set has the boundaries of all members, which make the coarsest partition.
 use Rattle.rsc_look.proofs.KeepingLemmas.{IsCoarsestMap-from}
-use Rattle.rsc_look.proofs.BoundariesLemmas.{HasBoundaries-none, HasBoundaries-more, classes_whole}
+use Rattle.rsc_look.proofs.BoundariesLemmas.{AreGathered-none, AreGathered-more, classes_whole}
 use Rattle.rsc_look.specs.declared.assertion.Look.TheVariants.{Start}
 use Rattle.rsc_look.proofs.matcher.LookMatcher.classes_of.Goals as goal
 
 pub loop-look-init : goal.loop-look-init
-loop-look-init g c = HasBoundaries-none c.args.looks.now c.args.self.now.0 c.empty-set.result c.empty-set.ensures.set
+loop-look-init g c = AreGathered-none c.args.looks.now c.args.self.now.0 c.empty-set.result c.empty-set.ensures.set
 
 pub loop-look-preserved : goal.loop-look-preserved
 loop-look-preserved g c =
-    HasBoundaries-more c.loop-look.set c.add_to_byteset.new.set c.args.looks.now c.loop-look.look-index Start c.args.self.now.0 c.loop-look-test.true
+    AreGathered-more c.loop-look.set c.add_to_byteset.new.set c.args.looks.now c.loop-look.look-index Start c.args.self.now.0 c.loop-look-test.true
     c.loop-look.invariant c.add_to_byteset.ensures.adds
 
 pub returns-clause-classes : goal.returns-clause-classes

@@ -1,4 +1,4 @@
-use Rattle.rsc_look.proofs.SideLayoutLemmas.{ends}
+use Rattle.rsc_look.proofs.HoldsLemmas.{ends}
 use Rattle.rsc_look.proofs.matcher.LookMatcher.is_word_end_unicode.Goals as goal
 
 pub returns : goal.returns

@@ -1,4 +1,4 @@
-use Rattle.rsc_look.proofs.SideLayoutLemmas.{starts}
+use Rattle.rsc_look.proofs.HoldsLemmas.{starts}
 use Rattle.rsc_look.proofs.matcher.LookMatcher.is_word_start_unicode.Goals as goal
 
 pub returns : goal.returns

@@ -1,4 +1,4 @@
-use Rattle.rsc_look.proofs.SideLayoutLemmas.{differs}
+use Rattle.rsc_look.proofs.HoldsLemmas.{differs}
 use Rattle.rsc_look.proofs.matcher.LookMatcher.is_word_unicode.Goals as goal
 
 pub returns : goal.returns

@@ -1,4 +1,4 @@
-use Rattle.rsc_look.proofs.SideLayoutLemmas.{invalid_before, agrees}
+use Rattle.rsc_look.proofs.HoldsLemmas.{invalid_before, agrees}
 use Rattle.rsc_look.proofs.matcher.LookMatcher.is_word_unicode_negate.Goals as goal
 
 pub returns-then-is_invalid : goal.returns-then-is_invalid

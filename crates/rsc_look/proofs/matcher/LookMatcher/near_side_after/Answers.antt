@@ -1,6 +1,6 @@
 use Rattle.std.proofs.Common.{◌∙◌, sym, arith}
 use Rattle.rsc_look.proofs.MatcherLemmas.{BeginsAt-ascii}
-use Rattle.rsc_look.proofs.SideLayoutLemmas.{IsAfter-from_char}
+use Rattle.rsc_look.proofs.HoldsLemmas.{IsAfter-from_char}
 use Rattle.rsc_look.proofs.matcher.LookMatcher.near_side_after.Goals as goal
 
 pub returns-in-Some : goal.returns-in-Some

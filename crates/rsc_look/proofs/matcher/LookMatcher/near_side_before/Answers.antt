@@ -1,6 +1,6 @@
 use Rattle.std.proofs.Common.{◌∙◌, sym, arith}
 use Rattle.rsc_look.proofs.MatcherLemmas.{EndsAt-ascii}
-use Rattle.rsc_look.proofs.SideLayoutLemmas.{IsBefore-from_char}
+use Rattle.rsc_look.proofs.HoldsLemmas.{IsBefore-from_char}
 use Rattle.rsc_look.proofs.matcher.LookMatcher.near_side_before.Goals as goal
 
 pub returns-in-Some : goal.returns-in-Some

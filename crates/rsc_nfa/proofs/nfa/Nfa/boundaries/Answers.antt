@@ -1,20 +1,20 @@
 use Rattle.std.proofs.Common.{◌≡◌, ◌<◌, ◌≤◌, length, rules}
 use Rattle.rsc_nfa.specs.Classes.{boundaries_of_states}
-use Rattle.rsc_nfa.proofs.ClassesLemmas.{HasGathered-none, HasGathered-more, HasGathered-all}
+use Rattle.rsc_nfa.proofs.ClassesLemmas.{AreGathered-none, AreGathered-more, AreGathered-all}
 use Rattle.rsc_nfa.proofs.nfa.Nfa.boundaries.Goals as goal
 
 pub loop-state-init : goal.loop-state-init
-loop-state-init g c = HasGathered-none c.empty-set.result c.args.self.now.states c.args.self.now.matcher.0 c.empty-set.ensures.set
+loop-state-init g c = AreGathered-none c.empty-set.result c.args.self.now.states c.args.self.now.matcher.0 c.empty-set.ensures.set
 
 pub loop-state-preserved : goal.loop-state-preserved
 loop-state-preserved g c =
     let lt : c.loop-state.state-index < length c.self.inside.states.items = search rules in
-    rw (← c.self.view_is) (HasGathered-more c.loop-state.set c.add_state.new.set c.self.inside.states.items c.self.inside.matcher.0 c.loop-state.state-index
+    rw (← c.self.view_is) (AreGathered-more c.loop-state.set c.add_state.new.set c.self.inside.states.items c.self.inside.matcher.0 c.loop-state.state-index
     c.state-item.result lt (rw c.deref-state-items.ensures.value at c.state-item.is)
     (rw (← c.self.view_is) at c.loop-state.invariant) c.add_state.ensures)
 
 pub returns-clause-set : goal.returns-clause-set
 returns-clause-set g c =
     let ended : length c.self.inside.states.items ≤ c.loop-state.state-index = search rules in
-    rw (← c.self.view_is) (HasGathered-all c.loop-state.set c.self.inside.states.items c.self.inside.matcher.0 c.loop-state.state-index ended
+    rw (← c.self.view_is) (AreGathered-all c.loop-state.set c.self.inside.states.items c.self.inside.matcher.0 c.loop-state.state-index ended
     (rw (← c.self.view_is) at c.loop-state.invariant))

@@ -1,7 +1,7 @@
 use Rattle.std.proofs.Common.{true≢false, sym, ap, ◌∙◌}
 use Rattle.std.specs.FinSet as sets
 use Rattle.rsc_alphabet.specs.Partitions.{class_map}
-use Rattle.rsc_nfa.proofs.ClassesLemmas.{KeepsRuns-from, HasEdgesOfAll-from, IsEachNeeded-from, IsCoarsestForRuns-from}
+use Rattle.rsc_nfa.proofs.ClassesLemmas.{KeepsRuns-from, HasBoundariesOfStates-from, IsEachNeeded-from, IsCoarsestForRuns-from}
 use Rattle.rsc_nfa.proofs.nfa.Nfa.classes.Goals as goal
 
 pub returns-clause-classes : goal.returns-clause-classes
@@ -10,14 +10,14 @@ returns-clause-classes g c = c.byte_classes.ensures.map ∙ ap (λ s. class_map 
 pub returns-clause-kept : goal.returns-clause-kept
 returns-clause-kept g c = λ a.
     KeepsRuns-from _ c.args.self.now.states c.args.self.now.matcher.0 (g.W.WordClass.word_chars c.args.self.now.matcher.1)
-    (c.edges_part_a_range.ensures.together _)
-    (λ l. c.boundaries_are_exact.ensures l _ _) (HasEdgesOfAll-from c.args.self.now.states c.args.self.now.matcher.0) a c.byte_classes.result
+    (c.boundaries_part_a_range.ensures.together _)
+    (λ l. c.boundaries_are_exact.ensures l _ _) (HasBoundariesOfStates-from c.args.self.now.states c.args.self.now.matcher.0) a c.byte_classes.result
     (c.one_class_is_together.ensures _) (returns-clause-classes g c)
 
 pub returns-clause-needed : goal.returns-clause-needed
 returns-clause-needed g c = λ a.
     IsEachNeeded-from c.args.self.now.groups c.args.self.now.states c.args.self.now.matcher.0 (g.W.WordClass.word_chars c.args.self.now.matcher.1)
-    c.byte_classes.result c.edges_part_a_range.ensures.boundary
+    c.byte_classes.result c.boundaries_part_a_range.ensures.boundary
     (λ l. c.boundaries_are_exact.ensures l _ _) c.boundaries-set.ensures.faultless a (c.one_class_is_together.ensures _) (returns-clause-classes g c)
 
 pub returns-clause-coarsest : goal.returns-clause-coarsest

@@ -5,7 +5,7 @@ use Rattle.rsc_alphabet.specs.Partitions.{class_map}
 use Rattle.rsc_alphabet.specs.PartitionsLaws.{contains-joined}
 use Rattle.rsc_nfa.specs.Classes.{boundaries_of_states}
 use Rattle.rsc_nfa.proofs.ClassesLemmas.{KeepsRuns-from}
-use Rattle.rsc_nfa.proofs.NfaLemmas.{HasEdgesOfAll-joined, parts_neighbours, finer_from}
+use Rattle.rsc_nfa.proofs.NfaLemmas.{HasBoundariesOfStates-joined, parts_neighbours, finer_from}
 use Rattle.rsc_nfa.proofs.nfa.Nfa.classes_with.Goals as goal
 
 pub returns-clause-classes : goal.returns-clause-classes
@@ -26,6 +26,6 @@ returns-clause-finer g c =
 pub returns-clause-kept : goal.returns-clause-kept
 returns-clause-kept g c = λ a.
     KeepsRuns-from _ c.args.self.now.states c.args.self.now.matcher.0 (g.W.WordClass.word_chars c.args.self.now.matcher.1)
-    (c.edges_part_a_range.ensures.together _)
-    (λ l. c.boundaries_are_exact.ensures l _ _) (HasEdgesOfAll-joined c.args.self.now.states c.args.self.now.matcher.0 c.args.more.now) a
+    (c.boundaries_part_a_range.ensures.together _)
+    (λ l. c.boundaries_are_exact.ensures l _ _) (HasBoundariesOfStates-joined c.args.self.now.states c.args.self.now.matcher.0 c.args.more.now) a
     c.byte_classes.result (c.one_class_is_together.ensures _) (returns-clause-classes g c)

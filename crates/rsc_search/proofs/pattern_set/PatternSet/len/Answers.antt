@@ -3,7 +3,7 @@ use Rattle.rsc_search.proofs.PatternSetLayoutLemmas.{is_set_below, members_withi
 use Rattle.rsc_search.proofs.pattern_set.PatternSet.len.Goals as goal
 
 pub returns-clause-within : goal.returns-clause-within
-returns-clause-within g c = rw (← c.self.view_is) (omega (arith, c.self.invariant.count_is, members_within c.self.inside.capacity c.self.inside.words.items))
+returns-clause-within g c = rw (← c.self.view_is) (omega (arith, c.self.invariant.count_is, members_within c.self.inside.capacity c.self.inside.blocks.items))
 
 pub returns-clause-set : goal.returns-clause-set
-returns-clause-set g c = rw (← c.self.view_is) (is_set_below c.self.inside.capacity c.self.inside.words.items)
+returns-clause-set g c = rw (← c.self.view_is) (is_set_below c.self.inside.capacity c.self.inside.blocks.items)

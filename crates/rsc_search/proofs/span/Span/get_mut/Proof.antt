@@ -83,11 +83,11 @@ module _ {M : Type 1} {𝓤 : Ura M} (𝓛 : Logic 𝓤) (at_mem : Memory → SP
     abbrev hay : MutBor (List ℕ)
     hay = record { ref_ptr = (b, o); ghost_name = γ; now = xs }
 
-    abbrev words : List Val × (List Val × Unit {0})
-    words = (shr_vals self, (mut_slice_vals hay, tt))
+    abbrev blocks : List Val × (List Val × Unit {0})
+    blocks = (shr_vals self, (mut_slice_vals hay, tt))
 
     abbrev bound : (walk_of 𝓛 f.ended stayed clauses).Ghost
-    bound = (((κ, (κ', tt)), (q, (q', tt)), tt, (self, (hay, tt)), words), tt)
+    bound = (((κ, (κ', tt)), (q, (q', tt)), tt, (self, (hay, tt)), blocks), tt)
 
     abbrev Post : Val → SProp 𝓤
     Post = (walk_of 𝓛 f.ended stayed clauses).post bound
@@ -109,13 +109,13 @@ module _ {M : Type 1} {𝓤 : Ura M} (𝓛 : Logic 𝓤) (at_mem : Memory → SP
         suffices ! _ (ends_at 𝓛 f.ended stayed clauses bound (live 0 (of_list [])) None (tt, (tt, tt)) (tt, (tt, tt))) $
         nothing ! $ nothing ! $ fjoin ! $ nothing ! $ fjoin ! $ join ! $ move ! (1 ∷ 2 ∷ []) $ join ! $ join ! $ frame ! $ says ! (sym nothing_cut) $ done !
 
-    walk : Room u8 (length xs) → ent 𝓤 (on_entry 𝓛 f.signature (κ, (κ', tt)) (q, (q', tt)) (self, (hay, tt)) words)
+    walk : Room u8 (length xs) → ent 𝓤 (on_entry 𝓛 f.signature (κ, (κ', tt)) (q, (q', tt)) (self, (hay, tt)) blocks)
         (WpFn 𝓤 H C Λ code.function (shr_vals self ++ (slice_val (b, o) (length xs) ∷ [])) Post)
     unfolding follows_by
     walk room =
         let i : ℕ = d.start in
         let j : ℕ = d.end in
-        qed 𝓛 ((‵ (flft κ q) ⊛ ‵ (flft κ' q') ⊛ ‵ ftrue) ∷ ‵ (owns (ShrRef (named 0) κ S ∷ Lent ∷ []) (self, (hay, tt)) words) ∷ [])
+        qed 𝓛 ((‵ (flft κ q) ⊛ ‵ (flft κ' q') ⊛ ‵ ftrue) ∷ ‵ (owns (ShrRef (named 0) κ S ∷ Lent ∷ []) (self, (hay, tt)) blocks) ∷ [])
         ∵
         enter ! C Λ code.function (shr_vals self ++ (slice_val (b, o) (length xs) ∷ [])) _ $
         alloc_all ! (λ l. pass_all ! refl ((tt, tt), ((tt, (tt, (record { fits = room.0 }, tt))), tt)) $
@@ -156,7 +156,7 @@ module _ {M : Type 1} {𝓤 : Ura M} (𝓛 : Logic 𝓤) (at_mem : Memory → SP
         let one : i * 1 + o ≡ i + o = omega arith in
         let on : at o 1 (length front) ≡ i + o = at_mul o 1 (length front) ∙ ap (λ (k : ℕ). k * 1 + o) lf ∙ one in
         let bytes_fit : length xs * 1 < 2 ^ 63 = room.1 in
-        let words_fit : length xs < 2 ^ 64 = room.0 in
+        let blocks_fit : length xs < 2 ^ 64 = room.0 in
         let mid_room : Room u8 (length mid) = (omega arith, omega arith) in
         let part : MutBor (List ℕ) = record { ref_ptr = (b, i + o); ghost_name = γ; now = mid } in
         let v : Val = slice_val (b, i + o) (j - i) in

@@ -1,5 +1,5 @@
 use Rattle.std.proofs.Common.{List, ◌≡◌, ◌+◌, ◌-◌, [], ◌∷◌, sym, ◌∙◌, arith, rules, ℕ, slice_index}
-use Rattle.rsc_alphabet.proofs.Words.{end_of_input, symbols_left}
+use Rattle.rsc_alphabet.proofs.Prelude.{end_of_input, symbols_left}
 use Rattle.rsc_alphabet.proofs.IteratorsLemmas.{symbols_left_more, symbols_left_end, symbols_left_none}
 use Rattle.rsc_alphabet.proofs.byte_classes.iter.ByteClassIterIterator.next.Goals as goal
 

@@ -1,6 +1,6 @@
 use Rattle.std.proofs.Common.{◌≡◌, ◌<◌, ◌∙◌, length, subst, arith, ℕ}
 use Rattle.rsc_nfa.specs.Classes.{has_unicode}
-use Rattle.rsc_nfa.specs.Faults.{IsFaultless}
+use Rattle.rsc_nfa.specs.Faults.{AreFaultless}
 use Rattle.rsc_look.specs.Keeping.{AgreesWithAscii}
 use Rattle.rsc_engine.proofs.LawfulLemmas.{parted}
 use Rattle.rsc_engine.proofs.dfa.plan.Plan.new.Goals as goal
@@ -11,7 +11,7 @@ returns-clause-plan g c =
     let agreed : AgreesWithAscii (g.W.WordClass.word_chars p.automaton.matcher.1) = c.agrees_with_ascii.ensures p.automaton.matcher.1 in
     let looks : c.contains_word_unicode-unicode.result ≡ has_unicode p.automaton.states =
     rw c.nfa-nfa.ensures at (c.contains_word_unicode-unicode.ensures ∙ c.looks.ensures.unicode) in
-    let faultless : IsFaultless p.automaton.groups p.automaton.states = rw c.nfa-nfa.ensures at c.states-states.ensures.faultless in
+    let faultless : AreFaultless p.automaton.groups p.automaton.states = rw c.nfa-nfa.ensures at c.states-states.ensures.faultless in
     record {
       groups = p.automaton.groups;
       faultless = faultless;
@@ -22,5 +22,5 @@ returns-clause-plan g c =
       parted = λ is. parted _ c.classes_with-classes.result c.classes_with-classes.ensures.classes
           (c.classes_with-classes.ensures.parted 127 (omega arith) (c.past_ascii.ensures (looks ∙ is)));
       columns = c.alphabet_len-stride.ensures.value;
-      rise = c.classes_with-classes.ensures.rise;
+      rise = c.classes_with-classes.ensures.bounded;
     }

@@ -1,9 +1,0 @@
-use Rattle.std.proofs.Common.{◌<◌, ◌^◌, ℕ, get_or, rules}
-use Rattle.rsc_search.proofs.WordLayoutLemmas.{decides_bits}
-use Rattle.rsc_search.proofs.words.have_same_bits.Goals as goal
-
-pub returns : goal.returns
-returns c =
-    let words_fit : (i : ℕ) → get_or c.args.words.now i 0 < 2 ^ 64 = search rules in
-    let others_fit : (i : ℕ) → get_or c.args.others.now i 0 < 2 ^ 64 = search rules in
-    decides_bits c.args.words.now c.args.others.now c.eq.result words_fit others_fit c.eq.ensures
