@@ -3,6 +3,7 @@
 workload's ratio on a logarithmic scale, by crate.
 
     bench/page.py [THEIRS OURS]     # two files of lines `name ns`, as bench.sh leaves them; without them only counts and picture are regenerated
+    bench/page.py COUNTS            # a file of lines `name theirs ours`, as instructions.py prints them
 
 A workload that was measured replaces its row; a new one gets the crate of the workload before it. A workload whose time is a difference of
 less than a quarter of a cycle is left out.
@@ -18,7 +19,7 @@ LEFT, WIDTH, HEIGHT, LOW, HIGH = 330, 600, 11, -5, 3  # the ratios from 1/32 to 
 
 
 def with_times(rows, theirs, ours):
-    """Returns the rows of the table with the times of both sides. A row is a workload, its crate, two times and a ratio."""
+    """Returns the rows of the table with the times of both sides. A row is a workload, its crate, two times and a ratio, and the same of instructions."""
     made, crate = {it[0]: it for it in rows}, rows[0][1]
     order = [it[0] for it in rows]
     for before, name in zip([None, *ours], ours):
@@ -28,14 +29,26 @@ def with_times(rows, theirs, ours):
             continue
         if name not in order:
             order.insert(order.index(before) + 1 if before in order else len(order), name)
-        made[name] = [name, crate, f"{theirs[name]:.4g}", f"{ours[name]:.4g}", f"{ours[name] / theirs[name]:.2f}"]
+        made[name] = [name, crate, f"{theirs[name]:.4g}", f"{ours[name]:.4g}", f"{ours[name] / theirs[name]:.2f}"] + (made[name][5:] if name in made else ["", "", ""])
     return [made[it] for it in order if it in made]
+
+
+def with_counts(rows, path):
+    """Returns the rows of the table with the instructions of both sides."""
+    with open(path, encoding="utf-8") as lines:
+        counts = {name: (float(theirs), float(ours)) for name, theirs, ours in map(str.split, lines)}
+    made = []
+    for row in rows:
+        theirs, ours = counts.get(row[0], (0, 0))
+        new = [f"{theirs:.4g}", f"{ours:.4g}", f"{ours / theirs:.2f}"] if min(theirs, ours) > 0 else row[5:]
+        made.append(row[:5] + new)
+    return made
 
 
 def ratios(rows):
     """Returns the ratios of each crate's workloads."""
     found = {}
-    for name, crate, _, _, ratio in rows:
+    for name, crate, _, _, ratio, *_ in rows:
         found.setdefault(crate, []).append((name, float(ratio)))
     return found
 
@@ -84,6 +97,9 @@ def main():
     head, *rows = [it.split("\t") for it in table.read_text(encoding="utf-8").splitlines()]
     if len(sys.argv) == 3:
         rows = with_times(rows, least(sys.argv[1]), least(sys.argv[2]))
+    elif len(sys.argv) == 2:
+        rows = with_counts(rows, sys.argv[1])
+    if len(sys.argv) > 1:
         table.write_text("".join("\t".join(it) + "\n" for it in [head, *rows]), encoding="utf-8")
     found = ratios(rows)
     lines = page.read_text(encoding="utf-8").split("\n")

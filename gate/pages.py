@@ -39,7 +39,7 @@ FORMS = (
     ("rsc_look/src/boundaries.rt", "    set.add_set(&word_bytes());\n"),
     ("rsc_primitives/src/utf8.rt", "const WORD_BYTES_TO_7F: u128 = 0x07FF_FFFE_87FF_FFFE_03FF_0000_0000_0000;\n"),
     ("rsc_primitives/src/utf8.rt", "const WORD_BYTES_FROM_80: u128 = 0;\n"),
-    ("rsc_search/src/pattern_set.rt", "    words: Vec<u64, A>,\n    capacity: usize,\n    count: usize,\n}"),
+    ("rsc_search/src/pattern_set.rt", "    blocks: Vec<u64, A>,\n    capacity: usize,\n    count: usize,\n}"),
 )
 LIBRARIES = ("rsc_primitives", "rsc_alphabet", "rsc_look", "rsc_search", "rsc_captures", "rsc_nfa")
 
@@ -90,14 +90,14 @@ def tokens(text):
     return set(re.findall(r"[^\s(){}\[\],;.]+", re.sub(r"--.*", "", text)))
 
 
-# The headline: the clauses of these functions, and what the two choices of word characters mean.
+# The main statement: the clauses of these functions, and what the two choices of word characters mean.
 HEADLINE = (("rsc_look/src/matcher.rt", r"pub fn matches\(.*?\n    \{"), ("rsc_look/src/boundaries.rt", r"pub fn classes_of\(.*?\n    \{"),
             ("rsc_look/src/word.rt", r"ghost word_chars = .*?;"), ("rsc_look/src/matcher.rt", r"impl<W: WordClass> Model for .*?^\}"),
             ("rsc_alphabet/src/byte_classes.rt", r"impl Model for ByteClasses .*?^\}"))
 
 
 def reached():
-    """Returns the definitions that the headline's clauses reach, by their files, and the types and toolchain names that they use."""
+    """Returns the definitions that the main statement's clauses reach, by their files, and the types and toolchain names that they use."""
     left, own, outside = [], collections.defaultdict(set), collections.defaultdict(set)
     for file, pattern in HEADLINE:
         text = (ROOT / "crates" / file).read_text(encoding="utf-8")
@@ -122,9 +122,9 @@ def reached():
 
 
 def trusted():
-    """Returns docs/TRUSTED.md: what is to be believed for the headline, definition by definition."""
+    """Returns docs/TRUSTED.md: what is to be believed for the main statement, definition by definition."""
     own, outside = reached()
-    lines = ["# What the headline rests on", "", "Written by `gate/pages.py --write`: the definitions that the clauses of `classes_of` and `matches` of `rsc_look` reach, with all that",
+    lines = ["# What the main statement rests on", "", "Written by `gate/pages.py --write`: the definitions that the clauses of `classes_of` and `matches` of `rsc_look` reach, with all that",
              "these use, and the meaning of `AsciiWord` and `UnicodeWord`. Whoever trusts the toolchain need believe these alone; [DEFINITIONS.md](DEFINITIONS.md)", "says each in words.", "",
              "| File | Lines | Definitions |", "|---|---|---|"]
     count = total = 0
@@ -141,7 +141,7 @@ def trusted():
 
 
 def believed(text):
-    """Returns README.md with how many definitions the headline reaches."""
+    """Returns README.md with how many definitions the main statement reaches."""
     _, count, total, files = trusted()
     return re.sub(r"<!-- believed -->.*?<!-- end -->", f"<!-- believed -->{count} definitions ({total} lines, in {files} files of `crates/*/specs`)<!-- end -->", text)
 

@@ -19,6 +19,7 @@ mod workloads;
 use std::process::ExitCode;
 
 const USAGE: &str = "usage: bench time [FILTER]    the nanoseconds of an operation of each workload
+       bench count [FILTER]   has callgrind count instructions (bench/instructions.py)
        bench sums [FILTER]    what one repetition of each workload adds
        bench list             the kernel, the parameter, the operations and the bytes of each";
 
@@ -28,6 +29,8 @@ fn main() -> ExitCode {
     let done = match args[..] {
         ["time"] => measure::times(""),
         ["time", filter] => measure::times(filter),
+        ["count"] => measure::count(""),
+        ["count", filter] => measure::count(filter),
         ["sums"] => measure::sums(""),
         ["sums", filter] => measure::sums(filter),
         ["list"] => measure::list(),

@@ -1,5 +1,7 @@
 //! Measures the workloads.
 
+use std::arch::asm;
+use std::ffi::CString;
 use std::io::{self, Write};
 use std::time::Duration;
 
@@ -100,6 +102,46 @@ pub fn list() -> io::Result<()> {
     for w in workloads::all() {
         let bytes = w.data.len();
         writeln!(io::stdout(), "{} {} {} {} {}", w.name, w.kernel, w.param, w.ops, bytes)?;
+    }
+    Ok(())
+}
+
+// Requests that callgrind answers.
+const ZERO: u64 = 0x4354_0001;
+const DUMP: u64 = 0x4354_0003;
+const BEGIN: u64 = 0x4354_0004;
+const END: u64 = 0x4354_0005;
+
+/// Asks callgrind, where it runs the program. The rotations turn once around and the exchange is of a register with itself, so nothing
+/// happens without it.
+fn ask(request: u64, text: &str) {
+    let text = CString::new(text).unwrap_or_default();
+    let request = [request, text.as_ptr() as u64, 0, 0, 0, 0];
+    // The request is read, and no register but rdx changes.
+    unsafe {
+        asm!(
+            "rol rdi, 3", "rol rdi, 13", "rol rdi, 61", "rol rdi, 51", "xchg rbx, rbx",
+            in("rax") request.as_ptr(), inout("rdx") 0_u64 => _,
+        );
+    }
+}
+
+/// Has callgrind count the instructions of one and of three repetitions of each workload whose name has the filter in it, and of what is
+/// taken off. Prints `name ops` for each.
+pub fn count(filter: &str) -> io::Result<()> {
+    for workload in chosen(filter) {
+        for (part, kernel) in [("of", Some(workload.kernel)), ("less", workload.less)] {
+            let Some(kernel) = kernel else { continue };
+            std::hint::black_box(call(&workload, kernel, 1));
+            for reps in [1, 3] {
+                ask(BEGIN, "");
+                ask(ZERO, "");
+                std::hint::black_box(call(&workload, kernel, reps));
+                ask(DUMP, &format!("{} {part} {reps}", workload.name));
+                ask(END, "");
+            }
+        }
+        writeln!(io::stdout(), "{} {}", workload.name, workload.ops)?;
     }
     Ok(())
 }

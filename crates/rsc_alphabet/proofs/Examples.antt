@@ -1,4 +1,4 @@
--- The definitions computed on worked examples.
+-- The definitions, computed on examples.
 use Rattle.std.proofs.Common.{◌≡◌, ℕ, Bool, true, false, List, [], ◌∷◌, map, refl, ◌∙◌, ◌&&◌, ◌||◌, ◌+◌, ◌-◌, not, nat_eq, filter, ap₂}
 use Rattle.std.specs.List.{list_any, zip}
 use Rattle.std.specs.FinSet as sets

@@ -19,7 +19,8 @@ pub boundaries_set : (ends before : Numbers) (s e : ℕ) → s ≤ e → e < 256
     → ((q : ℕ) → sets.contains before q ≡ ((nat_lt 0 s && nat_eq q (s - 1)) || sets.contains ends q))
     → sets.remove (sets.insert before e) 255 ≡ sets.union (sets.remove ends 255) (boundaries_of_range (s, e))
 boundaries_set ends before s e order high first = same_set nat_cmp_total nat_cmp-IsAntisymmetric _ _ (λ q.
-    rw (contains-removed, contains-inserted, contains-joined, contains-removed, contains-boundaries_of_range, first q) (flags (sets.contains ends q) q s e order high))
+    rw (contains-removed, contains-inserted, contains-joined, contains-removed, contains-boundaries_of_range, first q)
+    (flags (sets.contains ends q) q s e order high))
   where
     flags : (b : Bool) (q s e : ℕ) → s ≤ e → e < 256 → (not (nat_eq q 255) && (nat_eq q e || ((nat_lt 0 s && nat_eq q (s - 1)) || b))) ≡
         ((not (nat_eq q 255) && b) || ((nat_lt 0 s && nat_eq (s - 1) q) || (nat_lt e 255 && nat_eq e q)))
@@ -148,7 +149,8 @@ is_boundary_of_range k r = sets.contains (boundaries_of_range r) k
 boundaries_from : (s : Numbers) (k n low : ℕ) → 256 ≤ low + n → parts_no_run s low ≡ true →
     list_any (is_boundary_of_range k) (runs_from s low) ≡ (nat_lt k 255 && ((nat_le low k && differs s k) || (nat_eq (k + 1) low && sets.contains s low)))
 boundaries_from s k =
-    for_runs_from s (λ low rs. list_any (is_boundary_of_range k) rs ≡ (nat_lt k 255 && ((nat_le low k && differs s k) || (nat_eq (k + 1) low && sets.contains s low))))
+    for_runs_from s
+    (λ low rs. list_any (is_boundary_of_range k) rs ≡ (nat_lt k 255 && ((nat_le low k && differs s k) || (nat_eq (k + 1) low && sets.contains s low))))
     (λ low h. sym (past low k (differs s k) (sets.contains s low) h))
     (λ low e h clean run rest.
     ap₂ (λ t u. t || u) (contains-boundaries_of_range low e k) rest ∙ stepped low e k (differs s k) (sets.contains s (e + 1)) run.from run.fits
@@ -170,7 +172,8 @@ boundaries_from s k =
 -- a boundary is an edge of one of the ranges
 pub contains-boundaries_of_ranges : (ranges : List (ℕ × ℕ)) (k : ℕ) → sets.contains (boundaries_of_ranges ranges) k ≡ list_any (is_boundary_of_range k) ranges
 contains-boundaries_of_ranges [] k = contains-empty nat_cmp k
-contains-boundaries_of_ranges (r ∷ rest) k = contains-joined (boundaries_of_range r) (boundaries_of_ranges rest) k ∙ ap (λ b. is_boundary_of_range k r || b) (contains-boundaries_of_ranges rest k)
+contains-boundaries_of_ranges (r ∷ rest) k = contains-joined (boundaries_of_range r) (boundaries_of_ranges rest) k
+    ∙ ap (λ b. is_boundary_of_range k r || b) (contains-boundaries_of_ranges rest k)
 
 -- the boundaries of a set's maximal runs are where membership changes
 pub boundaries_of_runs_are : (s : Numbers) (k : ℕ) → sets.contains (boundaries_of_ranges (runs s)) k ≡ is_boundary_of_set s k
@@ -243,7 +246,8 @@ Together-sym : (p : ℕ → Bool) (b c : ℕ) → Together p b c → Together p 
 Together-sym p b c t k l u = t k (omega arith) (omega arith)
 
 -- bytes that are together where a partition has these are both in the range or both outside
-pub boundaries-together : (p : ℕ → Bool) (r : ℕ × ℕ) (b c : ℕ) → b < 256 → c < 256 → ((k : ℕ) → k < 255 → sets.contains (boundaries_of_range r) k ≡ true → p k ≡ true)
+pub boundaries-together : (p : ℕ → Bool) (r : ℕ × ℕ) (b c : ℕ) → b < 256 → c < 256
+    → ((k : ℕ) → k < 255 → sets.contains (boundaries_of_range r) k ≡ true → p k ≡ true)
     → Together p b c → holds r b ≡ holds r c
 boundaries-together p r b c l u has t =
     same_bools (holds r b) (holds r c)

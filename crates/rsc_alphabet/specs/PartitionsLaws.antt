@@ -38,7 +38,8 @@ union_assoc s t u = same_set nat_cmp_total nat_cmp-IsAntisymmetric _ _ (λ q.
 
 -- ---- the boundaries of a range
 
-pub contains-boundaries_of_range : (s e q : ℕ) → sets.contains (boundaries_of_range (s, e)) q ≡ ((nat_lt 0 s && nat_eq (s - 1) q) || (nat_lt e 255 && nat_eq e q))
+pub contains-boundaries_of_range : (s e q : ℕ) → sets.contains (boundaries_of_range (s, e)) q ≡
+    ((nat_lt 0 s && nat_eq (s - 1) q) || (nat_lt e 255 && nat_eq e q))
 contains-boundaries_of_range s e q =
     contains-from_list_nat _ q ∙ by_cases (nat_lt 0 s) (nat_lt e 255)
   where

@@ -4,7 +4,7 @@ ghost use Rattle.std.specs.Iterator.{YieldsFirst, item_count};
 ghost use Rattle.rsc_alphabet.specs.ByteSets.{members};
 
 use crate::ByteSet;
-use crate::masks::{lowest_bit, block_shifted_right};
+use crate::masks::{block_shifted_right, lowest_bit};
 use std::marker::Model;
 
 // An iterator over the members of a set, one `u64` after the other, which is twice as fast as a `u128`. A contract sees it as the list

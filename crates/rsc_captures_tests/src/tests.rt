@@ -1,4 +1,4 @@
-//! Group lists and captures: worked rows, shown texts, and running out of memory.
+//! Group lists and captures: examples, shown texts, and running out of memory.
 mod captures;
 mod cost;
 mod forms;

@@ -6,7 +6,7 @@ use Rattle.rsc_nfa.specs.declared.state.State.{State}
 use Rattle.rsc_nfa.specs.declared.state.State.TheVariants.{ByteRange, Assert, Fork, Capture, Accept}
 use Rattle.rsc_nfa.specs.Steps.{place, StepsTo}
 use Rattle.rsc_captures.specs.Captured.{Captured}
-use Rattle.rsc_primitives.specs.Utf8.{IsBoundary}
+use Rattle.rsc_primitives.specs.Decoding.{IsBoundary}
 use Rattle.rsc_search.specs.Inputs.{InputParts}
 use Rattle.rsc_search.specs.Matches.{Matched}
 use Rattle.rsc_search.specs.declared.anchored.Anchored.TheVariants.{No}
@@ -147,7 +147,8 @@ match_shift e i j from run low m = record {
     begins : (place run 0).1 ≡ from.1
     begins = ap (λ (p : ℕ × ℕ). p.1) m.begins
 
-before_shift : (e : Search) (i j : ℕ) (one other : List (ℕ × ℕ)) → IsPreferredTo (record e { start = i }) one other → IsPreferredTo (record e { start = j }) one other
+before_shift : (e : Search) (i j : ℕ) (one other : List (ℕ × ℕ)) → IsPreferredTo (record e { start = i }) one other
+    → IsPreferredTo (record e { start = j }) one other
 before_shift e i j one other b = record {
   at = b.at;
   a = b.a;

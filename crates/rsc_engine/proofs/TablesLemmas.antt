@@ -22,7 +22,7 @@ use Rattle.rsc_engine.specs.Ends.{IsEarliestEnd, IsQuit, BeginsFrom}
 use Rattle.rsc_engine.specs.Lawful.{Lawful}
 use Rattle.rsc_search.specs.declared.anchored.Anchored.TheVariants.{No, Yes, Pattern}
 use Rattle.rsc_engine.specs.Rows.{Machine, machine_of, Alike, IsPlainUnit, IsPlan, IsNeverEntered, IsSuccessor, IsNear, IsRowAt, around, middle}
-use Rattle.rsc_engine.specs.Tables.{column, step_of, IsSoundRow, IsRow, IsLed, LeadsTo, IsStepTo, IsBeyond, IsExact, IsGrown, IsRowAt}
+use Rattle.rsc_engine.specs.Tables.{column, step_of, IsSoundRow, IsRow, IsLed, LeadsTo, IsStepTo, IsBeyond, IsExact, IsGrown, StandsAt}
 use Rattle.rsc_engine.proofs.LawfulLemmas.{IsNear-from, Alike-self, Alike-trans}
 use Rattle.rsc_engine.proofs.RowsLemmas.{first_row, match_here, next_row, last_row, none_before_row}
 
@@ -222,12 +222,12 @@ pub record IsSearched (e : Search) (classes : List ℕ) (stride : ℕ) (unicode 
   pub within : e.end ≤ length e.haystack
 
 module _ (e : Search) (classes : List ℕ) (stride : ℕ) (unicode : Bool) (s : IsSearched e classes stride unicode) where
-  leads_here : (old new : List Row) (k i : ℕ) (unit : Option ℕ) (step : Step) (on : IsRowAt e classes old k i)
+  leads_here : (old new : List Row) (k i : ℕ) (unit : Option ℕ) (step : Step) (on : StandsAt e classes old k i)
       → (a : IsStepTo (machine_of e) classes old new k unit step) → LeadsTo (machine_of e) classes new on.row a.other step
   leads_here old new k i unit step on a =
       subst (λ (x : Row). LeadsTo (machine_of e) classes new x a.other step) (some_same a.from on.row (sym a.there ∙ on.there)) a.leads
 
-  near_on : (old new : List Row) (k i : ℕ) (step : Step) → All (IsSoundRow (machine_of e)) old → i ≤ e.end → (on : IsRowAt e classes old k i)
+  near_on : (old new : List Row) (k i : ℕ) (step : Step) → All (IsSoundRow (machine_of e)) old → i ≤ e.end → (on : StandsAt e classes old k i)
       → (a : IsStepTo (machine_of e) classes old new k (byte_after e.haystack i) step)
       → IsNear e i (around on.row.before a.other) (middle on.row.before)
   near_on old new k i step sound low on a =
@@ -237,17 +237,17 @@ module _ (e : Search) (classes : List ℕ) (stride : ℕ) (unicode : Bool) (s : 
       (plain_alike (machine_of e) classes stride unicode (byte_after e.haystack i) a.other s.plan a.alike a.plain)
       before a.plain
 
-  pub IsRowAt-match : (old new : List Row) (k i : ℕ) → All (IsSoundRow (machine_of e)) old → i ≤ e.end → IsRowAt e classes old k i
+  pub StandsAt-match : (old new : List Row) (k i : ℕ) → All (IsSoundRow (machine_of e)) old → i ≤ e.end → StandsAt e classes old k i
       → IsStepTo (machine_of e) classes old new k (byte_after e.haystack i) Matches → IsEarliestEnd e i
-  IsRowAt-match old new k i sound low on a =
+  StandsAt-match old new k i sound low on a =
       match_here s.laws e i (around on.row.before a.other) (middle on.row.before) on.row.set.items [] on.is_row
       (near_on old new k i Matches sound low on a)
       (subst (λ (mode : Anchored). IsSuccessor (machine_of e) mode (around on.row.before a.other) (middle on.row.before) on.row.set.items true [])
       on.same_mode (leads_here old new k i (byte_after e.haystack i) Matches on a))
 
-  pub IsRowAt-last : (old new : List Row) (k next i : ℕ) → i ≡ e.end → All (IsSoundRow (machine_of e)) old → IsRowAt e classes old k i
+  pub StandsAt-last : (old new : List Row) (k next i : ℕ) → i ≡ e.end → All (IsSoundRow (machine_of e)) old → StandsAt e classes old k i
       → IsStepTo (machine_of e) classes old new k (byte_after e.haystack i) (Goes next) → HasNone e
-  IsRowAt-last old new k next i at sound on a =
+  StandsAt-last old new k next i at sound on a =
       let led : IsLed (machine_of e) classes new on.row a.other next = leads_here old new k i (byte_after e.haystack i) (Goes next) on a in
       last_row s.laws e (around on.row.before a.other) (middle on.row.before) on.row.set.items led.after
       (subst (λ (j : ℕ). IsRowAt e j on.row.set.items) at on.is_row)
@@ -256,10 +256,10 @@ module _ (e : Search) (classes : List ℕ) (stride : ℕ) (unicode : Bool) (s : 
       (subst (λ (mode : Anchored). IsSuccessor (machine_of e) mode (around on.row.before a.other) (middle on.row.before) on.row.set.items false led.after)
       on.same_mode led.successor)
 
-  pub IsRowAt-next : (old new : List Row) (k next i : ℕ) → All (IsSoundRow (machine_of e)) old → All (IsSoundRow (machine_of e)) new
-      → e.start ≤ i → i < e.end → IsRowAt e classes old k i → IsStepTo (machine_of e) classes old new k (byte_after e.haystack i) (Goes next)
-      → IsRowAt e classes new next (i + 1)
-  IsRowAt-next old new k next i sound after low high on a =
+  pub StandsAt-next : (old new : List Row) (k next i : ℕ) → All (IsSoundRow (machine_of e)) old → All (IsSoundRow (machine_of e)) new
+      → e.start ≤ i → i < e.end → StandsAt e classes old k i → IsStepTo (machine_of e) classes old new k (byte_after e.haystack i) (Goes next)
+      → StandsAt e classes new next (i + 1)
+  StandsAt-next old new k next i sound after low high on a =
       let led : IsLed (machine_of e) classes new on.row a.other next = leads_here old new k i (byte_after e.haystack i) (Goes next) on a in
       let states = (sound_at (machine_of e) new next led.is_row.to after led.is_row.there).states in
       let same : suc i ≡ i + 1 = omega arith in
@@ -279,9 +279,9 @@ module _ (e : Search) (classes : List ℕ) (stride : ℕ) (unicode : Bool) (s : 
             (sym led.is_row.is_set) led.successor));
       }
 
-  pub IsRowAt-first : (rows : List Row) (k i : ℕ) (before : Option ℕ) (set : List ℕ) → e.start ≤ e.end → before ≡ byte_before e.haystack i → i ≡ e.start
-      → set ≡ e.first ∷ [] → IsRow classes rows k e.mode before set → IsRowAt e classes rows k i
-  IsRowAt-first rows k i before set order is at alone r = record {
+  pub StandsAt-first : (rows : List Row) (k i : ℕ) (before : Option ℕ) (set : List ℕ) → e.start ≤ e.end → before ≡ byte_before e.haystack i → i ≡ e.start
+      → set ≡ e.first ∷ [] → IsRow classes rows k e.mode before set → StandsAt e classes rows k i
+  StandsAt-first rows k i before set order is at alone r = record {
     row = r.to;
     there = r.there;
     same_mode = r.same_mode;
@@ -291,12 +291,12 @@ module _ (e : Search) (classes : List ℕ) (stride : ℕ) (unicode : Bool) (s : 
   }
 
 -- the row of the position is there
-pub IsRowAt-within : (e : Search) (classes : List ℕ) (rows : List Row) (k i : ℕ) → IsRowAt e classes rows k i → k < length rows
-IsRowAt-within e classes rows k i on = slice_get_within rows k on.row on.there
+pub StandsAt-within : (e : Search) (classes : List ℕ) (rows : List Row) (k i : ℕ) → StandsAt e classes rows k i → k < length rows
+StandsAt-within e classes rows k i on = slice_get_within rows k on.row on.there
 
 -- ---- where a search quits
 
-pub quit_here : (e : Search) (classes : List ℕ) (rows : List Row) (k i : ℕ) → IsRowAt e classes rows k i
+pub quit_here : (e : Search) (classes : List ℕ) (rows : List Row) (k i : ℕ) → StandsAt e classes rows k i
     → IsBeyond (machine_of e) (byte_after e.haystack i) → IsQuit e i
 quit_here e classes rows k i on x = record {
   unicode = x.unicode;
@@ -312,7 +312,7 @@ pub begins_first : (e : Search) (k : ℕ) → k ≡ e.start → BeginsFrom e k
 begins_first e k is = record { start = omega (arith, is); none = λ at low high. absurd (omega (arith, is, low, high)) }
 
 -- nor before a row whose only state is the first one
-pub begins_at_row : Lawful → (e : Search) (classes : List ℕ) (rows : List Row) (k i : ℕ) → IsRowAt e classes rows k i → e.mode ≡ No
+pub begins_at_row : Lawful → (e : Search) (classes : List ℕ) (rows : List Row) (k i : ℕ) → StandsAt e classes rows k i → e.mode ≡ No
     → IsNeverEntered (machine_of e) → ((row : Row) → slice_get rows k ≡ Some row → row.set.items ≡ e.first ∷ []) → e.start ≤ i → BeginsFrom e i
 begins_at_row w e classes rows k i on free never first low = record {
   start = low;

@@ -1,7 +1,7 @@
 -- Which match is next; `last` is where the last one ended, if there was one.
 use Rattle.std.specs.Prelude.{◌≡◌, ℕ, ◌-◌, ◌<◌, ◌≤◌, ◌⊎◌, true, List, length, Option, Some}
 use Rattle.rsc_nfa.specs.Steps.{place}
-use Rattle.rsc_primitives.specs.Utf8.{IsBoundary}
+use Rattle.rsc_primitives.specs.Decoding.{IsBoundary}
 use Rattle.rsc_search.specs.declared.anchored.Anchored.TheVariants.{No}
 use Rattle.rsc_search.specs.Inputs.{InputParts}
 use Rattle.rsc_search.specs.Matches.{Matched}

@@ -82,7 +82,7 @@ pub record IsGrown (old new : List Row) : Type 0 where
   pub kept : (k : ℕ) (row : Row) → slice_get old k ≡ Some row → slice_get new k ≡ Some row
 
 -- the row is that of the position
-pub record IsRowAt (e : Search) (classes : List ℕ) (rows : List Row) (k i : ℕ) : Type 0 where
+pub record StandsAt (e : Search) (classes : List ℕ) (rows : List Row) (k i : ℕ) : Type 0 where
   pub row : Row
   pub there : slice_get rows k ≡ Some row
   pub same_mode : row.mode ≡ e.mode

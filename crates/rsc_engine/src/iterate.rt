@@ -3,7 +3,7 @@ ghost use Rattle.std.specs.Prelude.{◌≡◌, ◌+◌, ◌*◌, ◌^◌, ◌<�
 ghost use Rattle.std.specs.Option.{ForSome};
 ghost use Rattle.rsc_captures.specs.Captured.{no_offsets};
 ghost use Rattle.rsc_search.specs.declared.anchored.Anchored.TheVariants.{No};
-ghost use Rattle.rsc_primitives.specs.Utf8.{IsBoundary};
+ghost use Rattle.rsc_primitives.specs.Decoding.{IsBoundary};
 ghost use Rattle.rsc_engine.specs.declared.error.Error.TheVariants.{OutOfMemory, TooLarge};
 ghost use Rattle.rsc_engine.specs.Searches.{search_in};
 ghost use Rattle.rsc_engine.specs.Groups.{IsInSpan};

@@ -95,7 +95,7 @@ fn seen(found: Result<char, u8>) -> (u64, usize)
 }
 
 // As many bytes as std's `len_utf8` says. That one is compiled alone first, to conditional moves, on which the place of the next
-// character then waits; the Rust's is compiled with its caller, and so is this one.
+// character then waits; the original's is compiled with its caller, and so is this one.
 #[inline(always)]
 fn encoded_length(c: char) -> usize
     ensures { 1 ≤ result }

@@ -45,8 +45,10 @@ pub contains-word_boundaries : (b : ℕ) → sets.contains word_boundaries b ≡
 unfolding word_boundaries
 contains-word_boundaries b = contains-from_list_nat word_boundary_numbers b
 
-crlf : (b : ℕ) → sets.contains (sets.union (boundaries_of_range (13, 13)) (boundaries_of_range (10, 10))) b ≡ (is_boundary_of_byte 13 b || is_boundary_of_byte 10 b)
-crlf b = contains-joined (boundaries_of_range (13, 13)) (boundaries_of_range (10, 10)) b ∙ ap₂ (λ x y. x || y) (contains-boundaries_of_range 13 13 b) (contains-boundaries_of_range 10 10 b)
+crlf : (b : ℕ) → sets.contains (sets.union (boundaries_of_range (13, 13)) (boundaries_of_range (10, 10))) b ≡
+    (is_boundary_of_byte 13 b || is_boundary_of_byte 10 b)
+crlf b = contains-joined (boundaries_of_range (13, 13)) (boundaries_of_range (10, 10)) b
+    ∙ ap₂ (λ x y. x || y) (contains-boundaries_of_range 13 13 b) (contains-boundaries_of_range 10 10 b)
 
 -- the test of one assertion tells its boundaries
 pub contains-boundaries_of : (l : Look) (t b : ℕ) → sets.contains (boundaries_of l t) b ≡ is_boundary_of l t b
@@ -193,7 +195,8 @@ crlf_lf : (p : ℕ → Bool) → HasBoundariesOf p (λ b. is_boundary_of_byte 13
 crlf_lf p s b l e = s b l (or_right (is_boundary_of_byte 13 b) (is_boundary_of_byte 10 b) e)
 
 -- the table gives the same at neighbours that are together
-pub holds_at_bytes-same : (p : ℕ → Bool) (l : Look) (t : ℕ) → HasBoundariesOf p (is_boundary_of l t) → (a b x y : Option ℕ) → TogetherAt p a b → TogetherAt p x y
+pub holds_at_bytes-same : (p : ℕ → Bool) (l : Look) (t : ℕ) → HasBoundariesOf p (is_boundary_of l t) → (a b x y : Option ℕ) → TogetherAt p a b
+    → TogetherAt p x y
     → holds_at_bytes l t a x ≡ holds_at_bytes l t b y
 holds_at_bytes-same p Start t s a b x y h k = same_none p a b h
 holds_at_bytes-same p End t s a b x y h k = same_none p x y k

@@ -1,4 +1,4 @@
--- Worked rows of the definitions.
+-- The definitions, computed on examples.
 use Rattle.std.proofs.Common.{◌≡◌, ℕ, Bool, true, false, List, [], ◌∷◌, refl, sym, ap, ◌∙◌, arith}
 use Rattle.std.specs.FinSet as sets
 use Rattle.rsc_look.proofs.Prelude.{Look, StartLF, EndLF, StartCRLF, EndCRLF, WordAscii, WordUnicode, WordUnicodeNegate, WordStartHalfUnicode, Invalid, Word, Other, every_look, bits_of, bits_of-looks_of, byte_before, byte_after, holds_at_bytes, holds_at_sides, boundaries_of, mirror}

@@ -116,7 +116,8 @@ below_127 b m = let e = each_passes (λ x. nat_lt (x + 1) 128) word_boundary_num
 tells_word_bytes : (l : Look) (t : ℕ) (W : ℕ → Bool) (b : ℕ) → is_unicode l ≡ false
     → list_all (λ x. exactly_one (alone_at_bytes l t x) (alone_at_bytes l t (x + 1))) word_boundary_numbers ≡ true → is_word_boundary b ≡ true
     → Tells l t W (b ∷ []) ((b + 1) ∷ []) (told_at l)
-tells_word_bytes l t W b e h m = tells_bytes l t W b e (each_passes (λ x. exactly_one (alone_at_bytes l t x) (alone_at_bytes l t (x + 1))) word_boundary_numbers b m h)
+tells_word_bytes l t W b e h m =
+    tells_bytes l t W b e (each_passes (λ x. exactly_one (alone_at_bytes l t x) (alone_at_bytes l t (x + 1))) word_boundary_numbers b m h)
 
 tells_word_sides : (l : Look) (t : ℕ) (W : ℕ → Bool) (b : ℕ) → is_unicode l ≡ true → AgreesWithAscii W
     → list_all (λ x. exactly_one (alone_at_sides l x) (alone_at_sides l (x + 1))) word_boundary_numbers ≡ true → is_word_boundary b ≡ true
@@ -202,7 +203,8 @@ is_boundary_of-unicode _ t b e = refl
 -- ---- one assertion is kept by every partition that has its boundaries
 
 -- the twelve assertions on bytes are kept
-pub kept_at_bytes : (p : ℕ → Bool) (l : Look) (t : ℕ) (W : ℕ → Bool) → HasBoundariesOf p (is_boundary_of l t) → is_unicode l ≡ false → (h k : List ℕ) → AreInterchanged p h k
+pub kept_at_bytes : (p : ℕ → Bool) (l : Look) (t : ℕ) (W : ℕ → Bool) → HasBoundariesOf p (is_boundary_of l t) → is_unicode l ≡ false → (h k : List ℕ)
+    → AreInterchanged p h k
     → (i : ℕ) → Holds l t W h i ↔ Holds l t W k i
 kept_at_bytes p l t W m e h k s i =
     let same : holds_at_bytes l t (byte_before h i) (byte_after h i) ≡ holds_at_bytes l t (byte_before k i) (byte_after k i) =
@@ -213,7 +215,8 @@ kept_at_bytes p l t W m e h k s i =
     ((λ x. b.1 (sym same ∙ a.0 x)), (λ x. a.1 (same ∙ b.0 x)))
 
 -- the six assertions on characters are kept
-pub kept_at_characters : (p : ℕ → Bool) (l : Look) (t : ℕ) (W : ℕ → Bool) → AgreesWithAscii W → HasBoundariesOf p (is_boundary_of l t) → is_unicode l ≡ true → (h k : List ℕ)
+pub kept_at_characters : (p : ℕ → Bool) (l : Look) (t : ℕ) (W : ℕ → Bool) → AgreesWithAscii W → HasBoundariesOf p (is_boundary_of l t)
+    → is_unicode l ≡ true → (h k : List ℕ)
     → AreInterchanged p h k → DifferInAscii h k → (i : ℕ) → Holds l t W h i ↔ Holds l t W k i
 kept_at_characters p l t W ascii m e h k s d i =
     let words : HasBoundariesOf p is_word_boundary = λ b q x. m b q (is_boundary_of-unicode l t b e ∙ x) in
@@ -223,10 +226,12 @@ kept_at_characters p l t W ascii m e h k s d i =
     ((λ x. b.1 (HoldsAtSides-moves l W h k i w (a.0 x))), (λ x. a.1 (HoldsAtSides-moves l W k h i (Interchange-sym W h k w) (b.0 x))))
 
 -- a partition with the boundaries of a list has those of each member
-members_boundaries : (p : ℕ → Bool) (looks : List Look) (l : Look) (t : ℕ) → HasBoundariesOf p (is_boundary_of_each looks t) → Contains looks l → HasBoundariesOf p (is_boundary_of l t)
+members_boundaries : (p : ℕ → Bool) (looks : List Look) (l : Look) (t : ℕ) → HasBoundariesOf p (is_boundary_of_each looks t) → Contains looks l
+    → HasBoundariesOf p (is_boundary_of l t)
 members_boundaries p looks l t has c b lt m = has b lt (list_any_at (λ x. is_boundary_of x t b) looks c.0 l c.1 (ap (λ x. is_boundary_of x t b) c.2 ∙ m))
 
-pub Keeps-from : (p : ℕ → Bool) (looks : List Look) (t : ℕ) (W : ℕ → Bool) → HasBoundariesOf p (is_boundary_of_each looks t) → AgreesWhereAsked W looks → Keeps p looks t W
+pub Keeps-from : (p : ℕ → Bool) (looks : List Look) (t : ℕ) (W : ℕ → Bool) → HasBoundariesOf p (is_boundary_of_each looks t)
+    → AgreesWhereAsked W looks → Keeps p looks t W
 Keeps-from p looks t W has a = record {
   at_bytes = λ l c e h k s i r. kept_at_bytes p l t W (members_boundaries p looks l t has c) e h k s i;
   at_characters = λ l c e h k s d i r. kept_at_characters p l t W (a l c e) (members_boundaries p looks l t has c) e h k s d i;
@@ -253,7 +258,8 @@ boundary_is_needed q looks l t W b a keeps c lt m = true_from_ne_false (q b) (λ
         (told_at l) (told_at_le l)) told
 
 -- the member whose boundary it is
-member_with : (looks : List Look) (t b : ℕ) → sets.contains (boundaries_of_each looks t) b ≡ true → (l : Look) × Contains looks l × (is_boundary_of l t b ≡ true)
+member_with : (looks : List Look) (t b : ℕ) → sets.contains (boundaries_of_each looks t) b ≡ true
+    → (l : Look) × Contains looks l × (is_boundary_of l t b ≡ true)
 member_with looks t b m =
     let found = Any-from_list_any (λ l. is_boundary_of l t b) looks (sym (contains-boundaries_of_each looks t b) ∙ m) in
     (found.1, (found.0, found.2, found.3), found.4)

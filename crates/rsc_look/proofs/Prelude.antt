@@ -1,9 +1,7 @@
 -- The words of `specs/` that most proofs cite, passed on by one file. Declares nothing.
-pub use Rattle.rsc_primitives.specs.DecidedLaws.{BeginsAt-decided, EndsAt-decided}
-pub use Rattle.rsc_primitives.specs.EncodingsLaws.{EncodesAll-std}
-pub use Rattle.rsc_primitives.specs.TextsLaws.{position, BeginsAt-position, EndsAt-position}
+pub use Rattle.rsc_primitives.specs.DecodingLaws.{BeginsAt-decided, EndsAt-decided}
+pub use Rattle.rsc_primitives.specs.Utf8Laws.{EncodesAll-std, position, BeginsAt-position, EndsAt-position, IsInside-begins, IsInside-ends, AgreePastAscii, EncodedFrom-agree, BeginsAt-same, EndsAt-same}
 pub use Rattle.rsc_primitives.specs.Utf8.{is_word_byte, IsInside, EncodedFrom, BeginsAt, EndsAt}
-pub use Rattle.rsc_primitives.specs.Utf8Laws.{IsInside-begins, IsInside-ends, AgreePastAscii, EncodedFrom-agree, BeginsAt-same, EndsAt-same}
 pub use Rattle.rsc_alphabet.specs.ByteSets.{Numbers}
 pub use Rattle.rsc_alphabet.specs.Bytes.{from_to}
 pub use Rattle.rsc_alphabet.specs.BytesLaws.{from_to_parts, filter_none, filter_first, filter_same}

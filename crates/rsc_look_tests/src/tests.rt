@@ -1,4 +1,4 @@
-//! The original's own tests, worked examples, and a slow reader over bytes of every kind.
+//! The original's own tests, examples, and a slow reader over bytes of every kind.
 mod any_bytes;
 mod carried;
 mod classes;

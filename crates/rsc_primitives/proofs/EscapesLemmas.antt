@@ -9,7 +9,7 @@ use borrow.Rule.Slice.PartMut.{put_mid}
 use Rattle.std.proofs.lemmas.Bool.Decides.{nat_tests}
 use Rattle.std.specs.Char.{is_ascii}
 use Rattle.rsc_primitives.specs.Escapes.{step_text, EncodesOnlyAscii}
-use Rattle.rsc_primitives.specs.TextsLaws.{with_prefix}
+use Rattle.rsc_primitives.specs.Utf8Laws.{with_prefix}
 
 -- ---- a table of texts, one for each byte, each at the same width, and a table of their lengths
 

@@ -1,15 +1,15 @@
 -- The definitions, computed at single values.
 use Rattle.std.proofs.Common.{◌≡◌, ℕ, [], ◌∷◌, codes, Some, None, Ok, Err, true, false, refl, arith, inl, inr}
 use Rattle.std.specs.Fmt.{digits}
-use Rattle.rsc_primitives.specs.Indices.{index_of, non_max_of}
+use Rattle.rsc_primitives.specs.Indices.{checked_index, non_max_of}
 use Rattle.rsc_primitives.specs.IndexTexts.{pattern_id_error_text}
 use Rattle.rsc_primitives.specs.Utf8.{Encodes, is_word_byte}
 use Rattle.rsc_primitives.specs.Escapes.{byte_text, haystack_text}
 
-greatest_index : index_of 2147483646 ≡ Ok 2147483646
+greatest_index : checked_index 2147483646 ≡ Ok 2147483646
 greatest_index = refl
 
-first_refused : index_of 2147483647 ≡ Err 2147483647
+first_refused : checked_index 2147483647 ≡ Err 2147483647
 first_refused = refl
 
 greatest_offset : non_max_of 18446744073709551614 ≡ Some 18446744073709551614

@@ -9,8 +9,8 @@ abbrev pub IsIndex : ℕ → Type 0
 IsIndex n = n ≤ max_index
 
 -- what a conversion answers: the number, or a refusal of it exactly where it is above the greatest index
-abbrev pub index_of : ℕ → Result ℕ ℕ
-index_of n = if nat_le n max_index then Ok n else Err n
+abbrev pub checked_index : ℕ → Result ℕ ℕ
+checked_index n = if nat_le n max_index then Ok n else Err n
 
 -- the number, or `None` for the greatest that a `usize` has
 abbrev pub non_max_of : ℕ → Option ℕ

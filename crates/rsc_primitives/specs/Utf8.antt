@@ -1,5 +1,5 @@
 -- UTF-8 by RFC 3629, section 4: which bytes encode which character, and where in a list of bytes a character is.
-use Rattle.std.specs.Prelude.{◌≡◌, ℕ, ◌+◌, ◌-◌, ◌*◌, ◌<◌, ◌≤◌, Bool, ◌||◌, ◌==◌, ◌⊎◌, List, [], ◌∷◌, ◌++◌, length, slice_range, slice_index, slice_get, Option, Some, None, Result, Ok, Err}
+use Rattle.std.specs.Prelude.{◌≡◌, ℕ, ◌+◌, ◌-◌, ◌*◌, ◌<◌, ◌≤◌, Bool, ◌||◌, ◌==◌, ◌⊎◌, List, [], ◌∷◌, ◌++◌, length, slice_range}
 use Rattle.std.specs.Int.{IsInRange, is_in_range}
 
 -- UTF8-tail
@@ -52,22 +52,6 @@ pub record IsInside (h : List ℕ) (i : ℕ) : Type 0 where
   pub after_first : from < i
   pub before_last : i < to
   pub encoded : EncodedFrom h from to char
-
--- what reading from the front answers: nothing of no bytes, the character that begins the bytes, or else the first byte
-abbrev pub DecodesTo : List ℕ → Option (Result ℕ ℕ) → Type 0
-DecodesTo h None = h ≡ []
-DecodesTo h (Some (Ok c)) = BeginsAt h 0 c
-DecodesTo h (Some (Err b)) = (slice_get h 0 ≡ Some b) × ((c : ℕ) → BeginsAt h 0 c → ⊥)
-
--- what reading from the back answers: nothing of no bytes, the character that ends the bytes, or else the last byte
-abbrev pub DecodesLastTo : List ℕ → Option (Result ℕ ℕ) → Type 0
-DecodesLastTo h None = h ≡ []
-DecodesLastTo h (Some (Ok c)) = EndsAt h (length h) c
-DecodesLastTo h (Some (Err b)) = (0 < length h) × (slice_get h (length h - 1) ≡ Some b) × ((c : ℕ) → EndsAt h (length h) c → ⊥)
-
--- i is the end of the bytes, or a byte is there that is no UTF8-tail
-abbrev pub IsBoundary : List ℕ → ℕ → Type 0
-IsBoundary h i = (i ≡ length h) ⊎ ((i < length h) × ((slice_index h i ≤ 0x7F) ⊎ (0xC0 ≤ slice_index h i)))
 
 -- the word bytes: digits, capitals, the low line, small letters
 abbrev pub is_word_byte : ℕ → Bool

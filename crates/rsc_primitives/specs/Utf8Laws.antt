@@ -1,10 +1,11 @@
--- What the nine forms say of bytes and positions, in numbers alone.
-use Rattle.std.proofs.Common.{◌≡◌, ℕ, zero, suc, ◌+◌, ◌-◌, ◌<◌, ◌≤◌, ◌⊎◌, cond, ltb, List, [], ◌∷◌, length, get_or, take, drop, refl, sym, ap, ◌∙◌, subst, arith, length-take, length-drop, get_or-take, get_or-drop, inl, inr, ⊎_elim, ext_get_or, drop-cons}
-use Rattle.std.specs.Char.{IsScalar, len_utf8}
+-- What the nine forms say of bytes and positions, in numbers alone; the encodings beside std's; and the positions of a text's characters.
+use Rattle.std.proofs.Common.{◌≡◌, ℕ, zero, suc, ◌+◌, ◌-◌, ◌<◌, ◌≤◌, ◌⊎◌, cond, ltb, List, [], ◌∷◌, length, get_or, take, drop, refl, sym, ap, ◌∙◌, subst, arith, length-take, length-drop, get_or-take, get_or-drop, inl, inr, ⊎_elim, ext_get_or, drop-cons, ◌↔◌, true, ◌++◌, length-append, take_at, drop_at, drop-drop, append-nil}
+use Rattle.std.specs.Char.{IsScalar, len_utf8, encode_utf8}
 use Rattle.std.specs.Prelude.{slice_range}
-use Rattle.std.proofs.lemmas.Bool.{cases_lt}
+use Rattle.std.proofs.lemmas.Bool.{cases_lt, and_parts}
 use Rattle.std.proofs.lemmas.Bool.Decides.{nat_tests}
-use Rattle.rsc_primitives.specs.Utf8.{IsTail, Encodes, EncodedFrom, BeginsAt, EndsAt, IsInside}
+use Rattle.rsc_primitives.specs.Utf8.{IsTail, Encodes, EncodedFrom, BeginsAt, EndsAt, IsInside, EncodesAll}
+use Rattle.std.specs.Str.{encode_utf8_all, all_scalars}
 
 -- how many bytes an encoding takes that begins with this byte
 abbrev pub lead_len : ℕ → ℕ
@@ -168,3 +169,99 @@ IsScalar-Encodes _ n h = grind (arith, nat_tests)
 pub length-Encodes-len_utf8 : (e : List ℕ) (n : ℕ) → Encodes e n → length e ≡ len_utf8 n
 length-Encodes-len_utf8 (a ∷ b ∷ c ∷ d ∷ []) n h = grind (arith, nat_tests)
 length-Encodes-len_utf8 _ n h = grind (arith, nat_tests)
+
+-- ---- the encodings beside std's, and beside one another
+
+-- what std writes for a character encodes it
+pub Encodes-encode : (c : ℕ) → IsScalar c → Encodes (encode_utf8 c) c
+unfolding encode_utf8
+Encodes-encode c s = grind (arith, nat_tests)
+
+-- the bytes of a character are the encoding that std writes
+pub Encodes-is : (e : List ℕ) (c : ℕ) → Encodes e c → e ≡ encode_utf8 c
+unfolding encode_utf8
+Encodes-is (a ∷ b ∷ x ∷ y ∷ []) c p = grind (arith, nat_tests)
+Encodes-is _ c p = grind (arith, nat_tests)
+
+pub Encodes-std : (e : List ℕ) (c : ℕ) → Encodes e c ↔ (IsScalar c × (e ≡ encode_utf8 c))
+Encodes-std e c =
+    (λ p. (IsScalar-Encodes e c p, Encodes-is e c p), λ q. subst (λ (y : List ℕ). Encodes y c) (sym q.1) (Encodes-encode c q.0))
+
+pub all_scalars-EncodesAll : (h cs : List ℕ) → EncodesAll h cs → (all_scalars cs ≡ true) × (h ≡ encode_utf8_all cs)
+all_scalars-EncodesAll h [] p = (refl, p)
+all_scalars-EncodesAll h (c ∷ cs) p =
+    let one = (Encodes-std p.0 c).0 p.3 in let more = all_scalars-EncodesAll p.1 cs p.4 in
+    (rw (one.0, more.0) refl, p.2 ∙ rw (one.1, more.1) refl)
+
+pub EncodesAll-encode : (cs : List ℕ) → all_scalars cs ≡ true → EncodesAll (encode_utf8_all cs) cs
+EncodesAll-encode [] s = refl
+EncodesAll-encode (c ∷ cs) s =
+    (encode_utf8 c, encode_utf8_all cs, refl, Encodes-encode c (and_parts _ _ s).0, EncodesAll-encode cs (and_parts _ _ s).1)
+
+pub EncodesAll-std : (h cs : List ℕ) → EncodesAll h cs ↔ ((all_scalars cs ≡ true) × (h ≡ encode_utf8_all cs))
+EncodesAll-std h cs =
+    (all_scalars-EncodesAll h cs, λ q. subst (λ (y : List ℕ). EncodesAll y cs) (sym q.1) (EncodesAll-encode cs q.0))
+
+none : (l : List ℕ) → length l ≡ 0 → l ≡ []
+none [] e = refl
+none (x ∷ xs) e = absurd (omega arith)
+
+-- the first byte says how long an encoding is
+pub Encodes-no_more : (e rest : List ℕ) (c d : ℕ) → Encodes e c → Encodes (e ++ rest) d → rest ≡ []
+Encodes-no_more [] rest c d p q = absurd p
+Encodes-no_more (a ∷ r) rest c d p q =
+    none rest (omega (arith, length-Encodes (a ∷ r) c p, length-Encodes ((a ∷ r) ++ rest) d q, length-append r rest))
+
+pub Encodes-past_ascii : (e : List ℕ) (c k : ℕ) → Encodes e c → 2 ≤ length e → k < length e → 128 ≤ get_or e k 0
+Encodes-past_ascii (a ∷ b ∷ x ∷ y ∷ []) c (suc (suc (suc zero))) p two l = grind arith
+Encodes-past_ascii _ c k p two l = grind arith
+
+-- ---- where the characters of a text are in its bytes
+
+-- where the first k characters end
+abbrev pub position : List ℕ → ℕ → ℕ
+position cs k = length (encode_utf8_all (take k cs))
+
+slice_with_prefix : (e t : List ℕ) (i j : ℕ) → slice_range (e ++ t) (length e + i) (length e + j) ≡ slice_range t i j
+slice_with_prefix e t i j =
+    let d : drop (length e + i) (e ++ t) ≡ drop i t = sym (drop-drop i (length e) (e ++ t)) ∙ ap (drop i) (drop_at e t (length e) refl) in
+    let n : (length e + j) - (length e + i) ≡ j - i = omega arith in
+    ap (λ m. take m (drop (length e + i) (e ++ t))) n ∙ ap (take (j - i)) d
+
+pub with_prefix : (e t : List ℕ) (i j c : ℕ) → EncodedFrom t i j c → EncodedFrom (e ++ t) (length e + i) (length e + j) c
+with_prefix e t i j c p = let o = p.ordered in let w = p.within in
+    record {
+      ordered = omega arith;
+      within = simp length-append (omega arith);
+      encoded =
+          subst (λ (x : List ℕ). Encodes x c) (sym (slice_with_prefix e t i j)) p.encoded;
+    }
+
+pub with_suffix : (e t : List ℕ) (c : ℕ) → Encodes e c → EncodedFrom (e ++ t) 0 (length e) c
+with_suffix e t c p = record {
+  ordered = omega arith;
+  within = simp length-append (omega arith);
+  encoded = subst (λ (x : List ℕ). Encodes x c) (sym front) p;
+}
+  where
+    front : slice_range (e ++ t) 0 (length e) ≡ e
+    front = ap (λ m. take m (e ++ t)) (omega arith) ∙ take_at e t (length e) refl
+
+pub EncodedFrom-position : (cs : List ℕ) (k : ℕ) → all_scalars cs ≡ true → k < length cs
+    → EncodedFrom (encode_utf8_all cs) (position cs k) (position cs (suc k)) (get_or cs k 0)
+EncodedFrom-position [] k s l = absurd (omega arith)
+EncodedFrom-position (c ∷ cs) zero s l =
+    subst (λ n. EncodedFrom (encode_utf8_all (c ∷ cs)) 0 n c) (ap length (sym (append-nil (encode_utf8 c))))
+    (with_suffix (encode_utf8 c) (encode_utf8_all cs) c (Encodes-encode c (and_parts _ _ s).0))
+EncodedFrom-position (c ∷ cs) (suc k) s l =
+    let r = EncodedFrom-position cs k (and_parts _ _ s).1 (omega arith) in
+    let p : length (encode_utf8 c) + position cs k ≡ position (c ∷ cs) (suc k) = sym (length-append (encode_utf8 c) (encode_utf8_all (take k cs))) in
+    let q : length (encode_utf8 c) + position cs (suc k) ≡ position (c ∷ cs) (suc (suc k)) =
+    sym (length-append (encode_utf8 c) (encode_utf8_all (take (suc k) cs))) in
+    rw (← p, ← q) (with_prefix (encode_utf8 c) (encode_utf8_all cs) (position cs k) (position cs (suc k)) (get_or cs k 0) r)
+
+pub BeginsAt-position : (cs : List ℕ) (k : ℕ) → all_scalars cs ≡ true → k < length cs → BeginsAt (encode_utf8_all cs) (position cs k) (get_or cs k 0)
+BeginsAt-position cs k s l = (position cs (suc k), EncodedFrom-position cs k s l)
+
+pub EndsAt-position : (cs : List ℕ) (k : ℕ) → all_scalars cs ≡ true → k < length cs → EndsAt (encode_utf8_all cs) (position cs (suc k)) (get_or cs k 0)
+EndsAt-position cs k s l = (position cs k, EncodedFrom-position cs k s l)

@@ -6,8 +6,9 @@ ghost use Rattle.std.specs.Str.{encode_utf8_all, all_scalars};
 ghost use Rattle.std.specs.Hash as fed;
 ghost use Rattle.std.specs.Ordering.{nat_cmp};
 ghost use Rattle.rsc_primitives.specs.declared.escape.DebugByte.{DebugByte as ADebugByte};
-ghost use Rattle.rsc_primitives.specs.Indices.{IsIndex, index_of, max_index};
-ghost use Rattle.rsc_primitives.specs.Utf8.{Encodes, EncodesAll, BeginsAt, EndsAt, IsBoundary, IsInside};
+ghost use Rattle.rsc_primitives.specs.Indices.{IsIndex, checked_index, max_index};
+ghost use Rattle.rsc_primitives.specs.Utf8.{Encodes, EncodesAll, BeginsAt, EndsAt, IsInside};
+ghost use Rattle.rsc_primitives.specs.Decoding.{IsBoundary};
 
 use crate::escape::DebugByte;
 use crate::{
@@ -38,7 +39,7 @@ pub fn zero_indices() -> (SmallIndex, PatternID, StateID)
 
 /// Reading the four bytes of an index gives the index.
 pub fn le_bytes_round_trip()
-    ensures { (n : ℕ) → IsIndex n → index_of (from_le_bytes w32 (to_le_bytes w32 n)) ≡ Ok n }
+    ensures { (n : ℕ) → IsIndex n → checked_index (from_le_bytes w32 (to_le_bytes w32 n)) ≡ Ok n }
 {}
 
 /// Equality of indices, of their refusals and of [`NonMaxUsize`] is that of the numbers.
@@ -109,19 +110,19 @@ pub fn defaults()
 pub fn conversions_are_exact()
     ensures small_index_from_u8 { (n a : ℕ) → ⟦<SmallIndex as From<u8>>⟧.from_gives n a → a ≡ n }
     ensures small_index_from_u16 { (n : ℕ) (r : Result ℕ ℕ) → ⟦<SmallIndex as TryFrom<u16>>⟧.try_from_gives n r → r ≡ Ok n }
-    ensures small_index_from_u32 { (n : ℕ) (r : Result ℕ ℕ) → ⟦<SmallIndex as TryFrom<u32>>⟧.try_from_gives n r → r ≡ index_of n }
-    ensures small_index_from_u64 { (n : ℕ) (r : Result ℕ ℕ) → ⟦<SmallIndex as TryFrom<u64>>⟧.try_from_gives n r → r ≡ index_of n }
-    ensures small_index_from_usize { (n : ℕ) (r : Result ℕ ℕ) → ⟦<SmallIndex as TryFrom<usize>>⟧.try_from_gives n r → r ≡ index_of n }
+    ensures small_index_from_u32 { (n : ℕ) (r : Result ℕ ℕ) → ⟦<SmallIndex as TryFrom<u32>>⟧.try_from_gives n r → r ≡ checked_index n }
+    ensures small_index_from_u64 { (n : ℕ) (r : Result ℕ ℕ) → ⟦<SmallIndex as TryFrom<u64>>⟧.try_from_gives n r → r ≡ checked_index n }
+    ensures small_index_from_usize { (n : ℕ) (r : Result ℕ ℕ) → ⟦<SmallIndex as TryFrom<usize>>⟧.try_from_gives n r → r ≡ checked_index n }
     ensures pattern_id_from_u8 { (n a : ℕ) → ⟦<PatternID as From<u8>>⟧.from_gives n a → a ≡ n }
     ensures pattern_id_from_u16 { (n : ℕ) (r : Result ℕ ℕ) → ⟦<PatternID as TryFrom<u16>>⟧.try_from_gives n r → r ≡ Ok n }
-    ensures pattern_id_from_u32 { (n : ℕ) (r : Result ℕ ℕ) → ⟦<PatternID as TryFrom<u32>>⟧.try_from_gives n r → r ≡ index_of n }
-    ensures pattern_id_from_u64 { (n : ℕ) (r : Result ℕ ℕ) → ⟦<PatternID as TryFrom<u64>>⟧.try_from_gives n r → r ≡ index_of n }
-    ensures pattern_id_from_usize { (n : ℕ) (r : Result ℕ ℕ) → ⟦<PatternID as TryFrom<usize>>⟧.try_from_gives n r → r ≡ index_of n }
+    ensures pattern_id_from_u32 { (n : ℕ) (r : Result ℕ ℕ) → ⟦<PatternID as TryFrom<u32>>⟧.try_from_gives n r → r ≡ checked_index n }
+    ensures pattern_id_from_u64 { (n : ℕ) (r : Result ℕ ℕ) → ⟦<PatternID as TryFrom<u64>>⟧.try_from_gives n r → r ≡ checked_index n }
+    ensures pattern_id_from_usize { (n : ℕ) (r : Result ℕ ℕ) → ⟦<PatternID as TryFrom<usize>>⟧.try_from_gives n r → r ≡ checked_index n }
     ensures state_id_from_u8 { (n a : ℕ) → ⟦<StateID as From<u8>>⟧.from_gives n a → a ≡ n }
     ensures state_id_from_u16 { (n : ℕ) (r : Result ℕ ℕ) → ⟦<StateID as TryFrom<u16>>⟧.try_from_gives n r → r ≡ Ok n }
-    ensures state_id_from_u32 { (n : ℕ) (r : Result ℕ ℕ) → ⟦<StateID as TryFrom<u32>>⟧.try_from_gives n r → r ≡ index_of n }
-    ensures state_id_from_u64 { (n : ℕ) (r : Result ℕ ℕ) → ⟦<StateID as TryFrom<u64>>⟧.try_from_gives n r → r ≡ index_of n }
-    ensures state_id_from_usize { (n : ℕ) (r : Result ℕ ℕ) → ⟦<StateID as TryFrom<usize>>⟧.try_from_gives n r → r ≡ index_of n }
+    ensures state_id_from_u32 { (n : ℕ) (r : Result ℕ ℕ) → ⟦<StateID as TryFrom<u32>>⟧.try_from_gives n r → r ≡ checked_index n }
+    ensures state_id_from_u64 { (n : ℕ) (r : Result ℕ ℕ) → ⟦<StateID as TryFrom<u64>>⟧.try_from_gives n r → r ≡ checked_index n }
+    ensures state_id_from_usize { (n : ℕ) (r : Result ℕ ℕ) → ⟦<StateID as TryFrom<usize>>⟧.try_from_gives n r → r ≡ checked_index n }
 {}
 
 /// The bytes that encode a character are what std's `encode_utf8` writes for it, and nothing else is encoded.

@@ -1,8 +1,9 @@
 //! UTF-8 read from either end of any bytes: RFC 3629, section 4.
-ghost use Rattle.std.specs.Prelude.{◌≡◌, ◌==◌, ◌↔◌, ℕ, ◌-◌, ◌<◌, ◌≤◌, IsTrue, MatchOption, IfSome, IfOk, length, slice_index};
+ghost use Rattle.std.specs.Prelude.{◌≡◌, ◌==◌, ◌↔◌, ◌⊎◌, ℕ, ◌+◌, ◌-◌, ◌*◌, ◌%◌, ◌<◌, ◌≤◌, IsTrue, MatchOption, IfSome, IfOk, length, slice_index};
 ghost use Rattle.std.specs.Char.{len_utf8};
 ghost use Rattle.std.specs.Int.{IsInRange, bit_at};
-ghost use Rattle.rsc_primitives.specs.Utf8.{is_word_byte, IsTail, DecodesTo, DecodesLastTo, IsBoundary};
+ghost use Rattle.rsc_primitives.specs.Utf8.{is_word_byte, IsTail};
+ghost use Rattle.rsc_primitives.specs.Decoding.{DecodesTo, DecodesLastTo, IsBoundary};
 ghost use Rattle.rsc_primitives.specs.Utf8Layout.{IsLongNumber, EndsLongNumber, BeginsLong, EndsLong};
 
 // The word bytes from 00 to 7F: bit b stands for the byte b.
@@ -175,32 +176,64 @@ fn char_of(a: u8, b: u8, c: u8, d: u8) -> Option<char>
     }
     let x = u32::from(x);
     if a < 0xE0 {
-        let number = u32::from(a % 32) * 64 + x;
-        if number < 0x80 || 0x7FF < number {
-            return None;
-        }
-        return char::from_u32(number);
+        return two_byte_char(a, x);
     }
     let y = u32::from(tail_bits(c));
     if a < 0xF0 {
-        if y > 0x3F {
-            return None;
-        }
-        let number = u32::from(a % 16) * 4096 + x * 64 + y;
-        if number < 0x800 {
-            return None;
-        }
-        return char::from_u32(number);
+        return if y > 0x3F {
+            None
+        } else {
+            three_byte_char(a, x, y)
+        };
     }
     let z = u32::from(tail_bits(d));
     if y > 0x3F || z > 0x3F {
         return None;
     }
+    four_byte_char(a, x, y, z)
+}
+
+// The characters of two, three and four bytes: of a lead, and of what each byte after it adds to the number. There is none for an
+// overlong form, a surrogate or a number above 10FFFF.
+#[inline(always)]
+fn two_byte_char(a: u8, x: u32) -> Option<char>
+    requires { x < 64 }
+    ensures { MatchOption result (a % 32 < 2) (λ n. (2 ≤ a % 32) × (n ≡ a % 32 * 64 + x)) }
+{
+    let number = u32::from(a % 32) * 64 + x;
+    if number < 0x80 {
+        None
+    } else {
+        char::from_u32(number)
+    }
+}
+
+#[inline(always)]
+fn three_byte_char(a: u8, x: u32, y: u32) -> Option<char>
+    requires { (x < 64) × (y < 64) }
+    ensures { MatchOption result (a % 16 * 4096 + x * 64 + y < 0x800 ⊎ IsInRange 0xD800 0xDFFF (a % 16 * 4096 + x * 64 + y))
+        (λ n. (n ≡ a % 16 * 4096 + x * 64 + y) × (0x800 ≤ n) × ¬ (IsInRange 0xD800 0xDFFF n)) }
+{
+    let number = u32::from(a % 16) * 4096 + x * 64 + y;
+    if number < 0x800 {
+        None
+    } else {
+        char::from_u32(number)
+    }
+}
+
+#[inline(always)]
+fn four_byte_char(a: u8, x: u32, y: u32, z: u32) -> Option<char>
+    requires { (x < 64) × (y < 64) × (z < 64) }
+    ensures { MatchOption result (¬ (IsInRange 0x10000 0x10FFFF (a % 16 * 262144 + x * 4096 + y * 64 + z)))
+        (λ n. (n ≡ a % 16 * 262144 + x * 4096 + y * 64 + z) × IsInRange 0x10000 0x10FFFF n) }
+{
     let number = u32::from(a % 16) * 262144 + x * 4096 + y * 64 + z;
     if number < 0x10000 {
-        return None;
+        None
+    } else {
+        char::from_u32(number)
     }
-    char::from_u32(number)
 }
 
 // The character past ASCII that ends the bytes.
@@ -240,27 +273,15 @@ fn char_ending(a: u8, b: u8, c: u8, d: u8) -> Option<char>
 {
     let d_bits = u32::from(d % 64);
     if u32::from(c / 32) * 4 + u32::from(d / 64) == 0b110_10 {
-        let number = u32::from(c % 32) * 64 + d_bits;
-        if number < 0x80 {
-            return None;
-        }
-        return char::from_u32(number);
+        return two_byte_char(c, d_bits);
     }
     let tails = u32::from(c / 64) * 4 + u32::from(d / 64);
     let c_bits = u32::from(c % 64);
     if u32::from(b / 16) * 16 + tails == 0b1110_10_10 {
-        let number = u32::from(b % 16) * 4096 + c_bits * 64 + d_bits;
-        if number < 0x800 {
-            return None;
-        }
-        return char::from_u32(number);
+        return three_byte_char(b, c_bits, d_bits);
     }
     if u32::from(a / 8) * 64 + u32::from(b / 64) * 16 + tails != 0b11110_10_10_10 {
         return None;
     }
-    let number = u32::from(a % 8) * 262144 + u32::from(b % 64) * 4096 + c_bits * 64 + d_bits;
-    if number < 0x10000 {
-        return None;
-    }
-    char::from_u32(number)
+    four_byte_char(a, u32::from(b % 64), c_bits, d_bits)
 }

@@ -161,7 +161,8 @@ begins_later {block} {rest} fits rest_fits some without = elim (cases_lt (traili
 ]
 
 -- without its highest bit a block ends earlier
-pub ends_earlier : {block rest : ℕ} → block < 2 ^ 64 → rest < 2 ^ 64 → 0 < block → IsWithout block (highest_bit block) rest → bit_length rest ≤ highest_bit block
+pub ends_earlier : {block rest : ℕ} → block < 2 ^ 64 → rest < 2 ^ 64 → 0 < block → IsWithout block (highest_bit block) rest
+    → bit_length rest ≤ highest_bit block
 ends_earlier {block} {rest} fits rest_fits some without = elim (cases_lt (highest_bit block) (bit_length rest)) [
   | inl late ↦
       let set = of_rest without (highest_bit rest) (highest_set rest rest_fits (omega (arith, late))) in

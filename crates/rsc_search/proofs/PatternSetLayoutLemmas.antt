@@ -27,7 +27,8 @@ use Rattle.rsc_search.proofs.BlockLayoutLemmas.{none_under, none_above, lowest_s
 -- ---- the members of a set, by its blocks
 
 -- a block of the list replaced by the same with one more bit
-pub changed_bit : (blocks : List ℕ) (p block : ℕ) → p / 64 < length blocks → ((j : ℕ) → has_bit block j ≡ (eqb j (p % 64) || has_bit (block_of blocks (p / 64)) j))
+pub changed_bit : (blocks : List ℕ) (p block : ℕ) → p / 64 < length blocks
+    → ((j : ℕ) → has_bit block j ≡ (eqb j (p % 64) || has_bit (block_of blocks (p / 64)) j))
     → (q : ℕ) → is_set (set blocks (p / 64) block) q ≡ (eqb q p || is_set blocks q)
 changed_bit blocks p block lt bits q = elim (cases_eq (q / 64) (p / 64)) [
   | inl here ↦
@@ -209,7 +210,8 @@ module _ {blocks : List ℕ} {front_index front back_index back left : ℕ}
     pub front_some : 0 < block
     front_some = elim (cases_lt 0 block) [
       | inl some_bit ↦ some_bit
-      | inr no_bit ↦ absurd (not_none (range_filter_none (is_set blocks) (rest_start front_index front) (rest_end back_index back - rest_start front_index front)
+      | inr no_bit ↦ absurd (not_none
+          (range_filter_none (is_set blocks) (rest_start front_index front) (rest_end back_index back - rest_start front_index front)
           (λ q from below. found.none (omega (arith, no_bit)) q from)))
     ]
 
@@ -260,7 +262,8 @@ module _ {blocks : List ℕ} {front_index front back_index back left : ℕ}
     pub back_some : 0 < block
     back_some = elim (cases_lt 0 block) [
       | inl some_bit ↦ some_bit
-      | inr no_bit ↦ absurd (not_none (range_filter_none (is_set blocks) (rest_start front_index front) (rest_end back_index back - rest_start front_index front)
+      | inr no_bit ↦ absurd (not_none
+          (range_filter_none (is_set blocks) (rest_start front_index front) (rest_end back_index back - rest_start front_index front)
           (λ q from below. found.none (omega (arith, no_bit)) q (omega arith))))
     ]
 

@@ -41,7 +41,8 @@ module _ (t : ℕ → Bool) where
   cut_at a c b from to =
       let parts : b - a ≡ (c - a) + (b - c) = omega arith in
       let there : a + (c - a) ≡ c = omega arith in
-      rw parts (ap (filter t) (range_append a (c - a) (b - c)) ∙ filter-append t (range_with_len a (c - a)) (range_with_len (a + (c - a)) (b - c)) ∙ rw there refl)
+      rw parts (ap (filter t) (range_append a (c - a) (b - c)) ∙ filter-append t (range_with_len a (c - a)) (range_with_len (a + (c - a)) (b - c))
+          ∙ rw there refl)
 
   -- from a on and below b: nothing between a and c passes, so it may begin at c
   pub skip_front : (a c b : ℕ) → a ≤ c → ((q : ℕ) → a ≤ q → q < c → t q ≡ false) → filter t (range_with_len a (b - a)) ≡ filter t (range_with_len c (b - c))

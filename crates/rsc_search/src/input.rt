@@ -1,7 +1,8 @@
 //! What a search is given: a haystack, the span of it to search, and how.
 ghost use Rattle.std.specs.Prelude.{◌≡◌, ◌+◌, ◌^◌, ◌<◌, ◌≤◌, ◌↔◌, ◌⊎◌, ℕ, List, IsTrue, length};
 ghost use Rattle.rsc_search.specs.Inputs.{whole, IsSpanWithin, span_between};
-ghost use Rattle.rsc_primitives.specs.Utf8.{BeginsAt, EncodesAll, IsBoundary};
+ghost use Rattle.rsc_primitives.specs.Utf8.{BeginsAt, EncodesAll};
+ghost use Rattle.rsc_primitives.specs.Decoding.{IsBoundary};
 
 use crate::{Anchored, Span};
 use rsc_primitives::escape::DebugHaystack;

@@ -3,7 +3,7 @@ ghost use Rattle.std.specs.Prelude.{◌≡◌, ◌↔◌, ◌+◌, ◌++◌, ◌
 ghost use Rattle.std.specs.Hash as fed;
 ghost use Rattle.std.specs.List.{Contains};
 ghost use Rattle.std.specs.List.Sorted.{IsStrictlyIncreasing};
-ghost use Rattle.rsc_primitives.specs.Utf8.{IsBoundary};
+ghost use Rattle.rsc_primitives.specs.Decoding.{IsBoundary};
 ghost use Rattle.rsc_search.specs.Inputs.{InputParts};
 ghost use Rattle.rsc_search.specs.Matches.{HalfMatched, Matched};
 ghost use Rattle.rsc_search.specs.PatternSets.{Patterns, RefusedInsertion, IsSet, has_member, with_member};

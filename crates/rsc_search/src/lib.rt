@@ -18,11 +18,11 @@ mod anchored;
 mod error;
 mod input;
 /// Laws that a caller can cite.
+mod blocks;
 pub mod laws;
 mod matches;
 mod pattern_set;
 mod span;
-mod blocks;
 
 pub use anchored::{Anchored, MatchKind};
 pub use error::{MatchError, MatchErrorKind};

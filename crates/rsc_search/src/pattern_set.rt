@@ -9,7 +9,7 @@ ghost use Rattle.rsc_search.specs.PatternSets.{Patterns, IsSet, no_patterns, has
 mod error;
 mod iter;
 
-use crate::blocks::{BITS, clear_all, have_same_bits, is_bit_set, with_bit, block_at};
+use crate::blocks::{BITS, block_at, clear_all, have_same_bits, is_bit_set, with_bit};
 pub use error::PatternSetInsertError;
 pub use iter::PatternSetIter;
 use rsc_primitives::PatternID;

@@ -1,4 +1,4 @@
-//! What no contract says: worked values from outside, and shown texts.
+//! What no contract says: values from outside, and shown texts.
 mod cost;
 mod forms;
 mod memory;

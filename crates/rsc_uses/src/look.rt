@@ -110,7 +110,7 @@ pub fn line_classes<W: WordClass>(matcher: &LookMatcher<W>) -> ByteClasses
     matcher.classes_of(&[Look::StartLF, Look::EndCRLF])
 }
 
-/// The classes of any list, for Unicode's words: they agree with the word bytes below 128, as the headline asks of them.
+/// The classes of any list, for Unicode's words: they agree with the word bytes below 128, as `classes_of` asks of them.
 pub fn unicode_classes(matcher: &LookMatcher<UnicodeWord>, looks: &[Look]) -> ByteClasses
     ensures { IsCoarsestMap result looks.now matcher.now.0 (⟦<UnicodeWord as WordClass>⟧.word_chars matcher.now.1) }
 {
@@ -130,7 +130,7 @@ impl WordClass for Letters {
     }
 }
 
-/// They don't agree with the word bytes, so of their classes the headline says nothing where a Unicode assertion is listed.
+/// They don't agree with the word bytes, so of their classes `classes_of` says nothing where a Unicode assertion is listed.
 pub fn letters_do_not_agree()
     ensures { (words : Letters) → ¬ (AgreesWithAscii (⟦<Letters as WordClass>⟧.word_chars words)) }
 {}

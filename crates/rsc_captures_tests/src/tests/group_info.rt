@@ -1,4 +1,4 @@
-//! Lists with and without faults, slots, names: worked values from outside.
+//! Lists with and without faults, slots, names: values from outside.
 ghost use Rattle.std.specs.Prelude.{◌≤◌};
 
 use rsc_captures::{GroupInfo, laws};

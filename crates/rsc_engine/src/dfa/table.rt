@@ -6,7 +6,7 @@ ghost use Rattle.rsc_engine.specs.Ends.{BeginsFrom};
 ghost use Rattle.rsc_engine.specs.declared.dfa.table.Row.{Row};
 ghost use Rattle.rsc_engine.specs.declared.dfa.entries.Step.TheVariants.{Goes};
 ghost use Rattle.rsc_engine.specs.Searches.{search_in};
-ghost use Rattle.rsc_engine.specs.Tables.{IsExact, IsRow, IsStepTo, IsMade, IsGrown, IsRowAt};
+ghost use Rattle.rsc_engine.specs.Tables.{IsExact, IsRow, IsStepTo, IsMade, IsGrown, StandsAt};
 
 use super::entries::{
     Lead, Step, are_alike, are_same, is_byte, key_of, place_of, read, widen, written,
@@ -68,13 +68,13 @@ impl Table {
     ) -> (usize, usize, usize)
         requires plan { IsPlan (machine W.word_chars plan.now.program.now) plan.now.classes plan.now.stride plan.now.unicode }
         requires exact { IsExact (machine W.word_chars plan.now.program.now) plan.now.classes plan.now.stride self.now.rows.items self.now.leads.items }
-        requires on { IsRowAt (search_in W.word_chars plan.now.program.now input.now) plan.now.classes self.now.rows.items row at }
+        requires on { StandsAt (search_in W.word_chars plan.now.program.now input.now) plan.now.classes self.now.rows.items row at }
         requires once { plan.now.once ≡ true → IsNeverEntered (machine W.word_chars plan.now.program.now) }
         requires begin { BeginsFrom (search_in W.word_chars plan.now.program.now input.now) begin }
         requires start { input.now.span.start ≤ at }
         requires end { at ≤ input.now.span.end }
         ensures begin { BeginsFrom (search_in W.word_chars plan.now.program.now input.now) result.2 }
-        ensures on { IsRowAt (search_in W.word_chars plan.now.program.now input.now) plan.now.classes self.now.rows.items result.0 result.1 }
+        ensures on { StandsAt (search_in W.word_chars plan.now.program.now input.now) plan.now.classes self.now.rows.items result.0 result.1 }
         ensures further { at ≤ result.1 }
         ensures end { result.1 ≤ input.now.span.end }
     {
@@ -106,7 +106,7 @@ impl Table {
         begin: usize,
         is_wanted: bool,
     ) -> usize
-        requires on { IsRowAt (search_in W.word_chars plan.now.program.now input.now) plan.now.classes self.now.rows.items row at }
+        requires on { StandsAt (search_in W.word_chars plan.now.program.now input.now) plan.now.classes self.now.rows.items row at }
         requires once { plan.now.once ≡ true → IsNeverEntered (machine W.word_chars plan.now.program.now) }
         requires begin { BeginsFrom (search_in W.word_chars plan.now.program.now input.now) begin }
         requires start { input.now.span.start ≤ at }

@@ -1,4 +1,4 @@
-//! Worked rows of `find`.
+//! Examples of `find`.
 use super::made::{accept, assertion, byte, capture, first, fork, program};
 use rsc_captures::Captures;
 use rsc_engine::{Program, find};

@@ -1,4 +1,4 @@
-//! The example of the README, and worked rows.
+//! The example of the README, and others.
 use rsc_alphabet::ByteClassSet;
 use rsc_captures::GroupInfo;
 use rsc_look::{AsciiWord, Look, LookMatcher, LookSet, UnicodeWord};

@@ -3,7 +3,7 @@ ghost use Rattle.std.specs.Prelude.{◌≡◌, ◌+◌, ◌<◌, ◌≤◌, All,
 ghost use Rattle.std.specs.Int.{w32, from_le_bytes, to_le_bytes};
 ghost use Rattle.std.specs.List.{range_with_len};
 ghost use Rattle.std.specs.Iterator.{YieldsFirst, item_count};
-ghost use Rattle.rsc_primitives.specs.Indices.{IsIndex, index_of, max_index};
+ghost use Rattle.rsc_primitives.specs.Indices.{IsIndex, checked_index, max_index};
 
 use std::error::Error;
 use std::fmt;
@@ -56,7 +56,7 @@ impl SmallIndex {
     /// A number above the greatest index is refused, and the error holds it.
     #[inline(always)]
     pub fn new(index: usize) -> Result<SmallIndex, SmallIndexError>
-        ensures { result ≡ index_of index }
+        ensures { result ≡ checked_index index }
     {
         SmallIndex::try_from(index)
     }
@@ -123,7 +123,7 @@ impl SmallIndex {
     /// A number above the greatest index is refused, and the error holds it.
     #[inline]
     pub fn from_le_bytes(bytes: [u8; 4]) -> Result<SmallIndex, SmallIndexError>
-        ensures { result ≡ index_of (from_le_bytes w32 bytes) }
+        ensures { result ≡ checked_index (from_le_bytes w32 bytes) }
     {
         SmallIndex::try_from(u32::from_le_bytes(bytes))
     }
@@ -180,7 +180,7 @@ impl TryFrom<u16> for SmallIndex {
 impl TryFrom<u32> for SmallIndex {
     type Error = SmallIndexError;
 
-    ghost try_from_gives = { λ n answer. answer ≡ index_of n };
+    ghost try_from_gives = { λ n answer. answer ≡ checked_index n };
 
     #[inline]
     fn try_from(index: u32) -> Result<SmallIndex, SmallIndexError> {
@@ -191,7 +191,7 @@ impl TryFrom<u32> for SmallIndex {
 impl TryFrom<u64> for SmallIndex {
     type Error = SmallIndexError;
 
-    ghost try_from_gives = { λ n answer. answer ≡ index_of n };
+    ghost try_from_gives = { λ n answer. answer ≡ checked_index n };
 
     #[inline(always)]
     fn try_from(index: u64) -> Result<SmallIndex, SmallIndexError> {
@@ -205,7 +205,7 @@ impl TryFrom<u64> for SmallIndex {
 impl TryFrom<usize> for SmallIndex {
     type Error = SmallIndexError;
 
-    ghost try_from_gives = { λ n answer. answer ≡ index_of n };
+    ghost try_from_gives = { λ n answer. answer ≡ checked_index n };
 
     #[inline(always)]
     fn try_from(index: usize) -> Result<SmallIndex, SmallIndexError> {

@@ -1,7 +1,7 @@
 use Rattle.std.proofs.Common.{◌≡◌, ◌<◌, ◌≤◌, [], ◌∷◌, refl, arith}
 use Rattle.rsc_look.specs.Holds.{byte_after}
 use Rattle.rsc_engine.specs.Searches.{search_in}
-use Rattle.rsc_engine.proofs.TablesLemmas.{IsRowAt-first, IsRowAt-next, IsRowAt-match, IsRowAt-last, IsRowAt-within, quit_here, begins_first}
+use Rattle.rsc_engine.proofs.TablesLemmas.{StandsAt-first, StandsAt-next, StandsAt-match, StandsAt-last, StandsAt-within, quit_here, begins_first}
 use Rattle.rsc_engine.proofs.dfa.search.Goals as goal
 
 pub rows-init : goal.rows-init
@@ -11,7 +11,7 @@ rows-init g c =
     rw (c.in_ok-push.ensures.items, c.new-first.ensures.items, c.start.ensures.start) refl in
     record {
       exact = c.row_of.ensures.exact;
-      on = IsRowAt-first e c.args.plan.now.classes c.args.plan.now.stride c.args.plan.now.unicode
+      on = StandsAt-first e c.args.plan.now.classes c.args.plan.now.stride c.args.plan.now.unicode
           record { laws = c.steps_are_lawful.ensures; plan = c.requires.plan; within = c.haystack-haystack.ensures.within }
           c.row_of.new.self.rows.items _ c.start-start.result c.before_of-before.result c.push.new.self.items
           (omega (arith, c.if-start-end.false, c.start-start.ensures.start, c.end-end.ensures.end))
@@ -23,14 +23,14 @@ rows-init g c =
     }
 
 pub step-requires-clause-row : goal.step-requires-clause-row
-step-requires-clause-row g c = IsRowAt-within _ _ _ _ _ c.follow-here.ensures.on
+step-requires-clause-row g c = StandsAt-within _ _ _ _ _ c.follow-here.ensures.on
 
 pub returns-in-Matches-clause-answer : goal.returns-in-Matches-clause-answer
 returns-in-Matches-clause-answer g c =
     let e = search_in g.W.WordClass.word_chars c.args.plan.now.program.now c.args.input.now in
     let after : c.after_of.result ≡ byte_after c.args.input.now.haystack c.follow-here.result.1 =
     rw c.haystack-haystack.ensures.bytes at c.after_of.ensures.after in
-    IsRowAt-match e c.args.plan.now.classes c.args.plan.now.stride c.args.plan.now.unicode
+    StandsAt-match e c.args.plan.now.classes c.args.plan.now.stride c.args.plan.now.unicode
     record { laws = c.steps_are_lawful.ensures; plan = c.requires.plan; within = c.haystack-haystack.ensures.within }
     c.rows.table.rows.items c.step.new.self.rows.items c.follow-here.result.0 c.follow-here.result.1 c.rows.invariant.exact.sound
     c.follow-here.ensures.end c.follow-here.ensures.on
@@ -50,7 +50,7 @@ returns-then-position-end-clause-answer g c =
     let after : c.after_of.result ≡ byte_after c.args.input.now.haystack c.follow-here.result.1 =
     rw c.haystack-haystack.ensures.bytes at c.after_of.ensures.after in
     let here : c.follow-here.result.1 ≡ c.args.input.now.span.end = omega (arith, c.if-position-end.true, c.end-end.ensures.end) in
-    IsRowAt-last e c.args.plan.now.classes c.args.plan.now.stride c.args.plan.now.unicode
+    StandsAt-last e c.args.plan.now.classes c.args.plan.now.stride c.args.plan.now.unicode
     record { laws = c.steps_are_lawful.ensures; plan = c.requires.plan; within = c.haystack-haystack.ensures.within }
     c.rows.table.rows.items c.step.new.self.rows.items c.follow-here.result.0 c.in-Goes.next c.follow-here.result.1 here c.rows.invariant.exact.sound
     c.follow-here.ensures.on
@@ -66,7 +66,7 @@ rows-preserved g c =
     omega (arith, c.follow-here.ensures.end, c.if-position-end.false, c.end-end.ensures.end) in
     record {
       exact = c.step.ensures.exact;
-      on = IsRowAt-next e c.args.plan.now.classes c.args.plan.now.stride c.args.plan.now.unicode
+      on = StandsAt-next e c.args.plan.now.classes c.args.plan.now.stride c.args.plan.now.unicode
           record { laws = c.steps_are_lawful.ensures; plan = c.requires.plan; within = c.haystack-haystack.ensures.within }
           c.rows.table.rows.items c.step.new.self.rows.items c.follow-here.result.0 c.in-Goes.next c.follow-here.result.1
           c.rows.invariant.exact.sound c.step.ensures.exact.sound low high c.follow-here.ensures.on

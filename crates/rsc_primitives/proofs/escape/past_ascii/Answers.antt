@@ -1,5 +1,5 @@
 use Rattle.std.proofs.Common.{sym, ◌∙◌}
-use Rattle.rsc_primitives.specs.PartsLaws.{DecodesTo-ok, DecodesTo-err, BeginsAt-fits}
+use Rattle.rsc_primitives.specs.DecodingLaws.{DecodesTo-ok, DecodesTo-err, BeginsAt-fits}
 use Rattle.rsc_primitives.proofs.EscapesLemmas.{past_ascii-high}
 use Rattle.rsc_primitives.proofs.escape.past_ascii.Goals as goal
 

@@ -1,4 +1,4 @@
-use Rattle.rsc_primitives.specs.DecidedLaws.{EndsAt-decided}
+use Rattle.rsc_primitives.specs.DecodingLaws.{EndsAt-decided}
 use Rattle.rsc_primitives.proofs.laws.one_ends_or_none.Goals as goal
 
 pub returns : goal.returns

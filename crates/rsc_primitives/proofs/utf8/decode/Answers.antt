@@ -1,6 +1,6 @@
 use Rattle.std.proofs.Common.{◌≡◌, get_or, sym, arith, ⊎_elim}
 use Rattle.std.proofs.lemmas.Option.{get_or_from_slice_get}
-use Rattle.rsc_primitives.specs.PartsLaws.{BeginsAt-fits}
+use Rattle.rsc_primitives.specs.DecodingLaws.{BeginsAt-fits}
 use Rattle.rsc_primitives.proofs.Utf8Lemmas.{first_of, begins_long}
 use Rattle.rsc_primitives.proofs.utf8.decode.Goals as goal
 

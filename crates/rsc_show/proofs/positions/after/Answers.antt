@@ -1,4 +1,4 @@
-use Rattle.rsc_primitives.specs.PartsLaws.{BeginsAt-decoded, BeginsAt-refused}
+use Rattle.rsc_primitives.specs.DecodingLaws.{BeginsAt-decoded, BeginsAt-refused}
 use Rattle.rsc_show.proofs.SidesLemmas.{refuted}
 use Rattle.rsc_show.proofs.positions.after.Goals as goal
 

@@ -1,4 +1,4 @@
-use Rattle.rsc_primitives.specs.PartsLaws.{EndsAt-decoded, EndsAt-refused}
+use Rattle.rsc_primitives.specs.DecodingLaws.{EndsAt-decoded, EndsAt-refused}
 use Rattle.rsc_show.proofs.SidesLemmas.{refuted}
 use Rattle.rsc_show.proofs.positions.before.Goals as goal
 

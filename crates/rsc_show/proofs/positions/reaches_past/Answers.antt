@@ -1,5 +1,5 @@
 use Rattle.std.proofs.Common.{arith}
-use Rattle.rsc_primitives.specs.PartsLaws.{BeginsAt-decoded, BeginsAt-refused}
+use Rattle.rsc_primitives.specs.DecodingLaws.{BeginsAt-decoded, BeginsAt-refused}
 use Rattle.rsc_show.proofs.SidesLemmas.{reaches_by_width, not_without_character}
 use Rattle.rsc_show.proofs.positions.reaches_past.Goals as goal
 

@@ -1,5 +1,5 @@
 use Rattle.std.proofs.Common.{◌∙◌, ap, subst, Some}
-use Rattle.rsc_primitives.specs.Utf8.{DecodesTo}
+use Rattle.rsc_primitives.specs.Decoding.{DecodesTo}
 use Rattle.std.specs.Char.{len_utf8}
 use Rattle.rsc_uses.proofs.primitives.first_width.Goals as goal
 

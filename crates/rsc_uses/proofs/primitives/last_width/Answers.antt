@@ -1,5 +1,5 @@
 use Rattle.std.proofs.Common.{◌∙◌, ap, subst, Some, length}
-use Rattle.rsc_primitives.specs.Utf8.{DecodesLastTo}
+use Rattle.rsc_primitives.specs.Decoding.{DecodesLastTo}
 use Rattle.std.specs.Char.{len_utf8}
 use Rattle.rsc_uses.proofs.primitives.last_width.Goals as goal
 

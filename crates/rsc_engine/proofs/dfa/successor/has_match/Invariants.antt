@@ -4,4 +4,5 @@ use Rattle.rsc_engine.specs.Runs.{is_accepting}
 use Rattle.rsc_engine.proofs.dfa.successor.has_match.Given as goal
 
 abbrev pub invariant-closure : goal.invariant-closure
-invariant-closure g l = (j : ℕ) → j < l.sid-index → is_accepting (pattern_of_mode l.mode) (slice_get l.program.automaton.states (slice_index l.closure j)) ≡ false
+invariant-closure g l =
+    (j : ℕ) → j < l.sid-index → is_accepting (pattern_of_mode l.mode) (slice_get l.program.automaton.states (slice_index l.closure j)) ≡ false

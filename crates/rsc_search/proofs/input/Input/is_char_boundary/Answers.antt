@@ -1,4 +1,4 @@
-use Rattle.rsc_primitives.specs.BoundariesLaws.{IsBoundary-EncodesAll}
+use Rattle.rsc_primitives.specs.DecodingLaws.{IsBoundary-EncodesAll}
 use Rattle.rsc_search.proofs.input.Input.is_char_boundary.Goals as goal
 
 pub returns-clause-valid : goal.returns-clause-valid
