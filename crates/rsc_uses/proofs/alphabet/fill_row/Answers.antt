@@ -28,5 +28,5 @@ loop-unit-preserved c =
 pub returns-clause-marked : goal.returns-clause-marked
 returns-clause-marked c = λ k small.
     let map = c.args.map.now in
-    let u = unit_of_number map k (c.each_class_comes_once.ensures.place map) (c.each_class_comes_once.ensures.end map) small in
+    let u = unit_of_number map k (c.each_class_comes_once.ensures.index map) (c.each_class_comes_once.ensures.end map) small in
     sym (ap (slice_index c.loop-unit.row) u.1.1) ∙ all_filled c.loop-unit.invariant.3 c.in-None.ensures.steps.0 u.1.0
