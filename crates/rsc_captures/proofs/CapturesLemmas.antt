@@ -1,5 +1,5 @@
 -- A span that is written into a group's slots is that group's, and leaves the others' as they were.
-use Rattle.std.proofs.Common.{◌≡◌, ◌≢◌, ℕ, ◌+◌, ◌*◌, ◌<◌, ◌==◌, ◌↔◌, nat_lt, nat_eq, cond, Bool, true, false, true≢false, List, length, Option, Some, None, refl, sym, ap, ◌∙◌, subst, arith, option_and_then, option_map, IsTrue, is_some, set, get_or, get_or-set_same, get_or-set_other, length-set}
+use Rattle.std.proofs.Common.{◌≡◌, ◌≢◌, ℕ, ◌+◌, ◌*◌, ◌<◌, ◌↔◌, nat_lt, nat_eq, cond, Bool, true, false, true≢false, List, length, Option, Some, None, refl, sym, ap, ◌∙◌, subst, arith, option_and_then, option_map, IsTrue, is_some, set, get_or-set_same, get_or-set_other, length-set}
 use Rattle.std.specs.Option.{ForSome}
 use Rattle.std.proofs.lemmas.Bool.Decides.{nat_tests}
 use Rattle.rsc_search.specs.declared.span.Span.{Span}

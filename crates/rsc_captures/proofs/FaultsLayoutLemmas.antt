@@ -1,10 +1,9 @@
 -- The first fault of a list, from the first other fault and the first repeated name before it.
-use Rattle.std.proofs.Common.{◌≡◌, ◌⊎◌, ⊎_elim, ℕ, zero, suc, ◌+◌, ◌*◌, ◌<◌, ◌≤◌, true, false, List, length, ltb, Option, Some, None, MatchOption, refl, sym, ◌∙◌, inl, inr, arith, unwrap_or, le-ltb, lt-ltb}
+use Rattle.std.proofs.Common.{◌≡◌, ◌⊎◌, ⊎_elim, ℕ, zero, suc, ◌+◌, ◌*◌, ◌<◌, ◌≤◌, true, false, List, length, ltb, Option, Some, None, MatchOption, refl, sym, ◌∙◌, inl, inr, arith, le-ltb, lt-ltb}
 use Rattle.std.specs.Prelude.{⊤}
 use mathlib.Core.Bool.{true≢false}
 use borrow.Author.Count.{below_more}
-use Rattle.rsc_captures.specs.declared.faults.Fault as declared
-use Rattle.rsc_captures.proofs.Prelude.{Groups, GroupLists, groups_of, group_count, name_of, explicit_groups, explicit_before, Fault, TooManyGroups, Duplicate, ComesBefore, IsChecked, pattern_fault, name_fault, fault_at, slots_end, IsFirstFault, IsFaultless, FirstIsDuplicate, RefusesFor, fault_found, IsDuplicate, HasNoOtherBefore, HasNoOtherFault, IsFirstOther, is_repeat, AreDistinctBelow, IsFirstRepeat, HasNoRepeatBefore, IsFirstRepeatBefore}
+use Rattle.rsc_captures.proofs.Prelude.{Groups, GroupLists, groups_of, group_count, name_of, explicit_groups, explicit_before, Fault, TooManyGroups, Duplicate, ComesBefore, IsChecked, pattern_fault, name_fault, fault_at, slots_end, IsFirstFault, IsFaultless, FirstIsDuplicate, RefusesFor, HasNoOtherBefore, HasNoOtherFault, IsFirstOther, is_repeat, AreDistinctBelow, HasNoRepeatBefore, IsFirstRepeatBefore}
 use Rattle.rsc_captures.proofs.FaultsLemmas.{before_more, explicit_group_at, group_clear, name_fault_clear, name_fault_repeat, name_fault_none, no_repeat_at_zero}
 use Rattle.rsc_captures.proofs.GroupsLemmas.{sum_rises}
 use Rattle.rsc_captures.proofs.SlotOwnersLemmas.{pattern_in}
@@ -31,7 +30,8 @@ module _ {limit : ℕ} {lists : GroupLists} {p g : ℕ} (before : HasNoOtherBefo
   pub pattern_before : (q h : ℕ) → ComesBefore q h p g → pattern_fault lists q ≡ None
   pattern_before q h = ⊎_elim (λ (lt : q < p). before.patterns q lt) (λ (same : (q ≡ p) × (h < g)). rw same.0 (before.first (omega (arith, same.1))))
 
-  limit_before : (q h : ℕ) → h < group_count lists q → ComesBefore q h p g → 2 * (explicit_before lists q + h) ≤ limit
+  -- a group before is within the limit
+  pub limit_before : (q h : ℕ) → h < group_count lists q → ComesBefore q h p g → 2 * (explicit_before lists q + h) ≤ limit
   limit_before q h group =
       ⊎_elim
       (λ (lt : q < p).
@@ -63,11 +63,17 @@ module _ {limit : ℕ} {lists : GroupLists} {p g : ℕ} (before : HasNoOtherBefo
   clear_before none q h group earlier = clear_at q h group earlier (λ group. none q h group earlier)
 
   -- another fault at the group
-  pub other_at : (f : Fault) → IsChecked lists p g → fault_at limit lists p g ≡ Some f → IsFirstOther limit lists p g f
+  pub other_at : (f : Fault) → IsChecked lists p g → fault_at limit lists p g ≡ Some f → IsFirstOther limit lists p g (Some f)
   other_at f group fault = record {
     before = before;
     first = λ none. inl (record { p = p; g = g; group = group; fault = fault; least = clear_before none });
   }
+
+  -- the same of a refusal
+  pub refusal_at : (refusal : Option Fault) → IsChecked lists p g → MatchOption refusal ⊥ (λ f. fault_at limit lists p g ≡ Some f)
+      → IsFirstOther limit lists p g refusal
+  refusal_at None group m = absurd m
+  refusal_at (Some f) group fault = other_at f group fault
 
   -- the first repeated name before the group is the first fault
   pub repeat_first : (f : Fault) → IsFirstRepeatBefore lists p g f → IsFirstFault limit lists f
@@ -82,7 +88,7 @@ module _ {limit : ℕ} {lists : GroupLists} {p g : ℕ} (before : HasNoOtherBefo
 -- more groups than the limit has room for
 pub too_many : {limit : ℕ} {lists : GroupLists} (p room : ℕ) → HasNoOtherBefore limit lists p 0 → pattern_fault lists p ≡ None → p < length lists
     → room + 1 < group_count lists p → 2 * (explicit_before lists p + room) ≤ limit → limit < 2 * (explicit_before lists p + (room + 1))
-    → IsFirstOther limit lists p (room + 1) (TooManyGroups p (room + 1))
+    → IsFirstOther limit lists p (room + 1) (Some (TooManyGroups p (room + 1)))
 too_many {limit = limit} {lists = lists} p room earlier clear pattern more within past =
     let limited : ltb limit (2 * (explicit_before lists p + (room + 1))) ≡ true = lt-ltb limit (2 * (explicit_before lists p + (room + 1))) past in
     other_at (record { patterns = earlier.patterns; first = λ _. clear; within = omega (arith, within) }) (TooManyGroups p (room + 1))
@@ -91,7 +97,7 @@ too_many {limit = limit} {lists = lists} p room earlier clear pattern more withi
 
 -- the limit on the slots of all groups
 pub past_limit : {limit : ℕ} {lists : GroupLists} (n p : ℕ) → length lists ≡ n → HasNoOtherBefore limit lists n 0 → p < n → limit < slots_end lists p
-    → ((q : ℕ) → q < p → slots_end lists q ≤ limit) → IsFirstOther limit lists n 0 (TooManyGroups p (group_count lists p))
+    → ((q : ℕ) → q < p → slots_end lists q ≤ limit) → IsFirstOther limit lists n 0 (Some (TooManyGroups p (group_count lists p)))
 past_limit n p all before pattern past least = record {
   before = before;
   first = λ none. inr (record {
@@ -105,24 +111,27 @@ past_limit n p all before pattern past least = record {
   });
 }
 
--- the first of both
-pub first_fault : {limit : ℕ} {lists : GroupLists} {p g : ℕ} (other : declared.Fault) (o : Option declared.Fault)
-    → IsFirstOther limit lists p g (fault_found other) → MatchOption o (HasNoRepeatBefore lists p g) (λ f. IsFirstRepeatBefore lists p g (fault_found f))
-    → IsFirstFault limit lists (fault_found (unwrap_or o other))
-first_fault other None is none = is.first none
-first_fault other (Some f) is found = repeat_first is.before (fault_found f) found
+-- a refusal for the first fault
+pub refuses_first : (limit : ℕ) (lists : GroupLists) (refusal : Option Fault) → MatchOption refusal ⊥ (IsFirstFault limit lists)
+    → RefusesFor limit lists refusal
+refuses_first limit lists None first = absurd first
+refuses_first limit lists (Some f) first = first
+
+-- group g is one of the first n, and the first that repeats a name
+abbrev FirstRepeat : Groups → ℕ → Type 0
+FirstRepeat groups n = (g : ℕ) × (g < n) × (is_repeat groups g ≡ true) × AreDistinctBelow groups g
 
 -- the names of the first n groups are distinct, or there is a first that is repeated
-first_repeat : (groups : Groups) (n : ℕ) → n ≤ length groups → AreDistinctBelow groups n ⊎ ((g : ℕ) × IsFirstRepeat groups g)
-first_repeat groups zero le = inl (λ g lt. absurd (omega arith))
-first_repeat groups (suc n) le =
-    elim (first_repeat groups n (omega arith)) as (λ _. AreDistinctBelow groups (suc n) ⊎ ((g : ℕ) × IsFirstRepeat groups g)) [
+first_repeat : (groups : Groups) (n : ℕ) → AreDistinctBelow groups n ⊎ FirstRepeat groups n
+first_repeat groups zero = inl (λ g lt. absurd (omega arith))
+first_repeat groups (suc n) =
+    elim (first_repeat groups n) as (λ _. AreDistinctBelow groups (suc n) ⊎ FirstRepeat groups (suc n)) [
       | inl distinct ↦
-          elim (is_repeat groups n) as (λ b. is_repeat groups n ≡ b → AreDistinctBelow groups (suc n) ⊎ ((g : ℕ) × IsFirstRepeat groups g)) [
-            | true ↦ λ e. inr (n, record { group = omega arith; repeats = e; distinct = distinct })
+          elim (is_repeat groups n) as (λ b. is_repeat groups n ≡ b → AreDistinctBelow groups (suc n) ⊎ FirstRepeat groups (suc n)) [
+            | true ↦ λ e. inr (n, omega arith, e, distinct)
             | false ↦ λ e. inl (λ g lt. below_more (λ k. is_repeat groups k ≡ false) n distinct e g (omega arith))
           ] refl
-      | inr found ↦ inr found
+      | inr found ↦ inr (found.0, omega (arith, found.1), found.2, found.3)
     ]
 
 module _ {limit : ℕ} {lists : GroupLists} (no_other : HasNoOtherFault limit lists) where
@@ -136,16 +145,13 @@ module _ {limit : ℕ} {lists : GroupLists} (no_other : HasNoOtherFault limit li
   first_of (suc n) le =
       elim (first_of n (omega arith)) as (λ _. HasNoRepeatBefore lists (suc n) 0 ⊎ FirstIsDuplicate limit lists) [
         | inl none ↦
-            elim (first_repeat (groups_of lists n) (group_count lists n) (omega arith)) as (λ _. HasNoRepeatBefore lists (suc n) 0
+            elim (first_repeat (groups_of lists n) (group_count lists n)) as (λ _. HasNoRepeatBefore lists (suc n) 0
             ⊎ FirstIsDuplicate limit lists) [
               | inl distinct ↦ let next : n + 1 ≡ suc n = omega arith in inl (rw next at (none_more lists n none distinct))
               | inr found ↦
-                  let named = repeat_name (groups_of lists n) found.0 found.1.repeats in
-                  inr (
-                    n,
-                    named.0,
-                    repeat_first no_other.groups (Duplicate n named.0) (repeat_of_pattern lists n _ _ _ _ none found.1 named.1 (inl (omega arith))),
-                  )
+                  let named = repeat_name (groups_of lists n) found.0 found.2 in
+                  let first = repeat_of_pattern lists n _ _ _ _ none found.1 found.2 found.3 named.1 (inl (omega arith)) in
+                  inr (n, named.0, repeat_first no_other.groups (Duplicate n named.0) first)
             ]
         | inr found ↦ inr found
       ]
@@ -163,8 +169,8 @@ pub MatchOption-some_weaker : {X : Type 0} (o : Option X) (R : Type 0) (P Q : X 
 MatchOption-some_weaker None R P Q weaker m = tt
 MatchOption-some_weaker (Some x) R P Q weaker m = weaker x m
 
--- a refusal that shows the fault that was found, or none where that is a repeated name and memory is out
-pub refuses_found : {limit : ℕ} {lists : GroupLists} {f : Fault} → IsFirstFault limit lists f →
-    (refusal : Option Fault) → MatchOption refusal (IsDuplicate f) (λ shown. shown ≡ f) → RefusesFor limit lists refusal
-refuses_found found (Some shown) same = rw same found
-refuses_found found None duplicate = inr (duplicate.0, duplicate.1, rw duplicate.2 at found)
+-- a refusal for a repeated name that is the first fault, or out of memory
+pub refuses_repeat : {limit : ℕ} {lists : GroupLists} {p : ℕ} {name : List ℕ} → IsFirstFault limit lists (Duplicate p name) → (refusal : Option Fault)
+    → MatchOption refusal ⊤ (λ shown. shown ≡ Duplicate p name) → RefusesFor limit lists refusal
+refuses_repeat found (Some shown) same = rw same found
+refuses_repeat {p = p} {name = name} found None same = inr (p, name, found)

@@ -7,6 +7,6 @@ pub mod LayoutLemmas  -- where the names and the order of each pattern's groups 
 pub mod NameIteratorsLemmas  -- the steps of the iterator over all groups, and how many it gives
 pub mod NamesLayoutLemmas  -- names in one text, and where those of each pattern begin, as one more is added
 pub mod OrderLayoutLemmas  -- the groups in the order of their names
-pub mod RepeatsLayoutLemmas  -- repeated names: in a sorted block, of a pattern's first groups, and before a group
+pub mod RepeatsLayoutLemmas  -- repeated names: of a pattern's first groups, and before a group
 pub mod SlotOwnersLemmas  -- each slot is a slot of exactly one group, and below the number of all slots
 pub mod Prelude  -- the words of `specs/` that most proofs cite, passed on from one group

@@ -1,12 +1,12 @@
 -- The groups of a pattern in the order of their names.
-use Rattle.std.specs.Prelude.{◌<◌, ◌&&◌, ℕ, nat_lt, Bool, false, List, length, slice_index_or, Option, None}
-use Rattle.std.specs.Option.{option_cmp, option_map_or}
+use Rattle.std.specs.Prelude.{◌<◌, ℕ, List, length, slice_index_or, Option, None}
+use Rattle.std.specs.Option.{option_cmp}
 use Rattle.std.specs.Ordering.{nat_cmp, ordering_then}
 use Rattle.std.specs.declared.cmp.Ordering.{Ordering}
 use Rattle.std.specs.Cmp.Lexicographic.{slice_cmp}
 use Rattle.std.specs.List.{Contains}
 use Rattle.std.specs.List.Sorted.{IsSortedByKey}
-use Rattle.rsc_captures.specs.Groups.{Groups, has_name}
+use Rattle.rsc_captures.specs.Groups.{Groups}
 
 -- the name of group g, if there is such a group and it has one
 abbrev pub name_at : Groups → ℕ → Option (List ℕ)
@@ -15,10 +15,6 @@ name_at groups g = slice_index_or groups g None
 -- names are ordered by their bytes, and a group without one comes first
 abbrev pub name_cmp : Option (List ℕ) → Option (List ℕ) → Ordering
 name_cmp = option_cmp (slice_cmp nat_cmp)
-
--- group h has the name of group g, which comes before it
-abbrev pub has_name_of : Groups → ℕ → ℕ → Bool
-has_name_of groups g h = nat_lt g h && option_map_or (λ name. has_name name (name_at groups g)) (name_at groups h) false
 
 -- each of the first n groups is in the list
 abbrev pub HasGroups : List ℕ → ℕ → Type 0

@@ -222,8 +222,9 @@ impl<A: Allocator + Clone + Drop> Captures<A> {
             Some(slot) => match offsets_of(span) {
                 None => false,
                 Some((start, end)) => {
-                    self.slots[slot] = start;
-                    self.slots[slot + 1] = end;
+                    let slots = self.slots.as_mut_slice();
+                    slots[slot] = start;
+                    slots[slot + 1] = end;
                     true
                 }
             },

@@ -1,10 +1,9 @@
 //! Why a group list is refused.
-ghost use Rattle.std.specs.Prelude.{◌≡◌, None, Some, MatchOption};
+ghost use Rattle.std.specs.Prelude.{◌≡◌, ⊤, None, Some, MatchOption};
 ghost use Rattle.std.specs.Fmt.{DisplaysOnOk};
 ghost use Rattle.rsc_captures.specs.Kinds.{refusal_text};
-ghost use Rattle.rsc_captures.specs.FaultsLayout.{fault_found, IsDuplicate};
+ghost use Rattle.rsc_captures.specs.Faults.{Duplicate};
 
-use crate::faults::Fault;
 use rsc_primitives::{PatternID, PatternIDError};
 use std::alloc::{AllocError, AllocFailed, Allocator, Global};
 use std::error::Error;
@@ -189,7 +188,6 @@ impl<A: Allocator> fmt::Display for GroupInfoErrorKind<A> {
 
 impl<A: Allocator> fmt::Display for GroupInfoError<A> {
     ghost use Rattle.rsc_captures.specs.Kinds.{refusal_text};
-    ghost use Rattle.rsc_captures.specs.FaultsLayout.{fault_found, IsDuplicate};
 
     ghost output = { λ fault. Some (refusal_text fault) };
 
@@ -200,26 +198,16 @@ impl<A: Allocator> fmt::Display for GroupInfoError<A> {
 
 impl<A: Allocator> Error for GroupInfoError<A> {}
 
-/// The error for a fault. Only a repeated name takes memory.
-pub(crate) fn refusal<A: Allocator + Clone + Drop>(alloc: A, fault: Fault<'_>) -> GroupInfoError<A>
-    ensures { MatchOption result (IsDuplicate (fault_found fault.entry)) (λ found. found ≡ fault_found fault.entry) }
+/// The refusal of a pattern's repeated name, of which it keeps a copy.
+pub(crate) fn duplicate<A: Allocator + Clone + Drop>(
+    alloc: A,
+    repeat: (PatternID, &str),
+) -> GroupInfoError<A>
+    ensures { MatchOption result ⊤ (λ fault. fault ≡ Duplicate repeat.entry.0 repeat.entry.1.now) }
 {
-    match fault {
-        Fault::TooManyPatterns(err) => {
-            GroupInfoError::new(GroupInfoErrorKind::TooManyPatterns { err })
-        }
-        Fault::TooManyGroups(pattern, minimum) => {
-            GroupInfoError::new(GroupInfoErrorKind::TooManyGroups { pattern, minimum })
-        }
-        Fault::MissingGroups(pattern) => {
-            GroupInfoError::new(GroupInfoErrorKind::MissingGroups { pattern })
-        }
-        Fault::FirstMustBeUnnamed(pattern) => {
-            GroupInfoError::new(GroupInfoErrorKind::FirstMustBeUnnamed { pattern })
-        }
-        Fault::Duplicate(pattern, name) => match String::from_str(alloc, name) {
-            Ok(name) => GroupInfoError::new(GroupInfoErrorKind::Duplicate { pattern, name }),
-            Err(_) => GroupInfoError::new(GroupInfoErrorKind::OutOfMemory),
-        },
+    let (pattern, name) = repeat;
+    match String::from_str(alloc, name) {
+        Ok(name) => GroupInfoError::new(GroupInfoErrorKind::Duplicate { pattern, name }),
+        Err(_) => GroupInfoError::new(GroupInfoErrorKind::OutOfMemory),
     }
 }

@@ -3,30 +3,22 @@ ghost use Rattle.std.specs.Prelude.{◌≡◌, ◌+◌, ◌*◌, ◌<◌, ◌≤
 ghost use Rattle.std.specs.Bool.{MatchBool};
 ghost use Rattle.rsc_captures.specs.Groups.{lists_in, group_count};
 ghost use Rattle.rsc_primitives.specs.Indices.{max_index};
-ghost use Rattle.rsc_captures.specs.Faults.{pattern_fault};
-ghost use Rattle.rsc_captures.specs.FaultsLayout.{fault_found, HasNoOtherFault, IsFirstOther};
+ghost use Rattle.rsc_captures.specs.Faults.{TooManyGroups, pattern_fault};
+ghost use Rattle.rsc_captures.specs.FaultsLayout.{HasNoOtherFault, IsFirstOther};
 
-use rsc_primitives::{PatternID, PatternIDError};
-
-/// A fault, with the name lent by the list.
-#[derive(Drop)]
-pub(crate) enum Fault<'a> {
-    TooManyPatterns(PatternIDError),
-    TooManyGroups(PatternID, usize),
-    MissingGroups(PatternID),
-    FirstMustBeUnnamed(PatternID),
-    Duplicate(PatternID, &'a str),
-}
+use crate::error::{GroupInfoError, GroupInfoErrorKind};
+use rsc_primitives::PatternID;
+use std::alloc::Allocator;
 
 /// The first group with a fault that is no repeated name, and that fault. A group is a pattern and one of its groups; the limit on
 /// the slots of all groups is the group after the last.
-pub(crate) fn first_other_fault<'a>(
+pub(crate) fn first_other_fault<A: Allocator>(
     limit: usize,
-    lists: &[&[Option<&'a str>]],
-) -> Option<((usize, usize), Fault<'a>)>
+    lists: &[&[Option<&str>]],
+) -> Option<((usize, usize), GroupInfoError<A>)>
     requires { limit ≤ max_index }
     ensures { MatchOption result (HasNoOtherFault limit (lists_in lists.now))
-        (λ found. IsFirstOther limit (lists_in lists.now) found.0.0 found.0.1 (fault_found found.1)) }
+        (λ found. IsFirstOther limit (lists_in lists.now) found.0.0 found.0.1 found.1) }
 {
     let mut before = 0;
     // How many patterns have their slots within the limit.
@@ -39,7 +31,7 @@ pub(crate) fn first_other_fault<'a>(
         let explicit = lists[p].len() - 1;
         let room = limit / 2 - before;
         if explicit > room {
-            return Some(((p, room + 1), Fault::TooManyGroups(pattern, room + 1)));
+            return Some(((p, room + 1), too_many_groups(pattern, room + 1)));
         }
         before += explicit;
         if within == p && are_within(limit, before, lists.len()) {
@@ -49,25 +41,37 @@ pub(crate) fn first_other_fault<'a>(
     if within == lists.len() {
         return None;
     }
-    let fault = Fault::TooManyGroups(PatternID::must(within), lists[within].len());
+    let fault = too_many_groups(PatternID::must(within), lists[within].len());
     Some(((lists.len(), 0), fault))
 }
 
 // Looks at a pattern as a whole.
-fn check_pattern<'a>(lists: &[&[Option<&'a str>]], p: usize) -> Result<PatternID, Fault<'a>>
+fn check_pattern<A: Allocator>(
+    lists: &[&[Option<&str>]],
+    p: usize,
+) -> Result<PatternID, GroupInfoError<A>>
     requires { p < length lists.now }
     ensures ok { IfOk result (λ pattern. (pattern ≡ p) × (pattern_fault (lists_in lists.now) p ≡ None) × (0 < group_count (lists_in lists.now) p)) }
-    ensures err { IfErr result (λ fault. pattern_fault (lists_in lists.now) p ≡ Some (fault_found fault)) }
+    ensures err { IfErr result (λ e. MatchOption e ⊥ (λ fault. pattern_fault (lists_in lists.now) p ≡ Some fault)) }
 {
     let pattern = match PatternID::new(p) {
         Ok(pattern) => pattern,
-        Err(err) => return Err(Fault::TooManyPatterns(err)),
+        Err(err) => return Err(GroupInfoError::new(GroupInfoErrorKind::TooManyPatterns { err })),
     };
     match lists[p].first() {
-        None => Err(Fault::MissingGroups(pattern)),
-        Some(Some(_)) => Err(Fault::FirstMustBeUnnamed(pattern)),
+        None => Err(GroupInfoError::new(GroupInfoErrorKind::MissingGroups { pattern })),
+        Some(Some(_)) => Err(GroupInfoError::new(GroupInfoErrorKind::FirstMustBeUnnamed {
+            pattern,
+        })),
         Some(None) => Ok(pattern),
     }
+}
+
+// The refusal of a pattern that has too many groups.
+fn too_many_groups<A: Allocator>(pattern: PatternID, minimum: usize) -> GroupInfoError<A>
+    ensures { result ≡ Some (TooManyGroups pattern minimum) }
+{
+    GroupInfoError::new(GroupInfoErrorKind::TooManyGroups { pattern, minimum })
 }
 
 // Whether the slots of both numbers of groups are within the limit.

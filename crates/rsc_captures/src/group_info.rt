@@ -10,7 +10,7 @@ ghost use Rattle.rsc_captures.specs.SlotOwners.{IsSlotOf, IsOwned};
 ghost use Rattle.rsc_captures.specs.Layout.{AreOrdered};
 ghost use Rattle.rsc_captures.specs.RepeatsLayout.{HasNoRepeatBefore, IsFirstRepeatBefore};
 
-use crate::error::{GroupInfoError, refusal};
+use crate::error::{GroupInfoError, duplicate};
 use crate::faults::first_other_fault;
 use crate::layout::{SharedLists, firsts_of, hints_of};
 use crate::name_iterators::{GroupInfoAllNames, GroupInfoPatternNames};
@@ -69,8 +69,8 @@ impl<A: Allocator + Clone + Drop> GroupInfo<A> {
     ///
     /// # Cost
     ///
-    /// Names are sorted, pattern by pattern, and a repeated name is read off their order. The names of a list with any other fault are
-    /// sorted in blocks, in a table on the stack, and the names after a block are looked up there by binary search.
+    /// Names are sorted, pattern by pattern, and each is looked up in their order by binary search. The names of a list with any other
+    /// fault are sorted in blocks, each in a table on the stack, and a block's names and those after it are looked up there.
     pub fn new(alloc: A, lists: &[&[Option<&str>]]) -> Result<GroupInfo<A>, GroupInfoError<A>>
         ensures groups { IfOk result (λ info. info ≡ lists_in lists.now) }
         ensures faultless { OnOk result (IsFaultless max_index (lists_in lists.now)) }
@@ -109,8 +109,10 @@ impl<A: Allocator + Clone + Drop> GroupInfo<A> {
         let Some((group, other)) = first_other_fault(limit, lists) else {
             return build(alloc, lists);
         };
-        let first = first_repeat_before(lists, group).unwrap_or(other);
-        Err(refusal(alloc, first))
+        match first_repeat_before(lists, group) {
+            Some(repeat) => Err(duplicate(alloc, repeat)),
+            None => Err(other),
+        }
     }
 
     /// The group info of no patterns.
@@ -313,8 +315,9 @@ fn order_of<A: Allocator + Clone + Drop>(
         let groups = lists[p];
         let first = order.len();
         add_order(&mut order, groups)?;
-        if let Some(g) = repeat_in_order(groups, &order.as_slice()[first..]) {
-            return Err(refusal(alloc, repeated(lists, p, g)));
+        let g = repeat_in_order(groups, &order.as_slice()[first..]);
+        if g < groups.len() {
+            return Err(duplicate(alloc, repeated(lists, p, g)));
         }
     }
     Ok(order)

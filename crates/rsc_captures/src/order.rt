@@ -1,6 +1,6 @@
 //! The groups of a pattern in the order of their names.
-ghost use Rattle.std.specs.Prelude.{◌≡◌, ◌+◌, ◌≤◌, ◌++◌, length, take, drop, OnOk, slice_index_or, None};
-ghost use Rattle.std.specs.List.{range_with_len};
+ghost use Rattle.std.specs.Prelude.{◌≡◌, ℕ, ◌+◌, ◌<◌, ◌≤◌, ◌++◌, length, take, drop, OnOk, slice_index_or, None};
+ghost use Rattle.std.specs.List.{Contains, range_with_len};
 ghost use Rattle.std.specs.List.Sorted.{IsPermutation};
 ghost use Rattle.rsc_captures.specs.Groups.{groups_in};
 ghost use Rattle.rsc_primitives.specs.Indices.{max_index};
@@ -19,14 +19,14 @@ pub(crate) fn name_at<'a>(groups: &[Option<&'a str>], g: usize) -> Option<&'a st
     }
 }
 
-/// Fills the list with the numbers of the groups, in the order of their names.
-pub(crate) fn put_in_order(groups: &[Option<&str>], order: &mut [u32])
-    requires len { length order.old ≡ length groups.now }
-    requires limit { length order.old ≤ max_index }
-    ensures order { IsOrder order.new (groups_in groups.now) }
+/// Fills the list with the numbers of the groups from one on, in the order of their names.
+pub(crate) fn put_in_order(groups: &[Option<&str>], from: usize, order: &mut [u32])
+    requires { from + length order.old ≤ max_index + 1 }
+    ensures complete { (g : ℕ) → from ≤ g → g < from + length order.old → Contains order.new g }
+    ensures sorted { IsSortedByName order.new (groups_in groups.now) }
     ensures len { length order.new ≡ length order.old }
 {
-    number(order);
+    number(from, order);
     sort_by_name(groups, order);
 }
 
@@ -41,30 +41,18 @@ pub(crate) fn add_order<A: Allocator>(
     ensures order { OnOk result (IsOrder (drop (length order.old.items) order.new.items) (groups_in groups.now)) }
 {
     let first = order.len();
-    add_numbers(order, groups.len())?;
-    sort_by_name(groups, &mut order.as_mut_slice()[first..]);
+    order.resize(first + groups.len(), 0)?;
+    put_in_order(groups, 0, &mut order.as_mut_slice()[first..]);
     Ok(())
 }
 
-// Adds that many numbers from 0 on.
-#[tactic(auto, using(crate::proofs::OrderLayoutLemmas::counted_more, std::proofs::lemmas::List::append_assoc))]
-fn add_numbers<A: Allocator>(order: &mut Vec<u32, A>, count: usize) -> Result<(), AllocError>
-    requires { count ≤ max_index }
-    ensures { OnOk result (order.new.items ≡ order.old.items ++ range_with_len 0 count) }
-{
-    for number in 0..count {
-        order.push(number as u32)?;
-    }
-    Ok(())
-}
-
-// Fills the list with the numbers from 0 on.
-fn number(order: &mut [u32])
-    requires { length order.old ≤ max_index }
-    ensures { order.new ≡ range_with_len 0 (length order.old) }
+// Fills the list with the numbers from one on.
+fn number(from: usize, order: &mut [u32])
+    requires { from + length order.old ≤ max_index + 1 }
+    ensures { order.new ≡ range_with_len from (length order.old) }
 {
     for i in 0..order.len() {
-        order[i] = i as u32;
+        order[i] = (from + i) as u32;
     }
 }
 

@@ -1,65 +1,62 @@
 //! Repeated names: the first group of a pattern whose name a lesser group has.
 //!
-//! Names are sorted in blocks, in a table on the stack that holds the groups of one block in the order of their names: there a
-//! repeated name has neighbours. Each name after the block is looked up in it by binary search.
-ghost use Rattle.std.specs.Prelude.{◌≡◌, ℕ, List, ◌+◌, ◌<◌, ◌≤◌, length, take, true, slice_index_or, Some, None, MatchOption};
-ghost use Rattle.std.specs.List.Sorted.{IsBinarySearchResult, IsSearchInRange};
-ghost use Rattle.rsc_captures.specs.Groups.{groups_in, lists_in, groups_of, name_of};
+//! A group's name is looked up by binary search among groups that are sorted by name and then by number. A list with another fault
+//! takes no memory: its groups are sorted in blocks, each in a table on the stack.
+ghost use Rattle.std.specs.Prelude.{◌≡◌, ℕ, List, ◌+◌, ◌<◌, ◌≤◌, length, true, slice_index_or, Some, None, MatchBool, MatchOption};
+ghost use Rattle.std.specs.Ordering.{is_lt};
+ghost use Rattle.std.specs.List.{Contains};
+ghost use Rattle.rsc_captures.specs.Groups.{groups_in, lists_in, groups_of, group_count, name_of};
 ghost use Rattle.rsc_primitives.specs.Indices.{max_index};
 ghost use Rattle.rsc_captures.specs.Faults.{Duplicate, ComesBefore};
-ghost use Rattle.rsc_captures.specs.FaultsLayout.{fault_found};
-ghost use Rattle.rsc_captures.specs.OrderLayout.{name_cmp, has_name_of, IsOrder};
-ghost use Rattle.rsc_captures.specs.RepeatsLayout.{is_repeat, AreDistinctBelow, IsFirstRepeat, AreApart, IsRepeatOf, HasNoRepeatBefore, IsFirstRepeatBefore};
+ghost use Rattle.rsc_captures.specs.OrderLayout.{name_cmp, IsOrder, IsSortedByName};
+ghost use Rattle.rsc_captures.specs.RepeatsLayout.{is_repeat, AreDistinctBelow, HaveDifferentNames, IsFirstNotLess, HasNoRepeatBefore, IsFirstRepeatBefore};
 
-use crate::faults::Fault;
 use crate::names::has_name;
 use crate::order::{name_at, put_in_order};
 use rsc_primitives::PatternID;
-use std::cmp::Ordering;
 
-// How many groups the table has room for.
+// How many groups a block has at most: its table has room for them.
 const TABLE: usize = 4096;
 
-/// The first repeated name before a group, which is a pattern and one of its groups. Takes no memory.
+/// The first repeated name before a group, which is a pattern and one of its groups; and whose it is. Takes no memory.
 pub(crate) fn first_repeat_before<'a>(
     lists: &[&[Option<&'a str>]],
     group: (usize, usize),
-) -> Option<Fault<'a>>
-    requires { (p : ℕ) → ComesBefore p 0 group.0 group.1 → p ≤ max_index }
+) -> Option<(PatternID, &'a str)>
+    requires patterns { (p : ℕ) → ComesBefore p 0 group.0 group.1 → p ≤ max_index }
+    requires groups { (p g : ℕ) → g < group_count (lists_in lists.now) p → ComesBefore p g group.0 group.1 → g ≤ max_index }
     ensures { MatchOption result (HasNoRepeatBefore (lists_in lists.now) group.0 group.1)
-        (λ fault. IsFirstRepeatBefore (lists_in lists.now) group.0 group.1 (fault_found fault)) }
+        (λ found. IsFirstRepeatBefore (lists_in lists.now) group.0 group.1 (Duplicate found.0 found.1.now)) }
 {
-    let mut table = [0u32; TABLE];
     for p in 0..lists.len().min(group.0.saturating_add(1)) {
         let end = count_before(lists[p].len(), p, group);
-        if let Some(g) = first_repeat(&lists[p][..end], &mut table) {
+        let g = first_repeat(lists[p], end);
+        if g < end {
             return Some(repeated(lists, p, g));
         }
     }
     None
 }
 
-/// The fault of a group that repeats a name.
-pub(crate) fn repeated<'a>(lists: &[&[Option<&'a str>]], p: usize, g: usize) -> Fault<'a>
+/// The pattern and the name of a group that repeats a name.
+pub(crate) fn repeated<'a>(lists: &[&[Option<&'a str>]], p: usize, g: usize) -> (PatternID, &'a str)
     requires pattern { p < length lists.now }
     requires number { p ≤ max_index }
     requires repeats { is_repeat (groups_of (lists_in lists.now) p) g ≡ true }
-    ensures { (name : List ℕ) × (name_of (lists_in lists.now) p g ≡ Some name) × (fault_found result ≡ Duplicate p name) }
+    ensures pattern { result.0 ≡ p }
+    ensures name { name_of (lists_in lists.now) p g ≡ Some result.1.now }
 {
-    Fault::Duplicate(PatternID::must(p), name_at(lists[p], g).unwrap_or(""))
+    (PatternID::must(p), name_at(lists[p], g).unwrap_or(""))
 }
 
-/// The first group whose name a lesser one has, read off the order of the names: such a group comes right after one with its name.
-pub(crate) fn repeat_in_order(groups: &[Option<&str>], order: &[u32]) -> Option<usize>
+/// The first group whose name a lesser one has, or the number of groups.
+pub(crate) fn repeat_in_order(groups: &[Option<&str>], order: &[u32]) -> usize
     requires { IsOrder order.now (groups_in groups.now) }
-    ensures { MatchOption result (AreDistinctBelow (groups_in groups.now) (length groups.now)) (IsFirstRepeat (groups_in groups.now)) }
+    ensures within { result ≤ length groups.now }
+    ensures distinct { AreDistinctBelow (groups_in groups.now) result }
+    ensures repeat { result < length groups.now → is_repeat (groups_in groups.now) result ≡ true }
 {
-    let least = least_repeat(groups, order);
-    if least < groups.len() {
-        Some(least)
-    } else {
-        None
-    }
+    repeat_of_block(groups, order, 0, groups.len())
 }
 
 // How many of the groups of a pattern are before the group.
@@ -76,92 +73,71 @@ fn count_before(count: usize, p: usize, group: (usize, usize)) -> usize
     }
 }
 
-// The same without their order, block by block: a later block is looked at only before the repeat of an earlier one.
-fn first_repeat(groups: &[Option<&str>], table: &mut [u32]) -> Option<usize>
-    requires some { 0 < length table.old }
-    requires table { length table.old ≤ max_index }
-    ensures repeat { MatchOption result (AreDistinctBelow (groups_in groups.now) (length groups.now)) (IsFirstRepeat (groups_in groups.now)) }
-    ensures table { length table.new ≡ length table.old }
-{
-    let mut end = groups.len();
-    let mut from = 0;
-    while from < end {
-        let rest = &groups[from..end];
-        let len = rest.len().min(table.len());
-        put_in_order(&rest[..len], &mut table[..len]);
-        if let Some(g) = repeat_of_block(rest, &table[..len]) {
-            end = from + g;
-        }
-        from += len;
-    }
-    if end < groups.len() { Some(end) } else { None }
-}
-
-// The first group whose name a lesser one has that is in the block, which are the first groups and whose order is given.
-#[tactic(auto, using(crate::proofs::RepeatsLayoutLemmas::apart_from_distinct, crate::proofs::RepeatsLayoutLemmas::repeat_in_block, crate::proofs::RepeatsLayoutLemmas::repeat_found))]
-fn repeat_of_block(groups: &[Option<&str>], order: &[u32]) -> Option<usize>
-    requires within { length order.now ≤ length groups.now }
-    requires order { IsOrder order.now (groups_in (take (length order.now) groups.now)) }
-    ensures { MatchOption result (AreApart (groups_in groups.now) (length order.now) (length groups.now))
-        (IsRepeatOf (groups_in groups.now) (length order.now)) }
-{
-    let block = &groups[..order.len()];
-    if let Some(g) = repeat_in_order(block, order) {
-        return Some(g);
-    }
-    for g in block.len()..groups.len() {
-        let group = groups[g];
-        let Some(name) = group else { continue };
-        match find(block, order, name) {
-            Ok(_) => return Some(g),
-            Err(_) => {}
-        }
-    }
-    None
-}
-
-// The least group that comes right after one with its name, or the number of groups.
-fn least_repeat(groups: &[Option<&str>], order: &[u32]) -> usize
-    requires { IsOrder order.now (groups_in groups.now) }
+// The first of the groups before `end` whose name a lesser group has, or `end`.
+fn first_repeat(groups: &[Option<&str>], end: usize) -> usize
+    requires within { end ≤ length groups.now }
+    requires limit { end ≤ max_index + 1 }
+    ensures within { result ≤ end }
     ensures distinct { AreDistinctBelow (groups_in groups.now) result }
-    ensures repeat { result < length groups.now → is_repeat (groups_in groups.now) result ≡ true }
-    ensures within { result ≤ length groups.now }
+    ensures repeat { result < end → is_repeat (groups_in groups.now) result ≡ true }
 {
-    let mut least = groups.len();
-    for i in 1..order.len() {
-        let group = order[i] as usize;
-        if group < least && has_name_of(groups, order[i - 1], order[i]) {
-            least = group;
-        }
+    let mut least = end;
+    let mut from = 0;
+    while from < least {
+        let mut table = [0u32; TABLE];
+        let len = TABLE.min(least - from);
+        let order = &mut table[..len];
+        put_in_order(groups, from, order);
+        least = repeat_of_block(groups, order, from, least);
+        from += len;
     }
     least
 }
 
-// Whether group h has the name of group g, which comes before it.
-fn has_name_of(groups: &[Option<&str>], g: u32, h: u32) -> bool
-    ensures { result ≡ has_name_of (groups_in groups.now) g h }
+// The first of the groups from `from` to `end` whose name a lesser group of the block has, or `end`.
+fn repeat_of_block(groups: &[Option<&str>], order: &[u32], from: usize, end: usize) -> usize
+    requires { IsSortedByName order.now (groups_in groups.now) }
+    ensures within { result ≤ end }
+    ensures differ { (g h : ℕ) → Contains order.now g → g < h → from ≤ h → h < result → HaveDifferentNames (groups_in groups.now) g h }
+    ensures repeat { result < end → is_repeat (groups_in groups.now) result ≡ true }
 {
-    match name_at(groups, h as usize) {
-        Some(name) => g < h && has_name(name_at(groups, g as usize), name),
-        None => false,
+    for g in from..end {
+        if is_repeat_of(groups, order, g) {
+            return g;
+        }
     }
+    end
 }
 
-// Where the name is among groups in the order of their names, or where it would be.
-fn find(groups: &[Option<&str>], order: &[u32], name: &str) -> Result<usize, usize>
-    ensures bound { IsSearchInRange result (length order.now) }
-    ensures found { IsBinarySearchResult (λ g. name_cmp (slice_index_or (groups_in groups.now) g None) (Some name.now)) order.now result }
+// Whether a lesser group of the order has the name of the group.
+#[tactic(auto, using(crate::proofs::RepeatsLayoutLemmas::repeat_at_first, crate::proofs::RepeatsLayoutLemmas::differ_unnamed))]
+fn is_repeat_of(groups: &[Option<&str>], order: &[u32], g: usize) -> bool
+    requires { IsSortedByName order.now (groups_in groups.now) }
+    ensures { MatchBool result (is_repeat (groups_in groups.now) g ≡ true)
+        ((h : ℕ) → Contains order.now h → h < g → HaveDifferentNames (groups_in groups.now) h g) }
 {
-    order.binary_search_by(|g| compare(groups, *g as usize, name))
+    let Some(name) = name_at(groups, g) else {
+        return false;
+    };
+    let first = first_not_less(groups, order, name);
+    if first >= order.len() {
+        return false;
+    }
+    (order[first] as usize) < g && has_name(name_at(groups, order[first] as usize), name)
 }
 
-// How the name of a group compares with a name. A group without one comes before all names.
+// Where the first group of the order is whose name isn't less than a name: if a group has the name, the least one that has it.
+fn first_not_less(groups: &[Option<&str>], order: &[u32], name: &str) -> usize
+    requires { IsSortedByName order.now (groups_in groups.now) }
+    ensures { IsFirstNotLess (groups_in groups.now) order.now name.now result }
+{
+    order.partition_point(|g| is_less(groups, *g as usize, name))
+}
+
+// Whether the name of a group comes before a name. No name comes before all names.
 #[inline]
-fn compare(groups: &[Option<&str>], g: usize, name: &str) -> Ordering
-    ensures { result ≡ name_cmp (slice_index_or (groups_in groups.now) g None) (Some name.now) }
+fn is_less(groups: &[Option<&str>], g: usize, name: &str) -> bool
+    ensures { result ≡ is_lt (name_cmp (slice_index_or (groups_in groups.now) g None) (Some name.now)) }
 {
-    match name_at(groups, g) {
-        Some(held) => held.cmp(name),
-        None => Ordering::Less,
-    }
+    name_at(groups, g) < Some(name)
 }

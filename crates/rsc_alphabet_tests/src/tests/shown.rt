@@ -53,6 +53,24 @@ fn each_range_of_each_class_is_shown(rt: HostRuntime) -> Result<(), Fail> {
     Ok(())
 }
 
+// Twelve classes, of which the first has five ranges and another two neighbours.
+#[test]
+fn each_class_is_shown(rt: HostRuntime) -> Result<(), Fail> {
+    let mut classes = ByteClasses::empty();
+    for k in 1..=9u8 {
+        classes.set(b'0'.saturating_add(k), k);
+    }
+    for byte in [b'A', b'C', b'E', b'F'] {
+        classes.set(byte, 10);
+    }
+    classes.set(0xFF, 11);
+    assert_eq!(rt;
+        format!(in rt.alloc(); "{classes:?}")?.as_str(),
+        "ByteClasses(0 => [\\x00-0:-@BDG-\\xFE], 1 => [1], 2 => [2], 3 => [3], 4 => [4], 5 => [5], 6 => [6], 7 => [7], 8 => [8], 9 => [9], 10 => [ACE-F], 11 => [\\xFF], 12 => [EOI])"
+    );
+    Ok(())
+}
+
 // As the original gives them.
 #[test]
 fn fixed_texts_are_shown_in_each_form(rt: HostRuntime) -> Result<(), Fail> {

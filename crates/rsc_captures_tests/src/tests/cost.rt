@@ -71,10 +71,14 @@ fn each_group_takes_the_same_time_in_any_pattern(rt: HostRuntime) -> Result<(), 
         let is_there = info.slots(PatternID::ZERO, g) == Some((2 * g, 2 * g + 1))
             && info.group_len(PatternID::ZERO) == GROUPS
             && info.slot_len() == 2 * GROUPS
+            && info.explicit_slot_len() == 2 * GROUPS - 2
             && info.to_name(PatternID::ZERO, g) == None;
         let is_counted = captures.group_len() == GROUPS && captures.slots().len() == 2 * GROUPS;
-        assert!(rt; is_set && is_there && is_counted, "{g}");
+        let is_lent = captures.slots_mut().len() == 2 * GROUPS;
+        assert!(rt; is_set && is_there && is_counted && is_lent, "{g}");
     }
+    captures.clear();
+    assert!(rt; !captures.is_match());
     Ok(())
 }
 
@@ -91,7 +95,10 @@ fn each_pattern_takes_the_same_time_among_any(rt: HostRuntime) -> Result<(), Fai
         let info = captures.group_info();
         let mut names = info.pattern_names(pid);
         let is_named = names.next() == Some(None) && names.next() == Some(Some("x"));
-        let is_counted = info.pattern_len() == GROUPS / 2 && info.all_names().next().is_some();
+        let is_counted = info.pattern_len() == GROUPS / 2
+            && info.implicit_slot_len() == GROUPS
+            && info.all_group_len() == GROUPS
+            && info.all_names().next().is_some();
         assert!(rt; is_set && is_walked && is_named && is_counted, "{p}");
     }
     Ok(())

@@ -76,6 +76,35 @@ fn is_repeated(alloc: Global, name: &str) -> bool {
     are_displayed && is_kind(alloc, error.kind(), want)
 }
 
+// Whether lists are refused for a repeated name of pattern 1 that is displayed in each form, as it is, and so is a clone of the kind.
+fn is_repeated_later(alloc: Global, lists: &[&[Option<&str>]], name: &str) -> bool {
+    let want = format!(in alloc; "duplicate capture group name '{name}' found for pattern 1");
+    match GroupInfo::new(alloc, lists) {
+        Err(error) => is_kind(alloc, error.kind(), want),
+        Ok(_) => false,
+    }
+}
+
+#[test]
+fn names_of_a_later_pattern_are_displayed_as_they_are(rt: HostRuntime) {
+    let alloc = rt.alloc();
+    let empty = is_repeated_later(alloc, &[&[None], &[None, Some(""), Some("")]], "");
+    let letter = is_repeated_later(alloc, &[&[None], &[None, Some("x"), Some("x")]], "x");
+    let quote = is_repeated_later(alloc, &[&[None], &[None, Some("'"), Some("'")]], "'");
+    assert!(rt; empty && letter && quote);
+    let escapes = is_repeated_later(
+        alloc,
+        &[&[None], &[None, Some("a\n\"\\"), Some("a\n\"\\")]],
+        "a\n\"\\",
+    );
+    let wide = is_repeated_later(
+        alloc,
+        &[&[None], &[None, Some("größe"), Some("größe")]],
+        "größe",
+    );
+    assert!(rt; escapes && wide);
+}
+
 #[test]
 fn numbers_and_names_of_each_length_are_displayed_in_each_form(
     rt: HostRuntime,

@@ -248,3 +248,31 @@ fn clones_of_other_errors_take_no_memory(rt: HostRuntime) -> Result<(), Fail> {
     }
     Ok(())
 }
+
+// What the error of a repeated name takes, and what it takes with its clone; `None` where one of them is refused.
+fn used_by_a_repeated_name(heap: &LocalHeap) -> Option<(usize, usize)> {
+    // The second pattern is at fault too, so that no memory was taken but for the name.
+    let Err(error) = GroupInfo::new(heap, &[&[None, Some(LONG), Some(LONG)], &[]]) else {
+        return None;
+    };
+    let before = heap.used();
+    let copy = error.clone().ok()?;
+    let after = heap.used();
+    if is_repeated(copy.kind(), LONG) {
+        Some((before, after))
+    } else {
+        None
+    }
+}
+
+#[test]
+fn a_clone_of_an_error_takes_as_much_as_its_source(rt: HostRuntime) -> Result<(), Fail> {
+    let heap = LocalHeap::new(rt.alloc(), 4096)?;
+    let (before, after) = used_by_a_repeated_name(&heap).ok_or("refused")?;
+    assert!(rt;
+        before > 0 && after == before.saturating_mul(2),
+        "{before}, {after}"
+    );
+    assert!(rt; heap.used() == 0);
+    Ok(())
+}

@@ -198,6 +198,68 @@ fn captures_of_few_slots_ask_for_no_memory(rt: HostRuntime) -> Result<(), Fail> 
     Ok(())
 }
 
+// Notes each call on a group info that finds nothing, and a walk to the end of all names. Whether each answered as it should.
+fn find_nothing(watch: &mut Watch<'_>, info: &GroupInfo<&Bump>) -> bool {
+    let (zero, two) = (PatternID::ZERO, PatternID::must(2));
+    let indices = (info.to_index(two, "x"), info.to_index(zero, ""));
+    watch.note("to_index of no group");
+    let is_unnamed = info.to_name(two, 0).is_none() && info.to_name(zero, 12).is_none();
+    watch.note("to_name of no group");
+    let slots = (info.slot(zero, 0), info.slot(two, 0), info.slots(zero, 12));
+    watch.note("slot of a first group and of none");
+    let mut of_none = info.pattern_names(two);
+    let is_empty = of_none.len() == 0 && of_none.next() == None;
+    watch.note("pattern_names of no pattern");
+    let mut all = info.all_names();
+    let mut is_walked = true;
+    for _ in 0..14 {
+        is_walked = is_walked && all.next().is_some();
+    }
+    let is_ended = all.next().is_none();
+    watch.note("all_names to their end");
+    indices == (None, None)
+        && is_unnamed
+        && slots == (Some(0), None, None)
+        && is_empty
+        && is_walked
+        && is_ended
+}
+
+// Notes each call on captures without a match, and those that take a span away. Whether each answered as it should.
+fn read_nothing(watch: &mut Watch<'_>, captures: &mut Captures<&Bump>) -> bool {
+    let is_match = captures.is_match() || captures.pattern().is_some();
+    watch.note("is_match, pattern of no match");
+    let groups = (captures.group_len(), captures.get_group(0));
+    watch.note("group_len, get_group of no match");
+    let named = captures.get_group_by_name("x");
+    watch.note("get_group_by_name of no match");
+    let is_ended = captures.iter().len() == 0 && captures.iter().next() == None;
+    watch.note("iter of no match");
+    captures.set_pattern(Some(PatternID::must(1)));
+    let is_taken = captures.set_group(1, None) && captures.get_group(1) == None;
+    watch.note("set_group of no span");
+    let past = Some(Span {
+        start: 0,
+        end: usize::MAX,
+    });
+    let is_set = captures.set_group(1, past);
+    watch.note("set_group of an offset that no slot holds");
+    captures.set_pattern(None);
+    watch.note("set_pattern of none");
+    !is_match && groups == (0, None) && named == None && is_ended && is_taken && !is_set
+}
+
+#[test]
+fn calls_that_find_nothing_ask_for_no_memory(rt: HostRuntime) -> Result<(), Fail> {
+    let arena = Bump::new(rt.alloc());
+    let mut captures = Captures::all(&arena, two_patterns(&arena)?)?;
+    let mut watch = Watch::new(rt.alloc(), &arena);
+    assert!(rt; find_nothing(&mut watch, captures.group_info()));
+    assert!(rt; read_nothing(&mut watch, &mut captures));
+    assert_eq!(rt; watch.asking(), "");
+    Ok(())
+}
+
 // The bytes that a value displays.
 fn displayed<T: fmt::Display>(value: &T) -> u64 {
     let mut counter = Counter::new();

@@ -4,6 +4,7 @@ use rsc_captures::{
     GroupInfoErrorKind, GroupInfoPatternNames,
 };
 use rsc_primitives::{NonMaxUsize, PatternID, PatternIDError};
+use rsc_search::Span;
 use std::alloc::Global;
 use std::error::Error;
 use std::fmt;
@@ -70,6 +71,51 @@ fn captures_with_a_named_group_are_shown(rt: HostRuntime) -> Result<(), Fail> {
         format!(in alloc; "{captures:?}")?.as_str(),
         "Captures { pid: None }"
     );
+    Ok(())
+}
+
+// A pattern of twelve groups, of which the last has a span.
+#[test]
+fn each_group_is_shown(rt: HostRuntime) -> Result<(), Fail> {
+    let alloc = rt.alloc();
+    let groups: [Option<&str>; 12] = [None; 12];
+    let mut captures = Captures::all(alloc, GroupInfo::new(alloc, &[&groups])?)?;
+    captures.set_pattern(Some(PatternID::ZERO));
+    assert!(rt; captures.set_group(11, Some(Span { start: 7, end: 9 })));
+    assert_eq!(rt;
+        format!(in alloc; "{captures:?}")?.as_str(),
+        "Captures { pid: Some(PatternID(0)), spans: {0: None, 1: None, 2: None, 3: None, 4: None, 5: None, 6: None, 7: None, 8: None, 9: None, 10: None, 11: 7..9} }"
+    );
+    let mut spans = captures.iter();
+    assert_eq!(rt;
+        format!(in alloc; "{spans:?}")?.as_str(),
+        "CapturesPatternIter(12)"
+    );
+    assert!(rt; spans.next() == Some(None));
+    assert_eq!(rt;
+        format!(in alloc; "{spans:?}")?.as_str(),
+        "CapturesPatternIter(11)"
+    );
+    Ok(())
+}
+
+#[test]
+fn errors_are_shown(rt: HostRuntime) -> Result<(), Fail> {
+    let alloc = rt.alloc();
+    match GroupInfo::new(alloc, &[&[None], &[]]) {
+        Err(error) => assert_eq!(rt;
+            format!(in alloc; "{error:?}")?.as_str(),
+            "GroupInfoError { kind: MissingGroups { pattern: PatternID(1) } }"
+        ),
+        Ok(_) => assert!(rt; false),
+    }
+    match GroupInfo::new(alloc, &[&[None, Some("ß"), Some("ß")]]) {
+        Err(error) => assert_eq!(rt;
+            format!(in alloc; "{error:?}")?.as_str(),
+            "GroupInfoError { kind: Duplicate { pattern: PatternID(0), name: \"ß\" } }"
+        ),
+        Ok(_) => assert!(rt; false),
+    }
     Ok(())
 }
 

@@ -118,6 +118,40 @@ fn records_ask_for_no_memory(rt: HostRuntime) -> Result<(), Fail> {
     Ok(())
 }
 
+#[test]
+fn calls_on_an_automaton_of_no_states_ask_for_no_memory(rt: HostRuntime) -> Result<(), Fail> {
+    let arena = Bump::new(rt.alloc());
+    let info = GroupInfo::new(&arena, &[&[None]])?;
+    let mut watch = Watch::new(rt.alloc(), &arena);
+    let nfa = Nfa::new(&arena, info, LookMatcher::new(UnicodeWord), &[])?;
+    watch.note("new of no states");
+    let is_none = nfa.states().is_empty() && nfa.looks().is_empty();
+    watch.note("states, looks of no states");
+    let is_run = nfa.check_run(&Input::new(b"a"), &run());
+    watch.note("check_run past the states");
+    let is_empty_run = nfa.check_run(&Input::new(b"a"), &[]);
+    watch.note("check_run of the empty run");
+    assert!(rt; is_none && !is_run && is_empty_run);
+    assert_eq!(rt; watch.asking(), "");
+    Ok(())
+}
+
+#[test]
+fn records_into_no_slots_ask_for_no_memory(rt: HostRuntime) -> Result<(), Fail> {
+    let arena = Bump::new(rt.alloc());
+    let nfa = built(&arena)?;
+    let mut captures = Captures::empty(&arena, nfa.group_info().clone()?)?;
+    captures.set_pattern(Some(PatternID::ZERO));
+    let mut watch = Watch::new(rt.alloc(), &arena);
+    let end = StateID::must(5);
+    let run = [(StateID::ZERO, 0), (end, 1), (StateID::must(6), 1)];
+    nfa.record(&run, &mut captures);
+    watch.note("record into no slots");
+    assert!(rt; captures.get_group(0) == None && captures.is_match());
+    assert_eq!(rt; watch.asking(), "");
+    Ok(())
+}
+
 // Notes what states ask for that are refused.
 fn refusal(watch: &mut Watch<'_>, arena: &Bump, state: State) -> Result<Option<BuildError>, Fail> {
     let info = GroupInfo::new(arena, &[&[None]])?;

@@ -155,6 +155,35 @@ fn states_and_errors_are_shown(rt: HostRuntime) -> Result<(), Fail> {
     Ok(())
 }
 
+// As the derived texts of the original are: each field in a line of its own.
+#[test]
+fn states_are_shown_in_lines(rt: HostRuntime) -> Result<(), Fail> {
+    let state = State::Accept {
+        pattern: PatternID::must(9),
+    };
+    assert_eq!(rt;
+        format!(in rt.alloc(); "{state:#?}")?.as_str(),
+        "Accept {\n    pattern: PatternID(\n        9,\n    ),\n}"
+    );
+    Ok(())
+}
+
+#[test]
+fn clones_of_errors_are_their_sources(rt: HostRuntime) {
+    let (target, slot, pattern) = (StateID::MAX, SmallIndex::MAX, PatternID::MAX);
+    for state in [0, 1, usize::MAX] {
+        for error in [
+            BuildError::EmptyRange { state },
+            BuildError::UnknownState { state, target },
+            BuildError::UnknownSlot { state, slot },
+            BuildError::UnknownPattern { state, pattern },
+            BuildError::OutOfMemory,
+        ] {
+            assert!(rt; error.clone().is_ok_and(|copy| copy == error), "{error:?}");
+        }
+    }
+}
+
 fn is_copied<T: Clone + Copy + Eq + fmt::Debug>() {}
 
 #[test]

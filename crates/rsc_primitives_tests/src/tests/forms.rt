@@ -40,7 +40,7 @@ fn is_state_displayed(alloc: Global, number: u64) -> bool {
 #[test]
 fn refusals_are_displayed_in_each_form(rt: HostRuntime) {
     let mut number: u64 = 2147483647;
-    for _ in 0..34 {
+    for _ in 0..35 {
         assert!(rt; is_small_displayed(rt.alloc(), number), "{number}");
         assert!(rt; is_pattern_displayed(rt.alloc(), number), "{number}");
         assert!(rt; is_state_displayed(rt.alloc(), number), "{number}");

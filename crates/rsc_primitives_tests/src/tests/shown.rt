@@ -131,6 +131,49 @@ fn numbers_are_shown_in_full(rt: HostRuntime) -> Result<(), Fail> {
     Ok(())
 }
 
+// In lines as the original has it; an offset has the width that is asked for.
+#[test]
+fn numbers_are_shown_in_lines_and_widths(rt: HostRuntime) -> Result<(), Fail> {
+    let alloc = rt.alloc();
+    let (index, pattern, state) = (SmallIndex::must(5), PatternID::must(6), StateID::must(7));
+    assert_eq!(rt;
+        format!(in alloc; "{index:#?}")?.as_str(),
+        "SmallIndex(\n    5,\n)"
+    );
+    assert_eq!(rt;
+        format!(in alloc; "{pattern:#?}")?.as_str(),
+        "PatternID(\n    6,\n)"
+    );
+    assert_eq!(rt;
+        format!(in alloc; "{state:#?}")?.as_str(),
+        "StateID(\n    7,\n)"
+    );
+    let offset = NonMaxUsize::new(8).ok_or("refused")?;
+    assert_eq!(rt; format!(in alloc; "{offset:>3?}")?.as_str(), "  8");
+    Ok(())
+}
+
+#[test]
+fn refusals_are_shown(rt: HostRuntime) -> Result<(), Fail> {
+    let alloc = rt.alloc();
+    let index = SmallIndex::new(2147483647).err().ok_or("accepted")?;
+    assert_eq!(rt;
+        format!(in alloc; "{index:?}")?.as_str(),
+        "SmallIndexError { attempted: 2147483647 }"
+    );
+    let pattern = PatternID::new(4294967296).err().ok_or("accepted")?;
+    assert_eq!(rt;
+        format!(in alloc; "{pattern:?}")?.as_str(),
+        "PatternIDError { attempted: 4294967296 }"
+    );
+    let state = StateID::new(usize::MAX).err().ok_or("accepted")?;
+    assert_eq!(rt;
+        format!(in alloc; "{state:?}")?.as_str(),
+        "StateIDError { attempted: 18446744073709551615 }"
+    );
+    Ok(())
+}
+
 #[test]
 fn iterators_are_shown(rt: HostRuntime) -> Result<(), Fail> {
     let alloc = rt.alloc();

@@ -65,13 +65,15 @@ fn a_sparse_set_is_walked_once(rt: HostRuntime) -> Result<(), Fail> {
 }
 
 #[test]
-fn sets_are_compared_and_cleared_in_one_walk(rt: HostRuntime) -> Result<(), Fail> {
+fn sets_are_compared_cloned_and_cleared_in_one_walk(rt: HostRuntime) -> Result<(), Fail> {
     let mut set = PatternSet::new(rt.alloc(), 32 * COUNT)?;
     let other = PatternSet::new(rt.alloc(), 32 * COUNT)?;
     let is_new = set
         .try_insert(PatternID::must(32 * COUNT - 1))
         .is_ok_and(|new| new);
     assert!(rt; is_new && set != other);
+    let copy = set.clone()?;
+    assert!(rt; copy == set);
     set.clear();
     assert!(rt; set == other);
     Ok(())

@@ -28,6 +28,10 @@ fn errors_are_displayed_in_each_form(rt: HostRuntime) {
         number = number.saturating_mul(2);
     }
     assert_eq!(rt; number, usize::MAX);
+    let want = String::from_str(alloc, "gave up searching at offset 0");
+    assert!(rt; is_error(alloc, &MatchError::gave_up(0), want));
+    let want = String::from_str(alloc, "haystack of length 0 is too long");
+    assert!(rt; is_error(alloc, &MatchError::haystack_too_long(0), want));
     let want = String::from_str(alloc, "quit search after observing byte ' ' at offset 0");
     assert!(rt; is_error(alloc, &MatchError::quit(b' ', 0), want));
 }

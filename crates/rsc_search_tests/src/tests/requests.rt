@@ -82,3 +82,33 @@ fn calls_on_sets_of_other_capacities_ask_for_no_memory(rt: HostRuntime) -> Resul
     assert_eq!(rt; watch.asking(), "");
     Ok(())
 }
+
+// A set without members, then one of all that it can have.
+#[test]
+fn calls_on_empty_and_full_sets_ask_for_no_memory(rt: HostRuntime) -> Result<(), Fail> {
+    let arena = Bump::new(rt.alloc());
+    let mut set = PatternSet::new(&arena, 2)?;
+    let mut other = PatternSet::new(&arena, 2)?;
+    let mut watch = Watch::new(rt.alloc(), &arena);
+    let was_empty = set.is_empty() && !set.is_full();
+    watch.note("is_empty of an empty set");
+    let is_none = set.iter().next() == None && set.iter().next_back() == None;
+    watch.note("iter of an empty set");
+    set.clear();
+    watch.note("clear of an empty set");
+    let is_past = set.contains(PatternID::MAX) || set.try_insert(PatternID::MAX).is_ok();
+    watch.note("the greatest pattern");
+    assert!(rt; was_empty && is_none && !is_past);
+    for p in 0..2usize {
+        let pid = PatternID::must(p);
+        assert!(rt; set.try_insert(pid).is_ok() && other.try_insert(pid).is_ok());
+    }
+    watch.note("try_insert of all");
+    let are_full = set.is_full() && other.is_full() && !set.is_empty();
+    watch.note("is_full of a full set");
+    let are_equal = set == other;
+    watch.note("eq of equal sets");
+    assert!(rt; are_full && are_equal && set.iter().len() == 2);
+    assert_eq!(rt; watch.asking(), "");
+    Ok(())
+}

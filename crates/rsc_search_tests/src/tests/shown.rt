@@ -164,6 +164,36 @@ fn errors_are_shown(rt: HostRuntime) -> Result<(), Fail> {
     Ok(())
 }
 
+// As the derived texts of the original are: each field in a line of its own.
+#[test]
+fn matches_and_errors_are_shown_in_lines(rt: HostRuntime) -> Result<(), Fail> {
+    let alloc = rt.alloc();
+    let found = Match::must(2, Span { start: 7, end: 12 });
+    assert_eq!(rt;
+        format!(in alloc; "{found:#?}")?.as_str(),
+        "Match {\n    pattern: PatternID(\n        2,\n    ),\n    span: 7..12,\n}"
+    );
+    let half = HalfMatch::must(3, 5);
+    assert_eq!(rt;
+        format!(in alloc; "{half:#?}")?.as_str(),
+        "HalfMatch {\n    pattern: PatternID(\n        3,\n    ),\n    offset: 5,\n}"
+    );
+    let error = MatchError::gave_up(4);
+    assert_eq!(rt;
+        format!(in alloc; "{error:#?}")?.as_str(),
+        "MatchError {\n    kind: GaveUp {\n        offset: 4,\n    },\n}"
+    );
+    let mut set = PatternSet::new(alloc, 3)?;
+    match set.try_insert(PatternID::must(5)) {
+        Err(refused) => assert_eq!(rt;
+            format!(in alloc; "{refused:#?}")?.as_str(),
+            "PatternSetInsertError {\n    attempted: PatternID(\n        5,\n    ),\n    capacity: 3,\n}"
+        ),
+        Ok(_) => assert!(rt; false),
+    }
+    Ok(())
+}
+
 // How many bytes an error displays, and whether it was displayed.
 fn displayed(error: &MatchError) -> (u64, bool) {
     let mut counter = Counter::new();

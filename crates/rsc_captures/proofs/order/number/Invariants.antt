@@ -5,6 +5,6 @@ use Rattle.rsc_captures.proofs.order.number.Given as goal
 -- the numbers so far
 abbrev pub invariant-loop-i : goal.invariant-loop-i
 invariant-loop-i l = record {
-  so_far : take l.i l.order ≡ range_with_len 0 l.i;
+  so_far : take l.i l.order ≡ range_with_len l.from l.i;
   count : length l.order ≡ length l.initial.order;
 }

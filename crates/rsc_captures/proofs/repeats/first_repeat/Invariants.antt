@@ -1,14 +1,14 @@
-use Rattle.std.proofs.Common.{◌-◌, ◌≡◌, ◌<◌, ◌≤◌, length, true}
-use Rattle.rsc_captures.proofs.Prelude.{groups_in, is_repeat, AreApart}
+use Rattle.std.proofs.Common.{◌≡◌, ◌-◌, ◌<◌, ◌≤◌, true}
+use Rattle.rsc_captures.proofs.Prelude.{groups_in, is_repeat}
+use Rattle.rsc_captures.proofs.RepeatsLayoutLemmas.{DifferBelow}
 use Rattle.rsc_captures.proofs.repeats.first_repeat.Given as goal
 
--- no group below the end has the name of a lesser one of the blocks so far, and one at the end is a repeat
+-- no group of the blocks so far has the name of a greater one before the least repeat so far
 abbrev pub invariant-loop-from : goal.invariant-loop-from
 invariant-loop-from l = record {
-  within : l.end ≤ length l.groups;
-  apart : AreApart (groups_in l.groups) l.from l.end;
-  table : length l.table ≡ length l.initial.table;
-  repeats : l.end < length l.groups → is_repeat (groups_in l.groups) l.end ≡ true;
+  within : l.least ≤ l.end;
+  differ : DifferBelow (groups_in l.groups) l.from l.least;
+  repeat : l.least < l.end → is_repeat (groups_in l.groups) l.least ≡ true;
 }
 
 abbrev pub decreases-loop-from : goal.decreases-loop-from

@@ -1,4 +1,3 @@
-use Rattle.std.proofs.Common.{◌≡◌}
 use Rattle.rsc_captures.proofs.GroupsLemmas.{index_of-is, index_of-within}
 use Rattle.rsc_captures.proofs.LayoutLemmas.{distinct_in}
 use Rattle.rsc_captures.proofs.Prelude.{groups_of, max_index, IsFaultless}
