@@ -1,5 +1,4 @@
--- Where an assertion holds, by the two sides of a position: each position has one on either hand, bytes below 128 may replace one another, and no
--- assertion on characters holds inside an encoded character.
+-- Where an assertion holds, by the two sides of a position; none on characters holds inside an encoded character.
 use Rattle.std.specs.Bool.{beq}
 use Rattle.std.proofs.Common.{not, ◌&&◌, ap₂, ◌≡◌, ◌↔◌, ℕ, ◌-◌, ◌<◌, ◌≤◌, Bool, true, false, List, length, get_or, refl, sym, ap, ◌∙◌, subst, arith, inl, inr, ⊎_elim, true≢false, IsTrue}
 use Rattle.std.proofs.lemmas.Bool.{cases_eq, cases_Bool, false_from_ne_true}

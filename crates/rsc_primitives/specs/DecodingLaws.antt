@@ -1,4 +1,4 @@
--- Parts of a list have the characters of the whole, a character begins or ends at a position or none does, and boundaries are where characters begin.
+-- The characters of a part of a list are those of the whole, and boundaries are where characters begin.
 use Rattle.std.proofs.Common.{◌≡◌, ℕ, ◌+◌, ◌-◌, ◌<◌, ◌≤◌, List, length, take, drop, ap, ◌∙◌, arith, length-take, length-take-le, take-take, length-drop, Option, Some, Result, Ok, Err, zero, suc, ◌⊎◌, [], ◌∷◌, refl, subst, inl, inr, ⊎_elim, ◌↔◌, ◌++◌, sym, length-append, get_or-append-add}
 use Rattle.std.specs.Char.{len_utf8}
 use Rattle.std.specs.Prelude.{slice_range}
