@@ -280,7 +280,7 @@ def rows(crate, tests):
                 continue
             owner = re.match(r"\w*", owner)[0]
             call = f"{owner}::{named[1]}" if owner else f"{path.stem}::{named[1]}"
-            clauses = [it or "ensures" for it in re.findall(r"^\s*ensures (\w*) ?\{", signature, flags=re.M)]
+            clauses = [it or "ensures" for it in re.findall(r"^\s*ensures\*? (\w*) ?\{", signature, flags=re.M)]
             test = "" if path.stem == "laws" else next((where for where, body, of in tests if calls_it(body, of, owner, named[1])), "")
             yield row(call.removeprefix("lib::"), clauses, test, bodies.get(call, []))
         for head, kept in promises(text):

@@ -1,4 +1,4 @@
--- The blocks of `specs/` that most proofs cite, passed on from one index. Declares nothing.
+-- The definitions of `specs/` that most proofs cite, passed on by one file. Declares nothing.
 pub use Rattle.rsc_primitives.specs.Bits.{has_bit, mask_of}
 pub use Rattle.rsc_primitives.specs.BitsLaws.{same_digit}
 pub use Rattle.rsc_alphabet.specs.ByteSetLayout.{members_from, members_left, is_masked, masked}

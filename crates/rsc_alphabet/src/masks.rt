@@ -158,7 +158,7 @@ pub(crate) fn block_shifted_left(block: u64) -> u64
     block << 1
 }
 
-// All bits shifted right by some bits.
+// The block, shifted right.
 #[tactic(auto, using(crate::proofs::ByteSetLayoutLemmas::bit_at_shr))]
 #[inline(always)]
 pub(crate) fn block_shifted_right(block: u64, bits: u8) -> u64

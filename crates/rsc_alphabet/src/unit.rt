@@ -10,7 +10,7 @@ use std::marker::Model;
 
 /// One symbol of an automaton's input: a byte, or the end of the input.
 ///
-/// The end of the input is a symbol of its own, so that an assertion that looks one index ahead can be decided there.
+/// The end of the input is a symbol of its own, so that an assertion that looks one byte ahead can be decided there.
 /// It carries a number, its sentinel: one more than the class of the byte 255, if [`crate::ByteClasses::eoi`] made it.
 /// All bytes come before all ends of input; within each the number decides.
 ///

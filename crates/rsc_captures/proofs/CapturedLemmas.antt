@@ -81,7 +81,7 @@ participating_step c i lt = ap (filter_map (group_span c)) (range_step c i lt)
 pub all_participating : (c : Captured) → participating c ≡ participating_from c 0
 all_participating c = let all : matched_groups c ≡ matched_groups c - 0 = omega arith in ap (λ n. filter_map (group_span c) (range_with_len 0 n)) all
 
--- the span of a group is at its group
+-- the span of a group is at its index
 pub span_by_index : (c : Captured) (i : ℕ) → i < matched_groups c → get_or (matched_spans c) i None ≡ group_span c i
 span_by_index c i lt = get_or-map-range_with_len (group_span c) 0 (matched_groups c) i i None (omega arith) (omega arith)
 

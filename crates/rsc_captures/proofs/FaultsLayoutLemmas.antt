@@ -3,7 +3,7 @@ use Rattle.std.proofs.Common.{◌≡◌, ◌⊎◌, ⊎_elim, ℕ, zero, suc, �
 use Rattle.std.specs.Prelude.{⊤}
 use mathlib.Core.Bool.{true≢false}
 use borrow.Author.Count.{below_more}
-use Rattle.rsc_captures.proofs.Prelude.{Groups, GroupLists, groups_of, group_count, name_of, explicit_groups, explicit_before, Fault, TooManyGroups, Duplicate, ComesBefore, IsChecked, pattern_fault, name_fault, fault_at, slots_end, IsFirstFault, IsFaultless, FirstIsDuplicate, RefusesFor, HasNoOtherBefore, HasNoOtherFault, IsFirstOther, is_repeat, AreDistinctBelow, HasNoRepeatBefore, IsFirstRepeatBefore}
+use Rattle.rsc_captures.proofs.Prelude.{Groups, GroupLists, groups_of, group_count, name_of, explicit_groups, explicit_before, Fault, TooManyGroups, Duplicate, ComesBefore, IsChecked, pattern_fault, name_fault, group_fault, slots_end, IsFirstFault, IsFaultless, FirstIsDuplicate, RefusesFor, HasNoOtherBefore, HasNoOtherFault, IsFirstOther, is_repeat, AreDistinctBelow, HasNoRepeatBefore, IsFirstRepeatBefore}
 use Rattle.rsc_captures.proofs.FaultsLemmas.{before_more, explicit_group_at, group_clear, name_fault_clear, name_fault_repeat, name_fault_none, no_repeat_at_zero}
 use Rattle.rsc_captures.proofs.GroupsLemmas.{sum_rises}
 use Rattle.rsc_captures.proofs.SlotOwnersLemmas.{pattern_in}
@@ -40,37 +40,37 @@ module _ {limit : ℕ} {lists : GroupLists} {p g : ℕ} (before : HasNoOtherBefo
       (λ (same : (q ≡ p) × (h < g)). rw same.0 (omega (arith, same.1, before.within)))
 
   group_before : (q h : ℕ) → 0 < h → h < group_count lists q → ComesBefore q h p g
-      → fault_at limit lists q h ≡ name_fault (groups_of lists q) q h (name_of lists q h)
+      → group_fault limit lists q h ≡ name_fault (groups_of lists q) q h (name_of lists q h)
   group_before q h some group earlier =
       let no_limit : ltb limit (2 * (explicit_before lists q + h)) ≡ false =
       le-ltb limit (2 * (explicit_before lists q + h)) (limit_before q h group earlier) in
       explicit_group_at limit lists q h some ∙ rw no_limit refl
 
   clear_at : (q h : ℕ) → IsChecked lists q h → ComesBefore q h p g → (h < group_count lists q → is_repeat (groups_of lists q) h ≡ false)
-      → fault_at limit lists q h ≡ None
+      → group_fault limit lists q h ≡ None
   clear_at q zero group earlier distinct = pattern_before q 0 earlier
   clear_at q (suc h) group earlier distinct =
       let group : suc h < group_count lists q = omega (arith, group.1) in
       group_before q (suc h) (omega arith) group earlier ∙ name_fault_clear (groups_of lists q) q (suc h) (name_of lists q (suc h)) (distinct group)
 
   repeat_at : (q h : ℕ) (name : List ℕ) → h < group_count lists q → ComesBefore q h p g → is_repeat (groups_of lists q) h ≡ true → name_of lists q h ≡ Some name
-      → fault_at limit lists q h ≡ Some (Duplicate q name)
+      → group_fault limit lists q h ≡ Some (Duplicate q name)
   repeat_at q zero name group earlier repeats named = absurd (true≢false (sym repeats ∙ no_repeat_at_zero (groups_of lists q)))
   repeat_at q (suc h) name group earlier repeats named =
       group_before q (suc h) (omega arith) group earlier ∙ rw named (name_fault_repeat (groups_of lists q) q (suc h) name (rw named at repeats))
 
-  clear_before : HasNoRepeatBefore lists p g → (q h : ℕ) → IsChecked lists q h → ComesBefore q h p g → fault_at limit lists q h ≡ None
+  clear_before : HasNoRepeatBefore lists p g → (q h : ℕ) → IsChecked lists q h → ComesBefore q h p g → group_fault limit lists q h ≡ None
   clear_before none q h group earlier = clear_at q h group earlier (λ group. none q h group earlier)
 
   -- another fault at the group
-  pub other_at : (f : Fault) → IsChecked lists p g → fault_at limit lists p g ≡ Some f → IsFirstOther limit lists p g (Some f)
+  pub other_at : (f : Fault) → IsChecked lists p g → group_fault limit lists p g ≡ Some f → IsFirstOther limit lists p g (Some f)
   other_at f group fault = record {
     before = before;
     first = λ none. inl (record { p = p; g = g; group = group; fault = fault; least = clear_before none });
   }
 
   -- the same of a refusal
-  pub refusal_at : (refusal : Option Fault) → IsChecked lists p g → MatchOption refusal ⊥ (λ f. fault_at limit lists p g ≡ Some f)
+  pub refusal_at : (refusal : Option Fault) → IsChecked lists p g → MatchOption refusal ⊥ (λ f. group_fault limit lists p g ≡ Some f)
       → IsFirstOther limit lists p g refusal
   refusal_at None group m = absurd m
   refusal_at (Some f) group fault = other_at f group fault

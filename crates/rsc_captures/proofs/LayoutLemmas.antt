@@ -63,13 +63,13 @@ module _ (firsts order : List ℕ) (names : Groups) (lists : GroupLists) (are : 
   part_is : (p : ℕ) → p < length lists → groups_of lists p ≡ take (group_count lists p) (drop (groups_before lists p) names)
   part_is p lt = ap (λ lists. groups_of lists p) (sym are) ∙ held_at here.firsts_are names p lt
 
-  -- the name of a group is at its group
+  -- the name of a group is at its index
   pub name_in : (p g first : ℕ) → first ≡ groups_before lists p → g < group_count lists p → get_or names (first + g) None ≡ name_of lists p g
   name_in p g first is lt =
       rw is (sym (ap (λ (groups : Groups). get_or groups g None) (part_is p (pattern_in lists p g lt))
       ∙ get_or-take (group_count lists p) (drop (groups_before lists p) names) g None lt ∙ get_or-drop (groups_before lists p) names g None))
 
-  -- each group has a group in the list of all names
+  -- each group has an index in the list of all names
   pub within_names : (p g first : ℕ) → first ≡ groups_before lists p → g < group_count lists p → first + g < length names
   within_names p g first is lt =
       let count : group_count lists p ≡ length (take (group_count lists p) (drop (groups_before lists p) names)) =

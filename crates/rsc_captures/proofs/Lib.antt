@@ -9,4 +9,4 @@ pub mod NamesLayoutLemmas  -- names in one text, and where those of each pattern
 pub mod OrderLayoutLemmas  -- the groups in the order of their names
 pub mod RepeatsLayoutLemmas  -- repeated names: of a pattern's first groups, and before a group
 pub mod SlotOwnersLemmas  -- each slot is a slot of exactly one group, and below the number of all slots
-pub mod Prelude  -- the words of `specs/` that most proofs cite, passed on from one name
+pub mod Prelude  -- the definitions of `specs/` that most proofs cite, passed on by one file

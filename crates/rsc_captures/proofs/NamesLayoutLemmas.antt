@@ -15,7 +15,7 @@ use Rattle.rsc_captures.proofs.FaultsLemmas.{some_group, before_more}
 -- ---- names in one text, as one more is added
 
 module _ (text more : List ℕ) where
-  -- a entry where the text may be cut is one of the longer text
+  -- an entry where the text may be cut is one of the longer text
   boundary_stays : (i : ℕ) → IsUtf8 more → IsCharBoundary text i → IsCharBoundary (text ++ more) i
   boundary_stays i utf8 boundary =
       ⊎_elim
@@ -28,7 +28,7 @@ module _ (text more : List ℕ) where
   cut_stays : (p : Entry) → IsUtf8 more → IsCut text p → IsCut (text ++ more) p
   cut_stays p utf8 cut = record { start = boundary_stays p.start utf8 cut.start; end = boundary_stays (p.start + p.length) utf8 cut.end }
 
-  -- what is at a entry of the text is there in the longer text
+  -- what is at an entry of the text is there in the longer text
   part_stays : (p : Entry) → IsCut text p → slice_range (text ++ more) p.start (p.start + p.length) ≡ slice_range text p.start (p.start + p.length)
   part_stays p cut =
       let rest : (p.start + p.length) - p.start ≤ length (drop p.start text) = rw length-drop (omega (arith, cut.end.0)) in

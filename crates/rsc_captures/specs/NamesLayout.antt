@@ -6,7 +6,7 @@ use Rattle.rsc_captures.specs.declared.names.Entry.{Entry}
 use Rattle.rsc_captures.specs.declared.names.TheConstants.{NO_NAME}
 use Rattle.rsc_captures.specs.Groups.{Groups}
 
--- the name at a entry of the text, if the entry has one
+-- the name at an entry of the text, if the entry has one
 abbrev pub name_held : List ℕ → Entry → Option (List ℕ)
 name_held text p = if nat_eq p.length NO_NAME then None else Some (slice_range text p.start (p.start + p.length))
 

@@ -10,8 +10,8 @@ use crate::error::{GroupInfoError, GroupInfoErrorKind};
 use rsc_primitives::PatternID;
 use std::alloc::Allocator;
 
-/// The first group with a fault that is no repeated name, and that fault. A group is a pattern and one of its groups; the limit on
-/// the slots of all groups is the group after the last.
+/// The first group with a fault that is no repeated name, and that fault. The group is given as its pattern and its index; the
+/// limit on the slots of all groups counts as a pattern after the last.
 pub(crate) fn first_other_fault<A: Allocator>(
     limit: usize,
     lists: &[&[Option<&str>]],

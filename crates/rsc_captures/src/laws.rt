@@ -25,7 +25,7 @@ pub fn slots_are_apart()
 {}
 
 /// The spans that [`crate::Captures::iter`] gives are as many as the groups of the pattern that matched, and each is the
-/// span of the group at its group.
+/// span of the group with its index.
 #[tactic(auto, using(crate::proofs::CapturedLemmas::spans_counted, crate::proofs::CapturedLemmas::span_by_index))]
 pub fn spans_by_index()
     ensures count { (c : Captured) → length (matched_spans c) ≡ matched_groups c }

@@ -98,7 +98,7 @@ pub struct GroupInfoAllNames<'a, A: Allocator = Global> {
     lists: &'a SharedLists<A>,
     pattern: usize,
     group: usize,
-    // The group's group in the list of all names, and where the pattern's end there.
+    // The group's index in the list of all names, and where the pattern's names end there.
     next: usize,
     end: usize,
 }

@@ -10,7 +10,7 @@ ghost use Rattle.rsc_captures.specs.NamesLayout.{names_held, entry_held, AreCut,
 use std::alloc::{AllocError, Allocator};
 use std::marker::Model;
 
-// The length of a entry where the group has no name. No name has this length.
+// The length of an entry where the group has no name. No name has this length.
 const NO_NAME: usize = usize::MAX;
 
 // Where a name begins in the text, and how many bytes it has: a caller who wants no more than its length needs no sum.

@@ -19,7 +19,7 @@ pub(crate) fn name_at<'a>(groups: &[Option<&'a str>], g: usize) -> Option<&'a st
     }
 }
 
-/// Fills the list with the numbers of the groups from one on, in the order of their names.
+/// Fills the list with the numbers of the groups from `from` on, in the order of their names.
 pub(crate) fn put_in_order(groups: &[Option<&str>], from: usize, order: &mut [u32])
     requires { from + length order.old ≤ max_index + 1 }
     ensures complete { (g : ℕ) → from ≤ g → g < from + length order.old → Contains order.new g }
@@ -46,7 +46,7 @@ pub(crate) fn add_order<A: Allocator>(
     Ok(())
 }
 
-// Fills the list with the numbers from one on.
+// Fills the list with the numbers from `from` on.
 fn number(from: usize, order: &mut [u32])
     requires { from + length order.old ≤ max_index + 1 }
     ensures { order.new ≡ range_with_len from (length order.old) }

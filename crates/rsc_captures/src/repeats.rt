@@ -18,7 +18,7 @@ use rsc_primitives::PatternID;
 // How many groups a block has at most: its table has room for them.
 const TABLE: usize = 4096;
 
-/// The first repeated name before a group, which is a pattern and one of its groups; and whose it is. Takes no memory.
+/// The first repeated name before a group, which is given as its pattern and its index, and the pattern that has it. Takes no memory.
 pub(crate) fn first_repeat_before<'a>(
     lists: &[&[Option<&'a str>]],
     group: (usize, usize),

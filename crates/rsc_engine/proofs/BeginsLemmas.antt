@@ -14,7 +14,7 @@ use Rattle.rsc_engine.proofs.LinksLemmas.{choice_to, choice_first, choice_next}
 use Rattle.rsc_engine.proofs.BuilderLemmas.{Adds-one, Adds-both, Adds-is}
 use Rattle.rsc_search.specs.Inputs.{InputParts}
 use Rattle.rsc_search.specs.Matches.{Matched}
-use Rattle.rsc_search.specs.Modes.{pattern_of_mode as pattern_wanted}
+use Rattle.rsc_search.specs.Modes.{pattern_of_mode}
 use Rattle.rsc_engine.specs.Searches.{Search, Compiled, search_in}
 use Rattle.rsc_engine.specs.Runs.{Leads, IsPlace, IsMatchRun, IsMatchOf, accepts, is_accepting, is_wanted}
 use Rattle.rsc_captures.specs.Captured.{Captured}
@@ -236,7 +236,7 @@ has_match e patterns found b h =
     record {
       pattern = s.1;
       its = s.2;
-      wanted = accepting (pattern_wanted e.mode) (slice_get e.states (place h.run (length h.run - 1)).0) found.pattern h.makes.pattern ∙ r.ends;
+      wanted = accepting (pattern_of_mode e.mode) (slice_get e.states (place h.run (length h.run - 1)).0) found.pattern h.makes.pattern ∙ r.ends;
       start = subst (λ (p : ℕ × ℕ). e.start ≤ p.1) r.begins ((r.is_run.places 0 r.some).1);
       end = omega (arith, h.makes.end, (r.is_run.places (length h.run - 1) (omega (arith, r.some))).2);
       goes = s.3;
@@ -253,7 +253,7 @@ has_run e patterns found b m =
         is_run = r.is_run;
         some = r.some;
         begins = r.begins;
-        ends = sym (accepting (pattern_wanted e.mode) (slice_get e.states (place r.run (length r.run - 1)).0) found.pattern r.pattern) ∙ m.wanted;
+        ends = sym (accepting (pattern_of_mode e.mode) (slice_get e.states (place r.run (length r.run - 1)).0) found.pattern r.pattern) ∙ m.wanted;
       };
       makes = record { pattern = r.pattern; start = sym (ap (λ (p : ℕ × ℕ). p.1) r.begins); end = sym r.end };
     }

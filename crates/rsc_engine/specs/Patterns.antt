@@ -5,7 +5,7 @@ use Rattle.rsc_look.specs.declared.assertion.Look.{Look}
 use Rattle.rsc_look.specs.Holds.{Holds}
 use Rattle.rsc_search.specs.Inputs.{InputParts}
 use Rattle.rsc_search.specs.Matches.{Matched}
-use Rattle.rsc_search.specs.Modes.{pattern_of_mode as pattern_wanted}
+use Rattle.rsc_search.specs.Modes.{pattern_of_mode}
 use Rattle.rsc_nfa.specs.Steps.{is_between, place}
 use Rattle.rsc_engine.specs.Searches.{Compiled, Search, search_in}
 use Rattle.rsc_engine.specs.Runs.{IsMatchRun, IsMatchOf, is_wanted}
@@ -73,7 +73,7 @@ text_of e = record { haystack = e.haystack; terminator = e.terminator; words = e
 pub record IsMatchIn (patterns : List Pattern) (e : Search) (found : Matched) : Type 0 where
   pub pattern : Pattern
   pub its : slice_get patterns found.pattern ≡ Some pattern
-  pub wanted : is_wanted (pattern_wanted e.mode) found.pattern ≡ true
+  pub wanted : is_wanted (pattern_of_mode e.mode) found.pattern ≡ true
   pub start : e.start ≤ found.span.start
   pub end : found.span.end ≤ e.end
   pub goes : Goes (text_of e) pattern found.span.start found.span.end

@@ -16,14 +16,14 @@ pub fn run(alloc: Global, request: Request<'_>) -> Result<u64, AllocError> {
     let matcher = matcher(((param >> 32) % 256) as u8);
     Ok(match kernel {
         LOOK_AT => match Look::from_repr(bits) {
-            Some(look) => repeat(reps, |sum| places(&matcher, look, data, sum)),
+            Some(look) => repeat(reps, |sum| positions(&matcher, look, data, sum)),
             None => 0,
         },
         SET_AT => match LookSet::from_bits(bits) {
-            Some(set) => repeat(reps, |sum| places_of_set(&matcher, set, data, sum)),
+            Some(set) => repeat(reps, |sum| positions_of_set(&matcher, set, data, sum)),
             None => 0,
         },
-        HOLDING => repeat(reps, |sum| holding_at_places(&matcher, data, sum)),
+        HOLDING => repeat(reps, |sum| holding_at_positions(&matcher, data, sum)),
         LOOKSET_UNION => {
             let sets = sets_of(alloc, data)?;
             repeat(reps, |sum| unions(&sets, sum))
@@ -77,9 +77,9 @@ fn classes_of_list(looks: &[Look], line_terminator: u8, sum: u64) -> u64 {
     last(&matcher(line_terminator).classes_of(looks), sum)
 }
 
-// At how many places the assertion holds.
+// At how many positions the assertion holds.
 #[inline(never)]
-fn places(matcher: &LookMatcher<UnicodeWord>, look: Look, haystack: &[u8], sum: u64) -> u64 {
+fn positions(matcher: &LookMatcher<UnicodeWord>, look: Look, haystack: &[u8], sum: u64) -> u64 {
     let mut sum = sum;
     for at in 0..haystack.len() {
         sum = sum.wrapping_add(u64::from(matcher.matches(look, haystack, at)));
@@ -87,9 +87,9 @@ fn places(matcher: &LookMatcher<UnicodeWord>, look: Look, haystack: &[u8], sum: 
     sum.wrapping_add(u64::from(matcher.matches(look, haystack, haystack.len())))
 }
 
-// At how many places every assertion of the set holds.
+// At how many positions every assertion of the set holds.
 #[inline(never)]
-fn places_of_set(
+fn positions_of_set(
     matcher: &LookMatcher<UnicodeWord>,
     set: LookSet,
     haystack: &[u8],
@@ -102,9 +102,9 @@ fn places_of_set(
     sum.wrapping_add(u64::from(matcher.matches_set(set, haystack, haystack.len())))
 }
 
-// The bits of the sets of assertions that hold at each place.
+// The bits of the sets of assertions that hold at each position.
 #[inline(never)]
-fn holding_at_places(matcher: &LookMatcher<UnicodeWord>, haystack: &[u8], sum: u64) -> u64 {
+fn holding_at_positions(matcher: &LookMatcher<UnicodeWord>, haystack: &[u8], sum: u64) -> u64 {
     let mut sum = sum;
     for at in 0..haystack.len() {
         sum = sum.wrapping_add(u64::from(matcher.holding(haystack, at).bits()));

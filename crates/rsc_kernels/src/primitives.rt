@@ -94,7 +94,7 @@ fn seen(found: Result<char, u8>) -> (u64, usize)
     }
 }
 
-// As many bytes as std's `len_utf8` says. That one is compiled alone first, to conditional moves, on which the place of the next
+// As many bytes as std's `len_utf8` says. That one is compiled alone first, to conditional moves, on which the position of the next
 // character then waits; the original's is compiled with its caller, and so is this one.
 #[inline(always)]
 fn encoded_length(c: char) -> usize
@@ -108,7 +108,7 @@ fn encoded_length(c: char) -> usize
     }
 }
 
-// How many places are boundaries.
+// How many positions are boundaries.
 #[inline(never)]
 fn boundaries(data: &[u8], sum: u64) -> u64 {
     let mut sum = sum;

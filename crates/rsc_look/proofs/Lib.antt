@@ -7,5 +7,5 @@ pub mod LookSetsLemmas  -- the members of sets of assertions that are made of ot
 pub mod MatcherLemmas  -- the assertions that hold at a position, from the two sides; and those of Unicode beside ASCII
 pub mod MirrorsLemmas  -- an assertion at a position is the reversed one at the same position of the mirror
 mod Examples  -- the definitions, computed on examples
-pub mod Prelude  -- the words of `specs/` that most proofs cite, passed on by one file
+pub mod Prelude  -- the definitions of `specs/` that most proofs cite, passed on by one file
 pub mod WordsLemmas  -- the class `\w` of the tables, and the word characters from 128 on

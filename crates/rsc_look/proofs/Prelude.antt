@@ -1,4 +1,4 @@
--- The words of `specs/` that most proofs cite, passed on by one file. Declares nothing.
+-- The definitions of `specs/` that most proofs cite, passed on by one file. Declares nothing.
 pub use Rattle.rsc_primitives.specs.DecodingLaws.{BeginsAt-decided, EndsAt-decided}
 pub use Rattle.rsc_primitives.specs.Utf8Laws.{EncodesAll-std, position, BeginsAt-position, EndsAt-position, IsInside-begins, IsInside-ends, AgreePastAscii, EncodedFrom-agree, BeginsAt-same, EndsAt-same}
 pub use Rattle.rsc_primitives.specs.Utf8.{is_word_byte, IsInside, EncodedFrom, BeginsAt, EndsAt}

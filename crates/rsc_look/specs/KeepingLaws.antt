@@ -16,7 +16,7 @@ one_byte_haystack b h = All-cons (λ x. x < 256) b [] h (All-nil (λ x. x < 256)
 pub next_together : (q : ℕ → Bool) (b : ℕ) → q b ≡ false → Together q b (b + 1)
 next_together q b e x low high is = let same : b ≡ x = omega arith in true≢false (sym is ∙ ap q (sym same) ∙ e)
 
--- and the two haystacks of one byte differ same_as_only within classes
+-- and the haystacks of one of these bytes each are interchanged
 pub alike_alone : (q : ℕ → Bool) (b : ℕ) → b < 255 → q b ≡ false → AreInterchanged q (b ∷ []) ((b + 1) ∷ [])
 alike_alone q b h e = record {
   first = one_byte_haystack b (omega arith);

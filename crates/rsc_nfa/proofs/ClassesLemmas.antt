@@ -151,7 +151,7 @@ Holds-moves p l t W h k i e has s d r x = go (is_unicode l) refl
 
 StepsTo-moves : (p : ℕ → Bool) (state : State) (t : ℕ) (W : ℕ → Bool) (h k : List ℕ) (end i : ℕ) (to : ℕ × ℕ) → RangesAreKept p → AreExact t W
     → HasBoundariesOfState p state t → (asks_characters state ≡ true → AgreesWithAscii W) → AreInterchanged p h k
-        → (asks_characters state ≡ true → DifferInAscii h k)
+    → (asks_characters state ≡ true → DifferInAscii h k)
     → end ≤ length h → i ≤ end → StepsTo state t W h end i to → StepsTo state t W k end i to
 StepsTo-moves p (ByteRange a b next) t W h k end i to ranges exact has g s d e r x =
     (x.0, sym (same_between p a b i h k ranges has s (omega (arith, x.0))) ∙ x.1, x.2, x.3)

@@ -22,7 +22,7 @@ use rsc_search::Input;
 use std::alloc::{Allocator, Global};
 use std::marker::Model;
 
-/// An automaton over bytes, whose states are numbered by their places in a list.
+/// An automaton over bytes, whose states are numbered by their indices in a list.
 ///
 /// # Examples
 ///
@@ -73,7 +73,7 @@ fn check_target(count: usize, s: usize, target: StateID) -> Option<BuildError>
     }
 }
 
-// The fault of a state at place `s` among `count` states.
+// The fault of the state numbered `s` among `count` states.
 fn check_state<A: Allocator + Clone + Drop>(
     group_info: &GroupInfo<A>,
     count: usize,
@@ -194,7 +194,7 @@ impl<W: WordClass, A: Allocator + Clone + Drop> Nfa<W, A> {
         })
     }
 
-    /// The states, each numbered by its place.
+    /// The states, each numbered by its index.
     #[inline]
     pub fn states(&self) -> &[State]
         ensures states { result.now ≡ self.now.states }

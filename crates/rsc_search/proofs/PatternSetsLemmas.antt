@@ -42,7 +42,7 @@ module _ (t : ℕ → Bool) where
       let parts : b - a ≡ (c - a) + (b - c) = omega arith in
       let there : a + (c - a) ≡ c = omega arith in
       rw parts (ap (filter t) (range_append a (c - a) (b - c)) ∙ filter-append t (range_with_len a (c - a)) (range_with_len (a + (c - a)) (b - c))
-          ∙ rw there refl)
+      ∙ rw there refl)
 
   -- from a on and below b: nothing between a and c passes, so it may begin at c
   pub skip_front : (a c b : ℕ) → a ≤ c → ((q : ℕ) → a ≤ q → q < c → t q ≡ false) → filter t (range_with_len a (b - a)) ≡ filter t (range_with_len c (b - c))
@@ -93,7 +93,7 @@ pub length_filter_le : (t : ℕ → Bool) (a n : ℕ) → length (filter t (rang
 length_filter_le t a n =
     omega (arith, length-filter t (range_with_len a n), count_by-le-length t (range_with_len a n), length-range_with_len a n)
 
--- ---- the test of membership, in std's blocks
+-- ---- the test of membership, in std's words
 
 to_contains : (members : List ℕ) (p : ℕ) → has_member members p ≡ true → Contains members p
 to_contains [] p h = absurd (true≢false (sym h))

@@ -219,7 +219,7 @@ fn iterates_from_both_ends(rt: HostRuntime) -> Result<(), Fail> {
 }
 
 #[test]
-fn iterates_over_words_from_both_ends(rt: HostRuntime) -> Result<(), Fail> {
+fn iterates_over_blocks_from_both_ends(rt: HostRuntime) -> Result<(), Fail> {
     let (zero, last, first) = (PatternID::must(0), PatternID::must(63), PatternID::must(64));
     let mut set = PatternSet::new(rt.alloc(), 65)?;
     assert!(rt; set.insert(first) && set.insert(zero) && set.insert(last));
@@ -232,7 +232,7 @@ fn iterates_over_words_from_both_ends(rt: HostRuntime) -> Result<(), Fail> {
 }
 
 #[test]
-fn words_at_the_capacity(rt: HostRuntime) -> Result<(), Fail> {
+fn blocks_at_the_capacity(rt: HostRuntime) -> Result<(), Fail> {
     let mut whole = PatternSet::new(rt.alloc(), 64)?;
     for p in 0..64usize {
         assert!(rt;

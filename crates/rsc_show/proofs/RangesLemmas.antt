@@ -8,14 +8,14 @@ use Rattle.rsc_look.specs.declared.assertion.Look.{Look}
 use Rattle.rsc_look.specs.Boundaries.{boundaries_of}
 use Rattle.rsc_look.specs.Keeping.{IsCoarsestMap, IsExactFor, IsNeeded, Keeps}
 use Rattle.rsc_look.specs.KeepingLaws.{same_as_only}
-use Rattle.rsc_show.specs.Ranges.{HasBoundary, IsCoarsestParting, IsBoundary, IsOfLook, Parts}
+use Rattle.rsc_show.specs.Ranges.{HasBoundary, IsCoarsestParting, BoundsRange, IsOfLook, Parts}
 
 -- one more range parts, if its edges are added and no boundary is lost
 pub parts_more : (p q : ℕ → Bool) (ranges : List (ℕ × ℕ)) (r : ℕ × ℕ) → ((b : ℕ) → p b ≡ true → q b ≡ true)
-    → (r.0 ≤ r.1 → (b : ℕ) → b < 255 → IsBoundary b r → q b ≡ true) → Parts p ranges → Parts q (ranges ++ r ∷ [])
+    → (r.0 ≤ r.1 → (b : ℕ) → b < 255 → BoundsRange b r → q b ≡ true) → Parts p ranges → Parts q (ranges ++ r ∷ [])
 parts_more p q ranges r grows added before = λ x inside fills b lt edge.
     ⊎_elim (λ (old : Contains ranges x). grows b (before x old fills b lt edge))
-    (λ (same : r ≡ x). added (subst (λ y. y.0 ≤ y.1) (sym same) fills) b lt (subst (λ y. IsBoundary b y) (sym same) edge))
+    (λ (same : r ≡ x). added (subst (λ y. y.0 ≤ y.1) (sym same) fills) b lt (subst (λ y. BoundsRange b y) (sym same) edge))
     (Contains-push_cases ranges r x inside)
 
 -- an edge of one of the ranges is one of them and one more
@@ -27,7 +27,7 @@ edge_kept b ranges r e = record {
   edge = e.edge;
 }
 
-pub edge_added : (b : ℕ) (ranges : List (ℕ × ℕ)) (r : ℕ × ℕ) → r.0 ≤ r.1 → IsBoundary b r → HasBoundary b (ranges ++ r ∷ [])
+pub edge_added : (b : ℕ) (ranges : List (ℕ × ℕ)) (r : ℕ × ℕ) → r.0 ≤ r.1 → BoundsRange b r → HasBoundary b (ranges ++ r ∷ [])
 edge_added b ranges r fills edge = record { range = r; listed = Contains-push ranges r; holds_a_byte = fills; edge = edge }
 
 keeps_one : (q : ℕ → Bool) (looks : List Look) (l : Look) (t : ℕ) (W : ℕ → Bool) → Contains looks l → Keeps q looks t W → Keeps q (l ∷ []) t W
@@ -93,7 +93,7 @@ AreBoundariesOf p ranges = Parts p ranges × ((b : ℕ) → b < 255 → p b ≡ 
 
 -- and so it has with those of one more range that holds a byte
 pub edges_added : (p q edges : ℕ → Bool) (ranges : List (ℕ × ℕ)) (r : ℕ × ℕ) → ((b : ℕ) → q b ≡ (p b || edges b))
-    → ((b : ℕ) → b < 255 → (edges b ≡ true) ↔ IsBoundary b r) → r.0 ≤ r.1 → AreBoundariesOf p ranges → AreBoundariesOf q (ranges ++ r ∷ [])
+    → ((b : ℕ) → b < 255 → (edges b ≡ true) ↔ BoundsRange b r) → r.0 ≤ r.1 → AreBoundariesOf p ranges → AreBoundariesOf q (ranges ++ r ∷ [])
 edges_added p q edges ranges r joined edge fills before = (
   parts_more p q ranges r (λ b e. joined b ∙ or_left (p b) (edges b) e)
       (λ _ b lt at. joined b ∙ or_right (p b) (edges b) ((edge b lt).1 at)) before.0,

@@ -8,15 +8,15 @@ use Rattle.rsc_look.specs.Boundaries.{boundaries_of}
 use Rattle.rsc_look.specs.Keeping.{IsNeeded, Keeps}
 
 -- the range begins at the byte after b, or ends at b
-abbrev pub IsBoundary : ℕ → ℕ × ℕ → Type 0
-IsBoundary b r = (b + 1 ≡ r.0) ⊎ (b ≡ r.1)
+abbrev pub BoundsRange : ℕ → ℕ × ℕ → Type 0
+BoundsRange b r = (b + 1 ≡ r.0) ⊎ (b ≡ r.1)
 
 -- a listed range that holds a byte begins or ends there
 pub record HasBoundary (b : ℕ) (ranges : List (ℕ × ℕ)) : Type 0 where
   pub range : ℕ × ℕ
   pub listed : Contains ranges range
   pub holds_a_byte : range.0 ≤ range.1
-  pub edge : IsBoundary b range
+  pub edge : BoundsRange b range
 
 -- a listed assertion has the boundary
 pub record IsOfLook (b : ℕ) (looks : List Look) (t : ℕ) : Type 0 where
@@ -26,7 +26,7 @@ pub record IsOfLook (b : ℕ) (looks : List Look) (t : ℕ) : Type 0 where
 
 -- the partition has a boundary where a listed range that holds a byte begins or ends
 abbrev pub Parts : (ℕ → Bool) → List (ℕ × ℕ) → Type 0
-Parts p ranges = (r : ℕ × ℕ) → Contains ranges r → r.0 ≤ r.1 → (b : ℕ) → b < 255 → IsBoundary b r → p b ≡ true
+Parts p ranges = (r : ℕ × ℕ) → Contains ranges r → r.0 ≤ r.1 → (b : ℕ) → b < 255 → BoundsRange b r → p b ≡ true
 
 -- the map is the class map of the coarsest partition that keeps the assertions and parts the ranges; at each of its boundaries an
 -- assertion tells the two bytes apart, or a range begins or ends

@@ -4,12 +4,12 @@ use Rattle.rsc_look.specs.declared.assertion.Look.{Look}
 use Rattle.rsc_show.specs.declared.shares.Item.{Item}
 
 -- the byte b and the next one are in different classes
-abbrev pub has_boundary : List ℕ → ℕ → Bool
-has_boundary classes b = not (slice_index classes b == slice_index classes (b + 1))
+abbrev pub differ_at : List ℕ → ℕ → Bool
+differ_at classes b = not (slice_index classes b == slice_index classes (b + 1))
 
 -- and in one class of the other map
 abbrev pub exceeds : List ℕ → List ℕ → ℕ → Bool
-exceeds classes others b = has_boundary classes b && not (has_boundary others b)
+exceeds classes others b = differ_at classes b && not (differ_at others b)
 
 -- the item of an assertion, and that of a range
 abbrev pub look_item : Look → Item

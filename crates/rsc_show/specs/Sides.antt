@@ -5,18 +5,18 @@ use Rattle.rsc_show.specs.declared.positions.Side.{Side}
 use Rattle.rsc_show.specs.declared.positions.Side.TheVariants.{Character, Edge, Inside, NoCharacter}
 
 -- what is before the position i of h
-abbrev pub IsPrevious : List ℕ → ℕ → Side → Type 0
-IsPrevious h i Edge = i ≡ 0
-IsPrevious h i (Character c) = EndsAt h i c
-IsPrevious h i Inside = IsInside h i
-IsPrevious h i NoCharacter = (0 < i) × ((c : ℕ) → ¬ (EndsAt h i c)) × ¬ (IsInside h i)
+abbrev pub IsSideBefore : List ℕ → ℕ → Side → Type 0
+IsSideBefore h i Edge = i ≡ 0
+IsSideBefore h i (Character c) = EndsAt h i c
+IsSideBefore h i Inside = IsInside h i
+IsSideBefore h i NoCharacter = (0 < i) × ((c : ℕ) → ¬ (EndsAt h i c)) × ¬ (IsInside h i)
 
 -- what is after it
-abbrev pub IsNext : List ℕ → ℕ → Side → Type 0
-IsNext h i Edge = i ≡ length h
-IsNext h i (Character c) = BeginsAt h i c
-IsNext h i Inside = IsInside h i
-IsNext h i NoCharacter = (i < length h) × ((c : ℕ) → ¬ (BeginsAt h i c)) × ¬ (IsInside h i)
+abbrev pub IsSideAfter : List ℕ → ℕ → Side → Type 0
+IsSideAfter h i Edge = i ≡ length h
+IsSideAfter h i (Character c) = BeginsAt h i c
+IsSideAfter h i Inside = IsInside h i
+IsSideAfter h i NoCharacter = (i < length h) × ((c : ℕ) → ¬ (BeginsAt h i c)) × ¬ (IsInside h i)
 
 -- a character begins at s and ends after i
 pub record ReachesPast (h : List ℕ) (s i : ℕ) : Type 0 where

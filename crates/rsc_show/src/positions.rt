@@ -1,7 +1,7 @@
 //! What is beside a position of a haystack, and which assertions hold there.
 ghost use Rattle.std.specs.Prelude.{◌≤◌, ◌<◌, ◌↔◌, IsTrue, length, IfOk};
 ghost use Rattle.rsc_primitives.specs.Utf8.{IsInside};
-ghost use Rattle.rsc_show.specs.Sides.{IsNext, IsPrevious, ReachesPast};
+ghost use Rattle.rsc_show.specs.Sides.{IsSideAfter, IsSideBefore, ReachesPast};
 ghost use Rattle.rsc_look.specs.Holds.{Holds};
 ghost use Rattle.rsc_show.specs.Chosen.{chosen_words};
 ghost use Rattle.rsc_show.specs.Marks.{AreMarks};
@@ -28,7 +28,7 @@ pub enum Side {
 /// What is before a position.
 pub fn before(haystack: &[u8], at: usize) -> Side
     requires { at ≤ length haystack.now }
-    ensures { IsPrevious haystack.now at result }
+    ensures { IsSideBefore haystack.now at result }
 {
     match utf8::decode_last(&haystack[..at]) {
         None => Side::Edge,
@@ -41,7 +41,7 @@ pub fn before(haystack: &[u8], at: usize) -> Side
 /// What is after a position.
 pub fn after(haystack: &[u8], at: usize) -> Side
     requires { at ≤ length haystack.now }
-    ensures { IsNext haystack.now at result }
+    ensures { IsSideAfter haystack.now at result }
 {
     match utf8::decode(&haystack[at..]) {
         None => Side::Edge,

@@ -3,7 +3,7 @@ ghost use Rattle.std.specs.Prelude.{◌≡◌, ◌<◌, ◌∷◌, ◌++◌, [],
 ghost use Rattle.rsc_alphabet.specs.Partitions.{class_map, class_of};
 ghost use Rattle.rsc_show.specs.Chosen.{chosen_words};
 ghost use Rattle.rsc_show.specs.Ranges.{IsCoarsestParting};
-ghost use Rattle.rsc_show.specs.Shares.{exceeds, has_boundary, look_item, range_item};
+ghost use Rattle.rsc_show.specs.Shares.{exceeds, differ_at, look_item, range_item};
 
 use crate::alphabet::classes_of;
 use crate::choices::Words;
@@ -128,7 +128,7 @@ pub fn is_beyond(classes: &ByteClasses, others: &ByteClasses, byte: u8) -> bool
 /// Whether a byte and the next one are in different classes.
 pub fn is_boundary(classes: &ByteClasses, byte: u8) -> bool
     requires { byte < 255 }
-    ensures { result ≡ has_boundary classes.now byte }
+    ensures { result ≡ differ_at classes.now byte }
 {
     classes.get(byte) != classes.get(byte + 1)
 }

@@ -1,4 +1,4 @@
--- What a table over the classes of bytes kind_accepts, and what a token is.
+-- What a table over the classes of bytes accepts, and what a token is.
 use Rattle.std.specs.Prelude.{◌≡◌, ◌<◌, ◌≤◌, ◌+◌, ◌*◌, ◌^◌, ◌==◌, ℕ, Bool, List, length, slice_index, true}
 use Rattle.rsc_alphabet.specs.Iterators.{stride2_of}
 

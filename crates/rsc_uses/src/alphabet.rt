@@ -15,7 +15,7 @@ use std::ops::Bound;
 /// Where the entry of a row and a byte is, in a table whose rows have `1 << stride2` entries.
 pub fn entry_index(map: &ByteClasses, row: usize, byte: u8) -> usize
     requires rows { row < 2147483647 }
-    requires rise { LastClassIsGreatest map.now }
+    requires bounded { LastClassIsGreatest map.now }
     ensures { result ≡ row * 2 ^ stride2_of map.now + slice_index map.now byte }
 {
     (row << map.stride2()) + usize::from(map.get(byte))
@@ -25,7 +25,7 @@ pub fn entry_index(map: &ByteClasses, row: usize, byte: u8) -> usize
 pub fn transition(map: &ByteClasses, table: &[u32], row: usize, byte: u8) -> u32
     requires rows { row < 2147483647 }
     requires table { (row + 1) * 2 ^ stride2_of map.now ≤ length table.now }
-    requires rise { LastClassIsGreatest map.now }
+    requires bounded { LastClassIsGreatest map.now }
     ensures { result ≡ slice_index table.now (row * 2 ^ stride2_of map.now + slice_index map.now byte) }
 {
     table[(row << map.stride2()) + usize::from(map.get(byte))]
@@ -104,7 +104,7 @@ pub fn lead_of(leads: &[u32; 256], end: u32, unit: Unit) -> u32
 /// Fills a state's row by one byte of each class alone, given where each byte leads. Where bytes of one class lead to one state, the
 /// row then answers for every byte: each byte's column is its class's. And it answers for the end of the input.
 pub fn fill_by_representatives(map: &ByteClasses, leads: &[u32; 256], end: u32, row: &mut [u32])
-    requires rise { LastClassIsGreatest map.now }
+    requires bounded { LastClassIsGreatest map.now }
     requires alike { (b c : ℕ) → b < 256 → c < 256 → slice_index map.now b ≡ slice_index map.now c →
         slice_index leads.now b ≡ slice_index leads.now c }
     requires room { symbol_count map.now ≤ length row.old }

@@ -165,7 +165,7 @@ pub fn spans(alloc: Global, captures: &Captures) -> Result<Vec<Option<Span>>, Al
     captures.iter().collect(alloc)
 }
 
-/// Whether what the iterator gives at a place is the span of the group of that number: it is.
+/// Whether what the iterator gives at an index is the span of the group of that number: it is.
 pub fn iterator_agrees(alloc: Global, captures: &Captures, index: usize) -> Result<bool, AllocError>
     ensures { IfOk result (λ agrees. IsTrue agrees) }
 {

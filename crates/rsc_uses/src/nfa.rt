@@ -12,7 +12,7 @@ use rsc_nfa::{Nfa, laws};
 use rsc_primitives::StateID;
 use rsc_search::Input;
 
-/// Whether the automaton kind_accepts a step past the input's first byte as a run: it does, where the state has a range that the byte is in, and
+/// Whether the automaton accepts a step past the input's first byte as a run: it does, where the state has a range that the byte is in, and
 /// the next state is one of the automaton's.
 pub fn accepts_one_byte<W: WordClass>(
     nfa: &Nfa<W>,

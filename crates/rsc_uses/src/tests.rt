@@ -388,7 +388,7 @@ fn answers_that_differ_from_the_original(rt: HostRuntime) -> Result<(), Fail> {
     assert!(rt; set.iter().size_hint() == (1, Some(1)));
     assert_eq!(rt;
         format!(in alloc; "{set:?}")?.as_str(),
-        "PatternSet { words: [8], capacity: 10, count: 1 }"
+        "PatternSet { blocks: [8], capacity: 10, count: 1 }"
     );
     let (bytes, error) = (ByteSet::empty(), MatchError::gave_up(9));
     assert_eq!(rt;
@@ -415,7 +415,7 @@ fn tokens_of_a_text(rt: HostRuntime) -> Result<(), Fail> {
     let alloc = rt.alloc();
     let ranges = [(b'0', b'9'), (b'a', b'z'), (b' ', b' ')];
     let classes = classes_of_ranges(&ranges);
-    // The row of each kind kind_accepts the class of its range alone.
+    // The row of each kind accepts the class of its range alone.
     let mut table = Vec::new(alloc);
     for (start, _) in ranges {
         let accepted = usize::from(classes.get(start));

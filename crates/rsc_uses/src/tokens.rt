@@ -9,11 +9,11 @@ use rsc_alphabet::ByteClasses;
 use rsc_search::{Match, PatternSet, Span};
 use std::alloc::{AllocError, Global};
 
-/// Whether the table's row of a kind kind_accepts a byte.
+/// Whether the table's row of a kind accepts a byte.
 pub fn kind_accepts(classes: &ByteClasses, table: &[u32], kind: usize, byte: u8) -> bool
     requires kind { kind < 3 }
     requires rows { HasRows classes.now table.now }
-    requires rise { LastClassIsGreatest classes.now }
+    requires bounded { LastClassIsGreatest classes.now }
     ensures { IsTrue result ↔ (kind_accepts classes.now table.now kind byte ≡ true) }
 {
     transition(classes, table, kind, byte) == 1
@@ -38,7 +38,7 @@ pub fn run_end(
 ) -> usize
     requires kind { kind < 3 }
     requires rows { HasRows classes.now table.now }
-    requires rise { LastClassIsGreatest classes.now }
+    requires bounded { LastClassIsGreatest classes.now }
     requires at { at ≤ length haystack.now }
     ensures from { at ≤ result }
     ensures within { result ≤ length haystack.now }
@@ -57,7 +57,7 @@ pub fn run_end(
 #[tactic(auto, using(crate::proofs::TokensLemmas::run_none, crate::proofs::TokensLemmas::bound_raised))]
 pub fn token_at(classes: &ByteClasses, table: &[u32], haystack: &[u8], at: usize) -> Option<Match>
     requires rows { HasRows classes.now table.now }
-    requires rise { LastClassIsGreatest classes.now }
+    requires bounded { LastClassIsGreatest classes.now }
     requires at { at ≤ length haystack.now }
     ensures token { IfSome result (λ m. IsToken classes.now table.now haystack.now at m.pattern m.span.end) }
     ensures start { IfSome result (λ m. m.span.start ≡ at) }
@@ -93,7 +93,7 @@ pub fn tokens(
     haystack: &[u8],
 ) -> Result<Vec<Match>, AllocError>
     requires rows { HasRows classes.now table.now }
-    requires rise { LastClassIsGreatest classes.now }
+    requires bounded { LastClassIsGreatest classes.now }
     ensures { IfOk result (λ found. All (λ m. IsToken classes.now table.now haystack.now m.span.start m.pattern m.span.end) found.items) }
 {
     let mut found = Vec::new(alloc);

@@ -48,7 +48,7 @@ fn each_step_takes_the_same_time_in_any_set(rt: HostRuntime) -> Result<(), Fail>
     Ok(())
 }
 
-// The first and the last number of the words between are found from where the last step was.
+// The first and the last number of the blocks between are found from where the last step was.
 #[test]
 fn a_sparse_set_is_walked_once(rt: HostRuntime) -> Result<(), Fail> {
     let mut set = PatternSet::new(rt.alloc(), 32 * COUNT)?;

@@ -67,7 +67,7 @@ fn is_answered(alloc: Global, capacity: usize) -> bool {
     is_cloned && set.capacity() == capacity && set.clone().is_ok_and(|copy| copy == set)
 }
 
-// On both sides of a word, and at sizes that no threshold is near.
+// On both sides of a block, and at sizes that no threshold is near.
 #[test]
 fn ample_memory_suffices(rt: HostRuntime) {
     for capacity in [0, 1, 2, 63, 64, 65, 128, 300, 1_000, 100_000] {

@@ -1,7 +1,7 @@
 use Rattle.std.proofs.Common.{◌≡◌, ◌+◌, arith, get_or, subst, sym, take, ⊎_elim, Contains}
 use Rattle.std.proofs.lemmas.List.{take_all, take_more}
 use Rattle.std.proofs.lemmas.List.Elements.{Contains-push_cases}
-use Rattle.rsc_show.specs.Ranges.{IsBoundary}
+use Rattle.rsc_show.specs.Ranges.{BoundsRange}
 use Rattle.rsc_show.proofs.witness.edge_at.Goals as goal
 
 pub loop-start-preserved : goal.loop-start-preserved
@@ -14,7 +14,7 @@ loop-start-preserved c = λ x inside edge.
     (λ (same : r ≡ x).
     ⊎_elim (λ (begins : byte + 1 ≡ r.0). omega (arith, begins, c.if-start-byte.false))
     (λ (ends : byte ≡ r.1). omega (arith, ends, c.if-end-byte.false))
-    (subst (λ y. IsBoundary byte y) (sym same) edge))
+    (subst (λ y. BoundsRange byte y) (sym same) edge))
     (Contains-push_cases (take i ranges) r x (subst (λ xs. Contains xs x) (take_more ranges i (0, 0) c.loop-start-test.true) inside))
 
 pub returns-clause-found : goal.returns-clause-found

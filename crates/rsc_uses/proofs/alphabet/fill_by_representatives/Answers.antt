@@ -11,13 +11,13 @@ loop-unit-preserved c =
     let map = c.args.map.now in
     let awaits = c.loop-unit.invariant.3 in
     let only = c.each_class_is_represented.ensures.only map in
-    let within = class_within map c.in-Some.unit (only c.in-Some.unit (next_is_among awaits c.in-Some.ensures.steps)) c.requires.rise.within in (
+    let within = class_within map c.in-Some.unit (only c.in-Some.unit (next_is_among awaits c.in-Some.ensures.steps)) c.requires.bounded.within in (
       tt,
       tt,
       length-set c.loop-unit.row c.get_by_unit.result c.lead_of.result ∙ c.loop-unit.invariant.2,
       one_filled awaits c.in-Some.ensures.steps c.get_by_unit.ensures c.lead_of.ensures
           (omega (arith, c.get_by_unit.ensures, within, c.loop-unit.invariant.2, c.requires.room))
-          (one_way map c.args.leads.now c.args.end _ only c.requires.rise.within c.requires.alike),
+          (one_way map c.args.leads.now c.args.end _ only c.requires.bounded.within c.requires.alike),
     )
 
 pub returns-clause-bytes : goal.returns-clause-bytes
