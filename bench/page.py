@@ -15,6 +15,7 @@ import sys
 from table import least
 
 DOCS = pathlib.Path(__file__).resolve().parent.parent / "docs"
+COUNTS = ["theirs, instructions", "ours, instructions", "ratio of instructions"]
 LEFT, WIDTH, HEIGHT, LOW, HIGH = 330, 600, 11, -5, 3  # the ratios from 1/32 to 8
 
 
@@ -29,7 +30,7 @@ def with_times(rows, theirs, ours):
             continue
         if name not in order:
             order.insert(order.index(before) + 1 if before in order else len(order), name)
-        made[name] = [name, crate, f"{theirs[name]:.4g}", f"{ours[name]:.4g}", f"{ours[name] / theirs[name]:.2f}"] + (made[name][5:] if name in made else ["", "", ""])
+        made[name] = [name, crate, f"{theirs[name]:.4g}", f"{ours[name]:.4g}", f"{ours[name] / theirs[name]:.2f}"] + (made[name][5:] if name in made else [])
     return [made[it] for it in order if it in made]
 
 
@@ -40,7 +41,7 @@ def with_counts(rows, path):
     made = []
     for row in rows:
         theirs, ours = counts.get(row[0], (0, 0))
-        new = [f"{theirs:.4g}", f"{ours:.4g}", f"{ours / theirs:.2f}"] if min(theirs, ours) > 0 else row[5:]
+        new = [f"{theirs:.4g}", f"{ours:.4g}", f"{ours / theirs:.2f}"] if min(theirs, ours) > 0 else (row[5:] or ["", "", ""])
         made.append(row[:5] + new)
     return made
 
@@ -98,7 +99,7 @@ def main():
     if len(sys.argv) == 3:
         rows = with_times(rows, least(sys.argv[1]), least(sys.argv[2]))
     elif len(sys.argv) == 2:
-        rows = with_counts(rows, sys.argv[1])
+        head, rows = head[:5] + COUNTS, with_counts(rows, sys.argv[1])
     if len(sys.argv) > 1:
         table.write_text("".join("\t".join(it) + "\n" for it in [head, *rows]), encoding="utf-8")
     found = ratios(rows)

@@ -19,6 +19,7 @@ done
 echo "$2: ${libraries[*]}" >> "$1/crates.txt"
 echo 'Handles allowed: none.' > "$1/HANDLES"
 echo 'out/' > "$1/.gitignore"
+cp "$here/LICENSE-MIT" "$here/NOTICE" "$1"
 cp "$here/own/first.txt" "$1/crates/$2/src/lib.rt"
-echo "In $1/crates/$2: 'rt try --test' runs the test without a proof; 'rt check' proves the crate. The first one proves the libraries too, which"
+echo "In $1/crates/$2: 'rt try --test' runs the test without a proof; 'rt check' proves the crate. The first check proves the libraries too, which"
 echo "takes some 10 minutes on an idle machine, so start it now and write meanwhile."
