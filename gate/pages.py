@@ -17,6 +17,8 @@ calls a function whose sums wrap, and that docs/DEFINITIONS.md has each definiti
 backquotes, alone or after its module, as `Holds` or `Holds.Holds`. A definition is a name of a crate's specs/ that a `ghost use` line brings
 into a file.
 
+A file that a page written by hand names in backquotes is there.
+
 No crate imports another crate's `proofs` or `specs/..Layout`: the layers compose by contracts, laws and definitions alone. No line of a .rt
 or .antt file is longer than 160 columns, except imports, tables of literals, and the quotation of a test or of a text that is longer.
 """
@@ -305,6 +307,23 @@ def form_faults():
             yield [f"{crate}/src/{path} calls `{it}`: no number may wrap" for it in re.findall(r"\bwrapping_\w+", text)]
 
 
+def is_there(path, folders):
+    """Returns whether a path, or a module by its name, is in one of the folders."""
+    return any((folder / f"{path}{end}").exists() for folder in folders for end in ("", ".antt", ".rt"))
+
+
+def path_faults():
+    """Yields for each page that is written by hand the files that it names in backquotes and that aren't there."""
+    kinds = "bench|compare|crates|docs|gate|own|proofs|runs|specs|src"
+    for page in sorted(ROOT.glob("**/*.md")):
+        if page.name == "CALLING.md" or "out" in page.relative_to(ROOT).parts:
+            continue
+        named = re.findall(rf"`((?:{kinds})/(?!util)\w[\w/-]+(?:\.\w+)?)`", page.read_text(encoding="utf-8"))
+        folders = [ROOT, page.parent, *(ROOT / "crates").iterdir()]
+        missing = [it for it in named if "NAME" not in it and "XLemmas" not in it and not is_there(it, folders)]
+        yield [f"{page.relative_to(ROOT)} names `{it}`, which isn't there" for it in missing]
+
+
 def serves_nothing(crate, below):
     """Returns whether a file of proofs/ isn't named after the file of specs/ or src/ that its lemmas serve."""
     name = pathlib.Path(below[-1]).stem
@@ -341,7 +360,7 @@ def main():
     for _, faults in source_faults():
         count += 1
         failures += faults
-    for faults in form_faults():
+    for faults in [*form_faults(), *path_faults()]:
         count += 1
         failures += faults
     for file, words in numbers():
