@@ -118,11 +118,11 @@ def refusals(crate, folder, said):
         # Where a proof file is refused too, the goals of the exits stand in notes of their own.
         at_exit = re.match(r"note: (src/\S+?):(\d+):\d+: it is not proved that [^(]*\(`([^`]+)`\)", line)
         if at_exit:
-            found[at_exit[1], function_at(f"{folder}/{at_exit[1]}", int(at_exit[2]))].add(at_exit[3])
+            found[at_exit[1], function_at_line(f"{folder}/{at_exit[1]}", int(at_exit[2]))].add(at_exit[3])
     return found
 
 
-def function_at(path, line):
+def function_at_line(path, line):
     """Returns the name of the function that a line of a source file is in, or is an attribute of, if there is one."""
     with open(path, encoding="utf-8") as file:
         lines = file.readlines()
