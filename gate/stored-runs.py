@@ -171,6 +171,8 @@ def unproved_jobs(folder):
             found[f"{crate}-tests"] = crate, "--test", "--seconds", "300"
         if os.path.exists(f"{path}/stdout"):
             os.makedirs(f"{folder}/{crate}-run")
+            # A case is named by its input, which may be empty.
+            open(f"{folder}/{crate}-run/stored", "wb").close()
             for name, ending in (("stdin", ""), ("stdout", ".stdout"), ("args", ".args")):
                 if os.path.exists(f"{path}/{name}"):
                     shutil.copy(f"{path}/{name}", f"{folder}/{crate}-run/stored{ending}")

@@ -1,6 +1,6 @@
-//! Repeated names, in one block and in several.
+//! Repeated names in long lists, which are read block by block.
 
-use rsc_captures::{GroupInfo, GroupInfoErrorKind};
+use rsc_captures::GroupInfo;
 use std::alloc::{AllocError, Global};
 use std::test::Fail;
 
@@ -13,50 +13,68 @@ fn names(alloc: Global, count: usize) -> Result<Vec<String>, AllocError> {
     Ok(names)
 }
 
-// Whether a list of these groups is refused for the repeated name, if there is one: alone, and before a pattern with another fault.
-fn is_refused_for(
+// That many groups: the first has no name, and each other the name with its number.
+fn groups<'a>(
     alloc: Global,
-    groups: &[Option<&str>],
-    repeat: Option<&str>,
-) -> Result<bool, Fail> {
+    names: &'a [String],
+    count: usize,
+) -> Result<Vec<Option<&'a str>>, AllocError> {
+    let mut groups: Vec<Option<&str>> = Vec::new(alloc);
+    groups.push(None)?;
+    for name in names.iter().take(count).skip(1) {
+        groups.push(Some(name.as_str()))?;
+    }
+    Ok(groups)
+}
+
+// What the list says whose first pattern has these groups, and whose second, where it is wanted, has a fault of its own.
+fn answer(alloc: Global, groups: &[Option<&str>], with_fault: bool) -> Result<String, Fail> {
     let faulty: [Option<&str>; 1] = [Some("faulty")];
     let mut lists: Vec<&[Option<&str>]> = Vec::new(alloc);
     lists.push(groups)?;
-    for has_fault in [false, true] {
-        let is_right = match GroupInfo::new(alloc, &lists) {
-            Ok(_) => repeat == None && !has_fault,
-            Err(error) => match error.kind() {
-                GroupInfoErrorKind::Duplicate { name, .. } => repeat == Some(name.as_str()),
-                GroupInfoErrorKind::FirstMustBeUnnamed { .. } => repeat == None && has_fault,
-                _ => false,
-            },
-        };
-        if !is_right {
-            return Ok(false);
-        }
+    if with_fault {
         lists.push(&faulty)?;
     }
-    Ok(true)
+    match GroupInfo::new(alloc, &lists) {
+        Ok(_) => Ok(String::from_str(alloc, "no fault")?),
+        Err(error) => Ok(error.to_string(alloc)?),
+    }
 }
 
-// The same for that many groups: the first has no name, and each other the name with its number, but each pair's later group has the
-// name of its earlier one. The last pair is the one to be found.
+// What it has to say if this is the first repeated name.
+fn wanted(alloc: Global, repeat: Option<&str>, with_fault: bool) -> Result<String, AllocError> {
+    match repeat {
+        Some(name) => {
+            format!(in alloc; "duplicate capture group name '{name}' found for pattern 0")
+        }
+        None if with_fault => String::from_str(
+            alloc,
+            "first capture group (at index 0) for pattern 1 has a name (it must be unnamed)",
+        ),
+        None => String::from_str(alloc, "no fault"),
+    }
+}
+
+// Whether a list of that many groups is refused for the name of the last pair alone, where each pair's later group has the name of
+// its earlier one.
 fn is_refused(
     alloc: Global,
     names: &[String],
     count: usize,
     pairs: &[(usize, usize)],
+    with_fault: bool,
 ) -> Result<bool, Fail> {
-    let mut groups: Vec<Option<&str>> = Vec::new(alloc);
-    for (g, name) in names.iter().take(count).enumerate() {
-        groups.push((g > 0).then_some(name.as_str()))?;
-    }
-    let mut repeat = None;
+    let mut list = groups(alloc, names, count)?;
+    let mut repeat: Option<&str> = None;
     for (earlier, later) in pairs {
-        repeat = names.get(*earlier).map(|name| name.as_str());
-        groups.as_mut_slice()[*later] = repeat;
+        if let Some(name) = names.get(*earlier) {
+            if let Some(group) = list.get_mut(*later) {
+                *group = Some(name.as_str());
+                repeat = Some(name.as_str());
+            }
+        }
     }
-    is_refused_for(alloc, &groups, repeat)
+    Ok(answer(alloc, &list, with_fault)? == wanted(alloc, repeat, with_fault)?)
 }
 
 #[test]
@@ -64,11 +82,22 @@ fn finds_a_repeated_name_in_a_short_list(rt: HostRuntime) -> Result<(), Fail> {
     let alloc = rt.alloc();
     let names = names(alloc, 17)?;
     for count in 1..=17usize {
-        assert!(rt; is_refused(alloc, &names, count, &[])?, "{count}");
-        for later in 2..count {
-            for earlier in 1..later {
-                let is_refused = is_refused(alloc, &names, count, &[(earlier, later)])?;
-                assert!(rt; is_refused, "{earlier}, {later} of {count}");
+        for with_fault in [false, true] {
+            assert!(rt;
+                is_refused(alloc, &names, count, &[], with_fault)?,
+                "{count}"
+            );
+            for later in 2..count {
+                for earlier in 1..later {
+                    let is_refused = is_refused(
+                        alloc,
+                        &names,
+                        count,
+                        &[(earlier, later)],
+                        with_fault,
+                    )?;
+                    assert!(rt; is_refused, "{earlier}, {later} of {count}");
+                }
             }
         }
     }
@@ -88,11 +117,11 @@ fn finds_a_repeated_name_at_each_edge_of_a_block(rt: HostRuntime) -> Result<(), 
         (8193, 4095, 8192),
         (8194, 8192, 8193),
     ] {
-        let is_refused = is_refused(alloc, &names, count, &[(earlier, later)])?;
+        let is_refused = is_refused(alloc, &names, count, &[(earlier, later)], true)?;
         assert!(rt; is_refused, "{earlier}, {later} of {count}");
     }
     for count in [4096usize, 4097, 8194] {
-        assert!(rt; is_refused(alloc, &names, count, &[])?, "{count}");
+        assert!(rt; is_refused(alloc, &names, count, &[], true)?, "{count}");
     }
     Ok(())
 }
@@ -101,10 +130,11 @@ fn finds_a_repeated_name_at_each_edge_of_a_block(rt: HostRuntime) -> Result<(), 
 fn names_the_first_of_several(rt: HostRuntime) -> Result<(), Fail> {
     let alloc = rt.alloc();
     let names = names(alloc, 8194)?;
-    assert!(rt; is_refused(alloc, &names, 8194, &[(1, 8193), (5000, 6000)])?);
-    assert!(rt; is_refused(alloc, &names, 8194, &[(5000, 8193), (1, 8192)])?);
-    assert!(rt; is_refused(alloc, &names, 8194, &[(1, 4500), (1, 2500), (1, 2)])?);
-    assert!(rt; is_refused(alloc, &names, 8193, &[(1, 8192), (3, 8191)])?);
+    // The pair that has to be found comes last.
+    assert!(rt; is_refused(alloc, &names, 8194, &[(1, 8193), (5000, 6000)], true)?);
+    assert!(rt; is_refused(alloc, &names, 8194, &[(5000, 8193), (1, 8192)], true)?);
+    assert!(rt; is_refused(alloc, &names, 8194, &[(1, 4500), (1, 2500), (1, 2)], true)?);
+    assert!(rt; is_refused(alloc, &names, 8193, &[(1, 8192), (3, 8191)], true)?);
     Ok(())
 }
 
@@ -132,10 +162,11 @@ fn agrees_with_plain_comparisons(rt: HostRuntime) -> Result<(), Fail> {
                 .wrapping_add(1442695040888963407);
             list.push(names.get((random >> 56) as usize).map(|name| name.as_str()))?;
         }
-        assert!(rt;
-            is_refused_for(alloc, &list, first_repeated(&list))?,
-            "{count}"
-        );
+        let repeat = first_repeated(&list);
+        for with_fault in [false, true] {
+            let wanted = wanted(alloc, repeat, with_fault)?;
+            assert!(rt; answer(alloc, &list, with_fault)? == wanted, "{count}");
+        }
     }
     Ok(())
 }
