@@ -101,8 +101,14 @@ def contracts(crate):
     return "\n".join(parts)
 
 
+def own_text(lines):
+    """Returns what stands for a comment that a definition lacks: the lines below its first, which define it."""
+    own = itertools.takewhile(str.strip, lines)
+    return "; ".join(f"`{it.strip()}`" for it in own if not it.strip().startswith("--"))
+
+
 def words(crate):
-    """Returns the definitions of specs/, each with the comment above it; those of lemmas and layout come last."""
+    """Returns the definitions of specs/, each with the comment above it, or how it is defined; those of lemmas and layout come last."""
     believed, others = [], []
     for file in sorted((ROOT / "crates" / crate / "specs").glob("**/*.antt")):
         comment, is_taken = "", False
@@ -121,7 +127,8 @@ def words(crate):
                 else:
                     fields = ""
                 if comment or rows is believed:
-                    rows.append(f"| `{file.stem}.{name[1]}` | {(comment + fields).strip().replace('|', chr(92) + '|')} |")
+                    text = (comment + fields).strip() or own_text(lines[k + 1 :])
+                    rows.append(f"| `{file.stem}.{name[1]}` | {text.replace('|', chr(92) + '|')} |")
                 # Of several definitions in a row the comment is that of each.
                 is_taken = True
             elif not line.strip():

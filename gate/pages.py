@@ -28,7 +28,7 @@ import pathlib
 import re
 import sys
 
-from calling import ROOT, calls, functions, page, promises, sources
+from calling import ROOT, calls, functions, is_exported, page, promises, sources
 from edits import blocks
 
 MOST_COLUMNS = 160
@@ -43,7 +43,7 @@ FORMS = (
     ("rsc_primitives/src/utf8.rt", "const WORD_BYTES_FROM_80: u128 = 0;\n"),
     ("rsc_search/src/pattern_set.rt", "    blocks: Vec<u64, A>,\n    capacity: usize,\n    count: usize,\n}"),
 )
-LIBRARIES = ("rsc_primitives", "rsc_alphabet", "rsc_look", "rsc_search", "rsc_captures", "rsc_nfa")
+LIBRARIES = ("rsc_primitives", "rsc_alphabet", "rsc_look", "rsc_search", "rsc_captures", "rsc_nfa", "rsc_engine")
 
 
 def readme(shown, text):
@@ -236,21 +236,19 @@ def pages():
         yield file, readme(example.read_text(encoding="utf-8"), file.read_text(encoding="utf-8"))
         file = ROOT / "crates" / f"{crate}_tests" / "README.md"
         yield file, test_modules(file.parent.name, file.read_text(encoding="utf-8"))
-    file = ROOT / "crates/rsc_engine/CALLING.md"
-    yield file, page("rsc_engine", file.read_text(encoding="utf-8"))
     for file in sorted((ROOT / "crates").glob("*/*/Lib.antt")):
         yield file, module_list(file)
     file = ROOT / "README.md"
     yield file, by_hand(believed(with_quotes(file.read_text(encoding="utf-8"))))
     yield ROOT / "docs/TRUSTED.md", trusted()[0]
-    yield ROOT / "docs/CALLS.md", calls((*LIBRARIES, "rsc_engine"))
+    yield ROOT / "docs/CALLS.md", calls(LIBRARIES)
 
 
 def cited():
     """Returns, for each crate, each definition that a public function's clauses cite, or what a trait's methods promise, with those functions or impls."""
     found = collections.defaultdict(lambda: collections.defaultdict(set))
     for crate in LIBRARIES:
-        for _, text in sources(crate):
+        for path, text in sources(crate):
             imported = {}
             for of, module, names in re.findall(r"ghost use Rattle\.(rsc_\w+)\.specs\.([\w.]+)\.\{([^}]*)\}", text):
                 if not module.startswith("declared"):
@@ -258,7 +256,7 @@ def cited():
             for owner, _, signature in functions(text):
                 named = re.match(r"\s*pub (?:const )?fn (\w+)", signature)
                 of_type = re.match(r"\w+", owner.rpartition(" for ")[2])
-                for word in set(re.findall(r"[\w-]+", signature)) & set(imported) if named else ():
+                for word in set(re.findall(r"[\w-]+", signature)) & set(imported) if named and is_exported(crate, path, owner, signature) else ():
                     of, module = imported[word]
                     found[of][f"{module}.{word}"].add(f"{crate}::{of_type[0] + '::' if of_type else ''}{named[1]}")
             for head, kept in promises(text):

@@ -21,36 +21,21 @@ callers of a function see its contract alone. An edit passes only if its functio
 hand at ` and the word that is refused); a goal that is refused because a proof file names what the edit took away does not count. The crates below
 are proved first; `rt ci` proves the crate itself as it is.
 
-A contract says nothing of whether memory is there, of the texts that only tests show, and of what a program reads and writes. The fields of an edit
-of tested-bodies.edits are `file`, the source file that it changes, and
-
-    tests: rsc_search_tests              the crate whose tests must fail
-    modules: shown forms                 the test modules that are compiled and run, `tests` for what stands in tests.rt itself; without it all but those
-                                         of cost, which take long
-    snippet: allocators_are_dropped      if there: a snippet of that crate's must-run, whose tests are run too
-    seconds: 240                         if there: the time that each test has
-    runs: all                            instead of tests: of the crate's plain stored runs (gate/stored-runs.py) one must print something else, or end
-                                         with another status; or those of some files of runs/, as `looks.txt`; or the arguments of one run, with \\xHH for
-                                         bytes, of which standard error counts too
-    also: src/span.rt: start: usize ⇒ pub(crate) start: usize      if there: a private field of another file that it needs
-
-Each is compiled and run without a proof, in a copy of the repository. It passes if a test fails, or if the tests don't compile because a type lacks a
-trait.
+A contract says nothing of whether memory is there, of the texts that only tests show, and of what a program reads and writes. gate/tested.py explains
+how the edits of tested-bodies.edits are tried.
 """
 import collections
 import glob
 import os
 import pathlib
-import queue
 import re
-import shlex
 import shutil
 import subprocess
 import sys
 import tempfile
-import threading
 
 from edits import ROOT, below, blocks, crates, fault, in_lanes, replaced
+from tested import misfits, tested_edits, try_tested
 
 Edit = collections.namedtuple("Edit", "name file function goal pairs apart also")
 
@@ -214,157 +199,6 @@ def try_refused(wanted, known):
             tasks[crate, "edits"] = waits, lambda given, it=crate, waits=waits: try_crate(it, known, room, next(filter(None, map(given.get, waits)), ""))
         for (_, kind), results in in_lanes(tasks):
             yield from results if kind == "edits" else ()
-
-
-# What the unchanged programs answer, by crate and runs.
-UNCHANGED, IS_ASKED = {}, threading.Lock()
-
-
-def tested_edits(wanted):
-    """Returns the edits of these crates that a test must fail over, or of all crates: crate, name, fields and pairs."""
-    found = []
-    for crate in sorted(os.listdir(f"{ROOT}/crates")):
-        path = f"{ROOT}/crates/{crate}/tested-bodies.edits"
-        if os.path.exists(path) and (not wanted or crate in wanted):
-            found += [(crate, *it) for it in blocks(path, ("file", "tests", "modules", "snippet", "seconds", "runs", "also"))]
-    return found
-
-
-def changed(root, crate, fields, pairs):
-    """Returns the texts of each source that an edit changes, as it was and as it becomes: None where an old text isn't once in it."""
-    changes = [(fields["file"], pairs)]
-    if "also" in fields:
-        other, _, change = fields["also"].partition(": ")
-        changes.append((other, [tuple(change.split(" ⇒ "))]))
-    texts = {source: pathlib.Path(root, "crates", crate, source).read_text(encoding="utf-8") for source, _ in changes}
-    return {source: (texts[source], replaced(texts[source], its_pairs)) for source, its_pairs in changes}
-
-
-def misfits(wanted):
-    """Returns a line for each edit that doesn't fit its sources."""
-    found = []
-    for crate, name, fields, pairs in wanted:
-        bad = [source for source, (_, after) in changed(ROOT, crate, fields, pairs).items() if after is None]
-        found += [f"{crate}/{name}: BAD EDIT: an old text isn't once in {source}" for source in bad]
-    return found
-
-
-def rt_try(folder, *words):
-    ran = subprocess.run(["rt", "try", *words], cwd=folder, stdin=subprocess.DEVNULL, stdout=subprocess.PIPE, stderr=subprocess.STDOUT, errors="replace")
-    return ran.stdout
-
-
-def answers_of(copy, crate, runs):
-    """Returns what the program of a copy answers in the runs: for stored runs a line each, for one run what it prints."""
-    folder = f"{copy}/crates/{crate}"
-    if runs != "all" and not runs.endswith(".txt"):
-        words = [re.sub(rb"\\x([0-9a-f]{2})", lambda it: bytes([int(it[1], 16)]), it.encode()) for it in shlex.split(runs)]
-        return rt_try(folder, "--steps", "0", "--", *words).splitlines()
-    with tempfile.TemporaryDirectory(prefix="cases-") as cases:
-        subprocess.run([f"{ROOT}/gate/stored-runs.py", "--cases", crate, cases, *(runs.split() if runs != "all" else [])], check=True)
-        return re.findall(r"^case=.*", rt_try(folder, "--steps", "0", "--cases", cases), flags=re.M)
-
-
-def unchanged(copy, crate, runs):
-    """Returns what the unchanged program answers in the runs. It answers all stored runs once."""
-    files = [it.removesuffix(".txt") for it in runs.split()] if runs.endswith(".txt") else []
-    key = crate, "all" if files else runs
-    with IS_ASKED:
-        if key not in UNCHANGED:
-            UNCHANGED[key] = answers_of(copy, *key)
-    return [it for it in UNCHANGED[key] if not files or any(it.startswith(f"case={crate}-{file}-") for file in files)]
-
-
-def judge_runs(copy, crate, name, runs, unchanged):
-    """Runs the program of a copy, and returns whether an answer isn't that of the unchanged program, with a line that says which."""
-    found = answers_of(copy, crate, runs)
-    differing = [it for it in found if it not in unchanged]
-    if len(found) != len(unchanged) or not found:
-        return False, f"{crate}/{name}: NOT JUDGED: {found[-1][:200] if found else 'no output'}"
-    if differing:
-        return True, f"{crate}/{name}: fails {differing[0][:150]}"
-    return False, f"{crate}/{name}: NO RUN FAILS"
-
-
-def with_modules(tests, wanted):
-    """Leaves in a copy of a crate of tests the wanted test modules alone, with the modules that they name, whose own tests are left out; without a list
-    all but those of cost, which take long."""
-    own = pathlib.Path(ROOT, "crates", tests.name, "src")
-    texts = {it.stem: it.read_text(encoding="utf-8") for it in [own / "tests.rt", *(own / "tests").glob("*.rt")]}
-    wanted = wanted or [it for it in texts if it != "cost"]
-    kept = list(wanted)
-    for module in kept:
-        kept += [it for it in re.findall(r"\buse super::(\w+)::", texts[module]) if it not in kept]
-    for module, text in texts.items():
-        text = text if module in wanted else re.sub(r"^#\[test\]\nfn .*?^\}\n", "", text, flags=re.M | re.S)
-        if module == "tests":
-            text = re.sub(r"^(?:pub )?mod (\w+);\n", lambda it: it[0] if it[1] in kept else "", text, flags=re.M)
-            (tests / "src/tests.rt").write_text(text, encoding="utf-8")
-        elif module in kept:
-            (tests / f"src/tests/{module}.rt").write_text(text, encoding="utf-8")
-        else:
-            (tests / f"src/tests/{module}.rt").unlink(missing_ok=True)
-
-
-def judge_tests(copy, crate, name, fields):
-    """Runs the tests of a copy, and returns whether one fails, with a line that says which."""
-    tests = pathlib.Path(copy, "crates", fields["tests"])
-    with_modules(tests, fields.get("modules", "").split())
-    if "snippet" in fields:
-        snippet = pathlib.Path(ROOT, "crates", fields["tests"], "must-run", fields["snippet"] + ".snippet").read_text(encoding="utf-8")
-        added_to = tests / snippet.splitlines()[0].removeprefix("// added to: ")
-        before = added_to.read_text(encoding="utf-8")
-        added_to.write_text(before + snippet, encoding="utf-8")
-    said = rt_try(tests, "--test", *(["--seconds", fields["seconds"]] if "seconds" in fields else []))
-    if "snippet" in fields:
-        added_to.write_text(before, encoding="utf-8")
-    failed = re.findall(r"^test (\S+) \.\.\. FAILED", said, flags=re.M)
-    if failed:
-        return True, f"{crate}/{name}: fails {', '.join(failed)[:150]}"
-    bound = re.search(r"error\[unsatisfied-bound\]: (.*)", said)
-    if bound:
-        return True, f"{crate}/{name}: its tests don't compile: {bound[1]}"
-    if re.search(r"^test result: ok", said, flags=re.M):
-        return False, f"{crate}/{name}: NO TEST FAILS"
-    last = said.strip().splitlines()
-    return False, f"{crate}/{name}: NOT JUDGED: {last[-1][:200] if last else 'no output'}"
-
-
-def judge_tested(copy, crate, name, fields, pairs):
-    """Tries one edit in a copy, and returns whether a test or a run fails, with a line that says which."""
-    wanted = unchanged(copy, crate, fields["runs"]) if "runs" in fields else []
-    texts = changed(copy, crate, fields, pairs)
-    for source, (_, after) in texts.items():
-        pathlib.Path(copy, "crates", crate, source).write_text(after, encoding="utf-8")
-    try:
-        if "runs" in fields:
-            return judge_runs(copy, crate, name, fields["runs"], wanted)
-        return judge_tests(copy, crate, name, fields)
-    finally:
-        for source, (before, _) in texts.items():
-            pathlib.Path(copy, "crates", crate, source).write_text(before, encoding="utf-8")
-
-
-def try_tested(wanted):
-    """Tries the edits over which a test must fail, side by side, each in a copy of the repository; yields whether it passed, and a line that says so."""
-    lanes = min(len(wanted), len(os.sched_getaffinity(0))) or 1
-    with tempfile.TemporaryDirectory(prefix="tested-bodies-") as room:
-        copies = queue.Queue()
-        left_out = shutil.ignore_patterns("out", "wrong-bodies", "must-not-compile", "must-run", "runs")
-        for lane in range(lanes):
-            shutil.copytree(f"{ROOT}/crates", f"{room}/{lane}/crates", ignore=left_out)
-            for name in ("crates.txt", "HANDLES"):
-                shutil.copy(f"{ROOT}/{name}", f"{room}/{lane}")
-            copies.put(f"{room}/{lane}")
-
-        def in_a_copy(edit):
-            copy = copies.get()
-            try:
-                return judge_tested(copy, *edit)
-            finally:
-                copies.put(copy)
-
-        yield from (result for _, result in in_lanes({it[:2]: ((), lambda _, it=it: in_a_copy(it)) for it in wanted}))
 
 
 def main():

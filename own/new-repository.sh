@@ -1,14 +1,15 @@
 #!/usr/bin/env bash
 # Makes a Rattle repository whose crate may call the libraries.
-#   own/new-repository.sh FOLDER CRATE
-# FOLDER must not be there yet. It gets the six libraries, crates.txt, HANDLES, and the crate CRATE with a function that calls rsc_look and a test.
+#   own/new-repository.sh FOLDER CRATE [engine]
+# FOLDER must not be there yet. It gets the six libraries (and rsc_engine, where that is asked for), crates.txt, HANDLES, and the crate CRATE with a
+# function that calls rsc_look and a test.
 set -euo pipefail
 here=$(cd "$(dirname "${BASH_SOURCE[0]}")/.." && pwd)
-if [ $# -ne 2 ] || [ -e "$1" ]; then
-  echo "usage: own/new-repository.sh FOLDER CRATE, where FOLDER is not there yet" >&2
+if [ $# -lt 2 ] || [ -e "$1" ] || [ "${3:-engine}" != engine ]; then
+  echo "usage: own/new-repository.sh FOLDER CRATE [engine], where FOLDER is not there yet" >&2
   exit 2
 fi
-libraries=(rsc_primitives rsc_alphabet rsc_look rsc_search rsc_captures rsc_nfa)
+libraries=(rsc_primitives rsc_alphabet rsc_look rsc_search rsc_captures rsc_nfa ${3:+rsc_engine})
 
 mkdir -p "$1/crates/$2/src"
 git init -q "$1"
@@ -22,4 +23,4 @@ echo 'out/' > "$1/.gitignore"
 cp "$here/LICENSE-MIT" "$here/NOTICE" "$1"
 cp "$here/own/first.txt" "$1/crates/$2/src/lib.rt"
 echo "In $1/crates/$2: 'rt try --test' runs the test without a proof; 'rt check' proves the crate. The first check proves the libraries too, which"
-echo "takes some 10 minutes on an idle machine, so start it now and write meanwhile."
+echo "takes some 10 minutes on an idle machine (with the engine more), so start it now and write meanwhile."

@@ -15,13 +15,15 @@ use std::process::ExitCode;
 
 fn main(rt: HostRuntime) -> ExitCode {
     // With an argument it answers lines of calls instead.
-    if let Ok(arguments) = env::args(&rt) {
-        if arguments.len() > 1 {
+    match env::args(&rt) {
+        Ok(arguments) if arguments.len() > 1 => {
             return match calls::answer_all(&rt) {
                 Ok(()) => ExitCode::SUCCESS,
                 Err(error) => failure(&rt, &error),
             };
         }
+        Ok(_) => {}
+        Err(error) => return failure(&rt, &error),
     }
     if let Err(error) = pairs(&rt, "größe=3, λόγος=слово; 漢字=字") {
         return failure(&rt, &error);

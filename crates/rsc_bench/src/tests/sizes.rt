@@ -1,5 +1,6 @@
 //! Lines, lists, names, haystacks and inputs of sizes on both sides of any limit: ten times past each power of two that a buffer might have.
 use super::answer_to;
+use crate::input::read_all;
 use crate::run::run;
 use std::alloc::{AllocError, Global};
 use std::fmt::Write;
@@ -7,7 +8,7 @@ use std::test::Fail;
 
 #[test]
 fn lists_of_many_patterns_are_answered(rt: HostRuntime) -> Result<(), Fail> {
-    for count in [1usize, 2, 63, 64, 65, 1_000, 10_000] {
+    for count in [1usize, 2, 63, 64, 65, 1_000, 70_000] {
         let mut line = String::from_str(rt.alloc(), "groups -")?;
         let mut want = format!(in rt.alloc(); "slots {}: 0", count.saturating_mul(2))?;
         for p in 1..count {
@@ -73,7 +74,7 @@ fn answer_to_many(
 #[test]
 fn lists_of_any_length_are_answered(rt: HostRuntime) -> Result<(), Fail> {
     let alloc = rt.alloc();
-    for count in [17usize, 18, 255, 256, 1_000, 40_000] {
+    for count in [17usize, 18, 255, 256, 1_000, 70_000] {
         // The first range and the last one differ from the others, and a line comes after.
         let answer = answer_to_many(alloc, "ranges 21-2f", " 61-7a", count, " 30-39\nranges")?;
         assert!(rt;
@@ -105,7 +106,7 @@ fn all_classes_are_answered(rt: HostRuntime) -> Result<(), Fail> {
 #[test]
 fn patterns_of_many_groups_are_answered(rt: HostRuntime) -> Result<(), Fail> {
     let alloc = rt.alloc();
-    for count in [63usize, 64, 255, 256, 1_000, 40_000] {
+    for count in [63usize, 64, 255, 256, 1_000, 70_000] {
         let slots = count.saturating_mul(2).saturating_add(4);
         let mut want = format!(in alloc; "slots {slots}: 0")?;
         for g in 1..=count {
@@ -154,14 +155,19 @@ fn haystacks_of_any_length_are_answered(rt: HostRuntime) -> Result<(), Fail> {
             let answer = answer_to(alloc, &line)?;
             assert!(rt; answer.as_str() == want, "{at} of {count}");
         }
+        // A zero after the last of them is no word byte, and its end is the haystack's.
+        for (at, want) in [(count, "true\n"), (count.saturating_add(1), "false\n")] {
+            let line = format!(in alloc; "{hay}00 {at}")?;
+            let answer = answer_to(alloc, &line)?;
+            assert!(rt; answer.as_str() == want, "{at} of {count} and a zero");
+        }
     }
     Ok(())
 }
 
 #[test]
-fn inputs_of_any_length_are_answered(rt: HostRuntime) -> Result<(), Fail> {
+fn each_of_many_lines_is_answered(rt: HostRuntime) -> Result<(), Fail> {
     let alloc = rt.alloc();
-    // Of 40,000 lines each is answered.
     let mut input = String::new(alloc);
     let mut want = String::new(alloc);
     for byte in 0..40_000u32 {
@@ -175,12 +181,45 @@ fn inputs_of_any_length_are_answered(rt: HostRuntime) -> Result<(), Fail> {
         }
     }
     assert!(rt; answer_to(alloc, &input)?.as_str() == want.as_str());
-    // A line of 20 MiB is read whole, and each of 69,999 empty ones after it.
-    let mut input = Vec::new(alloc);
-    let mut want = String::new(alloc);
-    for _ in 0..20 * 1024 * 1024 {
-        input.push(b'x')?;
+    Ok(())
+}
+
+// A line of that many bytes that no command understands.
+fn long_line(alloc: Global, length: usize) -> Result<Vec<u8>, AllocError> {
+    let mut line = Vec::new(alloc);
+    for _ in 0..length {
+        line.push(b'x')?;
     }
+    Ok(line)
+}
+
+#[test]
+fn a_long_last_line_needs_no_end(rt: HostRuntime) -> Result<(), Fail> {
+    let input = long_line(rt.alloc(), 20 * 1024 * 1024)?;
+    let mut writer = Vec::new(rt.alloc());
+    run(rt.alloc(), &mut input.as_slice(), &mut writer)?;
+    assert!(rt; writer.as_slice() == b"bad line\n".as_slice());
+    Ok(())
+}
+
+#[test]
+fn an_input_is_read_as_it_is(rt: HostRuntime) -> Result<(), Fail> {
+    let alloc = rt.alloc();
+    let mut input = Vec::new(alloc);
+    for i in 0..10 * 1024 * 1024u32 {
+        input.push((i % 251) as u8)?;
+    }
+    let bytes = read_all(alloc, &mut input.as_slice())?;
+    assert!(rt; bytes.as_slice() == input.as_slice());
+    Ok(())
+}
+
+// A long line is answered, and each of 69,999 empty ones after it.
+#[test]
+fn inputs_of_any_length_are_answered(rt: HostRuntime) -> Result<(), Fail> {
+    let alloc = rt.alloc();
+    let mut input = long_line(alloc, 1024 * 1024)?;
+    let mut want = String::new(alloc);
     for _ in 0..70_000 {
         input.push(b'\n')?;
         want.push_str("bad line\n")?;

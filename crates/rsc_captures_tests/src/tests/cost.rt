@@ -123,3 +123,14 @@ fn each_step_takes_the_same_time_among_any_groups(rt: HostRuntime) -> Result<(),
     }
     Ok(())
 }
+
+#[test]
+fn a_clone_takes_the_same_time_among_any_groups(rt: HostRuntime) -> Result<(), Fail> {
+    let captures = captures_of(rt.alloc(), true)?;
+    let info = captures.group_info();
+    for _ in 0..GROUPS / 2 {
+        let copy = info.clone()?;
+        assert!(rt; copy.pattern_len() == GROUPS / 2);
+    }
+    Ok(())
+}

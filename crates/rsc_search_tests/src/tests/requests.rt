@@ -109,6 +109,9 @@ fn calls_on_empty_and_full_sets_ask_for_no_memory(rt: HostRuntime) -> Result<(),
     let are_equal = set == other;
     watch.note("eq of equal sets");
     assert!(rt; are_full && are_equal && set.iter().len() == 2);
+    set.clear();
+    watch.note("clear of a full set");
+    assert!(rt; set.is_empty());
     assert_eq!(rt; watch.asking(), "");
     Ok(())
 }

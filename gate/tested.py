@@ -1,0 +1,290 @@
+"""Tries wrong bodies that no contract refuses: over each a test must fail, or a run of the program must go otherwise. gate/wrong-bodies.py --tested calls it.
+
+The edits stand in crates/CRATE/tested-bodies.edits; gate/edits.py explains the format. The fields of one are `file`, the source file that it changes, and
+
+    tests: rsc_search_tests              the crate whose tests must fail
+    modules: shown sizes::long_names     the test modules that are compiled and run, `tests` for what stands in tests.rt itself, or of a module some tests
+                                         alone; without it all but those of cost, which take long
+    snippet: allocators_are_dropped      if there: a snippet of that crate's must-run, whose tests are run too
+    seconds: 240                         if there: the time that each test has
+    runs: all                            instead of tests: of the crate's plain stored runs (gate/stored-runs.py) one must print something else, or end
+                                         with another status; or those of some files of runs/, as `looks.txt`; or the arguments of one run, with \\xHH for
+                                         bytes, of which standard error counts too: `--fail-alloc 3 calls < l61\\t61\\n` has an argument and an input, and
+                                         its third request for memory is refused
+    also: src/span.rt: start: usize ⇒ pub(crate) start: usize      if there: a private field of another file that it needs
+
+Each is compiled and run without a proof, in a copy of the repository. It passes if a test fails, or if the tests don't compile because a type lacks a
+trait. The compiler takes half a minute for the toolchain's library alone, so a crate's edits are compiled together: edit 3 of a part of those of
+`rsc_search` as a crate `rsc_search_3`, with its tests in a module `v3`. A program's tests stand in the program, so its edits are modules of one program. The edits with
+a snippet, seconds or runs are tried alone.
+"""
+import os
+import pathlib
+import queue
+import re
+import shlex
+import shutil
+import subprocess
+import tempfile
+import threading
+
+from edits import ROOT, blocks, in_lanes, replaced
+
+FIELDS = ("file", "tests", "modules", "snippet", "seconds", "runs", "also")
+IN_ONE = 16
+# What the unchanged programs answer, by crate and runs.
+UNCHANGED, IS_ASKED = {}, threading.Lock()
+
+
+def tested_edits(wanted):
+    """Returns the edits of these crates that a test must fail over, or of all crates: crate, name, fields and pairs."""
+    found = []
+    for crate in sorted(os.listdir(f"{ROOT}/crates")):
+        path = f"{ROOT}/crates/{crate}/tested-bodies.edits"
+        if os.path.exists(path) and (not wanted or crate in wanted):
+            found += [(crate, *it) for it in blocks(path, FIELDS)]
+    return found
+
+
+def changed(root, crate, fields, pairs):
+    """Returns the texts of each source that an edit changes, as it was and as it becomes: None where an old text isn't once in it."""
+    changes = [(fields["file"], pairs)]
+    if "also" in fields:
+        other, _, change = fields["also"].partition(": ")
+        changes.append((other, [tuple(change.split(" ⇒ "))]))
+    texts = {source: pathlib.Path(root, "crates", crate, source).read_text(encoding="utf-8") for source, _ in changes}
+    return {source: (texts[source], replaced(texts[source], its_pairs)) for source, its_pairs in changes}
+
+
+def misfits(wanted):
+    """Returns a line for each edit that doesn't fit its sources."""
+    found = []
+    for crate, name, fields, pairs in wanted:
+        bad = [source for source, (_, after) in changed(ROOT, crate, fields, pairs).items() if after is None]
+        found += [f"{crate}/{name}: BAD EDIT: an old text isn't once in {source}" for source in bad]
+    return found
+
+
+def rt_try(folder, *words, given=""):
+    ran = subprocess.run(["rt", "try", *words], cwd=folder, input=given, stdout=subprocess.PIPE, stderr=subprocess.STDOUT, encoding="utf-8", errors="replace")
+    return ran.stdout
+
+
+def sources_of(crate):
+    """Returns the texts of a crate's sources, by their paths below src."""
+    src = pathlib.Path(ROOT, "crates", crate, "src")
+    return {str(it.relative_to(src)): it.read_text(encoding="utf-8") for it in sorted(src.rglob("*.rt"))}
+
+
+def write(folder, texts):
+    for path, text in texts.items():
+        pathlib.Path(folder, path).parent.mkdir(parents=True, exist_ok=True)
+        pathlib.Path(folder, path).write_text(text, encoding="utf-8")
+
+
+def with_modules(texts, wanted):
+    """Leaves of a crate's sources the wanted test modules and tests alone, with the modules that they name, whose own tests are left out; without a list
+    all but those of cost, which take long."""
+    tests = {pathlib.PurePath(it).stem: it for it in texts if re.match(r"tests(\.rt|/)", it)}
+    some = [it.split("::") for it in wanted if "::" in it]
+    wanted = [it for it in wanted if "::" not in it] + [module for module, _ in some] if wanted else [it for it in tests if it != "cost"]
+    only = {module: "|".join(test for its, test in some if its == module) for module, _ in some}
+    kept = list(wanted)
+    for module in kept:
+        kept += [it for it in re.findall(r"\buse super::(\w+)::", texts[tests[module]]) if it in tests and it not in kept]
+    left = {path: text for path, text in texts.items() if path not in tests.values()}
+    for module, path in tests.items():
+        kept_tests = only.get(module, "" if module in wanted else None)
+        text = texts[path] if kept_tests == "" else re.sub(rf"^#\[test\]\nfn (?!(?:{kept_tests})\().*?^\}}\n", "", texts[path], flags=re.M | re.S)
+        if module == "tests":
+            left[path] = re.sub(r"^(?:pub )?mod (\w+);\n", lambda it: it[0] if it[1] in kept else "", text, flags=re.M)
+        elif module in kept:
+            left[path] = text
+    return left
+
+
+def as_module(texts, root, number, names):
+    """Returns a crate's sources as those of its module `vN`, with other names of crates. Root is the file that the module's own text comes from."""
+    found = {}
+    for path, text in texts.items():
+        text = re.sub(r"\bcrate::", f"crate::v{number}::", re.sub(r"^#!\[.*\n", "", text, flags=re.M) if path == root else text)
+        for name, other in names.items():
+            text = re.sub(rf"\b{name}\b", other, text)
+        found[f"v{number}.rt" if path == root else f"v{number}/{path}"] = text
+    return found
+
+
+def variant_of(copy, crate, number, fields, pairs):
+    """Writes the crate with an edit as a crate of its own into a copy of the repository."""
+    own = pathlib.Path(copy, "crates", f"{crate}_{number}")
+    shutil.copytree(f"{copy}/crates/{crate}", own)
+    for source, (_, after) in changed(copy, crate, fields, pairs).items():
+        (own / source).write_text(after, encoding="utf-8")
+    for path in [it for it in own.rglob("*") if it.suffix in (".rt", ".antt")]:
+        path.write_text(re.sub(rf"\b{crate}\b", own.name, path.read_text(encoding="utf-8")), encoding="utf-8")
+
+
+def write_together(copy, crate, tests, edits):
+    """Writes edits of a crate, by their numbers, and the tests of each into a copy of the repository."""
+    root = "main.rt" if tests == crate else "lib.rt"
+    texts = sources_of(tests)
+    heads = re.findall(r"^#!\[.*\n", texts[root], flags=re.M)
+    main = "\nfn main(_rt: HostRuntime) {}\n" if tests == crate else ""
+    src = {root: "".join([*heads, "\n", *(f"mod v{number};\n" for number in edits), main])}
+    for number, (_, fields, pairs) in edits.items():
+        own = with_modules(texts, fields.get("modules", "").split())
+        if tests == crate:
+            own |= {source.removeprefix("src/"): after for source, (_, after) in changed(ROOT, crate, fields, pairs).items()}
+        else:
+            variant_of(copy, crate, number, fields, pairs)
+        src |= as_module(own, root, number, {} if tests == crate else {crate: f"{crate}_{number}"})
+    shutil.rmtree(f"{copy}/crates/{tests}/src")
+    write(f"{copy}/crates/{tests}/src", src)
+    if tests != crate:
+        with open(f"{ROOT}/crates.txt", encoding="utf-8") as lines:
+            listed = "".join(it.rstrip("\n") + "".join(f" {crate}_{n}" for n in edits) * it.startswith(f"{tests}:") + "\n" for it in lines)
+        rests_on = re.search(rf"^{crate}:.*\n", listed, flags=re.M)[0]
+        pathlib.Path(copy, "crates.txt").write_text(listed + "".join(rests_on.replace(crate, f"{crate}_{n}", 1) for n in edits), encoding="utf-8")
+
+
+def reset(copy, *names):
+    """Makes these crates of a copy as they are in the repository, and removes the crates that stand for edits."""
+    for it in pathlib.Path(copy, "crates").iterdir():
+        if it.name in names or not os.path.exists(f"{ROOT}/crates/{it.name}"):
+            shutil.rmtree(it)
+    for name in {*names}:
+        shutil.copytree(f"{ROOT}/crates/{name}", f"{copy}/crates/{name}", ignore=LEFT_OUT)
+    shutil.copy(f"{ROOT}/crates.txt", copy)
+
+
+def judge_together(copy, crate, tests, edits):
+    """Tries edits of a crate together, and returns for each whether a test fails, with a line that says which. Over the unchanged crate, which is tried with
+    them, no test may fail."""
+    modules = [fields.get("modules", "") for _, fields, _ in edits]
+    unchanged = "no edit", {"file": edits[0][1]["file"], "modules": " ".join(sorted({*" ".join(modules).split()})) if all(modules) else ""}, []
+    left, results = dict(enumerate([unchanged, *edits])), []
+    while len(left) > 1:
+        try:
+            write_together(copy, crate, tests, left)
+            said = rt_try(f"{copy}/crates/{tests}", "--test", "--seconds", "240")
+        finally:
+            reset(copy, crate, tests)
+        if re.search(r"^test result: ", said, flags=re.M):
+            break
+        # An edit that the compiler refuses is judged by that; the others are tried once more.
+        error = re.search(rf"(?:src/v|{crate}_)(\d+)[/.].*error.*", said)
+        if not error or int(error[1]) not in left:
+            why = said.strip().splitlines()[-1][:200] if said.strip() else "no output"
+            return results + [(False, f"{crate}/{name}: NOT JUDGED: {why}") for name, _, _ in left.values() if name != "no edit"]
+        name = left.pop(int(error[1]))[0]
+        bound = re.search(r"error\[unsatisfied-bound\]: (.*)", error[0])
+        results.append((True, f"{crate}/{name}: its tests don't compile: {bound[1]}") if bound else (False, f"{crate}/{name}: NOT JUDGED: {error[0][:200]}"))
+    failing = {number: re.findall(rf"^test v{number}::(\S+) \.\.\. FAILED", said, flags=re.M) for number in left}
+    for number, (name, _, _) in [*left.items()][1:]:
+        failed = failing[number]
+        if failing[0]:
+            results.append((False, f"{crate}/{name}: NOT JUDGED: without an edit {failing[0][0]} fails"))
+            continue
+        results.append((True, f"{crate}/{name}: fails {', '.join(failed)[:150]}") if failed else (False, f"{crate}/{name}: NO TEST FAILS"))
+    return results
+
+
+def answers_of(copy, crate, runs):
+    """Returns what the program of a copy answers in the runs: for stored runs a line each, for one run what it prints."""
+    folder = f"{copy}/crates/{crate}"
+    if runs != "all" and not runs.endswith(".txt"):
+        runs, _, given = runs.partition(" < ")
+        words = [re.sub(rb"\\x([0-9a-f]{2})", lambda it: bytes([int(it[1], 16)]), it.encode()) for it in shlex.split(runs)]
+        flags = ["--steps", "0", *(words[:2] if words[:1] == [b"--fail-alloc"] else [])]
+        given = given.replace("\\n", "\n").replace("\\t", "\t")
+        return rt_try(folder, *flags, "--", *words[len(flags) - 2 :], given=given).splitlines()
+    with tempfile.TemporaryDirectory(prefix="cases-") as cases:
+        subprocess.run([f"{ROOT}/gate/stored-runs.py", "--cases", crate, cases, *(runs.split() if runs != "all" else [])], check=True)
+        return re.findall(r"^case=.*", rt_try(folder, "--steps", "0", "--cases", cases), flags=re.M)
+
+
+def unchanged(copy, crate, runs):
+    """Returns what the unchanged program answers in the runs. It answers all stored runs once."""
+    files = [it.removesuffix(".txt") for it in runs.split()] if runs.endswith(".txt") else []
+    key = crate, "all" if files else runs
+    with IS_ASKED:
+        if key not in UNCHANGED:
+            UNCHANGED[key] = answers_of(copy, *key)
+    return [it for it in UNCHANGED[key] if not files or any(it.startswith(f"case={crate}-{file}-") for file in files)]
+
+
+def judge_runs(copy, crate, name, runs, wanted):
+    """Runs the program of a copy, and returns whether an answer isn't that of the unchanged program, with a line that says which."""
+    found = answers_of(copy, crate, runs)
+    differing = [it for it in found if it not in wanted]
+    if len(found) != len(wanted) or not found:
+        return False, f"{crate}/{name}: NOT JUDGED: {found[-1][:200] if found else 'no output'}"
+    if differing:
+        return True, f"{crate}/{name}: fails {differing[0][:150]}"
+    return False, f"{crate}/{name}: NO RUN FAILS"
+
+
+def judge_tests(copy, crate, name, fields):
+    """Runs the tests of a copy, and returns whether one fails, with a line that says which."""
+    tests = pathlib.Path(copy, "crates", fields["tests"])
+    texts = with_modules(sources_of(fields["tests"]), fields.get("modules", "").split())
+    if "snippet" in fields:
+        snippet = pathlib.Path(ROOT, "crates", fields["tests"], "must-run", fields["snippet"] + ".snippet").read_text(encoding="utf-8")
+        texts[snippet.splitlines()[0].removeprefix("// added to: src/")] += snippet
+    shutil.rmtree(tests / "src")
+    write(tests / "src", texts)
+    said = rt_try(tests, "--test", *(["--seconds", fields["seconds"]] if "seconds" in fields else []))
+    failed = re.findall(r"^test (\S+) \.\.\. FAILED", said, flags=re.M)
+    if failed:
+        return True, f"{crate}/{name}: fails {', '.join(failed)[:150]}"
+    if re.search(r"^test result: ok", said, flags=re.M):
+        return False, f"{crate}/{name}: NO TEST FAILS"
+    last = said.strip().splitlines()
+    return False, f"{crate}/{name}: NOT JUDGED: {last[-1][:200] if last else 'no output'}"
+
+
+def judge_alone(copy, crate, name, fields, pairs):
+    """Tries one edit in a copy, and returns whether a test or a run fails, with a line that says which."""
+    wanted = unchanged(copy, crate, fields["runs"]) if "runs" in fields else []
+    try:
+        for source, (_, after) in changed(copy, crate, fields, pairs).items():
+            pathlib.Path(copy, "crates", crate, source).write_text(after, encoding="utf-8")
+        if "runs" in fields:
+            return judge_runs(copy, crate, name, fields["runs"], wanted)
+        return judge_tests(copy, crate, name, fields)
+    finally:
+        reset(copy, crate, *([fields["tests"]] if "tests" in fields else []))
+
+
+LEFT_OUT = shutil.ignore_patterns("out", "wrong-bodies", "must-not-compile", "must-run", "runs")
+
+
+def try_tested(wanted):
+    """Tries the edits over which a test must fail, side by side, each lane in a copy of the repository; yields whether one passed, and a line that says so."""
+    together, calls = {}, {}
+    for crate, name, fields, pairs in wanted:
+        if {"runs", "snippet", "seconds"} & {*fields}:
+            calls[crate, name] = lambda copy, it=(crate, name, fields, pairs): [judge_alone(copy, *it)]
+        else:
+            together.setdefault((crate, fields["tests"]), []).append((name, fields, pairs))
+    for (crate, tests), edits in together.items():
+        for at in range(0, len(edits), IN_ONE):
+            calls[crate, at] = lambda copy, it=(crate, tests, edits[at : at + IN_ONE]): judge_together(copy, *it)
+    lanes = min(len(calls), len(os.sched_getaffinity(0))) or 1
+    with tempfile.TemporaryDirectory(prefix="tested-bodies-") as room:
+        copies = queue.Queue()
+        for lane in range(lanes):
+            shutil.copytree(f"{ROOT}/crates", f"{room}/{lane}/crates", ignore=LEFT_OUT)
+            for name in ("crates.txt", "HANDLES"):
+                shutil.copy(f"{ROOT}/{name}", f"{room}/{lane}")
+            copies.put(f"{room}/{lane}")
+
+        def in_a_copy(call):
+            copy = copies.get()
+            try:
+                return call(copy)
+            finally:
+                copies.put(copy)
+
+        for _, results in in_lanes({key: ((), lambda _, it=call: in_a_copy(it)) for key, call in calls.items()}):
+            yield from results
