@@ -15,8 +15,8 @@ The edits stand in crates/CRATE/tested-bodies.edits; gate/edits.py explains the 
 
 Each is compiled and run without a proof, in a copy of the repository. It passes if a test fails, or if the tests don't compile because a type lacks a
 trait. The compiler takes half a minute for the toolchain's library alone, so a crate's edits are compiled together: edit 3 of a part of those of
-`rsc_search` as a crate `rsc_search_3`, with its tests in a module `v3`. A program's tests stand in the program, so its edits are modules of one program. The edits with
-a snippet, seconds or runs are tried alone.
+`rsc_search` as a crate `rsc_search_3`, with its tests in a module `v3`, and edits of a program as modules of one program. The edits with a snippet, with
+seconds or of one run are tried alone.
 """
 import os
 import pathlib
@@ -26,14 +26,11 @@ import shlex
 import shutil
 import subprocess
 import tempfile
-import threading
 
 from edits import ROOT, blocks, in_lanes, replaced
 
 FIELDS = ("file", "tests", "modules", "snippet", "seconds", "runs", "also")
 IN_ONE = 16
-# What the unchanged programs answer, by crate and runs.
-UNCHANGED, IS_ASKED = {}, threading.Lock()
 
 
 def tested_edits(wanted):
@@ -124,17 +121,41 @@ def variant_of(copy, crate, number, fields, pairs):
         path.write_text(re.sub(rf"\b{crate}\b", own.name, path.read_text(encoding="utf-8")), encoding="utf-8")
 
 
+# The program of several programs, whose first argument says which of them is asked for. They get the others.
+MAIN = """
+use std::env;
+use std::process::ExitCode;
+
+fn main(rt: HostRuntime) -> ExitCode {{
+    let asked = match env::args(&rt) {{
+        Ok(mut arguments) => {{
+            let _ = arguments.next();
+            arguments.next()
+        }}
+        Err(_) => None,
+    }};
+    let Some(asked) = asked else {{
+        return ExitCode::from(99);
+    }};
+{choices}    ExitCode::from(98)
+}}
+"""
+CHOICE = "    if asked.as_str() == \"v{0}\" {{\n        return v{0}::main(rt);\n    }}\n"
+REST = "env::args(&rt).map(|mut arguments| {\n        let _ = arguments.next();\n        arguments\n    })"
+
+
 def write_together(copy, crate, tests, edits):
     """Writes edits of a crate, by their numbers, and the tests of each into a copy of the repository."""
     root = "main.rt" if tests == crate else "lib.rt"
     texts = sources_of(tests)
     heads = re.findall(r"^#!\[.*\n", texts[root], flags=re.M)
-    main = "\nfn main(_rt: HostRuntime) {}\n" if tests == crate else ""
+    main = MAIN.format(choices="".join(CHOICE.format(number) for number in edits)) if tests == crate else ""
     src = {root: "".join([*heads, "\n", *(f"mod v{number};\n" for number in edits), main])}
     for number, (_, fields, pairs) in edits.items():
         own = with_modules(texts, fields.get("modules", "").split())
         if tests == crate:
             own |= {source.removeprefix("src/"): after for source, (_, after) in changed(ROOT, crate, fields, pairs).items()}
+            own[root] = re.sub(r"^fn main\b", "pub fn main", own[root].replace("env::args(&rt)", REST), flags=re.M)
         else:
             variant_of(copy, crate, number, fields, pairs)
         src |= as_module(own, root, number, {} if tests == crate else {crate: f"{crate}_{number}"})
@@ -157,71 +178,87 @@ def reset(copy, *names):
     shutil.copy(f"{ROOT}/crates.txt", copy)
 
 
-def judge_together(copy, crate, tests, edits):
-    """Tries edits of a crate together, and returns for each whether a test fails, with a line that says which. Over the unchanged crate, which is tried with
-    them, no test may fail."""
+def run_together(copy, crate, tests, edits, run):
+    """Compiles edits of a crate together with the unchanged crate, which is number 0, and runs them. Returns the edits that were compiled, by their numbers,
+    what the run says, and whether each other edit passed, with a line that says so."""
     modules = [fields.get("modules", "") for _, fields, _ in edits]
     unchanged = "no edit", {"file": edits[0][1]["file"], "modules": " ".join(sorted({*" ".join(modules).split()})) if all(modules) else ""}, []
     left, results = dict(enumerate([unchanged, *edits])), []
     while len(left) > 1:
         try:
             write_together(copy, crate, tests, left)
-            said = rt_try(f"{copy}/crates/{tests}", "--test", "--seconds", "240")
+            said = run()
         finally:
             reset(copy, crate, tests)
-        if re.search(r"^test result: ", said, flags=re.M):
-            break
+        if re.search(r"^(test result: |case=)", said, flags=re.M):
+            del left[0]
+            return left, said, results
         # An edit that the compiler refuses is judged by that; the others are tried once more.
         error = re.search(rf"(?:src/v|{crate}_)(\d+)[/.].*error.*", said)
-        if not error or int(error[1]) not in left:
+        if not error or int(error[1]) not in left or error[1] == "0":
             why = said.strip().splitlines()[-1][:200] if said.strip() else "no output"
-            return results + [(False, f"{crate}/{name}: NOT JUDGED: {why}") for name, _, _ in left.values() if name != "no edit"]
+            return {}, "", results + [(False, f"{crate}/{name}: NOT JUDGED: {why}") for name, _, _ in [*left.values()][1:]]
         name = left.pop(int(error[1]))[0]
         bound = re.search(r"error\[unsatisfied-bound\]: (.*)", error[0])
         results.append((True, f"{crate}/{name}: its tests don't compile: {bound[1]}") if bound else (False, f"{crate}/{name}: NOT JUDGED: {error[0][:200]}"))
-    failing = {number: re.findall(rf"^test v{number}::(\S+) \.\.\. FAILED", said, flags=re.M) for number in left}
-    for number, (name, _, _) in [*left.items()][1:]:
-        failed = failing[number]
+    return {}, "", results
+
+
+def judged(crate, left, failing):
+    """Yields for each edit whether something fails over it, with a line that says which; over the unchanged crate nothing may."""
+    for number, (name, _, _) in left.items():
         if failing[0]:
-            results.append((False, f"{crate}/{name}: NOT JUDGED: without an edit {failing[0][0]} fails"))
-            continue
-        results.append((True, f"{crate}/{name}: fails {', '.join(failed)[:150]}") if failed else (False, f"{crate}/{name}: NO TEST FAILS"))
-    return results
+            yield False, f"{crate}/{name}: NOT JUDGED: without an edit {failing[0][0]} fails"
+        elif failing[number]:
+            yield True, f"{crate}/{name}: fails {', '.join(failing[number])[:150]}"
+        else:
+            yield False, f"{crate}/{name}: NOTHING FAILS"
 
 
-def answers_of(copy, crate, runs):
-    """Returns what the program of a copy answers in the runs: for stored runs a line each, for one run what it prints."""
-    folder = f"{copy}/crates/{crate}"
-    if runs != "all" and not runs.endswith(".txt"):
-        runs, _, given = runs.partition(" < ")
-        words = [re.sub(rb"\\x([0-9a-f]{2})", lambda it: bytes([int(it[1], 16)]), it.encode()) for it in shlex.split(runs)]
-        flags = ["--steps", "0", *(words[:2] if words[:1] == [b"--fail-alloc"] else [])]
-        given = given.replace("\\n", "\n").replace("\\t", "\t")
-        return rt_try(folder, *flags, "--", *words[len(flags) - 2 :], given=given).splitlines()
+def judge_together(copy, crate, tests, edits):
+    """Tries edits of a crate together by the tests."""
+    left, said, results = run_together(copy, crate, tests, edits, lambda: rt_try(f"{copy}/crates/{tests}", "--test", "--seconds", "240"))
+    failing = {number: re.findall(rf"^test v{number}::(\S+) \.\.\. FAILED", said, flags=re.M) for number in [0, *left]}
+    return results + [*judged(crate, left, failing)]
+
+
+def judge_programs(copy, crate, edits):
+    """Tries edits of a program together by its plain stored runs: each of the programs is asked all of them."""
     with tempfile.TemporaryDirectory(prefix="cases-") as cases:
-        subprocess.run([f"{ROOT}/gate/stored-runs.py", "--cases", crate, cases, *(runs.split() if runs != "all" else [])], check=True)
-        return re.findall(r"^case=.*", rt_try(folder, "--steps", "0", "--cases", cases), flags=re.M)
+        subprocess.run([f"{ROOT}/gate/stored-runs.py", "--cases", crate, cases], check=True)
+        for args in [*pathlib.Path(cases).glob("*.args")]:
+            for number in range(len(edits) + 1):
+                own = f"v{number}-{args.stem}"
+                shutil.copy(args.with_suffix(""), f"{cases}/{own}")
+                shutil.copy(args.with_suffix(".stdout"), f"{cases}/{own}.stdout")
+                pathlib.Path(cases, f"{own}.args").write_bytes(f"v{number}\n".encode() + args.read_bytes())
+            for ending in ("", ".args", ".stdout"):
+                args.with_suffix(ending).unlink()
+        left, said, results = run_together(copy, crate, crate, edits, lambda: rt_try(f"{copy}/crates/{crate}", "--steps", "0", "--cases", cases))
+    answers = {number: dict(re.findall(rf"^case=v{number}-(\S+) (.*)", said, flags=re.M)) for number in [0, *left]}
+    failing = {0: [name for name, answer in answers[0].items() if "output=differs" in answer]}
+    for number, (_, fields, _) in left.items():
+        files = [f"{crate}-{it.removesuffix('.txt')}-" for it in fields["runs"].split() if it != "all"]
+        failing[number] = [it for it in answers[0] if answers[number].get(it) != answers[0][it] and (not files or it.startswith(tuple(files)))]
+    return results + [*judged(crate, left, failing)]
 
 
-def unchanged(copy, crate, runs):
-    """Returns what the unchanged program answers in the runs. It answers all stored runs once."""
-    files = [it.removesuffix(".txt") for it in runs.split()] if runs.endswith(".txt") else []
-    key = crate, "all" if files else runs
-    with IS_ASKED:
-        if key not in UNCHANGED:
-            UNCHANGED[key] = answers_of(copy, *key)
-    return [it for it in UNCHANGED[key] if not files or any(it.startswith(f"case={crate}-{file}-") for file in files)]
+def answers_of(copy, crate, run):
+    """Returns what the program of a copy prints in a run, line by line."""
+    run, _, given = run.partition(" < ")
+    words = [re.sub(rb"\\x([0-9a-f]{2})", lambda it: bytes([int(it[1], 16)]), it.encode()) for it in shlex.split(run)]
+    flags = ["--steps", "0", *(words[:2] if words[:1] == [b"--fail-alloc"] else [])]
+    given = given.replace("\\n", "\n").replace("\\t", "\t")
+    return rt_try(f"{copy}/crates/{crate}", *flags, "--", *words[len(flags) - 2 :], given=given).splitlines()
 
 
-def judge_runs(copy, crate, name, runs, wanted):
-    """Runs the program of a copy, and returns whether an answer isn't that of the unchanged program, with a line that says which."""
-    found = answers_of(copy, crate, runs)
-    differing = [it for it in found if it not in wanted]
-    if len(found) != len(wanted) or not found:
+def judge_run(copy, crate, name, run, wanted):
+    """Runs the program of a copy once, and returns whether it answers otherwise than the unchanged program, with a line that says how."""
+    found = answers_of(copy, crate, run)
+    differing = [it for it in found if it not in wanted] or [it for it in wanted if it not in found]
+    if not any(it.startswith("run=ended") for it in found):
         return False, f"{crate}/{name}: NOT JUDGED: {found[-1][:200] if found else 'no output'}"
-    if differing:
-        return True, f"{crate}/{name}: fails {differing[0][:150]}"
-    return False, f"{crate}/{name}: NO RUN FAILS"
+    return (True, f"{crate}/{name}: fails {differing[0][:150]}") if differing else (False, f"{crate}/{name}: NOTHING FAILS")
 
 
 def judge_tests(copy, crate, name, fields):
@@ -238,19 +275,19 @@ def judge_tests(copy, crate, name, fields):
     if failed:
         return True, f"{crate}/{name}: fails {', '.join(failed)[:150]}"
     if re.search(r"^test result: ok", said, flags=re.M):
-        return False, f"{crate}/{name}: NO TEST FAILS"
+        return False, f"{crate}/{name}: NOTHING FAILS"
     last = said.strip().splitlines()
     return False, f"{crate}/{name}: NOT JUDGED: {last[-1][:200] if last else 'no output'}"
 
 
 def judge_alone(copy, crate, name, fields, pairs):
     """Tries one edit in a copy, and returns whether a test or a run fails, with a line that says which."""
-    wanted = unchanged(copy, crate, fields["runs"]) if "runs" in fields else []
+    wanted = answers_of(copy, crate, fields["runs"]) if "runs" in fields else []
     try:
         for source, (_, after) in changed(copy, crate, fields, pairs).items():
             pathlib.Path(copy, "crates", crate, source).write_text(after, encoding="utf-8")
         if "runs" in fields:
-            return judge_runs(copy, crate, name, fields["runs"], wanted)
+            return judge_run(copy, crate, name, fields["runs"], wanted)
         return judge_tests(copy, crate, name, fields)
     finally:
         reset(copy, crate, *([fields["tests"]] if "tests" in fields else []))
@@ -263,13 +300,15 @@ def try_tested(wanted):
     """Tries the edits over which a test must fail, side by side, each lane in a copy of the repository; yields whether one passed, and a line that says so."""
     together, calls = {}, {}
     for crate, name, fields, pairs in wanted:
-        if {"runs", "snippet", "seconds"} & {*fields}:
+        runs = fields.get("runs", "")
+        if {"snippet", "seconds"} & {*fields} or runs and runs != "all" and not runs.endswith(".txt"):
             calls[crate, name] = lambda copy, it=(crate, name, fields, pairs): [judge_alone(copy, *it)]
         else:
-            together.setdefault((crate, fields["tests"]), []).append((name, fields, pairs))
+            together.setdefault((crate, fields.get("tests")), []).append((name, fields, pairs))
     for (crate, tests), edits in together.items():
         for at in range(0, len(edits), IN_ONE):
-            calls[crate, at] = lambda copy, it=(crate, tests, edits[at : at + IN_ONE]): judge_together(copy, *it)
+            part = edits[at : at + IN_ONE]
+            calls[crate, tests, at] = lambda copy, it=(crate, tests, part): judge_together(copy, *it) if it[1] else judge_programs(copy, it[0], it[2])
     lanes = min(len(calls), len(os.sched_getaffinity(0))) or 1
     with tempfile.TemporaryDirectory(prefix="tested-bodies-") as room:
         copies = queue.Queue()
