@@ -1,12 +1,13 @@
 -- The bits of the two numbers that hold a set of bytes, and what an iterator over its members has left.
-use Rattle.std.proofs.Common.{◌≡◌, ◌≢◌, ◌↔◌, ℕ, zero, suc, ◌+◌, ◌-◌, ◌*◌, ◌/◌, ◌%◌, ◌^◌, ◌<◌, ◌≤◌, Bool, true, false, min, max, not, ◌&&◌, ◌||◌, cond, nat_eq, nat_le, refl, sym, ap, ap₂, ◌∙◌, arith, ⊎_elim, bit_and, bit_or, mod-lt, nat_lt, nat_cmp, List, length, get_or, map, replicate, w8, [], ◌∷◌, ◌++◌, filter, append-nil}
+use Rattle.std.proofs.Common.{◌≡◌, ◌↔◌, ℕ, zero, suc, ◌+◌, ◌-◌, ◌*◌, ◌/◌, ◌%◌, ◌^◌, ◌<◌, ◌≤◌, Bool, true, false, min, not, ◌&&◌, ◌||◌, cond, nat_eq, nat_le, refl, sym, ap, ap₂, ◌∙◌, arith, ⊎_elim, bit_and, bit_or, mod-eq_of_lt, mod-lt, nat_lt, nat_cmp, List, length, get_or, map, replicate, w8, [], ◌∷◌, ◌++◌, filter, append-nil}
 use Rattle.std.specs.Int.{w128, bit_at, bit_not}
 use Rattle.std.specs.Int.Count.{ones, ones_in, ones_cat}
-use Rattle.std.proofs.lemmas.Bool.{cases_lt, cases_eq, eq-eqb, ne_eqb, le-leb}
+use Rattle.std.proofs.lemmas.Bool.{cases_lt, and_parts, eq-eqb, eqb-true}
 use Rattle.std.proofs.lemmas.Bool.Decides.{nat_tests}
 use Rattle.std.proofs.lemmas.Nat.{and_mask, mod-pow-add, one_shl, pow_pos, shr-shr}
 use Rattle.std.proofs.lemmas.Nat.Bits.{bit_at-lt, bit_at-pow_same, bit_at-pow_other, bit_at-zero, bit_at_and, bit_at_or, bit_at_not, bit_at_ones, bit_at_cat_low, bit_at_cat_high, same_from_bits, bit_at_above}
-use Rattle.rsc_alphabet.proofs.Prelude.{has_bit, same_digit, class_of, class_of_more, class_of_none, mask_of, Numbers, masked, contains-masked, low_again, high_again, contains-inserted, contains-removed, from_to, from_to_none, filter_none, filter_same, filter_parts, filter_at, members_from, members_left}
+use Rattle.rsc_alphabet.proofs.Prelude.{has_bit, same_digit, class_of, class_of_more, class_of_none, mask_of, Numbers, masked, contains-masked, low_again, high_again, contains-inserted, contains-removed, from_to, from_to_none, filter_none, filter_same, filter_parts, filter_at, members_from, members_left, same_bools, same_from, same_to}
+use Rattle.rsc_alphabet.specs.SameMembers.{same_members}
 use Rattle.std.specs.Cmp.{nat_cmp_total}
 use Rattle.std.specs.Prelude.{if◌then◌else◌}
 use Rattle.std.specs.FinSet as sets
@@ -22,7 +23,7 @@ use Rattle.std.proofs.lemmas.Simd.{length-chunk, get_or-chunk, bit_mask_l, bitma
 pub bit_at_shr : (n k i : ℕ) → bit_at (n / 2 ^ k) i ≡ bit_at n (k + i)
 bit_at_shr n k i = ap (λ x. x % 2) (shr-shr n k i)
 
-bit_at_mod : (n k i : ℕ) → i < k → bit_at (n % 2 ^ k) i ≡ bit_at n i
+pub bit_at_mod : (n k i : ℕ) → i < k → bit_at (n % 2 ^ k) i ≡ bit_at n i
 bit_at_mod n k i l = rw (← and_mask n k) (bit_at_and n (2 ^ k - 1) i ∙ rw (bit_at_ones k i l) (omega (arith, bit_at-lt n i)))
 
 -- the bits of a number that was shifted left: the kept ones, from the lowest on, and below it
@@ -39,10 +40,7 @@ bit_at_shl_below n k w i low high = kept_shl n k w i high ∙ bit_at_cat_low n k
 
 -- one bit, shifted left
 pub has_bit_one : (k w i : ℕ) → k < w → has_bit (1 * 2 ^ k % 2 ^ w) i ≡ nat_eq i k
-has_bit_one k w i l = rw (one_shl k w l) (⊎_elim
-    (λ (e : i ≡ k). rw (e, bit_at-pow_same k, eq-eqb k k refl) refl)
-    (λ (ne : i ≢ k). rw (bit_at-pow_other k i ne, ne_eqb i k ne) refl)
-    (cases_eq i k))
+has_bit_one k w i l = rw (one_shl k w l) (grind (arith, nat_tests, bit_at-pow_same k, bit_at-pow_other k i))
 
 -- two indices are the same exactly if they are once the same number is added to both
 pub eqb_shifted : (i k a b : ℕ) → a + k ≡ b → nat_eq i k ≡ nat_eq (a + i) b
@@ -50,23 +48,17 @@ eqb_shifted i k a b is = grind (arith, nat_tests)
 
 -- ---- two numbers
 
-digits : (x y : ℕ) → x < 2 → y < 2 → (nat_eq (max x y) 1 ≡ (nat_eq x 1 || nat_eq y 1)) × (nat_eq (min x y) 1 ≡ (nat_eq x 1 && nat_eq y 1))
-digits x y lx ly = (grind (arith, nat_tests), grind (arith, nat_tests))
-
 -- the bits of either number, and of both
 pub has_bit_either : (a b i : ℕ) → has_bit (bit_or a b) i ≡ (has_bit a i || has_bit b i)
-has_bit_either a b i = ap (λ x. nat_eq x 1) (bit_at_or a b i) ∙ (digits (bit_at a i) (bit_at b i) (bit_at-lt a i) (bit_at-lt b i)).0
+has_bit_either a b i = grind (arith, nat_tests, bit_at_or a b i, bit_at-lt a i, bit_at-lt b i)
 
 -- a bit of both numbers
 pub has_bit_both : (a b i : ℕ) → has_bit (bit_and a b) i ≡ (has_bit a i && has_bit b i)
-has_bit_both a b i = ap (λ x. nat_eq x 1) (bit_at_and a b i) ∙ (digits (bit_at a i) (bit_at b i) (bit_at-lt a i) (bit_at-lt b i)).1
+has_bit_both a b i = grind (arith, nat_tests, bit_at_and a b i, bit_at-lt a i, bit_at-lt b i)
 
 -- the bits that a number doesn't have
 pub has_bit_not : (n i : ℕ) → n < 2 ^ 128 → i < 128 → has_bit (bit_not w128 n) i ≡ not (has_bit n i)
-has_bit_not n i fits l = ap (λ x. nat_eq x 1) (bit_at_not w128 n i fits l) ∙ other (bit_at n i) (bit_at-lt n i)
-  where
-    other : (x : ℕ) → x < 2 → nat_eq (1 - x) 1 ≡ not (nat_eq x 1)
-    other x l = grind (arith, nat_tests)
+has_bit_not n i fits l = grind (arith, nat_tests, bit_at_not w128 n i fits l, bit_at-lt n i)
 
 -- the bits of a number that is made of two halves
 pub has_bit_halves : (p : ℕ → Bool) (whole lower upper : ℕ) → ((i : ℕ) → i < 64 → has_bit whole i ≡ has_bit lower i)
@@ -82,26 +74,11 @@ has_bit_halves p whole lower upper below above low high i =
 pub run_within : (run mask start end : ℕ) → mask < 2 ^ 128 → end < 128 → ((i : ℕ) → has_bit run i ≡ (nat_le start i && nat_le i end))
     → (bit_and run (bit_not w128 mask) ≡ 0) ↔ ((i : ℕ) → start ≤ i → i ≤ end → has_bit mask i ≡ true)
 run_within run mask start end fits l run_is = (
-  (λ none i low high.
-      held (has_bit mask i) (rw (run_is i, le-leb start i low, le-leb i end high, has_bit_not mask i fits (omega arith)) at
-      (sym (has_bit_both run (bit_not w128 mask) i) ∙ ap (λ n. has_bit n i) none ∙ ap (λ x. nat_eq x 1) (bit_at-zero i)))),
-  (λ all. same_from_bits _ 0 (λ i. same_digit _ _ (bit_at-lt _ i) (bit_at-lt 0 i)
-      (has_bit_both run (bit_not w128 mask) i ∙ rw (run_is i, bit_at-zero i) (out all i)))),
+  (λ none i low high. let bits = ap (λ n. has_bit n i) none in
+      grind (arith, nat_tests, bits, has_bit_both run (bit_not w128 mask) i, run_is i, has_bit_not mask i fits, bit_at-zero i)),
+  (λ all. same_from_bits _ 0 (λ i. same_digit _ _ (bit_at-lt _ i) (bit_at-lt 0 i) (has_bit_both run (bit_not w128 mask) i
+      ∙ rw (run_is i, bit_at-zero i) (grind (arith, nat_tests, all i, has_bit_not mask i fits))))),
 )
-  where
-    held : (x : Bool) → not x ≡ false → x ≡ true
-    held true e = refl
-    held false e = sym e
-
-    out : ((i : ℕ) → start ≤ i → i ≤ end → has_bit mask i ≡ true) → (i : ℕ) → (nat_le start i && nat_le i end && has_bit (bit_not w128 mask) i) ≡ false
-    out all i =
-        ⊎_elim
-        (λ (h : i < start). grind (arith, nat_tests))
-        (λ (h : start ≤ i). ⊎_elim
-        (λ (k : end < i). grind (arith, nat_tests))
-        (λ (k : i ≤ end). rw (has_bit_not mask i fits (omega arith), all i h k, le-leb start i h, le-leb i end k) refl)
-        (cases_lt end i))
-        (cases_lt i start)
 
 -- ---- how many bits are 1
 
@@ -112,7 +89,7 @@ ones_digit (suc zero) l = refl
 ones_digit (suc (suc b)) l = absurd (omega arith)
 
 -- the bits below an index, as a count of the boundaries below a byte
-pub ones_class_of : (n k : ℕ) → ones (n % 2 ^ k) ≡ class_of (has_bit n) k
+ones_class_of : (n k : ℕ) → ones (n % 2 ^ k) ≡ class_of (has_bit n) k
 ones_class_of n zero = let e : n % 1 ≡ 0 = omega arith in rw e (ones_digit 0 (omega arith)) ∙ sym (class_of_none (has_bit n))
 ones_class_of n (suc k) =
     let e : suc k ≡ 1 + k = omega arith in
@@ -125,18 +102,18 @@ ones_class_of n (suc k) =
     swap : (x y : ℕ) → x + y ≡ y + x
     swap x y = omega arith
 
+pub ones_all : (n : ℕ) → n < 2 ^ 128 → ones n ≡ class_of (has_bit n) 128
+ones_all n fits = ap ones (sym (mod-eq_of_lt fits)) ∙ ones_class_of n 128
+
+pub ones_under : (n k : ℕ) → k < 128 → ones (bit_and n (1 * 2 ^ k % 2 ^ 128 - 1)) ≡ class_of (has_bit n) k
+ones_under n k l = rw (one_shl k 128 l, and_mask n k) (ones_class_of n k)
+
 -- ---- what the bits of the two numbers that hold a set of bytes say of the set
 
 -- a byte is a member if its bit is 1, of the low number below 128, and of the high one from there on
 pub contains_masked : (low high b : ℕ) → high < 2 ^ 128
     → sets.contains (masked low high) b ≡ (if nat_lt b 128 then has_bit low b else (nat_lt b 256 && has_bit high (b - 128)))
-contains_masked low high b fits = contains-masked low high fits b ∙ by_cases (has_bit low b) (has_bit high (b - 128)) past
-  where
-    past : 256 ≤ b → has_bit high (b - 128) ≡ false
-    past l = rw (bit_at_above high 128 (b - 128) fits (omega arith)) refl
-
-    by_cases : (x y : Bool) → (256 ≤ b → y ≡ false) → cond (nat_lt b 128) x y ≡ cond (nat_lt b 128) x (nat_lt b 256 && y)
-    by_cases x y none = grind (arith, nat_tests)
+contains_masked low high b fits = grind (arith, nat_tests, contains-masked low high fits b, bit_at_above high 128 (b - 128) fits)
 
 -- the set of no bits is empty
 pub masked_none : masked 0 0 ≡ sets.empty
@@ -144,12 +121,24 @@ masked_none = same_set nat_cmp_total nat_cmp-IsAntisymmetric _ _
     (λ q. grind (arith, nat_tests, contains_masked 0 0 q, bit_at-zero q, bit_at-zero (q - 128), contains-empty nat_cmp q))
 
 -- sets are equal only if their numbers are
-pub masks_same : {low high low2 high2 : ℕ} → (low < 2 ^ 128) × (high < 2 ^ 128) → (low2 < 2 ^ 128) × (high2 < 2 ^ 128)
+masks_same : {low high low2 high2 : ℕ} → (low < 2 ^ 128) × (high < 2 ^ 128) → (low2 < 2 ^ 128) × (high2 < 2 ^ 128)
     → masked low high ≡ masked low2 high2 → (low ≡ low2) × (high ≡ high2)
 masks_same {low} {high} {low2} {high2} fits fits2 e = (
   sym (low_again low high fits.0 fits.1) ∙ ap (λ s. mask_of (sets.contains s) 128) e ∙ low_again low2 high2 fits2.0 fits2.1,
   sym (high_again low high fits.1) ∙ ap (λ s. mask_of (λ b. sets.contains s (b + 128)) 128) e ∙ high_again low2 high2 fits2.1,
 )
+
+-- sets have the same members exactly if their numbers are the same
+pub same_masks : (low high low2 high2 : ℕ) → (low < 2 ^ 128) × (high < 2 ^ 128) → (low2 < 2 ^ 128) × (high2 < 2 ^ 128)
+    → same_members (masked low high) (masked low2 high2) ≡ (nat_eq low low2 && nat_eq high high2)
+same_masks low high low2 high2 fits fits2 = same_bools _ _
+    (λ h. let e = masks_same fits fits2 (same_from nat_cmp_total nat_cmp-IsAntisymmetric _ _ h) in rw (eq-eqb low low2 e.0, eq-eqb high high2 e.1) refl)
+    (λ h. let e = and_parts _ _ h in
+    same_to nat_cmp_total nat_cmp-IsAntisymmetric _ _ (ap₂ masked (eqb-true low low2 e.0) (eqb-true high high2 e.1)))
+
+-- only zeros hold the empty set
+pub no_masks : (low high : ℕ) → (low < 2 ^ 128) × (high < 2 ^ 128) → (masked low high ≡ sets.empty) ↔ ((low ≡ 0) × (high ≡ 0))
+no_masks low high fits = (λ e. masks_same fits (omega arith, omega arith) (e ∙ sym masked_none), λ e. ap₂ masked e.0 e.1 ∙ masked_none)
 
 -- a set is another one with a byte, or without it, if its members say so
 pub inserted : (s t : Numbers) (k : ℕ) → ((b : ℕ) → sets.contains t b ≡ (nat_eq b k || sets.contains s b)) → t ≡ sets.insert s k
@@ -161,13 +150,9 @@ removed s t k members = same_set nat_cmp_total nat_cmp-IsAntisymmetric _ _ (λ b
 
 -- ---- the bits of the masks that comparisons of vectors give, and the counts of bits in a vector
 
-digit : (b : Bool) → nat_eq (cond b 1 0) 1 ≡ b
-digit true = refl
-digit false = refl
-
 -- a bit of the mask of a list of answers
 bit_of_mask : (ms : List Bool) (i : ℕ) → has_bit (mask_l ms) i ≡ get_or ms i false
-bit_of_mask ms i = ap (λ x. nat_eq x 1) (bit_mask_l ms i) ∙ digit (get_or ms i false)
+bit_of_mask ms i = grind (arith, nat_tests, bit_mask_l ms i)
 
 -- the comparison of a load with one byte
 pub equal_bits : (xs : List ℕ) (first byte i : ℕ) → first + 64 ≤ length xs → i < 64 →
@@ -208,10 +193,7 @@ whole_block s number block l same =
 
 -- its bits are those of bytes
 pub whole_block_fits : (number block : ℕ) → number < 4 → block < 2 ^ 64 → (i : ℕ) → bit_at block i ≡ 1 → 64 * number + i < 256
-whole_block_fits number block l fits i is =
-    ⊎_elim (λ (h : i < 64). omega arith) (λ (h : 64 ≤ i). let none : bit_at block i ≡ 0 = bit_at_above block 64 i fits h in absurd
-    (omega (arith, none, is)))
-    (cases_lt i 64)
+whole_block_fits number block l fits i is = grind (arith, bit_at_above block 64 i fits)
 
 -- a block with nothing left
 pub no_block : (s : Numbers) (number byte : ℕ) → members_left s number byte 0 ≡ members_from s (64 * number + 64)

@@ -1,17 +1,14 @@
 -- The maximal runs of a set of bytes, one after the other, and its members.
-use Rattle.std.proofs.Common.{◌≡◌, ℕ, ◌+◌, ◌-◌, ◌<◌, ◌≤◌, Bool, true, false, not, ◌&&◌, ◌||◌, List, [], ◌∷◌, ◌++◌, filter, refl, ap, ap₂, ◌∙◌, arith, nat_eq, nat_lt, zip, ne_eqb, ◌≢◌, zero, suc, sym, subst, nat_le, ⊎_elim, nat_cmp, ◌↔◌, ◌⊎◌, inl, inr, cond, length, get_or}
+use Rattle.std.proofs.Common.{◌≡◌, ℕ, ◌+◌, ◌-◌, ◌<◌, ◌≤◌, Bool, true, false, not, ◌||◌, List, [], ◌∷◌, ◌++◌, filter, refl, ap, ap₂, ◌∙◌, arith, nat_eq, nat_lt, zip, ne_eqb, ◌≢◌, zero, suc, sym, subst, ⊎_elim, ◌↔◌, ◌⊎◌, inl, inr, cond, length, get_or}
 use Rattle.std.specs.FinSet as sets
 use Rattle.std.proofs.Math.Bool.{and-false, or-true}
 use Rattle.std.proofs.lemmas.Bool.Decides.{nat_tests}
-use Rattle.rsc_alphabet.proofs.Prelude.{from_to, from_to_none, filter_none, filter_first, filter_skip, filter_same, filter_parts, filter_at, Numbers, members, runs, begins_run, ends_run, boundaries_of_range, boundaries_of_ranges, is_boundary_of_set, contains-boundaries_of_range, contains-joined, bytes, length-from_to, get_or-from_to, IsMaximalRun}
-use Rattle.std.specs.List.{list_any, list_all, All, Contains, AllAdjacentBelow}
-use Rattle.std.specs.Cmp.{nat_cmp_total}
-use Rattle.std.specs.FinSet.{contains-empty, same_set, nat_cmp-IsAntisymmetric}
-use Rattle.std.proofs.lemmas.Bool.{cases_lt, cases_Bool, cases_eq, eq-eqb, le-leb, true≢false, leb-true}
+use Rattle.rsc_alphabet.proofs.Prelude.{from_to, from_to_none, filter_none, filter_first, filter_skip, filter_same, filter_parts, filter_at, Numbers, members, runs, begins_run, ends_run, bytes, length-from_to, get_or-from_to, IsMaximalRun}
+use Rattle.std.specs.List.{All, Contains, AllAdjacentBelow}
+use Rattle.std.proofs.lemmas.Bool.{cases_lt, cases_Bool, cases_eq, eq-eqb, true≢false}
 use Rattle.std.specs.List.Sorted.{IsStrictlyIncreasing}
-use Rattle.std.proofs.lemmas.List.Elements.{All-contains, All-weaker, filter_passes}
+use Rattle.std.proofs.lemmas.List.Elements.{All-contains, All-contains_itself, All-weaker, filter_passes}
 use Rattle.std.proofs.lemmas.List.Kept.{IsStrictlyIncreasing-filter}
-use Rattle.std.proofs.lemmas.List.Sums.{AllPass-from_list_all}
 
 -- ---- the maximal runs of a set of bytes, one after the other
 
@@ -24,10 +21,7 @@ abbrev pub parts_no_run : Numbers → ℕ → Bool
 parts_no_run s low = nat_eq low 0 || (nat_lt 255 low || (not (sets.contains s (low - 1)) || not (sets.contains s low)))
 
 begins : (s : Numbers) (b : ℕ) → b ≤ 255 → parts_no_run s b ≡ true → sets.contains s b ≡ true → begins_run s b ≡ true
-begins s b l clean is = by_cases (sets.contains s b) (sets.contains s (b - 1)) is clean
-  where
-    by_cases : (x y : Bool) → x ≡ true → (nat_eq b 0 || (nat_lt 255 b || (not y || not x))) ≡ true → (x && (nat_eq b 0 || not y)) ≡ true
-    by_cases x y is clean = grind (arith, nat_tests)
+begins s b l clean is = grind (arith, nat_tests)
 
 -- a byte after a member begins no run, and one before a member ends none
 begins_later : (s : Numbers) (b : ℕ) → 0 < b → sets.contains s (b - 1) ≡ true → begins_run s b ≡ false
@@ -63,10 +57,7 @@ module _ {s : Numbers} {b e : ℕ} (run : EndsAt s b e) where
 
   -- past a run, no run is parted
   pub parts_no_run-after : parts_no_run s (e + 1) ≡ true
-  parts_no_run-after = by_cases (sets.contains s e) (sets.contains s (e + 1)) (sets.contains s (e + 1 - 1)) run.last
-    where
-      by_cases : (x y z : Bool) → (x && (nat_eq e 255 || not y)) ≡ true → (nat_eq (e + 1) 0 || (nat_lt 255 (e + 1) || (not z || not y))) ≡ true
-      by_cases x y z is = grind (arith, nat_tests)
+  parts_no_run-after = grind (arith, nat_tests, run.last)
 
 -- a byte that isn't a member begins and ends no run
 pub runs_from_skip : (s : Numbers) (b : ℕ) → b ≤ 255 → sets.contains s b ≡ false → runs_from s b ≡ runs_from s (b + 1)
@@ -147,18 +138,6 @@ for_runs_from s P none first skipped (suc n) low far clean =
     (λ (h : 256 ≤ low). subst (P low) (sym (runs_from_none s low (omega arith))) (none low h))
     (cases_lt low 256)
 
--- the runs of a set begin before they end
-abbrev pub is_ordered : ℕ × ℕ → Bool
-is_ordered r = nat_le r.0 r.1
-
-ordered_from : (s : Numbers) (n low : ℕ) → 256 ≤ low + n → parts_no_run s low ≡ true → list_all is_ordered (runs_from s low) ≡ true
-ordered_from s =
-    for_runs_from s (λ low rs. list_all is_ordered rs ≡ true) (λ low h. refl) (λ low e h clean run rest. rw (le-leb low e run.from) rest)
-    (λ low h none rest. rest)
-
-pub ordered_runs : (s : Numbers) → list_all is_ordered (runs s) ≡ true
-ordered_runs s = ordered_from s 256 0 (omega arith) (rw (eq-eqb 0 0 refl) refl)
-
 -- ---- lists
 
 -- what a list contains, by its first element
@@ -197,16 +176,15 @@ Contains-filter {X} p (x ∷ xs) q is c =
 pub members_contained : (s : Numbers) → All (λ b. sets.contains s b ≡ true) (members s)
 members_contained s = filter_passes (λ b. sets.contains s b) bytes
 
+-- each byte is listed
+pub all_bytes : (b : ℕ) → b < 256 → Contains bytes b
+all_bytes b l = (b, rw (length-from_to 0 256) (omega (arith, l)), get_or-from_to 0 256 b b (omega (arith, l)) ∙ omega arith)
+
 -- the list of members contains exactly the bytes of the set
 pub members_exactly : (s : Numbers) (b : ℕ) → b < 256 → Contains (members s) b ↔ (sets.contains s b ≡ true)
 members_exactly s b l = (
   All-contains (λ k. sets.contains s k ≡ true) (members s) b (members_contained s),
-  λ is. Contains-filter (λ k. sets.contains s k) bytes b is (
-    b,
-    rw (length-from_to 0 256) (omega (arith, l)),
-    get_or-from_to 0 256 b b (omega (arith, l))
-        ∙ omega arith,
-  ),
+  λ is. Contains-filter (λ k. sets.contains s k) bytes b is (all_bytes b l),
 )
 
 -- the members are listed ascending
@@ -221,23 +199,12 @@ members_ascending s =
 -- ---- runs
 
 -- the runs are ordered, maximal and apart
-pub runs_ordered : (s : Numbers) → All (λ r. r.0 ≤ r.1) (runs s)
-runs_ordered s = All-weaker (λ r. is_ordered r ≡ true) (λ r. r.0 ≤ r.1) (λ r h. leb-true r.0 r.1 h) (runs s)
-    (AllPass-from_list_all is_ordered (runs s) (ordered_runs s))
 
 not_before : (s : Numbers) (low : ℕ) → parts_no_run s low ≡ true → sets.contains s low ≡ true → low < 256 → (b : ℕ) → b + 1 ≡ low → sets.contains s b ≡ false
-not_before s low clean is l b e =
-    let at : low - 1 ≡ b = omega (arith, e) in
-    by_cases (sets.contains s low) (sets.contains s b) is (rw at at clean)
-  where
-    by_cases : (x y : Bool) → x ≡ true → (nat_eq low 0 || (nat_lt 255 low || (not y || not x))) ≡ true → y ≡ false
-    by_cases x y is clean = grind (arith, nat_tests)
+not_before s low clean is l b e = let at : low - 1 ≡ b = omega (arith, e) in grind (arith, nat_tests, rw at at clean)
 
-not_after : (s : Numbers) (e : ℕ) → ends_run s e ≡ true → e < 255 → sets.contains s (e + 1) ≡ false
-not_after s e last l = by_cases (sets.contains s e) (sets.contains s (e + 1)) last
-  where
-    by_cases : (x y : Bool) → (x && (nat_eq e 255 || not y)) ≡ true → y ≡ false
-    by_cases x y is = grind (arith, nat_tests)
+pub not_after : (s : Numbers) (e : ℕ) → ends_run s e ≡ true → e < 255 → sets.contains s (e + 1) ≡ false
+not_after s e last l = grind (arith, nat_tests)
 
 maximal : (s : Numbers) (low e : ℕ) → low < 256 → parts_no_run s low ≡ true → EndsAt s low e → IsMaximalRun s (low, e)
 maximal s low e l clean run = record {
@@ -301,6 +268,9 @@ runs_exactly s r = (
   (λ c. (runs_are_maximal s 256 0 (omega arith) (clean_start s) r c).0),
   (λ m. maximal_are_runs s 256 0 (omega arith) (clean_start s) r m (omega arith)),
 )
+
+pub runs_ordered : (s : Numbers) → All (λ r. r.0 ≤ r.1) (runs s)
+runs_ordered s = All-weaker (Contains (runs s)) (λ r. r.0 ≤ r.1) (λ r c. ((runs_exactly s r).0 c).ordered) (runs s) (All-contains_itself (runs s))
 
 -- each run ends two bytes or more before the next
 abbrev Apart : ℕ × ℕ → ℕ × ℕ → Type 0

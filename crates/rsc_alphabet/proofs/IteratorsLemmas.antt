@@ -1,18 +1,18 @@
 -- The steps of the iterators of a class map, and what they give.
-use Rattle.std.proofs.Common.{◌≡◌, ℕ, ◌+◌, ◌-◌, ◌<◌, ◌≤◌, Bool, true, false, not, List, [], ◌∷◌, ◌++◌, map, filter, refl, sym, ap, ap₂, ◌∙◌, arith, nat_eq, slice_index, Some, None, ◌^◌, length, append-nil, nat_le, ⊎_elim, set, below_more, get_or-set_same, get_or-set_other, zero, suc, ◌||◌, ◌&&◌, slice_get, length-append, option_map, pow_mono, nat_cmp, get_or, nat_lt, IsSome, All, ◌⊎◌, inl, inr, ◌==◌, subst, Contains}
+use Rattle.std.proofs.Common.{◌≡◌, ℕ, ◌+◌, ◌-◌, ◌<◌, ◌≤◌, Bool, true, false, not, List, [], ◌∷◌, ◌++◌, map, filter, refl, sym, ap, ap₂, ◌∙◌, arith, nat_eq, slice_index, Some, None, ◌^◌, length, append-nil, nat_le, ⊎_elim, set, below_more, get_or-set_same, get_or-set_other, zero, suc, ◌||◌, ◌&&◌, slice_get, length-append, pow_mono, nat_cmp, get_or, nat_lt, IsSome, All, ◌⊎◌, inl, inr, ◌==◌, Contains}
 use Rattle.std.proofs.lemmas.Bool.{eq-eqb, ne_eqb, cases_lt, le-leb, lt-leb, eqb-true}
 use Rattle.rsc_alphabet.proofs.Prelude.{from_to, bytes, from_to_none, from_to_first, length-from_to, get_or-from_to, filter_same, filter_first, filter_none, filter_parts, Symbol, byte, end_of_input, byte_of, end_of, symbols, elements_of, representing, end_if_unbounded, representatives_of, has_bit, Numbers, members, symbols_left, elements_left, class_of, number_of, class_at, class_of_none, class_of_more, class_of-between}
-use Rattle.std.proofs.lemmas.Option.{slice_get-map, slice_get-get_or}
+use Rattle.std.proofs.lemmas.Option.{slice_get-get_or}
 use Rattle.std.specs.declared.ops.Bound.{Bound}
 use Rattle.std.specs.Range.Bound.{start_index, end_index}
-use Rattle.std.proofs.lemmas.List.{ext_get_or, length-map}
+use Rattle.std.proofs.lemmas.List.{ext_get_or, get_or-map, get_or_append_left, get_or_push, length-map}
 use Rattle.std.specs.FinSet as sets
 use Rattle.std.specs.FinSet.{contains-empty}
 use Rattle.std.specs.declared.ops.Bound.TheVariants.{Included, Excluded, Unbounded}
 use Rattle.std.proofs.lemmas.Bool.Decides.{nat_tests}
 use Rattle.std.proofs.lemmas.List.Sums.{length-filter, count_by-le-length}
 use Rattle.std.proofs.lemmas.List.Elements.{All-nil, All-cons, All-append, All-map, All-filter, All-weaker, All-from_get_or, filter_passes, All-contains, Contains-append_left, Contains-push}
-use Rattle.rsc_alphabet.proofs.ByteSetsLemmas.{Contains-first, Contains-later, Contains-cases, Contains-none, Contains-filter}
+use Rattle.rsc_alphabet.proofs.ByteSetsLemmas.{Contains-filter, all_bytes}
 
 -- ---- the classes
 
@@ -45,23 +45,19 @@ symbols_left_end classes next e =
 pub symbols_left_none : (classes : List ℕ) (next : ℕ) → slice_index classes 255 + 1 < next → symbols_left classes next ≡ []
 symbols_left_none classes next l = rw (from_to_none next (class_count classes) (omega arith), lt-leb next (class_count classes) l) refl
 
-slice_get-append-left : (xs ys : List Symbol) (i : ℕ) → i < length xs → slice_get (xs ++ ys) i ≡ slice_get xs i
-slice_get-append-left [] ys i l = absurd (omega arith)
-slice_get-append-left (x ∷ xs) ys zero l = refl
-slice_get-append-left (x ∷ xs) ys (suc i) l = slice_get-append-left xs ys i (omega arith)
-
 -- a symbol for each class, and the end
-pub length-symbols : (classes : List ℕ) → length (symbols classes) ≡ slice_index classes 255 + 2
-length-symbols classes =
+pub length_symbols : (classes : List ℕ) → length (symbols classes) ≡ slice_index classes 255 + 2
+length_symbols classes =
     rw (length-append, length-map) (omega (arith, length-from_to 0 (slice_index classes 255 + 1)))
 
 -- each class is at the index of its number
-pub slice_get-symbols : (classes : List ℕ) (c : ℕ) → c ≤ slice_index classes 255 → slice_get (symbols classes) c ≡ Some (byte c)
-slice_get-symbols classes c l =
-    let all = from_to 0 (slice_index classes 255 + 1) in
-    let low : c < length all = rw (length-from_to 0 (slice_index classes 255 + 1)) (omega arith) in
-    slice_get-append-left (map (λ k. byte k) all) _ c (rw length-map low) ∙ slice_get-map (λ k. byte k) all c ∙ ap (λ o. option_map (λ k. byte k) o)
-    (slice_get-get_or all c 0 low ∙ ap Some (get_or-from_to 0 (slice_index classes 255 + 1) c 0 (omega arith) ∙ omega arith))
+pub slice_get_symbols : (classes : List ℕ) (c : ℕ) → c ≤ slice_index classes 255 → slice_get (symbols classes) c ≡ Some (byte c)
+slice_get_symbols classes c l =
+    let n : ℕ = slice_index classes 255 + 1 in
+    let low : c < length (from_to 0 n) = omega (arith, length-from_to 0 n) in
+    slice_get-get_or (symbols classes) c (byte 0) (omega (arith, length_symbols classes))
+    ∙ ap Some (get_or_append_left (map (λ k. byte k) (from_to 0 n)) (end_of classes ∷ []) (byte 0) c (rw length-map low)
+    ∙ get_or-map (λ k. byte k) (from_to 0 n) c 0 (byte 0) low ∙ ap byte (get_or-from_to 0 n c 0 (omega arith) ∙ omega arith))
 
 -- ---- the elements of a class
 
@@ -153,11 +149,7 @@ bytes_own b l = get_or-from_to 0 256 b 0 l ∙ omega arith
 
 -- the exponent after that of the greatest power of two below a number is the least that is enough
 pub least_exponent : (n r k : ℕ) → 2 ^ r ≤ n → n < 2 ^ k → r + 1 ≤ k
-least_exponent n r k enough below =
-    ⊎_elim
-    (λ (h : r < k). omega arith)
-    (λ (h : k ≤ r). absurd (omega (arith, pow_mono {i = k} {j = r} h)))
-    (cases_lt r k)
+least_exponent n r k enough below = grind (arith, pow_mono {i = k} {j = r})
 
 -- one more byte has its class
 pub class_more : (f : ℕ → ℕ) (classes : List ℕ) (b : ℕ) → length classes ≡ 256 → ((k : ℕ) → k < b → slice_index classes k ≡ f k) → b < 256 →
@@ -189,21 +181,21 @@ All-from_to low high =
     omega (arith, is, small))
 
 -- how many bytes of a range pass a test
-pub length-filter_range : (p : ℕ → Bool) (low high : ℕ) → length (filter p (from_to low high)) ≤ high - low
-length-filter_range p low high =
+pub length_filter_range : (p : ℕ → Bool) (low high : ℕ) → length (filter p (from_to low high)) ≤ high - low
+length_filter_range p low high =
     let all = from_to low high in
     omega (arith, length-filter p all, count_by-le-length p all, length-from_to low high)
 
 -- how many units the iterators give at most
-pub length-elements : (classes : List ℕ) (unit : Symbol) → length (elements_of classes unit) ≤ 256
-length-elements classes (byte c) =
+pub length_elements : (classes : List ℕ) (unit : Symbol) → length (elements_of classes unit) ≤ 256
+length_elements classes (byte c) =
     let p : ℕ → Bool = λ b. nat_eq (slice_index classes b) c in
-    omega (arith, length-map (filter p bytes) (λ b. byte b), length-filter_range p 0 256)
-length-elements classes (end_of_input n) = omega arith
+    omega (arith, length-map (filter p bytes) (λ b. byte b), length_filter_range p 0 256)
+length_elements classes (end_of_input n) = omega arith
 
 -- the representatives are at most 256 bytes and the end
-pub length-representatives : (classes : List ℕ) (from to : Bound ℕ) → end_index to 256 ≤ 256 → length (representatives_of classes from to) ≤ 257
-length-representatives classes from to low =
+pub length_representatives : (classes : List ℕ) (from to : Bound ℕ) → end_index to 256 ≤ 256 → length (representatives_of classes from to) ≤ 257
+length_representatives classes from to low =
     let chosen = representing classes (start_index from) (end_index to 256) in
     omega (
       arith,
@@ -211,14 +203,13 @@ length-representatives classes from to low =
       ends to,
       length-map chosen (λ b. byte b),
       length-append (map (λ b. byte b) chosen) (end_if_unbounded classes to),
-      length-filter_range (λ b. nat_eq b (start_index from) || not (nat_eq (slice_index classes b) (slice_index classes (b - 1)))) (start_index from)
+      length_filter_range (λ b. nat_eq b (start_index from) || not (nat_eq (slice_index classes b) (slice_index classes (b - 1)))) (start_index from)
           (end_index to 256),
     )
   where
     ends : (bound : Bound ℕ) → length (end_if_unbounded classes bound) ≤ 1
-    ends (Included n) = omega arith
-    ends (Excluded n) = omega arith
     ends Unbounded = omega arith
+    ends _ = omega arith
 
 -- what holds for the bytes of a list and for what follows them, and for the end of the input alone
 pub All-bytes : (P : Symbol → Type 0) (xs : List ℕ) (rest : List Symbol) → All (λ b. P (byte b)) xs → All P rest → All P (map (λ b. byte b) xs ++ rest)
@@ -237,12 +228,13 @@ symbols_within classes =
     (All-one (λ u. number_of u < slice_index classes 255 + 2) (end_of classes) (omega arith))
 
 -- the elements of a class have that class
-pub elements_have_class : (classes : List ℕ) (unit : Symbol) → IsSome (byte_of unit) → All (λ u. class_at classes u ≡ number_of unit) (elements_of classes unit)
-elements_have_class classes (byte c) some =
-    All-map (λ u. class_at classes u ≡ c) (λ b. byte b) (filter (λ b. nat_eq (slice_index classes b) c) bytes)
+pub elements_have_class : (classes : List ℕ) (unit : Symbol) (list : List Symbol) → list ≡ elements_of classes unit → IsSome (byte_of unit)
+    → All (λ u. class_at classes u ≡ number_of unit) list
+elements_have_class classes (byte c) list is some =
+    rw is (All-map (λ u. class_at classes u ≡ c) (λ b. byte b) (filter (λ b. nat_eq (slice_index classes b) c) bytes)
     (All-weaker (λ b. nat_eq (slice_index classes b) c ≡ true) (λ b. slice_index classes b ≡ c) (λ b h. eqb-true (slice_index classes b) c h)
-    (filter (λ b. nat_eq (slice_index classes b) c) bytes) (filter_passes (λ b. nat_eq (slice_index classes b) c) bytes))
-elements_have_class classes (end_of_input n) some = cc
+    (filter (λ b. nat_eq (slice_index classes b) c) bytes) (filter_passes (λ b. nat_eq (slice_index classes b) c) bytes)))
+elements_have_class classes (end_of_input n) list is some = cc
 
 -- representatives are bytes or the end
 pub representatives_within : (classes : List ℕ) (from to : Bound ℕ) → end_index to 256 ≤ 256
@@ -278,8 +270,7 @@ exponent_counted n r most enough least =
     (rw e at (class_of-between p r (9 - r) (λ k low high is. not_below k low is))) ∙ counts_all p r (λ k l. below k l)
   where
     below : (k : ℕ) → k < r → nat_lt (2 ^ k) n ≡ true
-    below k l = ⊎_elim (λ (h : 2 ^ k < n). grind (arith, nat_tests)) (λ (h : n ≤ 2 ^ k). let b = least k h in absurd (omega (arith, b, l)))
-        (cases_lt (2 ^ k) n)
+    below k l = grind (arith, nat_tests, least k)
 
     not_below : (k : ℕ) → r ≤ k → ¬ (nat_lt (2 ^ k) n ≡ true)
     not_below k l is = let more : 2 ^ r ≤ 2 ^ k = pow_mono {i = r} {j = k} l in grind (arith, nat_tests)
@@ -287,15 +278,7 @@ exponent_counted n r most enough least =
 -- ---- the representatives of all bytes reach each class
 
 Contains-map : {X Y : Type 0} (f : X → Y) (xs : List X) (q : X) → Contains xs q → Contains (map f xs) (f q)
-Contains-map f [] q c = absurd (Contains-none q c)
-Contains-map f (x ∷ xs) q c =
-    ⊎_elim
-    (λ (e : x ≡ q). subst (λ y. Contains (map f (x ∷ xs)) y) (ap f e) (Contains-first (f x) (map f xs)))
-    (λ (later : Contains xs q). Contains-later (f x) (map f xs) (f q) (Contains-map f xs q later))
-    (Contains-cases x xs q c)
-
-all_bytes : (b : ℕ) → b < 256 → Contains (from_to 0 256) b
-all_bytes b l = (b, rw (length-from_to 0 256) (omega (arith, l)), get_or-from_to 0 256 b b (omega (arith, l)) ∙ omega arith)
+Contains-map f xs q c = (c.0, rw length-map c.1, get_or-map f xs c.0 q (f q) c.1 ∙ ap f c.2)
 
 -- a byte that begins a class is its representative
 given : (classes : List ℕ) (b : ℕ) → b < 256 → (b == 0 || not (slice_index classes b == slice_index classes (b - 1))) ≡ true
@@ -345,14 +328,9 @@ only_bytes_and_the_end classes u c =
     (All-one P (end_of classes) (inr refl))
     in All-contains P (representatives_of classes Unbounded Unbounded) u all c
 
-slice_get_last : (xs : List Symbol) (y : Symbol) → slice_get (xs ++ y ∷ []) (length xs) ≡ Some y
-slice_get_last [] y = refl
-slice_get_last (x ∷ xs) y = slice_get_last xs y
-
 -- the end of the input is after all classes of bytes
 pub end_comes_last : (classes : List ℕ) → slice_get (symbols classes) (slice_index classes 255 + 1) ≡ Some (end_of classes)
 end_comes_last classes =
     let n : ℕ = slice_index classes 255 + 1 in
-    let xs = map (λ c. byte c) (from_to 0 n) in
-    let long : length xs ≡ n = rw length-map (length-from_to 0 n ∙ omega arith) in
-    subst (λ k. slice_get (symbols classes) k ≡ Some (end_of classes)) long (slice_get_last xs (end_of classes))
+    slice_get-get_or (symbols classes) n (end_of classes) (omega (arith, length_symbols classes))
+    ∙ ap Some (get_or_push (map (λ c. byte c) (from_to 0 n)) (end_of classes) (end_of classes) n (rw length-map (omega (arith, length-from_to 0 n))))

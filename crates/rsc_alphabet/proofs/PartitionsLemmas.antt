@@ -1,14 +1,13 @@
 -- The boundaries that calls of a class set leave, those of a set's runs and of a range, and the classes between them.
-use Rattle.std.proofs.Common.{◌≡◌, ℕ, zero, suc, ◌+◌, ◌-◌, ◌^◌, ◌<◌, ◌≤◌, Bool, true, not, ◌&&◌, ◌||◌, cond, List, length, refl, sym, ap, ◌∙◌, arith, nat_eq, nat_lt, slice_index, nat_cmp, ne_eqb, ◌≢◌, false, [], ◌∷◌, ap₂, subst, nat_le, ⊎_elim, ◌↔◌, ◌⊎◌, inl, inr, All, Contains}
+use Rattle.std.proofs.Common.{◌≡◌, ℕ, zero, suc, ◌+◌, ◌-◌, ◌^◌, ◌<◌, ◌≤◌, Bool, true, not, ◌&&◌, ◌||◌, cond, List, length, refl, sym, ap, ◌∙◌, arith, nat_eq, nat_lt, slice_index, nat_cmp, ne_eqb, false, [], ◌∷◌, ap₂, nat_le, ⊎_elim, ◌↔◌, ◌⊎◌, inl, inr, All, Contains}
 use Rattle.std.specs.Cmp.{nat_cmp_total}
 use Rattle.std.specs.FinSet as sets
 use Rattle.std.specs.FinSet.{contains-empty, same_set, nat_cmp-IsAntisymmetric}
 use Rattle.std.proofs.lemmas.Bool.Decides.{nat_tests}
 use Rattle.rsc_alphabet.proofs.Prelude.{Numbers, has_bit, masked, contains-masked, is_masked-low, is_masked-high, LastClassIsGreatest, class_of, class_map, boundaries_of_range, class_map_is, class_of_more, class_of_none, class_of_same, contains-boundaries_of_range, contains-inserted, contains-joined, contains-removed, begins_run, ends_run, runs, boundaries_of_ranges, is_boundary_of_set, Together, holds, treats_alike, are_alike, has_boundary, same_bools, same_class-together}
-use Rattle.std.specs.List.{list_any, list_all}
-use Rattle.std.proofs.lemmas.Bool.{cases_lt, cases_Bool, cases_eq, eq-eqb, le-leb}
-use Rattle.std.proofs.Math.Bool.{or-true}
-use Rattle.rsc_alphabet.proofs.ByteSetsLemmas.{for_runs_from, find_end, EndsAt, runs_from, parts_no_run, runs_from_first, runs_from_skip, runs_from_none, parts_no_run-after, parts_no_run-skip, Contains-first, Contains-later}
+use Rattle.std.specs.List.{list_any}
+use Rattle.std.proofs.lemmas.Bool.{cases_lt, cases_Bool, cases_eq, eq-eqb}
+use Rattle.rsc_alphabet.proofs.ByteSetsLemmas.{for_runs_from, runs_from, parts_no_run, not_after, Contains-first, Contains-later}
 use Rattle.std.proofs.lemmas.List.Elements.{All-head, All-tail}
 use Rattle.rsc_alphabet.proofs.RangesLemmas.{are_alike_is, boundary_if_unlike}
 
@@ -19,12 +18,7 @@ pub boundaries_set : (ends before : Numbers) (s e : ℕ) → s ≤ e → e < 256
     → ((q : ℕ) → sets.contains before q ≡ ((nat_lt 0 s && nat_eq q (s - 1)) || sets.contains ends q))
     → sets.remove (sets.insert before e) 255 ≡ sets.union (sets.remove ends 255) (boundaries_of_range (s, e))
 boundaries_set ends before s e order high first = same_set nat_cmp_total nat_cmp-IsAntisymmetric _ _ (λ q.
-    rw (contains-removed, contains-inserted, contains-joined, contains-removed, contains-boundaries_of_range, first q)
-    (flags (sets.contains ends q) q s e order high))
-  where
-    flags : (b : Bool) (q s e : ℕ) → s ≤ e → e < 256 → (not (nat_eq q 255) && (nat_eq q e || ((nat_lt 0 s && nat_eq q (s - 1)) || b))) ≡
-        ((not (nat_eq q 255) && b) || ((nat_lt 0 s && nat_eq (s - 1) q) || (nat_lt e 255 && nat_eq e q)))
-    flags b q s e order high = grind (arith, nat_tests)
+    rw (contains-removed, contains-inserted, contains-joined, contains-removed, contains-boundaries_of_range, first q) (grind (arith, nat_tests)))
 
 -- the empty set has no boundary
 pub no_boundaries : sets.remove (sets.empty {K = ℕ} {R = nat_cmp}) 255 ≡ sets.empty
@@ -38,10 +32,7 @@ inner_boundary ends b l = sym (contains-removed ends 255 b ∙ rw (ne_eqb b 255 
 
 -- without 255 each boundary is below 255
 pub boundary_below : (ends : Numbers) → ((b : ℕ) → sets.contains ends b ≡ true → b < 256) → (k : ℕ) → sets.contains (sets.remove ends 255) k ≡ true → k < 255
-boundary_below ends bytes k is = parts (sets.contains ends k) (bytes k) (sym (contains-removed ends 255 k) ∙ is)
-  where
-    parts : (x : Bool) → (x ≡ true → k < 256) → (not (nat_eq k 255) && x) ≡ true → k < 255
-    parts x low test = grind (arith, nat_tests)
+boundary_below ends bytes k is = grind (arith, nat_tests, contains-removed ends 255 k, bytes k)
 
 -- the boundaries of a set to which other bytes were added
 pub boundaries_joined : (ends before after : Numbers) (starts lasts : ℕ → Bool) → ((b : ℕ) → sets.contains before b ≡ (sets.contains ends b || starts b))
@@ -49,23 +40,13 @@ pub boundaries_joined : (ends before after : Numbers) (starts lasts : ℕ → Bo
     ((b : ℕ) → sets.contains after b ≡ true → b < 256) →
     (k : ℕ) → sets.contains (sets.remove after 255) k ≡ (sets.contains (sets.remove ends 255) k || (nat_lt k 255 && (starts k || lasts k)))
 boundaries_joined ends before after starts lasts first second bytes k =
-    let added : sets.contains after k ≡ ((sets.contains ends k || starts k) || lasts k) = second k ∙ ap (λ x. x || lasts k) (first k) in
-    contains-removed after 255 k ∙ rw (added, contains-removed ends 255 k)
-    (by_cases (sets.contains ends k) (starts k) (lasts k) (λ is. bytes k (added ∙ is)))
-  where
-    by_cases : (x y z : Bool) → (((x || y) || z) ≡ true → k < 256)
-        → (not (nat_eq k 255) && ((x || y) || z)) ≡ ((not (nat_eq k 255) && x) || (nat_lt k 255 && (y || z)))
-    by_cases x y z f = grind (arith, nat_tests)
+    grind (arith, nat_tests, contains-removed after 255 k, contains-removed ends 255 k, first k, second k, bytes k)
 
 -- the boundaries of two sets together
 pub ends_joined : (ends others after : Numbers) → ((b : ℕ) → sets.contains after b ≡ (sets.contains ends b || sets.contains others b)) → (k : ℕ)
     → sets.contains (sets.remove after 255) k ≡ (sets.contains (sets.remove ends 255) k || sets.contains (sets.remove others 255) k)
 ends_joined ends others after each k =
-    contains-removed after 255 k ∙ rw (each k, contains-removed ends 255 k, contains-removed others 255 k)
-    (by_cases (sets.contains ends k) (sets.contains others k) (not (nat_eq k 255)))
-  where
-    by_cases : (x y z : Bool) → (z && (x || y)) ≡ ((z && x) || (z && y))
-    by_cases x y z = grind (arith, nat_tests)
+    grind (arith, nat_tests, contains-removed after 255 k, contains-removed ends 255 k, contains-removed others 255 k, each k)
 
 pub joined_by_boundaries : (old other new : Numbers) → ((k : ℕ) → sets.contains new k ≡ (sets.contains old k || sets.contains other k))
     → new ≡ sets.union old other
@@ -86,15 +67,15 @@ class_of-parts p a (suc n) =
     regroup x y z = omega arith
 
 -- how many members of a set that two numbers hold are below a byte of the lower half
-pub class_of-low : (low high b : ℕ) → high < 2 ^ 128 → b < 128 → class_of (has_bit low) b ≡ class_of (sets.contains (masked low high)) b
-class_of-low low high b fits l =
+pub class_of_low : (low high b : ℕ) → high < 2 ^ 128 → b < 128 → class_of (has_bit low) b ≡ class_of (sets.contains (masked low high)) b
+class_of_low low high b fits l =
     class_of_same (has_bit low) (sets.contains (masked low high)) b (λ k h.
     sym (contains-masked low high fits k ∙ is_masked-low low high k (omega (arith, h, l))))
 
 -- and how many are below one of the upper half
-pub class_of-high : (low high b : ℕ) → high < 2 ^ 128 → 128 ≤ b
+pub class_of_high : (low high b : ℕ) → high < 2 ^ 128 → 128 ≤ b
     → class_of (has_bit low) 128 + class_of (has_bit high) (b - 128) ≡ class_of (sets.contains (masked low high)) b
-class_of-high low high b fits from =
+class_of_high low high b fits from =
     let s = sets.contains (masked low high) in
     let below = class_of_same (has_bit low) s 128 (λ k h. sym (contains-masked low high fits k ∙ is_masked-low low high k h)) in
     let above = class_of_same (has_bit high) (λ k. s (128 + k)) (b - 128) (λ k h.
@@ -105,13 +86,9 @@ class_of-high low high b fits from =
 
 -- ---- maps whose classes rise
 
--- one class for all bytes, and one for each, are classes that rise
+-- one class for all bytes
 pub zeros_rise : (classes : List ℕ) → ((b : ℕ) → b < 256 → slice_index classes b ≡ 0) → LastClassIsGreatest classes
 zeros_rise classes none = record { within = λ b l. omega (arith, none b l, none 255 (omega arith)) }
-
--- the classes rise where each byte is a class of its own
-pub bytes_rise : (classes : List ℕ) → ((b : ℕ) → b < 256 → slice_index classes b ≡ b) → LastClassIsGreatest classes
-bytes_rise classes own = record { within = λ b l. omega (arith, l, own b l, own 255 (omega arith)) }
 
 -- a boundary but for the byte 255
 abbrev is_inner : Numbers → ℕ → Bool
@@ -154,20 +131,14 @@ boundaries_from s k =
     (λ low h. sym (past low k (differs s k) (sets.contains s low) h))
     (λ low e h clean run rest.
     ap₂ (λ t u. t || u) (contains-boundaries_of_range low e k) rest ∙ stepped low e k (differs s k) (sets.contains s (e + 1)) run.from run.fits
-    (λ p q. inside (sets.contains s k) (sets.contains s (k + 1)) (run.within k p (omega arith)) (run.within (k + 1) (omega arith) (omega arith)))
+    (λ p q. rw (run.within k p (omega arith), run.within (k + 1) (omega arith) (omega arith)) refl)
     (λ at h. rw at (ends (sets.contains s e) (sets.contains s (e + 1)) e run.last h))
-    (λ h. after (sets.contains s e) (sets.contains s (e + 1)) e run.last h)
+    (λ h. not_after s e run.last h)
     ∙ rw (run.within low (omega arith) run.from) refl)
     (λ low h none rest. rest ∙ skipped low k (differs s k) (sets.contains s (low + 1)) (omega arith) (λ at. rw (at, none) refl) ∙ rw none refl)
   where
-    inside : (x y : Bool) → x ≡ true → y ≡ true → ((x && not y) || (not x && y)) ≡ false
-    inside x y p q = rw (p, q) refl
-
     ends : (x y : Bool) (e : ℕ) → (x && (nat_eq e 255 || not y)) ≡ true → e < 255 → ((x && not y) || (not x && y)) ≡ true
     ends x y e is h = grind (arith, nat_tests)
-
-    after : (x y : Bool) (e : ℕ) → (x && (nat_eq e 255 || not y)) ≡ true → e < 255 → y ≡ false
-    after x y e is h = grind (arith, nat_tests)
 
 -- a boundary is an edge of one of the ranges
 pub contains-boundaries_of_ranges : (ranges : List (ℕ × ℕ)) (k : ℕ) → sets.contains (boundaries_of_ranges ranges) k ≡ list_any (is_boundary_of_range k) ranges
@@ -178,14 +149,7 @@ contains-boundaries_of_ranges (r ∷ rest) k = contains-joined (boundaries_of_ra
 -- the boundaries of a set's maximal runs are where membership changes
 pub boundaries_of_runs_are : (s : Numbers) (k : ℕ) → sets.contains (boundaries_of_ranges (runs s)) k ≡ is_boundary_of_set s k
 boundaries_of_runs_are s k =
-    contains-boundaries_of_ranges (runs s) k ∙ boundaries_from s k 256 0 (omega arith) (rw (eq-eqb 0 0 refl) refl) ∙ whole (differs s k) (sets.contains s 0)
-  where
-    whole : (x y : Bool) → (nat_lt k 255 && ((nat_le 0 k && x) || (nat_eq (k + 1) 0 && y))) ≡ (nat_lt k 255 && x)
-    whole x y = grind (arith, nat_tests)
-
--- what is a boundary after those of a set's runs were added
-c-runs : (old s : Numbers) (k : ℕ) → sets.contains (sets.union old (boundaries_of_ranges (runs s))) k ≡ (sets.contains old k || is_boundary_of_set s k)
-c-runs old s k = contains-joined old (boundaries_of_ranges (runs s)) k ∙ ap (λ b. sets.contains old k || b) (boundaries_of_runs_are s k)
+    contains-boundaries_of_ranges (runs s) k ∙ boundaries_from s k 256 0 (omega arith) (rw (eq-eqb 0 0 refl) refl) ∙ grind (arith, nat_tests)
 
 changing : (k : ℕ) (x y : Bool) → (nat_lt k 255 && ((y && (nat_eq (k + 1) 0 || not x)) || (x && (nat_eq k 255 || not y)))) ≡
     (nat_lt k 255 && ((x && not y) || (not x && y)))
@@ -201,7 +165,8 @@ boundaries_of_ends s starts ends first last k =
 -- what has these boundaries beside the old ones
 pub boundaries_added : (s old new : Numbers) → ((k : ℕ) → sets.contains new k ≡ (sets.contains old k || is_boundary_of_set s k))
     → new ≡ sets.union old (boundaries_of_ranges (runs s))
-boundaries_added s old new each = same_set nat_cmp_total nat_cmp-IsAntisymmetric _ _ (λ k. each k ∙ sym (c-runs old s k))
+boundaries_added s old new each = same_set nat_cmp_total nat_cmp-IsAntisymmetric _ _
+    (λ k. each k ∙ rw (← boundaries_of_runs_are s k) (sym (contains-joined old (boundaries_of_ranges (runs s)) k)))
 
 -- ---- the boundaries of a range, and what they part
 
@@ -211,15 +176,11 @@ boundary_test a e k m = ⊎_elim (λ (q : k ≡ e). inr q) (λ (q : k ≡ e → 
     low : (k ≡ e → ⊥) → k + 1 ≡ a
     low q = grind (arith, nat_tests)
 
-boundary_passes : (a e k : ℕ) → k < 255 → (k + 1 ≡ a) ⊎ (k ≡ e) → ((nat_lt 0 a && nat_eq (a - 1) k) || (nat_lt e 255 && nat_eq e k)) ≡ true
-boundary_passes a e k l (inl q) = grind (arith, nat_tests)
-boundary_passes a e k l (inr q) = grind (arith, nat_tests)
-
 -- the boundaries of a range are before its first byte and after its last
 pub boundary_is : (r : ℕ × ℕ) (k : ℕ) → k < 255 → (sets.contains (boundaries_of_range r) k ≡ true) ↔ ((k + 1 ≡ r.0) ⊎ (k ≡ r.1))
 boundary_is r k l = (
   (λ m. boundary_test r.0 r.1 k (sym (contains-boundaries_of_range r.0 r.1 k) ∙ m)),
-  (λ q. contains-boundaries_of_range r.0 r.1 k ∙ boundary_passes r.0 r.1 k l q),
+  (λ q. grind (arith, nat_tests, contains-boundaries_of_range r.0 r.1 k)),
 )
 
 moves : (p : ℕ → Bool) (r : ℕ × ℕ) (b c : ℕ) → c < 256 → ((k : ℕ) → k < 255 → sets.contains (boundaries_of_range r) k ≡ true → p k ≡ true) → Together p b c
@@ -246,10 +207,10 @@ Together-sym : (p : ℕ → Bool) (b c : ℕ) → Together p b c → Together p 
 Together-sym p b c t k l u = t k (omega arith) (omega arith)
 
 -- bytes that are together where a partition has these are both in the range or both outside
-pub boundaries-together : (p : ℕ → Bool) (r : ℕ × ℕ) (b c : ℕ) → b < 256 → c < 256
+pub boundaries_together : (p : ℕ → Bool) (r : ℕ × ℕ) (b c : ℕ) → b < 256 → c < 256
     → ((k : ℕ) → k < 255 → sets.contains (boundaries_of_range r) k ≡ true → p k ≡ true)
     → Together p b c → holds r b ≡ holds r c
-boundaries-together p r b c l u has t =
+boundaries_together p r b c l u has t =
     same_bools (holds r b) (holds r c)
     (λ m. from_within r c (moves p r b c u has t (to_within r b m) l))
     (λ m. from_within r b (moves p r c b l has (Together-sym p b c t) (to_within r c m) u))
@@ -268,10 +229,10 @@ has_boundary_of_one p k l (r ∷ rs) ordered has apart =
     (cases_Bool (treats_alike r k (k + 1)))
 
 -- two bytes that are together for a partition with the boundaries of each range are alike for the ranges
-pub together-alike : (p : ℕ → Bool) (ranges : List (ℕ × ℕ)) → All (λ r. r.0 ≤ r.1) ranges →
+pub together_alike : (p : ℕ → Bool) (ranges : List (ℕ × ℕ)) → All (λ r. r.0 ≤ r.1) ranges →
     ((r : ℕ × ℕ) → Contains ranges r → (k : ℕ) → k < 255 → sets.contains (boundaries_of_range r) k ≡ true → p k ≡ true) →
     (b c : ℕ) → b < 256 → c < 256 → Together p b c → are_alike ranges b c ≡ true
-together-alike p ranges ordered has b c l u together =
+together_alike p ranges ordered has b c l u together =
     are_alike_is ranges b c ∙ eq-eqb _ _ ((same_class-together (has_boundary ranges) b c).1 (λ k low high apart.
     let within : k < 255 = omega (arith, low, high, l, u) in
     together k low high (has_boundary_of_one p k within ranges ordered (λ r m e. has r m k within e) apart)))

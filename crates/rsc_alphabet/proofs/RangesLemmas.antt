@@ -1,5 +1,5 @@
 -- Bytes that a list of ranges treats alike have one class.
-use Rattle.std.proofs.Common.{◌≡◌, ℕ, zero, suc, ◌+◌, ◌-◌, ◌<◌, ◌≤◌, Bool, true, false, not, ◌&&◌, ◌||◌, cond, List, [], ◌∷◌, length, get_or, min, max, refl, sym, ap, ap₂, ◌∙◌, arith, nat_eq, nat_lt, take, ⊎_elim, slice_index, subst, true≢false, ◌++◌, Contains}
+use Rattle.std.proofs.Common.{◌≡◌, ℕ, zero, suc, ◌+◌, ◌-◌, ◌<◌, ◌≤◌, Bool, true, false, not, ◌&&◌, ◌||◌, List, [], ◌∷◌, length, get_or, min, max, refl, sym, ap, ap₂, ◌∙◌, arith, nat_eq, take, ⊎_elim, slice_index, subst, true≢false, Contains}
 use Rattle.std.specs.List.{list_any, list_all}
 use Rattle.std.specs.FinSet as sets
 use Rattle.std.proofs.lemmas.Bool.{cases_lt, eq-eqb, eqb-true, or_cases, and_from, false_from_ne_true}
@@ -31,14 +31,10 @@ treats_alike_up r b c l = let p : min b c ≡ b = omega arith in let q : max b c
 treats_alike_down : (r : ℕ × ℕ) (b c : ℕ) → treats_alike r b c ≡ treats_alike r c b
 treats_alike_down r b c = let p : min b c ≡ min c b = omega arith in let q : max b c ≡ max c b = omega arith in rw (p, q)
 
-by_parts : (all any x y : Bool) → (((all && x) && y) || not ((any || x) || y)) ≡ (((all && x) || not (any || x)) && ((x && y) || not (x || y)))
-by_parts all any x y = grind (arith, nat_tests)
-
 opened : (h : ℕ → Bool) (b c : ℕ) → b ≤ c → alike_up h b (c + 1) ≡ (alike_up h b c && ((h c && h (c + 1)) || not (h c || h (c + 1))))
 unfolding alike_up
 opened h b c l =
-    rw (all_last h b (c + 1) (omega arith), any_last h b (c + 1) (omega arith), all_last h b c l, any_last h b c l)
-    (by_parts (list_all h (from_to b c)) (list_any h (from_to b c)) (h c) (h (c + 1)))
+    rw (all_last h b (c + 1) (omega arith), any_last h b (c + 1) (omega arith), all_last h b c l, any_last h b c l) (grind (arith, nat_tests))
 
 alike_up_same : (h : ℕ → Bool) (b : ℕ) → alike_up h b b ≡ true
 unfolding alike_up
@@ -49,14 +45,10 @@ alike_up_same h b =
 pair : (h : ℕ → Bool) (c : ℕ) → alike_up h c (c + 1) ≡ ((h c && h (c + 1)) || not (h c || h (c + 1)))
 pair h c = opened h c c (omega arith) ∙ rw (alike_up_same h c) refl
 
-and_pairs : (a b x y : Bool) → ((a && b) && (x && y)) ≡ ((a && x) && (b && y))
-and_pairs a b x y = grind (arith, nat_tests)
-
 are_alike_more : (ranges : List (ℕ × ℕ)) (b c : ℕ) → b ≤ c → are_alike ranges b (c + 1) ≡ (are_alike ranges b c && are_alike ranges c (c + 1))
 are_alike_more [] b c l = refl
 are_alike_more (r ∷ rs) b c l =
-    ap₂ (λ t u. t && u) one (are_alike_more rs b c l) ∙ and_pairs (treats_alike r b c) (treats_alike r c (c + 1)) (are_alike rs b c) (are_alike rs c
-    (c + 1))
+    grind (arith, nat_tests, one, are_alike_more rs b c l)
   where
     one : treats_alike r b (c + 1) ≡ (treats_alike r b c && treats_alike r c (c + 1))
     one =
@@ -79,11 +71,7 @@ are_alike_up ranges b (suc n) =
     let e : b + suc n ≡ b + n + 1 = omega arith in
     rw (e, class_of_more (has_boundary ranges) (b + n)) (are_alike_more ranges b (b + n) (omega arith)
     ∙ ap (λ t. t && are_alike ranges (b + n) (b + n + 1)) (are_alike_up ranges b n)
-    ∙ step (class_of (has_boundary ranges) (b + n)) (class_of (has_boundary ranges) b) (are_alike ranges (b + n) (b + n + 1))
-    (class_of-rises (has_boundary ranges) b n))
-  where
-    step : (x y : ℕ) (t : Bool) → y ≤ x → (nat_eq x y && t) ≡ nat_eq (x + cond (not t) 1 0) y
-    step x y t l = grind (arith, nat_tests)
+    ∙ grind (arith, nat_tests, class_of-rises (has_boundary ranges) b n))
 
 -- bytes are alike if they have one class
 pub are_alike_is : (ranges : List (ℕ × ℕ)) (b c : ℕ) → are_alike ranges b c ≡ nat_eq (class_of (has_boundary ranges) b) (class_of (has_boundary ranges) c)
@@ -110,21 +98,14 @@ same_class_is ranges classes b c is lb lc =
 -- a boundary of a range is where it treats neighbours differently
 pub boundary_if_unlike : (r : ℕ × ℕ) (k : ℕ) → r.0 ≤ r.1 → k < 255 → sets.contains (boundaries_of_range r) k ≡ not (treats_alike r k (k + 1))
 boundary_if_unlike (s, e) k order within =
-    contains-boundaries_of_range s e k ∙ by_cases ∙ sym (ap not (treats_alike_up (s, e) k (k + 1) (omega arith) ∙ pair (holds (s, e)) k))
-  where
-    by_cases : ((nat_lt 0 s && nat_eq (s - 1) k) || (nat_lt e 255 && nat_eq e k)) ≡ not
-        ((holds (s, e) k && holds (s, e) (k + 1)) || not (holds (s, e) k || holds (s, e) (k + 1)))
-    by_cases = grind (arith, nat_tests)
+    contains-boundaries_of_range s e k ∙ grind (arith, nat_tests) ∙ sym (ap not (treats_alike_up (s, e) k (k + 1) (omega arith) ∙ pair (holds (s, e)) k))
 
 -- one range more
 pub has_boundary_more : (ranges : List (ℕ × ℕ)) (i : ℕ) (d : ℕ × ℕ) (k : ℕ) → i < length ranges
     → has_boundary (take (i + 1) ranges) k ≡ (has_boundary (take i ranges) k || not (treats_alike (get_or ranges i d) k (k + 1)))
 has_boundary_more ranges i d k l =
     ap (λ rs. has_boundary rs k) (take_more ranges i d l) ∙ ap not (list_all-append (λ r. treats_alike r k (k + 1)) (take i ranges) (get_or ranges i d ∷ []))
-    ∙ split (are_alike (take i ranges) k (k + 1)) (treats_alike (get_or ranges i d) k (k + 1))
-  where
-    split : (x y : Bool) → not (x && (y && true)) ≡ (not x || not y)
-    split x y = grind (arith, nat_tests)
+    ∙ grind (arith, nat_tests)
 
 -- ---- alike bytes are in the same ranges
 
@@ -171,8 +152,5 @@ pub alike_neighbours : (ranges : List (ℕ × ℕ)) (b : ℕ) → ((r : ℕ × �
 alike_neighbours [] b each = refl
 alike_neighbours (r ∷ rest) b each =
     and_from (treats_alike r b (b + 1)) (are_alike rest b (b + 1))
-    (treats_alike_up r b (b + 1) (omega arith) ∙ pair (holds r) b ∙ by_cases (holds r b) (holds r (b + 1)) (each r (0, omega arith, refl)))
+    (treats_alike_up r b (b + 1) (omega arith) ∙ pair (holds r) b ∙ grind (arith, nat_tests, each r (0, omega arith, refl)))
     (alike_neighbours rest b (λ q in_rest. each q (Contains-append_right (r ∷ []) rest q in_rest)))
-  where
-    by_cases : (x y : Bool) → x ≡ y → ((x && y) || not (x || y)) ≡ true
-    by_cases x y e = grind (arith, nat_tests)

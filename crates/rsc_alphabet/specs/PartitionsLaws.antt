@@ -1,5 +1,5 @@
 -- Boundaries, classes and ranges.
-use Rattle.std.proofs.Common.{◌≡◌, ◌↔◌, ◌⊎◌, ⊎_elim, min, max, ℕ, zero, suc, ◌+◌, ◌-◌, ◌<◌, ◌≤◌, Bool, true, false, not, ◌&&◌, ◌||◌, cond, List, [], ◌∷◌, ◌++◌, length, refl, sym, ap, ◌∙◌, arith, nat_eq, nat_lt, ap₂, count_by, slice_index}
+use Rattle.std.proofs.Common.{◌≡◌, ◌↔◌, ◌⊎◌, ⊎_elim, ℕ, zero, suc, ◌+◌, ◌-◌, ◌<◌, ◌≤◌, Bool, true, false, not, ◌&&◌, ◌||◌, cond, List, [], ◌∷◌, ◌++◌, length, refl, sym, ap, ◌∙◌, arith, nat_eq, nat_lt, ap₂, count_by, slice_index}
 use Rattle.std.specs.List.{list_any}
 use Rattle.std.specs.Ordering.{nat_cmp}
 use Rattle.std.specs.Cmp.{nat_cmp_total, unsigned_tied}
@@ -52,10 +52,7 @@ contains-boundaries_of_range s e q =
 
 -- the boundary before the first byte, and the one after the last
 pub contains-boundaries : (s e k : ℕ) → sets.contains (boundaries_of_range (s, e)) k ≡ (nat_eq (k + 1) s || (nat_eq k e && nat_lt e 255))
-contains-boundaries s e k = contains-boundaries_of_range s e k ∙ by_cases
-  where
-    by_cases : ((nat_lt 0 s && nat_eq (s - 1) k) || (nat_lt e 255 && nat_eq e k)) ≡ (nat_eq (k + 1) s || (nat_eq k e && nat_lt e 255))
-    by_cases = grind (arith, nat_tests)
+contains-boundaries s e k = contains-boundaries_of_range s e k ∙ grind (arith, nat_tests)
 
 -- what is a boundary after those of a range were added
 pub c-range : (old : Numbers) (s e k : ℕ) → sets.contains (sets.union old (boundaries_of_range (s, e))) k ≡
@@ -66,10 +63,7 @@ c-range old s e k = contains-joined old (boundaries_of_range (s, e)) k ∙ ap (�
 
 pub class_of_more : (p : ℕ → Bool) (b : ℕ) → class_of p (b + 1) ≡ class_of p b + cond (p b) 1 0
 class_of_more p b =
-    ap (count_by p) (from_to_last 0 b (omega arith)) ∙ sum_by-append _ (from_to 0 b) (b ∷ []) ∙ ap (λ x. class_of p b + x) one
-  where
-    one : count_by p (b ∷ []) ≡ cond (p b) 1 0
-    one = elim (p b) as (λ v. 0 + cond v 1 0 ≡ cond v 1 0) [ true ↦ refl | false ↦ refl ]
+    ap (count_by p) (from_to_last 0 b (omega arith)) ∙ sum_by-append _ (from_to 0 b) (b ∷ []) ∙ omega arith
 
 pub class_of_none : (p : ℕ → Bool) → class_of p 0 ≡ 0
 class_of_none p = ap (count_by p) (from_to_none 0 0 (omega arith))
@@ -126,13 +120,11 @@ class_of-past p b k c l h is =
     omega arith
 
 pub same_class-up : (p : ℕ → Bool) (b c : ℕ) → b ≤ c → (class_of p b ≡ class_of p c) ↔ Together p b c
-same_class-up p b c l =
-    let least : min b c ≡ b = omega arith in
-    let most : max b c ≡ c = omega arith in (
-      (λ same k low high is. let past : class_of p b < class_of p c = class_of-past p b k c (omega arith) (omega arith) is in omega arith),
-      (λ together. let e : b + (c - b) ≡ c = omega arith in sym
-          (rw e at (class_of-between p b (c - b) (λ k low high. together k (omega arith) (omega arith))))),
-    )
+same_class-up p b c l = (
+  (λ same k low high is. let past : class_of p b < class_of p c = class_of-past p b k c (omega arith) (omega arith) is in omega arith),
+  (λ together. let e : b + (c - b) ≡ c = omega arith in
+      sym (rw e at (class_of-between p b (c - b) (λ k low high. together k (omega arith) (omega arith))))),
+)
 
 pub same_class-together : (p : ℕ → Bool) (b c : ℕ) → (class_of p b ≡ class_of p c) ↔ Together p b c
 same_class-together p b c =
@@ -156,10 +148,7 @@ first_class p = slice_index-class_map p 0 (omega arith) ∙ class_of_none p
 pub next_class : (p : ℕ → Bool) (b : ℕ) → b < 255 →
     (slice_index (class_map p) (b + 1) ≡ slice_index (class_map p) b) ⊎ (slice_index (class_map p) (b + 1) ≡ slice_index (class_map p) b + 1)
 next_class p b l =
-    rw (slice_index-class_map p b (omega arith), slice_index-class_map p (b + 1) (omega arith), class_of_more p b) (either (class_of p b) (p b))
-  where
-    either : (c : ℕ) (t : Bool) → (c + cond t 1 0 ≡ c) ⊎ (c + cond t 1 0 ≡ c + 1)
-    either c t = grind (arith, nat_tests)
+    rw (slice_index-class_map p b (omega arith), slice_index-class_map p (b + 1) (omega arith), class_of_more p b) (grind (arith, nat_tests))
 
 pub class_map-rises : (p : ℕ → Bool) (b c : ℕ) → b ≤ c → c < 256 → slice_index (class_map p) b ≤ slice_index (class_map p) c
 class_map-rises p b c l h =
@@ -178,14 +167,10 @@ class_of_reached p (suc n) c l =
     let e : suc n ≡ n + 1 = omega arith in
     ⊎_elim
     (λ (h : class_of p n < c).
-    let step : class_of p (n + 1) ≤ class_of p n + 1 = rw (class_of_more p n) (at_most (class_of p n) (p n)) in
-    let here : class_of p (n + 1) ≡ c = omega (arith, rw e at l) in
+    let here : class_of p (n + 1) ≡ c = grind (arith, nat_tests, class_of_more p n, rw e at l) in
     (n + 1, (omega arith, here)))
     (λ (h : c ≤ class_of p n). let found = class_of_reached p n c h in (found.0, (omega (arith, found.1.0), found.1.1)))
     (cases_lt (class_of p n) c)
-  where
-    at_most : (c : ℕ) (t : Bool) → c + cond t 1 0 ≤ c + 1
-    at_most c t = grind (arith, nat_tests)
 
 pub class_reached : (p : ℕ → Bool) (c : ℕ) → c ≤ slice_index (class_map p) 255 → (b : ℕ) × ((b < 256) × (slice_index (class_map p) b ≡ c))
 class_reached p c l =

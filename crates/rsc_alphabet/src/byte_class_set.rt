@@ -53,6 +53,7 @@ impl Default for ByteClassSet {
 
 impl ByteClassSet {
     /// The partition with no boundary: all bytes are together.
+    #[tactic(auto, using(crate::proofs::PartitionsLemmas::no_boundaries))]
     #[inline]
     pub fn empty() -> Self
         ensures set { result ≡ sets.empty }

@@ -170,6 +170,7 @@ impl ByteClasses {
     }
 
     /// The units of the classes 0 to that of the byte 255, and then the end of the input.
+    #[tactic(auto, using(crate::proofs::IteratorsLemmas::symbols_left_all, crate::proofs::IteratorsLemmas::symbols_within, crate::proofs::IteratorsLemmas::length_symbols))]
     #[inline]
     pub fn iter(&self) -> ByteClassIter<'_>
         ensures list { result ≡ symbols self.now }
@@ -222,6 +223,7 @@ impl ByteClasses {
     /// assert!(rt; units.next() == Some(classes.eoi()));
     /// assert!(rt; units.next() == None);
     /// ```
+    #[tactic(auto, using(crate::proofs::IteratorsLemmas::representatives_within, crate::proofs::IteratorsLemmas::length_representatives))]
     pub fn representatives(&self, start: Bound<u8>, end: Bound<u8>) -> ByteClassRepresentatives<'_>
         ensures list { result ≡ representatives_of self.now start end }
         ensures within { ((b : ℕ) → b < 256 → slice_index self.now b ≤ slice_index self.now 255) →

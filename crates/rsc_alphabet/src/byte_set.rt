@@ -69,6 +69,7 @@ impl PartialEq for ByteSet {
 
     ghost laws = { same_members_partial nat_cmp_total nat_cmp-IsAntisymmetric };
 
+    #[tactic(auto, using(crate::proofs::ByteSetLayoutLemmas::same_masks, std::proofs::lemmas::Bool::Decides::nat_tests))]
     fn eq(&self, other: &Self) -> bool {
         self.low == other.low && self.high == other.high
     }
@@ -96,6 +97,7 @@ impl Default for ByteSet {
 #[tactic(auto, using(crate::proofs::ByteSetLayoutLemmas::contains_masked, crate::proofs::ByteSetLayoutLemmas::bit_at_zero, std::proofs::lemmas::Bool::Decides::nat_tests))]
 impl ByteSet {
     /// The set with no member.
+    #[tactic(auto, using(crate::proofs::ByteSetLayoutLemmas::masked_none, crate::proofs::ByteSetLayoutLemmas::contains_masked, crate::proofs::ByteSetLayoutLemmas::bit_at_zero, std::proofs::lemmas::Bool::Decides::nat_tests))]
     #[inline]
     pub fn empty() -> Self
         ensures set { result ≡ sets.empty }
@@ -155,6 +157,7 @@ impl ByteSet {
     }
 
     /// Whether no byte is a member.
+    #[tactic(auto, using(crate::proofs::ByteSetLayoutLemmas::no_masks, std::proofs::lemmas::Bool::Decides::nat_tests))]
     pub fn is_empty(&self) -> bool
         ensures { IsTrue result ↔ (self.now ≡ sets.empty) }
     {
@@ -162,6 +165,7 @@ impl ByteSet {
     }
 
     /// The members, ascending.
+    #[tactic(auto, using(crate::proofs::ByteSetsLemmas::members_contained, crate::proofs::IteratorsLemmas::length_filter_range))]
     #[inline]
     pub fn iter(&self) -> ByteSetIter<'_>
         ensures list { result ≡ members self.now }
@@ -390,6 +394,7 @@ impl<'a> Iterator for ByteSetRangeIter<'a> {
 
     ghost remaining = { item_count (λ rest. rest) };
 
+    #[tactic(auto, using(crate::proofs::ByteSetsLemmas::zip_none))]
     #[inline]
     fn next(&mut self) -> Option<(u8, u8)> {
         let start = self.starts.next()?;

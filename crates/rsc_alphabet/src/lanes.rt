@@ -5,6 +5,7 @@ ghost use Rattle.rsc_primitives.specs.Bits.{has_bit};
 use std::simd::prelude::*;
 
 // The number whose bit i is 1 where the byte at `first + i` is `byte`.
+#[tactic(auto, using(crate::proofs::ByteSetLayoutLemmas::equal_bits))]
 #[inline(always)]
 pub(crate) fn equal_to(bytes: &[u8], first: usize, byte: u8) -> u64
     requires { first + 64 ≤ length bytes.now }
@@ -15,6 +16,7 @@ pub(crate) fn equal_to(bytes: &[u8], first: usize, byte: u8) -> u64
 }
 
 // The number whose bit i is 1 where the byte at `first + i` isn't the one before it.
+#[tactic(auto, using(crate::proofs::ByteSetLayoutLemmas::unlike_bits))]
 #[inline(always)]
 pub(crate) fn unlike_before(bytes: &[u8], first: usize) -> u64
     requires { (0 < first) × (first + 64 ≤ length bytes.now) }

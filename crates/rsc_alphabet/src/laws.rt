@@ -35,6 +35,7 @@ pub fn classes_rise_by_one()
 
 /// The iterator over the classes of a partition gives each class of a byte once, as the unit of its number, at that index, and then the
 /// end of the input.
+#[tactic(auto, using(crate::proofs::IteratorsLemmas::slice_get_symbols, crate::proofs::IteratorsLemmas::end_comes_last, crate::proofs::IteratorsLemmas::length_symbols, crate::proofs::CitedLaws::class_within, crate::proofs::CitedLaws::class_reached))]
 pub fn each_class_comes_once()
     ensures index { (classes : List ℕ) (c : ℕ) → c ≤ slice_index classes 255 → slice_get (symbols classes) c ≡ Some (byte c) }
     ensures end { (classes : List ℕ) → slice_get (symbols classes) (slice_index classes 255 + 1) ≡ Some (end_of classes) }
@@ -100,6 +101,7 @@ pub fn together_is_alike()
 
 /// Bytes that are alike for a list of ranges are in the same of them: each range holds both or neither, and so does each list of some of the
 /// ranges. For neighbours the converse holds too. [`crate::classes_of_ranges`] gives bytes one class exactly if they are alike.
+#[tactic(auto, using(crate::proofs::RangesLemmas::alike_each, crate::proofs::RangesLemmas::alike_some, crate::proofs::RangesLemmas::alike_neighbours))]
 pub fn alike_bytes_share_their_ranges()
     ensures each { (ranges : List (ℕ × ℕ)) (b c : ℕ) → IsTrue (are_alike ranges b c) → (r : ℕ × ℕ) → Contains ranges r → holds r b ≡ holds r c }
     ensures some { (ranges part : List (ℕ × ℕ)) (b c : ℕ) → IsTrue (are_alike ranges b c) → ((r : ℕ × ℕ) → Contains part r → Contains ranges r) →

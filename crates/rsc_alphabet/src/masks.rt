@@ -169,6 +169,7 @@ pub(crate) fn block_shifted_right(block: u64, bits: u8) -> u64
 }
 
 // How many bits below a bit are 1.
+#[tactic(auto, using(crate::proofs::ByteSetLayoutLemmas::ones_under, crate::proofs::CitedLaws::class_of_le))]
 #[inline(always)]
 pub(crate) fn ones_below(mask: u128, bit: u8) -> u8
     requires { bit < 128 }
@@ -179,6 +180,7 @@ pub(crate) fn ones_below(mask: u128, bit: u8) -> u8
 }
 
 // How many bits are 1.
+#[tactic(auto, using(crate::proofs::ByteSetLayoutLemmas::ones_all))]
 #[inline(always)]
 pub(crate) fn ones(mask: u128) -> u8
     ensures count { result ≡ class_of (has_bit mask) 128 }

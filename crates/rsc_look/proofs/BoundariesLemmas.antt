@@ -123,12 +123,7 @@ at_low_line a = grind (arith, nat_tests)
 
 is_word_byte-between : (a : ℕ)
     → is_word_byte a ≡ word_between (leb a 0x2F) (leb a 0x39) (leb a 0x40) (leb a 0x5A) (leb a 0x5E) (leb a 0x5F) (leb a 0x60) (leb a 0x7A)
-is_word_byte-between a =
-    let e1 : leb 0x30 a ≡ not (leb a 0x2F) = above 0x2F a in
-    let e2 : leb 0x41 a ≡ not (leb a 0x40) = above 0x40 a in
-    let e3 : leb 0x61 a ≡ not (leb a 0x60) = above 0x60 a in
-    let e4 = at_low_line a in
-    rw (e1, e2, e3, e4)
+is_word_byte-between a = rw (above 0x2F a, above 0x40 a, above 0x60 a, at_low_line a)
 
 -- bytes that are together are both word bytes, or neither is
 pub Together-is_word_byte : (p : ℕ → Bool) (a b : ℕ) → HasBoundariesOf p is_word_boundary → Together p a b → is_word_byte a ≡ is_word_byte b
@@ -156,13 +151,8 @@ TogetherAt-slice_get p h k i s =
     ⊎_elim
     (λ (l : i < length h).
     let lk : i < length k = omega arith in
-    let a = slice_get-get_or h i 0 l in
-    let b = slice_get-get_or k i 0 lk in
-    rw (a, b) (s.first i 0 l, s.second i 0 lk, s.together i l))
-    (λ (l : length h ≤ i).
-    let a = slice_get_past h i l in
-    let b = slice_get_past k i (omega arith) in
-    rw (a, b) tt)
+    rw (slice_get-get_or h i 0 l, slice_get-get_or k i 0 lk) (s.first i 0 l, s.second i 0 lk, s.together i l))
+    (λ (l : length h ≤ i). rw (slice_get_past h i l, slice_get_past k i (omega arith)) tt)
     (cases_lt i (length h))
 
 -- and the byte before it
@@ -173,20 +163,17 @@ TogetherAt-before p h k (suc i) s = TogetherAt-slice_get p h k i s
 same_none : (p : ℕ → Bool) (a b : Option ℕ) → TogetherAt p a b → is_none a ≡ is_none b
 same_none p None None t = refl
 same_none p (Some a) (Some b) t = refl
-same_none p None (Some b) t = absurd t
-same_none p (Some a) None t = absurd t
+same_none p _ _ t = absurd t
 
 same_byte : (p : ℕ → Bool) (a b : Option ℕ) (t : ℕ) → HasBoundariesOf p (is_boundary_of_byte t) → TogetherAt p a b → is_byte t a ≡ is_byte t b
 same_byte p None None t s h = refl
 same_byte p (Some a) (Some b) t s h = Together-eqb p a b t h.0 h.1 s h.2
-same_byte p None (Some b) t s h = absurd h
-same_byte p (Some a) None t s h = absurd h
+same_byte p _ _ t s h = absurd h
 
 same_word : (p : ℕ → Bool) (a b : Option ℕ) → HasBoundariesOf p is_word_boundary → TogetherAt p a b → is_word_neighbor a ≡ is_word_neighbor b
 same_word p None None s h = refl
 same_word p (Some a) (Some b) s h = Together-is_word_byte p a b s h.2
-same_word p None (Some b) s h = absurd h
-same_word p (Some a) None s h = absurd h
+same_word p _ _ s h = absurd h
 
 crlf_cr : (p : ℕ → Bool) → HasBoundariesOf p (λ b. is_boundary_of_byte 13 b || is_boundary_of_byte 10 b) → HasBoundariesOf p (is_boundary_of_byte 13)
 crlf_cr p s b l e = s b l (or_left (is_boundary_of_byte 13 b) (is_boundary_of_byte 10 b) e)
@@ -200,24 +187,16 @@ pub holds_at_bytes-same : (p : ℕ → Bool) (l : Look) (t : ℕ) → HasBoundar
     → holds_at_bytes l t a x ≡ holds_at_bytes l t b y
 holds_at_bytes-same p Start t s a b x y h k = same_none p a b h
 holds_at_bytes-same p End t s a b x y h k = same_none p x y k
-holds_at_bytes-same p StartLF t s a b x y h k = let e = same_none p a b h in let f = same_byte p a b t s h in rw (e, f)
-holds_at_bytes-same p EndLF t s a b x y h k = let e = same_none p x y k in let f = same_byte p x y t s k in rw (e, f)
+holds_at_bytes-same p StartLF t s a b x y h k = rw (same_none p a b h, same_byte p a b t s h)
+holds_at_bytes-same p EndLF t s a b x y h k = rw (same_none p x y k, same_byte p x y t s k)
 holds_at_bytes-same p StartCRLF t s a b x y h k =
-    let e = same_none p a b h in
-    let f = same_byte p a b 13 (crlf_cr p s) h in
-    let g = same_byte p a b 10 (crlf_lf p s) h in
-    let n = same_byte p x y 10 (crlf_lf p s) k in
-    rw (e, f, g, n)
+    rw (same_none p a b h, same_byte p a b 13 (crlf_cr p s) h, same_byte p a b 10 (crlf_lf p s) h, same_byte p x y 10 (crlf_lf p s) k)
 holds_at_bytes-same p EndCRLF t s a b x y h k =
-    let e = same_none p x y k in
-    let f = same_byte p x y 13 (crlf_cr p s) k in
-    let g = same_byte p x y 10 (crlf_lf p s) k in
-    let n = same_byte p a b 13 (crlf_cr p s) h in
-    rw (e, f, g, n)
-holds_at_bytes-same p WordAscii t s a b x y h k = let e = same_word p a b s h in let f = same_word p x y s k in rw (e, f)
-holds_at_bytes-same p WordAsciiNegate t s a b x y h k = let e = same_word p a b s h in let f = same_word p x y s k in rw (e, f)
-holds_at_bytes-same p WordStartAscii t s a b x y h k = let e = same_word p a b s h in let f = same_word p x y s k in rw (e, f)
-holds_at_bytes-same p WordEndAscii t s a b x y h k = let e = same_word p a b s h in let f = same_word p x y s k in rw (e, f)
-holds_at_bytes-same p WordStartHalfAscii t s a b x y h k = let e = same_word p a b s h in rw e
-holds_at_bytes-same p WordEndHalfAscii t s a b x y h k = let e = same_word p x y s k in rw e
+    rw (same_none p x y k, same_byte p x y 13 (crlf_cr p s) k, same_byte p x y 10 (crlf_lf p s) k, same_byte p a b 13 (crlf_cr p s) h)
+holds_at_bytes-same p WordAscii t s a b x y h k = rw (same_word p a b s h, same_word p x y s k)
+holds_at_bytes-same p WordAsciiNegate t s a b x y h k = rw (same_word p a b s h, same_word p x y s k)
+holds_at_bytes-same p WordStartAscii t s a b x y h k = rw (same_word p a b s h, same_word p x y s k)
+holds_at_bytes-same p WordEndAscii t s a b x y h k = rw (same_word p a b s h, same_word p x y s k)
+holds_at_bytes-same p WordStartHalfAscii t s a b x y h k = rw (same_word p a b s h)
+holds_at_bytes-same p WordEndHalfAscii t s a b x y h k = rw (same_word p x y s k)
 holds_at_bytes-same p _ t s a b x y h k = refl

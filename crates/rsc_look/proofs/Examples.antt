@@ -3,7 +3,7 @@ use Rattle.std.proofs.Common.{◌≡◌, ℕ, Bool, true, false, List, [], ◌�
 use Rattle.std.specs.FinSet as sets
 use Rattle.rsc_look.proofs.Prelude.{Look, StartLF, EndLF, StartCRLF, EndCRLF, WordAscii, WordUnicode, WordUnicodeNegate, WordStartHalfUnicode, Invalid, Word, Other, every_look, bits_of, bits_of-looks_of, byte_before, byte_after, holds_at_bytes, holds_at_sides, boundaries_of, mirror}
 use Rattle.rsc_look.proofs.BoundariesLemmas.{contains-boundaries_of}
-use Rattle.rsc_look.proofs.LookSetLayoutLemmas.{looks_of-all}
+use Rattle.rsc_look.proofs.LookSetLayoutLemmas.{looks_of_all}
 
 -- what a byte assertion says at a position, for the line terminator `\n`
 abbrev says : Look → List ℕ → ℕ → Bool
@@ -54,4 +54,4 @@ word_boundary = contains-boundaries_of WordAscii 10 0x5E
 
 -- the set of all assertions
 bits_of_all : bits_of (sets.from_list every_look) ≡ 262143
-bits_of_all = sym (ap bits_of looks_of-all) ∙ bits_of-looks_of 262143 (omega arith)
+bits_of_all = sym (ap bits_of looks_of_all) ∙ bits_of-looks_of 262143 (omega arith)

@@ -1,6 +1,6 @@
 -- Where an assertion holds, by the two sides of a position; none on characters holds inside an encoded character.
 use Rattle.std.specs.Bool.{beq}
-use Rattle.std.proofs.Common.{not, ◌&&◌, ap₂, ◌≡◌, ◌↔◌, ℕ, ◌-◌, ◌<◌, ◌≤◌, Bool, true, false, List, length, get_or, refl, sym, ap, ◌∙◌, subst, arith, inl, inr, ⊎_elim, true≢false, IsTrue}
+use Rattle.std.proofs.Common.{cond, not, ◌&&◌, ap₂, ◌≡◌, ◌↔◌, ℕ, ◌-◌, ◌<◌, ◌≤◌, Bool, true, false, List, length, get_or, refl, sym, ap, ◌∙◌, subst, arith, inl, inr, ⊎_elim, true≢false, IsTrue}
 use Rattle.std.proofs.lemmas.Bool.{cases_eq, cases_Bool, false_from_ne_true}
 use Rattle.rsc_look.proofs.Prelude.{HasBoundariesOf, is_word_byte, BeginsAt, EndsAt, EncodedFrom, AgreePastAscii, EncodedFrom-agree, BeginsAt-same, EndsAt-same, Look, Side, Absent, Invalid, Word, Other, IsBefore, IsAfter, HoldsAtSides, holds_at_sides, exactly_one, is_invalid, is_word_side, is_absent_or_other, Holds, WordUnicode, WordUnicodeNegate, WordStartUnicode, WordEndUnicode, WordStartHalfUnicode, WordEndHalfUnicode, BeginsAt-decided, EndsAt-decided, IsSideOf, is_unicode, AreInterchanged, DifferInAscii, AgreesWithAscii, IsInside, IsInside-begins, IsInside-ends}
 use Rattle.rsc_look.proofs.BoundariesLemmas.{is_word_boundary, Together-is_word_byte}
@@ -160,6 +160,21 @@ IsAfter-from_char W h i c Invalid e s = absurd s
 IsAfter-from_char W h i c Word e s = (c, e, s)
 IsAfter-from_char W h i c Other e s = (c, e, s)
 
+-- and where the class of word characters decides which
+pub side_is : (W : ℕ → Bool) (h : List ℕ) (i b : ℕ) → EndsAt h i b → IsBefore W h i (cond (W b) Word Other)
+side_is W h i b e = go (W b) refl
+  where
+    go : (v : Bool) → W b ≡ v → IsBefore W h i (cond v Word Other)
+    go true f = (b, e, f)
+    go false f = (b, e, f)
+
+pub side_is_after : (W : ℕ → Bool) (h : List ℕ) (i b : ℕ) → BeginsAt h i b → IsAfter W h i (cond (W b) Word Other)
+side_is_after W h i b e = go (W b) refl
+  where
+    go : (v : Bool) → W b ≡ v → IsAfter W h i (cond v Word Other)
+    go true f = (b, e, f)
+    go false f = (b, e, f)
+
 -- ---- each position has a side before it and one after it
 
 -- each position has a side before it
@@ -187,9 +202,8 @@ not_exactly_one _ _ = refl
 
 exactly_one-ne : (x y : Bool) → not (beq x y) ≡ exactly_one x y
 exactly_one-ne true true = refl
-exactly_one-ne true false = refl
 exactly_one-ne false true = refl
-exactly_one-ne false false = refl
+exactly_one-ne _ _ = refl
 
 -- ---- for the calls: what they compute from one side or from both
 

@@ -2,14 +2,15 @@
 use Rattle.std.proofs.Common.{◌≡◌, ℕ, zero, suc, ◌+◌, ◌<◌, ◌≤◌, Bool, true, false, ◌&&◌, ◌||◌, eqb, nat_eq, nat_lt, cond, List, [], ◌∷◌, refl, sym, ap, ◌∙◌, arith, ◌⊎◌, inl, inr, true≢false, not, ltb, ◌↔◌, subst, slice_index, length, Contains, nat_cmp}
 use Rattle.std.specs.List.{list_any, list_all}
 use Rattle.std.proofs.lemmas.Bool.Decides.{nat_tests}
-use Rattle.rsc_look.proofs.Prelude.{HasBoundariesOf, is_word_byte, EncodedFrom, Look, Start, End, StartLF, EndLF, StartCRLF, EndCRLF, WordAscii, WordAsciiNegate, WordUnicode, WordUnicodeNegate, WordStartAscii, WordEndAscii, WordStartUnicode, WordEndUnicode, WordStartHalfAscii, WordEndHalfAscii, WordStartHalfUnicode, WordEndHalfUnicode, Side, Absent, Word, Other, exactly_one, byte_before, byte_after, holds_at_bytes, IsBefore, IsAfter, holds_at_sides, is_unicode, AgreesWithAscii, Tells, Numbers, is_boundary_of_set, contains-joined, word_boundaries, Together, class_map, Holds, boundaries_of_each, IsHaystack, AreInterchanged, DifferInAscii, Keeps, IsCoarsest, AgreesWhereAsked, IsNeeded, IsCoarsestMap, alike_alone, not_told, IsExactFor, boundaries_of, same_as_only, is_its_member}
+use Rattle.rsc_look.proofs.Prelude.{HasBoundariesOf, is_word_byte, EncodedFrom, Look, Start, End, StartLF, EndLF, StartCRLF, EndCRLF, WordUnicode, WordUnicodeNegate, WordEndAscii, WordStartUnicode, WordEndUnicode, WordStartHalfAscii, WordStartHalfUnicode, WordEndHalfUnicode, Side, Absent, Word, Other, exactly_one, byte_before, byte_after, holds_at_bytes, IsBefore, IsAfter, holds_at_sides, is_unicode, AgreesWithAscii, Tells, Numbers, is_boundary_of_set, contains-joined, word_boundaries, Together, class_map, Holds, boundaries_of_each, IsHaystack, AreInterchanged, DifferInAscii, Keeps, IsCoarsest, AgreesWhereAsked, IsNeeded, IsCoarsestMap, alike_alone, not_told, IsExactFor, boundaries_of, same_as_only, is_its_member}
 use Rattle.rsc_look.proofs.BoundariesLemmas.{is_boundary_of_byte, word_boundary_numbers, is_word_boundary, is_boundary_of, contains-word_boundaries, is_boundary_of_each, contains-boundaries_of_each, contains-boundaries_of, TogetherAt-slice_get, TogetherAt-before, holds_at_bytes-same}
-use Rattle.rsc_look.proofs.HoldsLemmas.{at_sides, Holds-bytes, Holds-sides, HoldsAtSides-moves, Interchange, Interchange-from, Interchange-sym}
-use Rattle.std.proofs.lemmas.Bool.{agree_below_at, true_from_ne_false, or_right}
+use Rattle.rsc_look.proofs.HoldsLemmas.{at_sides, Holds-bytes, Holds-sides, side_is, side_is_after, HoldsAtSides-moves, Interchange, Interchange-from, Interchange-sym}
+use Rattle.std.proofs.lemmas.Bool.{agree_below_at, eqb-true, true_from_ne_false, or_right}
 use Rattle.std.specs.Cmp.{nat_cmp_total}
 use Rattle.std.specs.FinSet as sets
 use Rattle.std.specs.FinSet.{same_set, nat_cmp-IsAntisymmetric, contains-empty}
 use Rattle.std.proofs.lemmas.List.Folds.{list_any_at, Any-from_list_any}
+use Rattle.std.proofs.lemmas.List.Sums.{AllPass-from_list_all}
 
 -- ---- each boundary of an assertion is needed: at one end of a haystack of one byte the assertion tells that byte from the next
 
@@ -25,11 +26,6 @@ told_at _ = 0
 
 pub told_at_le : (l : Look) → told_at l ≤ 1
 told_at_le StartLF = omega arith
-told_at_le StartCRLF = omega arith
-told_at_le WordEndAscii = omega arith
-told_at_le WordEndUnicode = omega arith
-told_at_le WordStartHalfAscii = omega arith
-told_at_le WordStartHalfUnicode = omega arith
 told_at_le _ = omega arith
 
 -- the side that a byte below 128 makes
@@ -53,18 +49,10 @@ encoded_alone : (b : ℕ) → b < 128 → EncodedFrom (b ∷ []) 0 1 b
 encoded_alone b l = record { ordered = omega arith; within = omega arith; encoded = (omega arith, refl) }
 
 before_alone : (W : ℕ → Bool) (b : ℕ) → b < 128 → W b ≡ is_word_byte b → IsBefore W (b ∷ []) 1 (side_of b)
-before_alone W b l w = go (is_word_byte b) w
-  where
-    go : (x : Bool) → W b ≡ x → IsBefore W (b ∷ []) 1 (cond x Word Other)
-    go true e = (b, (0, encoded_alone b l), e)
-    go false e = (b, (0, encoded_alone b l), e)
+before_alone W b l w = rw (← w) (side_is W (b ∷ []) 1 b (0, encoded_alone b l))
 
 after_alone : (W : ℕ → Bool) (b : ℕ) → b < 128 → W b ≡ is_word_byte b → IsAfter W (b ∷ []) 0 (side_of b)
-after_alone W b l w = go (is_word_byte b) w
-  where
-    go : (x : Bool) → W b ≡ x → IsAfter W (b ∷ []) 0 (cond x Word Other)
-    go true e = (b, (1, encoded_alone b l), e)
-    go false e = (b, (1, encoded_alone b l), e)
+after_alone W b l w = rw (← w) (side_is_after W (b ∷ []) 0 b (1, encoded_alone b l))
 
 sides_alone : (W : ℕ → Bool) (b i : ℕ) → b < 128 → W b ≡ is_word_byte b → i ≤ 1 → IsBefore W (b ∷ []) i (sides_at i b).0 × IsAfter W (b ∷ []) i (sides_at i b).1
 sides_alone W b zero l w h = (refl, after_alone W b l w)
@@ -98,16 +86,10 @@ tells_sides l t W b e a lt x =
 -- ---- the boundaries, one by one
 
 -- a test that each number of a list passes
-each_passes_step : (test : ℕ → Bool) (x b : ℕ) (m h u v : Bool) → nat_eq x b ≡ u → test x ≡ v → (m ≡ true → h ≡ true → test b ≡ true) → (u || m) ≡ true
-    → (v && h) ≡ true → test b ≡ true
-each_passes_step test x b m h true true e f r p q = let s : b ≡ x = grind (arith, nat_tests) in ap test s ∙ f
-each_passes_step test x b m h false true e f r p q = r p q
-each_passes_step test x b m h u false e f r p q = absurd (true≢false (sym q))
-
 each_passes : (test : ℕ → Bool) (xs : List ℕ) (b : ℕ) → list_any (λ x. nat_eq x b) xs ≡ true → list_all test xs ≡ true → test b ≡ true
-each_passes test [] b m h = absurd (true≢false (sym m))
-each_passes test (x ∷ xs) b m h = each_passes_step test x b (list_any (λ x. nat_eq x b) xs) (list_all test xs) (nat_eq x b) (test x) refl refl
-    (each_passes test xs b) m h
+each_passes test xs b m h =
+    let found = Any-from_list_any (λ x. nat_eq x b) xs m in
+    ap test (sym (found.3 ∙ eqb-true found.1 b found.4)) ∙ AllPass-from_list_all test xs h found.0 found.1 found.2
 
 -- a boundary of the word bytes lies below 127
 pub below_127 : (b : ℕ) → is_word_boundary b ≡ true → b + 1 < 128
@@ -143,18 +125,13 @@ Tells-boundary StartCRLF t W b a m = tells_bytes StartCRLF t W b refl
     refl)
 Tells-boundary EndCRLF t W b a m = tells_bytes EndCRLF t W b refl
     (each_passes (λ x. exactly_one (alone_at_bytes EndCRLF t x) (alone_at_bytes EndCRLF t (x + 1))) (12 ∷ 13 ∷ 9 ∷ 10 ∷ []) b (crlf_listed b m) refl)
-Tells-boundary WordAscii t W b a m = tells_word_bytes WordAscii t W b refl refl m
-Tells-boundary WordAsciiNegate t W b a m = tells_word_bytes WordAsciiNegate t W b refl refl m
 Tells-boundary WordUnicode t W b a m = tells_word_sides WordUnicode t W b refl (a refl) refl m
 Tells-boundary WordUnicodeNegate t W b a m = tells_word_sides WordUnicodeNegate t W b refl (a refl) refl m
-Tells-boundary WordStartAscii t W b a m = tells_word_bytes WordStartAscii t W b refl refl m
-Tells-boundary WordEndAscii t W b a m = tells_word_bytes WordEndAscii t W b refl refl m
 Tells-boundary WordStartUnicode t W b a m = tells_word_sides WordStartUnicode t W b refl (a refl) refl m
 Tells-boundary WordEndUnicode t W b a m = tells_word_sides WordEndUnicode t W b refl (a refl) refl m
-Tells-boundary WordStartHalfAscii t W b a m = tells_word_bytes WordStartHalfAscii t W b refl refl m
-Tells-boundary WordEndHalfAscii t W b a m = tells_word_bytes WordEndHalfAscii t W b refl refl m
 Tells-boundary WordStartHalfUnicode t W b a m = tells_word_sides WordStartHalfUnicode t W b refl (a refl) refl m
 Tells-boundary WordEndHalfUnicode t W b a m = tells_word_sides WordEndHalfUnicode t W b refl (a refl) refl m
+Tells-boundary l t W b a m = tells_word_bytes l t W b refl refl m
 
 -- ---- the boundaries of the word bytes are where two neighbouring bytes differ: computed for all 255 of them
 
@@ -182,9 +159,9 @@ is_boundary_of_set-is words same b = rw (same b, same (b + 1)) (ap (λ x. ltb b 
     by_cases _ _ = refl
 
 -- what `add_set` of the word bytes leaves of a set of boundaries
-pub word_boundaries-added : (old new words : Numbers) → ((b : ℕ) → sets.contains words b ≡ is_word_byte b)
+pub word_boundaries_added : (old new words : Numbers) → ((b : ℕ) → sets.contains words b ≡ is_word_byte b)
     → ((b : ℕ) → sets.contains new b ≡ (sets.contains old b || is_boundary_of_set words b)) → new ≡ sets.union old word_boundaries
-word_boundaries-added old new words same added = same_set nat_cmp_total nat_cmp-IsAntisymmetric new (sets.union old word_boundaries) (λ b.
+word_boundaries_added old new words same added = same_set nat_cmp_total nat_cmp-IsAntisymmetric new (sets.union old word_boundaries) (λ b.
     added b ∙ ap (λ x. sets.contains old b || x) (is_boundary_of_set-is words same b ∙ differs-is_word_boundary b ∙ sym (contains-word_boundaries b))
     ∙ sym (contains-joined old word_boundaries b))
 
@@ -192,13 +169,8 @@ word_boundaries-added old new words same added = same_set nat_cmp_total nat_cmp-
 
 -- the six have the boundaries of the word bytes
 pub is_boundary_of-unicode : (l : Look) (t b : ℕ) → is_unicode l ≡ true → is_boundary_of l t b ≡ is_word_boundary b
-is_boundary_of-unicode Start t b e = absurd (true≢false (sym e))
-is_boundary_of-unicode End t b e = absurd (true≢false (sym e))
-is_boundary_of-unicode StartLF t b e = absurd (true≢false (sym e))
-is_boundary_of-unicode EndLF t b e = absurd (true≢false (sym e))
-is_boundary_of-unicode StartCRLF t b e = absurd (true≢false (sym e))
-is_boundary_of-unicode EndCRLF t b e = absurd (true≢false (sym e))
-is_boundary_of-unicode _ t b e = refl
+is_boundary_of-unicode Start t b e = cc
+is_boundary_of-unicode _ t b e = cc
 
 -- ---- one assertion is kept by every partition that has its boundaries
 
@@ -333,7 +305,7 @@ IsExactFor-from old new l t W e a = record {
 }
 
 -- the same of the assertion's own boundaries alone
-pub IsExactFor-own : (l : Look) (t : ℕ) (W : ℕ → Bool) → (is_unicode l ≡ true → AgreesWithAscii W) → IsExactFor (sets.contains (boundaries_of l t)) l t W
-IsExactFor-own l t W =
+pub IsExactFor_own : (l : Look) (t : ℕ) (W : ℕ → Bool) → (is_unicode l ≡ true → AgreesWithAscii W) → IsExactFor (sets.contains (boundaries_of l t)) l t W
+IsExactFor_own l t W =
     IsExactFor-from sets.empty (boundaries_of l t) l t W (same_set nat_cmp_total nat_cmp-IsAntisymmetric _ _ (λ b.
     sym (contains-joined sets.empty (boundaries_of l t) b ∙ ap (λ x. x || sets.contains (boundaries_of l t) b) (contains-empty nat_cmp b))))

@@ -1,5 +1,5 @@
 -- Finer partitions keep what coarser ones do, and two lists together have the boundaries of both.
-use Rattle.std.proofs.Common.{◌≡◌, ℕ, ◌<◌, Bool, true, ◌||◌, List, ◌++◌, arith, ⊎_elim, Contains}
+use Rattle.std.proofs.Common.{◌≡◌, ℕ, Bool, true, ◌||◌, List, ◌++◌, arith, ⊎_elim, Contains}
 use Rattle.std.proofs.lemmas.Bool.{or_cases, or_right, or_left}
 use Rattle.std.proofs.lemmas.List.Elements.{Contains-append_cases, Contains-append_left, Contains-append_right}
 use Rattle.rsc_look.proofs.Prelude.{HasBoundariesOf, Look, AreInterchanged, Keeps, IsCoarsest}
@@ -28,7 +28,7 @@ Keeps-part p some all t W among keeps = record {
   at_characters = λ l c. keeps.at_characters l (among l c);
 }
 
-Keeps-both : (p : ℕ → Bool) (some others : List Look) (t : ℕ) (W : ℕ → Bool) → Keeps p some t W → Keeps p others t W → Keeps p (some ++ others) t W
+pub Keeps-both : (p : ℕ → Bool) (some others : List Look) (t : ℕ) (W : ℕ → Bool) → Keeps p some t W → Keeps p others t W → Keeps p (some ++ others) t W
 Keeps-both p some others t W one two = record {
   at_bytes = λ l listed plain. ⊎_elim (λ here. one.at_bytes l here plain) (λ here. two.at_bytes l here plain) (Contains-append_cases some others l listed);
   at_characters = λ l listed unicode. ⊎_elim (λ here. one.at_characters l here unicode) (λ here. two.at_characters l here unicode)

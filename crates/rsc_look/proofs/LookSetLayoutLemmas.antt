@@ -1,14 +1,14 @@
 -- What the operations on eighteen bits do to the set that they stand for, and what an iterator takes.
-use Rattle.std.proofs.Common.{◌≡◌, ◌≢◌, ◌↔◌, ℕ, zero, suc, ◌-◌, ◌*◌, ◌^◌, ◌<◌, ◌≤◌, Bool, true, false, not, ◌&&◌, ◌||◌, cond, List, length, get_or, map, filter, flat_map, Some, None, min, max, refl, sym, ap, ap₂, ◌∙◌, arith, nat_eq, bit_and, bit_or, w32, ⊎_elim, count_ones, IsTrue, ◌+◌, ◌%◌, [], ◌∷◌, ◌++◌, Option, subst, MatchOption, ◌⊎◌, inl, inr, true≢false}
+use Rattle.std.proofs.Common.{◌≡◌, ◌≢◌, ◌↔◌, ℕ, zero, suc, ◌-◌, ◌*◌, ◌^◌, ◌<◌, ◌≤◌, Bool, true, false, not, ◌&&◌, ◌||◌, cond, List, length, get_or, map, filter, flat_map, Some, None, refl, sym, ap, ap₂, ◌∙◌, arith, nat_eq, bit_and, bit_or, w32, ⊎_elim, count_ones, IsTrue, ◌+◌, ◌%◌, [], ◌∷◌, ◌++◌, Option, subst, MatchOption, ◌⊎◌, inl, inr, true≢false}
 use Rattle.std.specs.List.{list_any}
 use Rattle.std.specs.Int.{bit_at, trailing_zeros}
 use Rattle.std.specs.FinSet as sets
 use Rattle.std.specs.FinSet.{contains-empty, contains-from_list, contains-insert, contains-remove, contains-union, contains-intersection, contains-difference}
-use Rattle.std.proofs.lemmas.Bool.{cases_eq, eq-eqb, ne_eqb, eqb-true, cases_lt}
+use Rattle.std.proofs.lemmas.Bool.{cases_eq, eq-eqb, ne_eqb, eqb-true}
 use Rattle.std.proofs.lemmas.Bool.Decides.{nat_tests}
 use Rattle.std.proofs.lemmas.List.{get_or-map, length-map}
 use Rattle.std.proofs.lemmas.List.Sums.{length-filter}
-use Rattle.std.proofs.lemmas.Nat.{or_lt}
+use Rattle.std.proofs.lemmas.Nat.{or_lt, pow_pos}
 use Rattle.std.proofs.lemmas.Nat.Bits.{and_pow, bit_at_and, bit_at_or, bit_at_not, bit_at-zero, bit_at-lt, bit_at-pow_same, bit_at-pow_other, same_from_bits_below, bit_at_above, bit_at-trailing_zeros}
 use Rattle.std.proofs.lemmas.Simd.{mask_l-lt, bit_mask_l, ones-mask_l}
 use Rattle.std.proofs.Math.Bool.{or_comm, and_comm, and-false, or-true}
@@ -17,63 +17,41 @@ use lib.Lanes.{mask_l}
 use Rattle.rsc_look.proofs.Prelude.{Look, Start, look_cmp, Looks, members, bits_of, look_cmp_total, look_cmp-IsAntisymmetric, same_looks, repr_of-injective, repr_of-pow, bit_of-look_at, bit_of-lt, contains-looks_of, bits_of-looks_of, looks_of-bits_of, bits_of-lt, every_look_has, tied, same_members, same_bools, same_from, same_to, from_to, from_to_parts, filter_none, filter_first, filter_same, repr_of-look_at, every_look-is, contains-filtered}
 use Rattle.rsc_look.specs.Looks.{repr_of, every_look}
 use Rattle.rsc_look.specs.LookSets.{look_text, text_of_looks}
-use Rattle.rsc_look.specs.LookSetLayout.{bit_of, has_look, looks_of, look_at, look_at-bit_of}
+use Rattle.rsc_look.specs.LookSetLayout.{bit_of, has_look, looks_of, look_at}
 use Rattle.std.proofs.lemmas.List.Elements.{filter-append}
 use Rattle.std.specs.Cmp.{unsigned_tied}
+pub use Rattle.std.proofs.lemmas.Nat.{ones-le as ones_le}
+pub use Rattle.rsc_look.specs.LookSetLaws.{contains-looks_of as contains_looks_of}
 
 -- ---- single assertions
 
-bit_of-injective : (l m : Look) → bit_of l ≡ bit_of m → l ≡ m
-bit_of-injective l m e = sym (look_at-bit_of l) ∙ ap look_at e ∙ look_at-bit_of m
-
 -- the bit of an assertion alone
 single_bit : (l m : Look) → has_look (repr_of l) m ≡ nat_eq (repr_of m) (repr_of l)
-single_bit l m = ⊎_elim
-    (λ (e : bit_of m ≡ bit_of l).
-    let same : m ≡ l = bit_of-injective m l e in
-    ap (λ n. nat_eq (bit_at n (bit_of m)) 1) (repr_of-pow l) ∙ ap (λ k. nat_eq (bit_at (2 ^ bit_of l) k) 1) e
-    ∙ ap (λ n. nat_eq n 1) (bit_at-pow_same (bit_of l))
-    ∙ sym (eq-eqb (repr_of m) (repr_of l) (ap repr_of same)))
-    (λ (ne : bit_of m ≢ bit_of l).
-    ap (λ n. nat_eq (bit_at n (bit_of m)) 1) (repr_of-pow l) ∙ ap (λ n. nat_eq n 1) (bit_at-pow_other (bit_of l) (bit_of m) ne)
-    ∙ sym (ne_eqb (repr_of m) (repr_of l) (λ e. ne (ap bit_of (repr_of-injective m l e)))))
-    (cases_eq (bit_of m) (bit_of l))
+single_bit l m =
+    let same : repr_of m ≡ repr_of l → bit_of m ≡ bit_of l = λ e. ap bit_of (repr_of-injective m l e) in
+    grind (arith, nat_tests, same, repr_of-pow l, repr_of-pow m, bit_at-pow_same (bit_of l), bit_at-pow_other (bit_of l) (bit_of m))
 
 -- an assertion's bit is one of the lowest eighteen
-pub repr_of-lt : (l : Look) → repr_of l < 2 ^ 18
-repr_of-lt Start = omega arith
-repr_of-lt _ = omega arith
-
-repr_of-nonzero : (l : Look) → nat_eq (repr_of l) 0 ≡ false
-repr_of-nonzero Start = refl
-repr_of-nonzero _ = refl
+pub repr_of_lt : (l : Look) → repr_of l < 2 ^ 18
+repr_of_lt Start = omega arith
+repr_of_lt _ = omega arith
 
 -- ---- bits as tests
 
-max_is : (x y : ℕ) → x < 2 → y < 2 → nat_eq (max x y) 1 ≡ (nat_eq x 1 || nat_eq y 1)
-max_is x y lx ly = grind (arith, nat_tests)
+pub has_look_or : (a b : ℕ) (l : Look) → has_look (bit_or a b) l ≡ (has_look a l || has_look b l)
+has_look_or a b l = grind (arith, nat_tests, bit_at_or a b (bit_of l), bit_at-lt a (bit_of l), bit_at-lt b (bit_of l))
 
-min_is : (x y : ℕ) → x < 2 → y < 2 → nat_eq (min x y) 1 ≡ (nat_eq x 1 && nat_eq y 1)
-min_is x y lx ly = grind (arith, nat_tests)
+pub has_look_and : (a b : ℕ) (l : Look) → has_look (bit_and a b) l ≡ (has_look a l && has_look b l)
+has_look_and a b l = grind (arith, nat_tests, bit_at_and a b (bit_of l), bit_at-lt a (bit_of l), bit_at-lt b (bit_of l))
 
-minus_is : (x : ℕ) → x < 2 → nat_eq (1 - x) 1 ≡ not (nat_eq x 1)
-minus_is x l = grind (arith, nat_tests)
-
-has_look-or : (a b : ℕ) (l : Look) → has_look (bit_or a b) l ≡ (has_look a l || has_look b l)
-has_look-or a b l = ap (λ n. nat_eq n 1) (bit_at_or a b (bit_of l)) ∙ max_is _ _ (bit_at-lt a (bit_of l)) (bit_at-lt b (bit_of l))
-
-has_look-and : (a b : ℕ) (l : Look) → has_look (bit_and a b) l ≡ (has_look a l && has_look b l)
-has_look-and a b l = ap (λ n. nat_eq n 1) (bit_at_and a b (bit_of l)) ∙ min_is _ _ (bit_at-lt a (bit_of l)) (bit_at-lt b (bit_of l))
-
-has_look-not : (b : ℕ) (l : Look) → b < 2 ^ 32 → has_look (4294967295 - b) l ≡ not (has_look b l)
-has_look-not b l h =
-    ap (λ n. nat_eq n 1) (bit_at_not w32 b (bit_of l) h (let p = bit_of-lt l in omega arith)) ∙ minus_is (bit_at b (bit_of l)) (bit_at-lt b (bit_of l))
+pub has_look_not : (b : ℕ) (l : Look) → b < 2 ^ 32 → has_look (4294967295 - b) l ≡ not (has_look b l)
+has_look_not b l h = grind (arith, nat_tests, bit_at_not w32 b (bit_of l) h, bit_of-lt l, bit_at-lt b (bit_of l))
 
 -- ---- the operations
 
 -- 0 is the empty set, and eighteen ones are the full one
-pub looks_of-none : looks_of 0 ≡ sets.empty
-looks_of-none = same_looks (looks_of 0) sets.empty (λ l. contains-looks_of 0 l ∙ ap (λ n. nat_eq n 1) (bit_at-zero (bit_of l))
+pub looks_of_none : looks_of 0 ≡ sets.empty
+looks_of_none = same_looks (looks_of 0) sets.empty (λ l. contains-looks_of 0 l ∙ ap (λ n. nat_eq n 1) (bit_at-zero (bit_of l))
     ∙ sym (contains-empty look_cmp l))
 
 all_bits : (l : Look) → has_look 262143 l ≡ true
@@ -81,50 +59,49 @@ all_bits Start = refl
 all_bits _ = refl
 
 -- all eighteen bits stand for a set with each assertion
-pub contains-looks_of-all : (l : Look) → sets.contains (looks_of 262143) l ≡ true
-contains-looks_of-all l = contains-looks_of 262143 l ∙ all_bits l
+pub contains_looks_of_all : (l : Look) → sets.contains (looks_of 262143) l ≡ true
+contains_looks_of_all l = contains-looks_of 262143 l ∙ all_bits l
 
 -- they stand for the set of all
-pub looks_of-all : looks_of 262143 ≡ sets.from_list every_look
-looks_of-all = same_looks (looks_of 262143) (sets.from_list every_look) (λ l.
+pub looks_of_all : looks_of 262143 ≡ sets.from_list every_look
+looks_of_all = same_looks (looks_of 262143) (sets.from_list every_look) (λ l.
     contains-looks_of 262143 l ∙ all_bits l
     ∙ sym (contains-from_list look_cmp_total every_look l ∙ ap (λ (t : Look → Bool). list_any t every_look) (λ i m. tied l m i) ∙ every_look_has l))
 
 -- each operation on bits is that operation on sets
-pub looks_of-insert : (n : ℕ) (l : Look) → looks_of (bit_or n (repr_of l)) ≡ sets.insert (looks_of n) l
-looks_of-insert n l = same_looks (looks_of (bit_or n (repr_of l))) (sets.insert (looks_of n) l) (λ m.
-    contains-looks_of (bit_or n (repr_of l)) m ∙ has_look-or n (repr_of l) m ∙ or_comm (has_look n m) (has_look (repr_of l) m)
+pub looks_of_insert : (n : ℕ) (l : Look) → looks_of (bit_or n (repr_of l)) ≡ sets.insert (looks_of n) l
+looks_of_insert n l = same_looks (looks_of (bit_or n (repr_of l))) (sets.insert (looks_of n) l) (λ m.
+    contains-looks_of (bit_or n (repr_of l)) m ∙ has_look_or n (repr_of l) m ∙ or_comm (has_look n m) (has_look (repr_of l) m)
     ∙ sym (contains-insert look_cmp_total (looks_of n) l m ∙ ap₂ (λ x y. x || y) (tied m l ∙ sym (single_bit l m)) (contains-looks_of n m)))
 
--- an insertion stays within eighteen bits
-pub insert_fits : (n : ℕ) (l : Look) → n < 2 ^ 18 → bit_or n (repr_of l) < 2 ^ 18
-insert_fits n l h = or_lt 18 n (repr_of l) h (repr_of-lt l)
+-- an insertion and a union stay within eighteen bits
+pub union_fits : (a b : ℕ) → a < 2 ^ 18 → b < 2 ^ 18 → bit_or a b < 2 ^ 18
+union_fits a b = or_lt 18 a b
 
 -- to clear an assertion's bit is to remove it
-pub looks_of-remove : (n : ℕ) (l : Look) → looks_of (bit_and n (4294967295 - repr_of l)) ≡ sets.remove (looks_of n) l
-looks_of-remove n l = same_looks (looks_of (bit_and n (4294967295 - repr_of l))) (sets.remove (looks_of n) l) (λ m.
-    let small = repr_of-lt l in
-    contains-looks_of (bit_and n (4294967295 - repr_of l)) m ∙ has_look-and n (4294967295 - repr_of l) m
-    ∙ ap (λ b. has_look n m && b) (has_look-not (repr_of l) m (omega arith) ∙ ap not (single_bit l m))
+pub looks_of_remove : (n : ℕ) (l : Look) → looks_of (bit_and n (4294967295 - repr_of l)) ≡ sets.remove (looks_of n) l
+looks_of_remove n l = same_looks (looks_of (bit_and n (4294967295 - repr_of l))) (sets.remove (looks_of n) l) (λ m.
+    contains-looks_of (bit_and n (4294967295 - repr_of l)) m ∙ has_look_and n (4294967295 - repr_of l) m
+    ∙ ap (λ b. has_look n m && b) (has_look_not (repr_of l) m (omega (arith, repr_of_lt l)) ∙ ap not (single_bit l m))
     ∙ and_comm (has_look n m) (not (nat_eq (repr_of m) (repr_of l)))
     ∙ sym (contains-remove look_cmp_total (looks_of n) l m ∙ ap₂ (λ x y. not x && y) (tied m l) (contains-looks_of n m)))
 
 -- the bits of either number stand for the union
-pub looks_of-union : (a b : ℕ) → looks_of (bit_or a b) ≡ sets.union (looks_of a) (looks_of b)
-looks_of-union a b = same_looks (looks_of (bit_or a b)) (sets.union (looks_of a) (looks_of b)) (λ m.
-    contains-looks_of (bit_or a b) m ∙ has_look-or a b m
+pub looks_of_union : (a b : ℕ) → looks_of (bit_or a b) ≡ sets.union (looks_of a) (looks_of b)
+looks_of_union a b = same_looks (looks_of (bit_or a b)) (sets.union (looks_of a) (looks_of b)) (λ m.
+    contains-looks_of (bit_or a b) m ∙ has_look_or a b m
     ∙ sym (contains-union look_cmp_total (looks_of a) (looks_of b) m ∙ ap₂ (λ x y. x || y) (contains-looks_of a m) (contains-looks_of b m)))
 
 -- the bits of both stand for the intersection
-pub looks_of-intersection : (a b : ℕ) → looks_of (bit_and a b) ≡ sets.intersection (looks_of a) (looks_of b)
-looks_of-intersection a b = same_looks (looks_of (bit_and a b)) (sets.intersection (looks_of a) (looks_of b)) (λ m.
-    contains-looks_of (bit_and a b) m ∙ has_look-and a b m
+pub looks_of_intersection : (a b : ℕ) → looks_of (bit_and a b) ≡ sets.intersection (looks_of a) (looks_of b)
+looks_of_intersection a b = same_looks (looks_of (bit_and a b)) (sets.intersection (looks_of a) (looks_of b)) (λ m.
+    contains-looks_of (bit_and a b) m ∙ has_look_and a b m
     ∙ sym (contains-intersection look_cmp_total (looks_of a) (looks_of b) m ∙ ap₂ (λ x y. x && y) (contains-looks_of a m) (contains-looks_of b m)))
 
 -- the bits of one without those of the other stand for the difference
-pub looks_of-difference : (a b : ℕ) → b < 2 ^ 18 → looks_of (bit_and a (4294967295 - b)) ≡ sets.difference (looks_of a) (looks_of b)
-looks_of-difference a b h = same_looks (looks_of (bit_and a (4294967295 - b))) (sets.difference (looks_of a) (looks_of b)) (λ m.
-    contains-looks_of (bit_and a (4294967295 - b)) m ∙ has_look-and a (4294967295 - b) m ∙ ap (λ x. has_look a m && x) (has_look-not b m (omega arith))
+pub looks_of_difference : (a b : ℕ) → b < 2 ^ 18 → looks_of (bit_and a (4294967295 - b)) ≡ sets.difference (looks_of a) (looks_of b)
+looks_of_difference a b h = same_looks (looks_of (bit_and a (4294967295 - b))) (sets.difference (looks_of a) (looks_of b)) (λ m.
+    contains-looks_of (bit_and a (4294967295 - b)) m ∙ has_look_and a (4294967295 - b) m ∙ ap (λ x. has_look a m && x) (has_look_not b m (omega arith))
     ∙ sym (contains-difference look_cmp_total (looks_of a) (looks_of b) m ∙ ap₂ (λ x y. x && not y) (contains-looks_of a m) (contains-looks_of b m)))
 
 -- ---- the questions
@@ -133,21 +110,17 @@ looks_of-difference a b h = same_looks (looks_of (bit_and a (4294967295 - b))) (
 pub contains_by_and : (n : ℕ) (l : Look) → not (nat_eq (bit_and n (repr_of l)) 0) ≡ sets.contains (looks_of n) l
 contains_by_and n l =
     ap (λ r. not (nat_eq (bit_and n r) 0)) (repr_of-pow l) ∙ ap (λ x. not (nat_eq x 0)) (and_pow n (bit_of l))
-    ∙ by_bit (bit_at n (bit_of l)) (bit_at-lt n (bit_of l)) ∙ sym (contains-looks_of n l)
+    ∙ by_bit (bit_at n (bit_of l)) (2 ^ bit_of l) (bit_at-lt n (bit_of l)) (pow_pos (bit_of l)) ∙ sym (contains-looks_of n l)
   where
-    by_bit : (x : ℕ) → x < 2 → not (nat_eq (x * 2 ^ bit_of l) 0) ≡ nat_eq x 1
-    by_bit zero h = let e : 0 * 2 ^ bit_of l ≡ 0 = grind arith in rw e
-    by_bit (suc zero) h = let e : 1 * 2 ^ bit_of l ≡ 2 ^ bit_of l = omega arith in rw (e, ← repr_of-pow l) (ap not (repr_of-nonzero l))
-    by_bit (suc (suc x)) h = absurd (omega arith)
-
-zero_test : (n : ℕ) → IsTrue (nat_eq n 0) ↔ (n ≡ 0)
-zero_test n = ((λ h. grind (arith, nat_tests)), (λ h. eq-eqb n 0 h))
+    by_bit : (x p : ℕ) → x < 2 → 0 < p → not (nat_eq (x * p) 0) ≡ nat_eq x 1
+    by_bit zero p l m = grind (arith, nat_tests)
+    by_bit (suc x) p l m = let one : x ≡ 0 = omega arith in rw one (grind (arith, nat_tests))
 
 -- only 0 stands for the empty set
 pub none_by_bits : (n : ℕ) → n < 2 ^ 18 → IsTrue (nat_eq n 0) ↔ (looks_of n ≡ sets.empty)
 none_by_bits n h = (
-  (λ t. ap looks_of ((zero_test n).0 t) ∙ looks_of-none),
-  (λ e. (zero_test n).1 (sym (bits_of-looks_of n h) ∙ ap bits_of (e ∙ sym looks_of-none) ∙ bits_of-looks_of 0 (omega arith))),
+  (λ t. ap looks_of (eqb-true n 0 t) ∙ looks_of_none),
+  (λ e. eq-eqb n 0 (sym (bits_of-looks_of n h) ∙ ap bits_of (e ∙ sym looks_of_none) ∙ bits_of-looks_of 0 (omega arith))),
 )
 
 -- equal sets have equal bits
@@ -171,13 +144,10 @@ as_mask : (n : ℕ) → n < 2 ^ 18 → n ≡ mask_l (map (has_look n) every_look
 as_mask n h = same_from_bits_below 18 n (mask_l (map (has_look n) every_look)) h fits (λ k l.
     sym (bit_mask_l (map (has_look n) every_look) k
     ∙ ap (λ b. cond b 1 0) (get_or-map (has_look n) every_look k Start false (let e = eighteen in omega arith) ∙ ap (λ p. nat_eq (bit_at n p) 1) (at k l))
-    ∙ as_bit (bit_at n k) (bit_at-lt n k)))
+    ∙ grind (arith, nat_tests, bit_at-lt n k)))
   where
     fits : mask_l (map (has_look n) every_look) < 2 ^ 18
     fits = let e = mask_l-lt (map (has_look n) every_look) in let f = length-map every_look (has_look n) ∙ eighteen in rw f at e
-
-    as_bit : (x : ℕ) → x < 2 → cond (nat_eq x 1) 1 0 ≡ x
-    as_bit x l = grind (arith, nat_tests)
 
 members-looks_of : (n : ℕ) → members (looks_of n) ≡ filter (has_look n) every_look
 members-looks_of n = ap (λ (p : Look → Bool). filter p every_look) (λ i l. contains-looks_of n l i)
@@ -240,9 +210,8 @@ first_member s k l is none =
 
     gone : (j : ℕ) → j < k + 1 → q j ≡ false
     gone j h = without j ∙ ⊎_elim
-        (λ (e : j ≡ k). ap (λ b. not b && p j) (eq-eqb (repr_of (look_at j)) (repr_of (look_at k)) (ap (λ i. repr_of (look_at i)) e)))
-        (λ (ne : j ≢ k). ap (λ b. not (nat_eq (repr_of (look_at j)) (repr_of (look_at k))) && b) (none j (omega arith))
-        ∙ and-false (not (nat_eq (repr_of (look_at j)) (repr_of (look_at k)))))
+        (λ (e : j ≡ k). rw (eq-eqb (repr_of (look_at j)) (repr_of (look_at k)) (ap (λ i. repr_of (look_at i)) e)) refl)
+        (λ (ne : j ≢ k). rw (none j (omega arith)) (and-false _))
         (cases_eq j k)
 
     kept : (j : ℕ) → k + 1 ≤ j → j < 18 → q j ≡ p j
@@ -270,7 +239,7 @@ first_by_bits n pos h k e =
     )
   where
     below : (n k : ℕ) → n < 2 ^ 18 → bit_at n k ≡ 1 → k < 18
-    below n k h one = ⊎_elim (λ (l : k < 18). l) (λ (l : 18 ≤ k). let z = bit_at_above n 18 k h l in absurd (omega arith)) (cases_lt k 18)
+    below n k h one = grind (arith, bit_at_above n 18 k h)
 
 -- what the iterator takes
 abbrev pub IsFirstMember : Looks → Option Look → Type 0
@@ -278,12 +247,12 @@ IsFirstMember s r = MatchOption r (members s ≡ []) (λ l. members s ≡ l ∷ 
 
 -- no bit is set: the iterator ends
 pub first_none : (n : ℕ) → n ≡ 0 → members (looks_of n) ≡ []
-first_none n e = no_member (looks_of n) (ap looks_of e ∙ looks_of-none)
+first_none n e = no_member (looks_of n) (ap looks_of e ∙ looks_of_none)
 
 shifted : (k : ℕ) → k < 18 → 1 * 2 ^ k % 2 ^ 32 ≡ 2 ^ k
 shifted k l =
     let one : 1 * 2 ^ k ≡ 2 ^ k = omega arith in
-    let small : 2 ^ k < 2 ^ 32 = subst (λ x. x < 2 ^ 32) (repr_of-look_at k l) (let m = repr_of-lt (look_at k) in omega arith) in
+    let small : 2 ^ k < 2 ^ 32 = subst (λ x. x < 2 ^ 32) (repr_of-look_at k l) (let m = repr_of_lt (look_at k) in omega arith) in
     rw one (omega (arith, small))
 
 -- the lowest bit gives the first member

@@ -1,25 +1,18 @@
 -- The assertions that hold at a position, from the two sides; and those of Unicode beside ASCII.
-use Rattle.std.proofs.Common.{◌≡◌, ◌↔◌, ℕ, zero, suc, ◌+◌, ◌<◌, ◌≤◌, ◌⊎◌, inl, inr, Bool, true, false, not, ◌&&◌, ◌||◌, cond, nat_le, true≢false, List, [], ◌∷◌, length, get_or, refl, sym, ap, ◌∙◌, subst, arith, slice_get, Option, Some, None, IsTrue, IfSome}
+use Rattle.std.proofs.Common.{rules, ◌≡◌, ◌↔◌, ℕ, zero, suc, ◌+◌, ◌<◌, ◌≤◌, ◌⊎◌, inl, inr, Bool, true, false, not, ◌&&◌, ◌||◌, cond, true≢false, List, [], ◌∷◌, length, get_or, refl, sym, ap, ◌∙◌, subst, arith, slice_get, Option, Some, None, IsTrue, IfSome}
 use Rattle.std.proofs.Math.Bool.{or-false}
 use Rattle.std.proofs.lemmas.Option.{slice_get_within, get_or_from_slice_get}
 use Rattle.rsc_primitives.specs.Utf8Laws.{slice_one}
 use Rattle.rsc_look.specs.Looks.{ascii_of}
-use Rattle.std.specs.Int.{is_in_range}
-use Rattle.std.proofs.lemmas.Bool.Decides.{nat_tests}
 use Rattle.rsc_look.proofs.Prelude.{EncodedFrom, BeginsAt, EndsAt, Look, WordUnicode, WordUnicodeNegate, WordStartUnicode, WordEndUnicode, WordStartHalfUnicode, WordEndHalfUnicode, Side, Absent, Word, Other, byte_before, byte_after, is_word_neighbor, exactly_one, is_invalid, is_word_side, is_absent_or_other, holds_at_bytes, holds_at_sides, IsBefore, IsAfter, Holds, is_unicode, AgreesWithAscii}
-use Rattle.rsc_look.proofs.HoldsLemmas.{at_sides, Holds-bytes, Holds-sides}
+use Rattle.rsc_look.proofs.HoldsLemmas.{at_sides, Holds-bytes, Holds-sides, side_is, side_is_after}
 
 -- ---- the assertions that hold at a position
 
 kind : (l : Look) (t : ℕ) (p n : Option ℕ) (a b : Side)
     → ((is_unicode l ≡ true) × (holds_at_bytes l t p n ≡ false)) ⊎ ((is_unicode l ≡ false) × (holds_at_sides l a b ≡ false))
-kind WordUnicode t p n a b = inl (refl, refl)
-kind WordUnicodeNegate t p n a b = inl (refl, refl)
-kind WordStartUnicode t p n a b = inl (refl, refl)
-kind WordEndUnicode t p n a b = inl (refl, refl)
-kind WordStartHalfUnicode t p n a b = inl (refl, refl)
-kind WordEndHalfUnicode t p n a b = inl (refl, refl)
-kind _ t p n a b = inr (refl, refl)
+kind WordUnicode t p n a b = search rules
+kind _ t p n a b = search rules
 
 is_true : (b : Bool) → (b ≡ true) ↔ IsTrue b
 is_true b = ((λ e. e), (λ e. e))
@@ -56,20 +49,6 @@ one_byte h i b e l =
       within = omega (arith, within);
       encoded = rw (slice_one h i (i + 1) refl within, at) (omega (arith, l), refl);
     }
-
-side_is : (W : ℕ → Bool) (h : List ℕ) (i b : ℕ) → EndsAt h i b → IsBefore W h i (cond (W b) Word Other)
-side_is W h i b e = go (W b) refl
-  where
-    go : (v : Bool) → W b ≡ v → IsBefore W h i (cond v Word Other)
-    go true f = (b, e, f)
-    go false f = (b, e, f)
-
-side_is_after : (W : ℕ → Bool) (h : List ℕ) (i b : ℕ) → BeginsAt h i b → IsAfter W h i (cond (W b) Word Other)
-side_is_after W h i b e = go (W b) refl
-  where
-    go : (v : Bool) → W b ≡ v → IsAfter W h i (cond v Word Other)
-    go true f = (b, e, f)
-    go false f = (b, e, f)
 
 past_end : (h : List ℕ) (i : ℕ) → slice_get h i ≡ None → length h ≤ i
 past_end [] i e = omega arith
@@ -117,13 +96,8 @@ by_words _ a b = false
 
 of_bytes : (l : Look) (t : ℕ) (p n : Option ℕ) → is_unicode l ≡ true → holds_at_bytes (ascii_of l) t p n ≡ by_words l (is_word_neighbor p) (is_word_neighbor n)
 unfolding by_words
-of_bytes WordUnicode t p n u = refl
-of_bytes WordUnicodeNegate t p n u = refl
-of_bytes WordStartUnicode t p n u = refl
-of_bytes WordEndUnicode t p n u = refl
-of_bytes WordStartHalfUnicode t p n u = refl
-of_bytes WordEndHalfUnicode t p n u = refl
-of_bytes _ t p n u = absurd (true≢false (sym u))
+of_bytes WordUnicode t p n u = cc
+of_bytes _ t p n u = cc
 
 -- a side that isn't invalid
 record IsValid (a : Side) (word : Bool) : Type 0 where
@@ -155,13 +129,8 @@ ascii_is_bytes WordUnicode = refl
 ascii_is_bytes _ = refl
 
 own : (l : Look) → (is_unicode l ≡ true) ⊎ (ascii_of l ≡ l)
-own WordUnicode = inl refl
-own WordUnicodeNegate = inl refl
-own WordStartUnicode = inl refl
-own WordEndUnicode = inl refl
-own WordStartHalfUnicode = inl refl
-own WordEndHalfUnicode = inl refl
-own _ = inr refl
+own WordUnicode = search rules
+own _ = search rules
 
 -- between neighbours that are absent or below 128, a Unicode assertion is its ASCII counterpart
 pub ascii_suffices : (l : Look) (t : ℕ) (W : ℕ → Bool) (h : List ℕ) (i : ℕ) → i ≤ length h → AgreesWithAscii W → IfSome (byte_before h i) (λ b. b < 128)
@@ -186,10 +155,3 @@ ascii_suffices l t W h i low agrees before after = go (own l)
           (λ x. b.1 (v.0 (sym same ∙ s.1 (k.0 x)))),
           (λ y. k.1 (s.0 (same ∙ v.1 (b.0 y)))),
         )
-
--- ---- the bytes at which a table stops
-
--- all from 128 on, where there is a Unicode assertion
-pub quit_some : (has : Bool) (b : ℕ) (before after : Bool) → has ≡ true → b < 256 → before ≡ false → after ≡ (is_in_range 128 255 b || before)
-    → after ≡ (has && nat_le 128 b)
-quit_some has b before after e l none is = grind (arith, nat_tests)

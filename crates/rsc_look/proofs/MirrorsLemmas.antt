@@ -9,18 +9,15 @@ use Rattle.std.proofs.lemmas.Option.{slice_get-get_or, slice_get_past, slice_get
 use Rattle.std.proofs.Math.Bool.{and_comm}
 use Rattle.std.proofs.lemmas.Bool.{and_parts, cases_lt}
 use Rattle.rsc_look.proofs.Prelude.{EncodesAll-std, position, BeginsAt-position, EndsAt-position, Look, Start, StartCRLF, EndCRLF, WordAscii, WordAsciiNegate, WordUnicode, WordUnicodeNegate, Side, Absent, Word, Other, byte_before, byte_after, is_byte, is_word_neighbor, exactly_one, holds_at_bytes, holds_at_sides, is_invalid, is_word_side, IsBefore, IsAfter, Holds, is_unicode, reversed, is_crlf, exchanged, mirror, EndsFirst, IsTextMirrored}
-use Rattle.rsc_look.proofs.HoldsLemmas.{Holds-bytes, Holds-sides, at_sides}
+use Rattle.rsc_look.proofs.HoldsLemmas.{Holds-bytes, Holds-sides, at_sides, side_is, side_is_after}
 
 -- ---- neighbours in a list read from the other end
 
 slice_get-reverse : (h : List ℕ) (k j : ℕ) → k + j + 1 ≡ length h → slice_get (reverse h) k ≡ slice_get h j
 slice_get-reverse h k j e =
-    let n = length-reverse h in
-    let a = slice_get-get_or (reverse h) k 0 (omega arith) in
-    let b = slice_get-get_or h j 0 (omega arith) in
-    let r = get_or-reverse h k 0 (omega arith) in
     let i : length h - 1 - k ≡ j = omega arith in
-    a ∙ ap Some (r ∙ ap (λ x. get_or h x 0) i) ∙ sym b
+    slice_get-get_or (reverse h) k 0 (omega (arith, length-reverse h)) ∙ ap Some (get_or-reverse h k 0 (omega arith) ∙ ap (λ x. get_or h x 0) i)
+    ∙ sym (slice_get-get_or h j 0 (omega arith))
 
 pub before-reverse : (h : List ℕ) (i m : ℕ) → m + i ≡ length h → byte_before (reverse h) m ≡ byte_after h i
 before-reverse h i zero e = sym (slice_get_past h i (omega arith))
@@ -38,9 +35,8 @@ before-map h (suc m) = slice_get-map exchanged h m
 
 exactly_one_comm : (x y : Bool) → exactly_one x y ≡ exactly_one y x
 exactly_one_comm true true = refl
-exactly_one_comm true false = refl
 exactly_one_comm false true = refl
-exactly_one_comm false false = refl
+exactly_one_comm _ _ = refl
 
 is_none-map : (o : Option ℕ) → is_none (option_map exchanged o) ≡ is_none o
 is_none-map None = refl
@@ -72,7 +68,7 @@ is_unicode-reversed Start = refl
 is_unicode-reversed _ = refl
 
 negate_comm : (x y u v : Bool) → (not x && not y && not (exactly_one u v)) ≡ (not y && not x && not (exactly_one v u))
-negate_comm x y u v = let e = and_comm (not x) (not y) in let f = exactly_one_comm u v in rw (e, f)
+negate_comm x y u v = rw (and_comm (not x) (not y), exactly_one_comm u v)
 
 sides_reversed : (l : Look) (a b : Side) → holds_at_sides (reversed l) b a ≡ holds_at_sides l a b
 sides_reversed WordUnicode a b = exactly_one_comm (is_word_side b) (is_word_side a)
@@ -119,24 +115,17 @@ before_position : (W : ℕ → Bool) (cs : List ℕ) (k : ℕ) → all_scalars c
     → IsBefore W (encode_utf8_all cs) (position cs k) (side_by W (byte_before cs k))
 unfolding side_by
 before_position W cs zero s l = refl
-before_position W cs (suc k) s l = let g = slice_get-get_or cs k 0 l in rw g (go (W (get_or cs k 0)) refl)
-  where
-    go : (x : Bool) → W (get_or cs k 0) ≡ x → IsBefore W (encode_utf8_all cs) (position cs (suc k)) (cond x Word Other)
-    go true e = (get_or cs k 0, EndsAt-position cs k s l, e)
-    go false e = (get_or cs k 0, EndsAt-position cs k s l, e)
+before_position W cs (suc k) s l = rw (slice_get-get_or cs k 0 l) (side_is W (encode_utf8_all cs) (position cs (suc k)) _ (EndsAt-position cs k s l))
 
 after_position : (W : ℕ → Bool) (cs : List ℕ) (k : ℕ) → all_scalars cs ≡ true → k ≤ length cs
     → IsAfter W (encode_utf8_all cs) (position cs k) (side_by W (byte_after cs k))
 unfolding side_by
 after_position W cs k s l =
     ⊎_elim
-    (λ (i : k < length cs). let g = slice_get-get_or cs k 0 i in rw g (go i (W (get_or cs k 0)) refl))
-    (λ (i : length cs ≤ k). let g = slice_get_past cs k i in rw g (ap (λ (x : List ℕ). length (encode_utf8_all x)) (take_all k cs i)))
+    (λ (i : k < length cs).
+    rw (slice_get-get_or cs k 0 i) (side_is_after W (encode_utf8_all cs) (position cs k) _ (BeginsAt-position cs k s i)))
+    (λ (i : length cs ≤ k). rw (slice_get_past cs k i) (ap (λ (x : List ℕ). length (encode_utf8_all x)) (take_all k cs i)))
     (cases_lt k (length cs))
-  where
-    go : k < length cs → (x : Bool) → W (get_or cs k 0) ≡ x → IsAfter W (encode_utf8_all cs) (position cs k) (cond x Word Other)
-    go i true e = (get_or cs k 0, BeginsAt-position cs k s i, e)
-    go i false e = (get_or cs k 0, BeginsAt-position cs k s i, e)
 
 Holds-position : (l : Look) (t : ℕ) (W : ℕ → Bool) (cs : List ℕ) (k : ℕ) → is_unicode l ≡ true → all_scalars cs ≡ true → k ≤ length cs
     → Holds l t W (encode_utf8_all cs) (position cs k) ↔ IsTrue (holds_at_sides l (side_by W (byte_before cs k)) (side_by W (byte_after cs k)))

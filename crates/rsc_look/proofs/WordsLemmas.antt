@@ -41,8 +41,8 @@ unfolding in_ranges
 is_join_control-is c = is_join_control-joiners c ∙ one_range c
 
 -- past ASCII the table of word characters is Unicode's
-pub is_word_char-is_unicode_word : (c : ℕ) → 128 ≤ c → is_word_char c ≡ is_unicode_word c
+pub is_word_char_is_unicode_word : (c : ℕ) → 128 ≤ c → is_word_char c ≡ is_unicode_word c
 unfolding is_word_char
-is_word_char-is_unicode_word c h =
+is_word_char_is_unicode_word c h =
     let e = le-ltb c 128 h in
     rw e (ap₂ (λ x y. (is_alphabetic c || x) || y) (same_category (general_category c)) (is_join_control-is c))

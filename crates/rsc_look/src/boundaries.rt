@@ -80,6 +80,7 @@ impl<W: WordClass> LookMatcher<W> {
     /// assert!(rt; bytes.contains(0x80) && !bytes.contains(0x7F));
     /// assert!(rt; matcher.quit_bytes(&[Look::WordAscii]).is_empty());
     /// ```
+    #[tactic(auto, using(std::proofs::lemmas::Bool::Decides::nat_tests))]
     pub fn quit_bytes(&self, looks: &[Look]) -> ByteSet
         ensures { (b : ℕ) → b < 256 → sets.contains result b ≡ (list_any is_unicode looks.now && nat_le 128 b) }
     {

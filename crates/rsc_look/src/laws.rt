@@ -41,6 +41,7 @@ pub fn same_classes_change_nothing()
 
 /// A partition with the boundaries of an assertion keeps it, and each of them is needed, for a Unicode assertion if the word characters
 /// agree with ASCII: what [`crate::LookMatcher::add_to_byteset`] says of the set that it leaves.
+#[tactic(auto, using(crate::proofs::KeepingLemmas::IsExactFor_own))]
 pub fn boundaries_are_exact()
     ensures { (l : Look) (t : ℕ) (W : ℕ → Bool) → (is_unicode l ≡ true → AgreesWithAscii W) → IsExactFor (sets.contains (boundaries_of l t)) l t W }
 {}
@@ -71,6 +72,7 @@ pub fn each_position_has_two_sides()
 
 /// Between neighbours that are absent or below 128, a Unicode assertion holds exactly where its ASCII counterpart does, if the word characters
 /// below 128 are the word bytes. So a table over bytes that stops at a byte from 128 on answers for Unicode assertions too.
+#[tactic(auto, using(crate::proofs::MatcherLemmas::ascii_suffices))]
 pub fn ascii_neighbours_suffice()
     ensures { (l : Look) (t : ℕ) (W : ℕ → Bool) (h : List ℕ) (i : ℕ) → i ≤ length h → AgreesWithAscii W →
         IfSome (byte_before h i) (λ b. b < 128) → IfSome (byte_after h i) (λ b. b < 128) →
@@ -87,6 +89,7 @@ pub fn words_agree_with_ascii()
 {}
 
 /// The empty set has no member; a set with one more member has that one and its own.
+#[tactic(auto, using(crate::proofs::LookSetsLemmas::grown, crate::proofs::LookSetLayoutLemmas::looks_of_none, crate::proofs::LookSetLayoutLemmas::contains_looks_of))]
 pub fn members_of_grown_sets()
     ensures none { (l : Look) → sets.contains (let s : Looks = sets.empty in s) l ≡ false }
     ensures grown { (s : Looks) (l m : Look) → (sets.contains (sets.insert s l) m ≡ true) ↔ ((l ≡ m) ⊎ (sets.contains s m ≡ true)) }

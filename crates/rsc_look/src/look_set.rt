@@ -63,6 +63,7 @@ impl PartialEq for LookSet {
 
     ghost laws = { same_members_partial look_cmp_total look_cmp-IsAntisymmetric };
 
+    #[tactic(auto, using(crate::proofs::LookSetLayoutLemmas::same_by_bits))]
     fn eq(&self, other: &Self) -> bool {
         self.bits == other.bits
     }
@@ -106,6 +107,7 @@ impl fmt::Debug for LookSet {
 
 impl LookSet {
     /// The set with no member.
+    #[tactic(auto, using(crate::proofs::LookSetLayoutLemmas::looks_of_none, crate::proofs::LookSetLayoutLemmas::contains_looks_of))]
     #[inline]
     pub fn empty() -> LookSet
         ensures value { result ≡ sets.empty }
@@ -115,6 +117,7 @@ impl LookSet {
     }
 
     /// The set of all eighteen assertions.
+    #[tactic(auto, using(crate::proofs::LookSetLayoutLemmas::looks_of_all, crate::proofs::LookSetLayoutLemmas::contains_looks_of_all))]
     #[inline]
     pub fn full() -> LookSet
         ensures value { result ≡ sets.from_list every_look }
@@ -135,6 +138,7 @@ impl LookSet {
 
     /// The set of the assertions that a number's bits stand for, by [`Look::as_repr`], or `None` if a bit above the
     /// eighteenth is set.
+    #[tactic(auto, using(crate::proofs::LookSetLayoutLemmas::some_exact))]
     #[inline]
     pub fn from_bits(bits: u32) -> Option<LookSet>
         ensures exact { (set : Looks) → (result ≡ Some set) ↔ (bits_of set ≡ bits) }
@@ -148,6 +152,7 @@ impl LookSet {
     }
 
     // The set of a number's bits, of which none is above the eighteenth.
+    #[tactic(auto, using(crate::proofs::LookSetLayoutLemmas::contains_looks_of))]
     #[inline(always)]
     pub(crate) fn of_bits(bits: u32) -> LookSet
         requires { bits < 2 ^ 18 }
@@ -166,6 +171,7 @@ impl LookSet {
     }
 
     /// How many members there are.
+    #[tactic(auto, using(crate::proofs::LookSetLayoutLemmas::count_by_bits, crate::proofs::LookSetLayoutLemmas::ones_le))]
     #[inline]
     pub fn len(self) -> usize
         ensures value { result ≡ length (members self) }
@@ -175,6 +181,7 @@ impl LookSet {
     }
 
     /// Whether there is no member.
+    #[tactic(auto, using(crate::proofs::LookSetLayoutLemmas::none_by_bits))]
     #[inline]
     pub fn is_empty(self) -> bool
         ensures { IsTrue result ↔ (self ≡ sets.empty) }
@@ -183,6 +190,7 @@ impl LookSet {
     }
 
     /// Whether an assertion is a member.
+    #[tactic(auto, using(crate::proofs::LookSetLayoutLemmas::contains_by_and))]
     #[inline]
     pub fn contains(self, look: Look) -> bool
         ensures { result ≡ sets.contains self look }
@@ -201,6 +209,7 @@ impl LookSet {
     }
 
     /// The set with an assertion as one more member.
+    #[tactic(auto, using(crate::proofs::LookSetLayoutLemmas::looks_of_insert, crate::proofs::LookSetLayoutLemmas::union_fits, crate::proofs::LookSetLayoutLemmas::repr_of_lt, crate::proofs::LookSetsLemmas::grown_by, crate::proofs::LookSetsLemmas::grown_apart))]
     #[inline]
     pub fn insert(self, look: Look) -> LookSet
         ensures value { result ≡ sets.insert self look }
@@ -223,6 +232,7 @@ impl LookSet {
     }
 
     /// The set without an assertion.
+    #[tactic(auto, using(crate::proofs::LookSetLayoutLemmas::looks_of_remove, crate::proofs::LookSetsLemmas::shrunk_by, crate::proofs::LookSetsLemmas::shrunk_apart))]
     #[inline]
     pub fn remove(self, look: Look) -> LookSet
         ensures value { result ≡ sets.remove self look }
@@ -245,6 +255,7 @@ impl LookSet {
     }
 
     /// The members that aren't members of another set.
+    #[tactic(auto, using(crate::proofs::LookSetLayoutLemmas::looks_of_difference, crate::proofs::LookSetLayoutLemmas::contains_looks_of, crate::proofs::LookSetLayoutLemmas::has_look_and, crate::proofs::LookSetLayoutLemmas::has_look_not))]
     #[inline]
     pub fn subtract(self, other: LookSet) -> LookSet
         ensures value { result ≡ sets.difference self other }
@@ -265,6 +276,7 @@ impl LookSet {
     }
 
     /// The members of either set.
+    #[tactic(auto, using(crate::proofs::LookSetLayoutLemmas::looks_of_union, crate::proofs::LookSetLayoutLemmas::contains_looks_of, crate::proofs::LookSetLayoutLemmas::has_look_or, crate::proofs::LookSetLayoutLemmas::union_fits))]
     #[inline]
     pub fn union(self, other: LookSet) -> LookSet
         ensures value { result ≡ sets.union self other }
@@ -285,6 +297,7 @@ impl LookSet {
     }
 
     /// The common members of both sets.
+    #[tactic(auto, using(crate::proofs::LookSetLayoutLemmas::looks_of_intersection, crate::proofs::LookSetLayoutLemmas::contains_looks_of, crate::proofs::LookSetLayoutLemmas::has_look_and))]
     #[inline]
     pub fn intersect(self, other: LookSet) -> LookSet
         ensures value { result ≡ sets.intersection self other }

@@ -57,6 +57,7 @@ pub struct UnicodeWord;
 impl WordClass for UnicodeWord {
     ghost word_chars = { λ _ c. is_unicode_word c };
 
+    #[tactic(auto, using(crate::proofs::WordsLemmas::is_word_char_is_unicode_word))]
     #[inline(always)]
     fn is_word(&self, c: char) -> bool {
         let number = c as u32;

@@ -1,5 +1,5 @@
 -- The boundaries that a class set gathers from the states are exactly what keeps all runs.
-use Rattle.std.proofs.Common.{◌≡◌, ℕ, ◌+◌, ◌<◌, ◌≤◌, Bool, true, false, ◌||◌, List, [], ◌∷◌, length, take, get_or, sym, ap, ap₂, ◌∙◌, nat_cmp, ◌↔◌, refl, arith, subst, slice_get, slice_index, Option, Some, None, MatchOption, zero, suc, ◌&&◌, nat_lt, nat_le, cond, ◌⊎◌, inl, inr, true≢false, IsTrue, Any}
+use Rattle.std.proofs.Common.{◌≡◌, ℕ, ◌+◌, ◌<◌, ◌≤◌, Bool, true, false, ◌||◌, List, [], ◌∷◌, length, take, get_or, sym, ap, ap₂, ◌∙◌, nat_cmp, ◌↔◌, refl, arith, subst, slice_get, slice_index, Option, Some, None, MatchOption, zero, suc, ◌&&◌, nat_le, ◌⊎◌, inl, inr, true≢false, IsTrue, Any}
 use Rattle.std.specs.List.{list_any}
 use Rattle.std.specs.FinSet as sets
 use Rattle.std.specs.FinSet.{contains-empty, same_set, nat_cmp-IsAntisymmetric}
@@ -165,6 +165,16 @@ pub asks-listed : (states : List State) (s : ℕ) (state : State) → slice_get 
 asks-listed states s state e a =
     list_any_at asks_characters states s state (slice_get_within states s state e) (ap asks_characters (get_or_from_slice_get states s state state e) ∙ a)
 
+-- the state that a step is from
+pub step_of : (states : List State) (t : ℕ) (W : ℕ → Bool) (h : List ℕ) (end : ℕ) (p q : ℕ × ℕ) → IsStep states t W h end p q
+    → (state : State) × (slice_get states p.0 ≡ Some state) × StepsTo state t W h end p.1 q
+step_of states t W h end p q x = go (slice_get states p.0) refl x
+  where
+    go : (o : Option State) → slice_get states p.0 ≡ o → MatchOption o ⊥ (λ state. StepsTo state t W h end p.1 q)
+        → (state : State) × (slice_get states p.0 ≡ Some state) × StepsTo state t W h end p.1 q
+    go None e x = absurd x
+    go (Some state) e x = (state, e, x)
+
 -- the partition has the boundaries of each state
 abbrev pub HasBoundariesOfStates : (ℕ → Bool) → List State → ℕ → Type 0
 HasBoundariesOfStates p states t = (s : ℕ) (state : State) → slice_get states s ≡ Some state → HasBoundariesOfState p state t
@@ -174,14 +184,12 @@ module _ (p : ℕ → Bool) (states : List State) (t : ℕ) (W : ℕ → Bool) (
     (ascii : has_unicode states ≡ true → AgreesWithAscii W) where
   IsStep-moves : (h k : List ℕ) (end : ℕ) (from to : ℕ × ℕ) → AreInterchanged p h k → (has_unicode states ≡ true → DifferInAscii h k) → end ≤ length h
       → from.1 ≤ end → IsStep states t W h end from to → IsStep states t W k end from to
-  IsStep-moves h k end from to s d e r x = go (slice_get states from.0) refl x
-    where
-      go : (o : Option State) → slice_get states from.0 ≡ o → MatchOption o ⊥ (λ state. StepsTo state t W h end from.1 to)
-          → MatchOption o ⊥ (λ state. StepsTo state t W k end from.1 to)
-      go None q x = x
-      go (Some state) q x =
-          StepsTo-moves p state t W h k end from.1 to ranges exact (all from.0 state q) (λ a. ascii (asks-listed states from.0 state q a)) s
-          (λ a. d (asks-listed states from.0 state q a)) e r x
+  IsStep-moves h k end from to s d e r x =
+      let here = step_of states t W h end from to x in
+      let state = here.0 in
+      let q = here.1 in
+      rw q (StepsTo-moves p state t W h k end from.1 to ranges exact (all from.0 state q) (λ a. ascii (asks-listed states from.0 state q a)) s
+      (λ a. d (asks-listed states from.0 state q a)) e r here.2)
 
   IsRun-moves : (h k : List ℕ) (start end : ℕ) (run : List (ℕ × ℕ)) → AreInterchanged p h k → (has_unicode states ≡ true → DifferInAscii h k) → end ≤ length h
       → IsRun states t W h start end run → IsRun states t W k start end run
@@ -224,8 +232,8 @@ record StepTells (n : ℕ) (state : State) (t : ℕ) (W : ℕ → Bool) (b : ℕ
   tells : ExactlyOne (StepsTo state t W (b ∷ []) 1 position) (StepsTo state t W ((b + 1) ∷ []) 1 position) next
 
 -- the boundaries of a range are before its first byte and after its last
-abbrev pub RangesHaveEdges : Type 0
-RangesHaveEdges = (r : ℕ × ℕ) (k : ℕ) → k < 255 → (sets.contains (boundaries_of_range r) k ≡ true) ↔ ((k + 1 ≡ r.0) ⊎ (k ≡ r.1))
+abbrev pub RangesHaveBoundaries : Type 0
+RangesHaveBoundaries = (r : ℕ × ℕ) (k : ℕ) → k < 255 → (sets.contains (boundaries_of_range r) k ≡ true) ↔ ((k + 1 ≡ r.0) ⊎ (k ≡ r.1))
 
 inside : (a e x : ℕ) → a ≤ x → x ≤ e → IsTrue (nat_le a x && nat_le x e)
 inside a e x l u = grind (arith, nat_tests)
@@ -252,10 +260,10 @@ assert-tells l next t W b m i e told = go (subst (λ x. Tells x t W (b ∷ []) (
     go (inl x) = inl ((x.0, refl, refl), (λ to y. x.1 y.0))
     go (inr x) = inr ((λ to y. x.0 y.0), (x.1, refl, refl))
 
-state-tells : RangesHaveEdges → (groups : GroupLists) (n s : ℕ) (state : State) (t : ℕ) (W : ℕ → Bool) (b : ℕ) → b < 255
+state-tells : RangesHaveBoundaries → (groups : GroupLists) (n s : ℕ) (state : State) (t : ℕ) (W : ℕ → Bool) (b : ℕ) → b < 255
     → fault_in groups n s (Some state) ≡ None → (asks_characters state ≡ true → AgreesWithAscii W) → AreExact t W
     → sets.contains (boundaries_of_state state t) b ≡ true → StepTells n state t W b
-state-tells edges groups n s (ByteRange a e next) t W b lt faultless g exact m =
+state-tells boundaries groups n s (ByteRange a e next) t W b lt faultless g exact m =
     let r : (a ≤ e) × (next < n) = fault-none groups n s (ByteRange a e next) faultless in
     record {
       position = 0;
@@ -263,9 +271,9 @@ state-tells edges groups n s (ByteRange a e next) t W b lt faultless g exact m =
       at_an_end = omega arith;
       known = r.1;
       arrives = omega arith;
-      tells = range-tells a e next t W b r.0 ((edges (a, e) b lt).0 m);
+      tells = range-tells a e next t W b r.0 ((boundaries (a, e) b lt).0 m);
     }
-state-tells edges groups n s (Assert l next) t W b lt faultless g exact m =
+state-tells boundaries groups n s (Assert l next) t W b lt faultless g exact m =
     let y : IsNeeded b (l ∷ []) t W = (exact l g).needed b lt m in
     record {
       position = y.position;
@@ -275,7 +283,7 @@ state-tells edges groups n s (Assert l next) t W b lt faultless g exact m =
       arrives = y.at_an_end;
       tells = assert-tells l next t W b y.look y.position (same_as_only l y.look y.listed) y.tells;
     }
-state-tells edges groups n s _ t W b lt faultless g exact m = absurd (true≢false (sym m ∙ contains-empty nat_cmp b))
+state-tells boundaries groups n s _ t W b lt faultless g exact m = absurd (true≢false (sym m ∙ contains-empty nat_cmp b))
 
 -- ---- all states
 
@@ -293,17 +301,17 @@ step-needed states t W b s state lt e told = record {
 }
 
 -- each boundary is needed by a state
-pub IsEachNeeded-from : (groups : GroupLists) (states : List State) (t : ℕ) (W : ℕ → Bool) (m : List ℕ) → RangesHaveEdges → AreExact t W
+pub IsEachNeeded-from : (groups : GroupLists) (states : List State) (t : ℕ) (W : ℕ → Bool) (m : List ℕ) → RangesHaveBoundaries → AreExact t W
     → AreFaultless groups states → (has_unicode states ≡ true → AgreesWithAscii W) → OneClassIsTogether (sets.contains (boundaries_of_states states t))
     → m ≡ class_map (sets.contains (boundaries_of_states states t)) → IsEachNeeded m states t W
-IsEachNeeded-from groups states t W m edges exact faultless ascii law is b lt differ =
+IsEachNeeded-from groups states t W m boundaries exact faultless ascii law is b lt differ =
     let marked : sets.contains (boundaries_of_states states t) b ≡ true = true_from_ne_false (sets.contains (boundaries_of_states states t) b) (λ e.
     let one_class = (law b (b + 1) (omega arith) (omega arith)).1 (next_together (sets.contains (boundaries_of_states states t)) b e) in
     differ (subst (λ x. slice_index x b ≡ slice_index x (b + 1)) (sym is) one_class)) in
     let y : Any (λ s. sets.contains (boundaries_of_state s t) b ≡ true) states = owner states t b marked in
     let at : slice_get states y.0 ≡ Some y.1 = slice_get-get_or states y.0 y.1 y.2 ∙ ap Some y.3 in
     let none : fault_in groups (length states) y.0 (Some y.1) ≡ None = subst (λ o. fault_in groups (length states) y.0 o ≡ None) at (faultless y.0 y.2) in
-    step-needed states t W b y.0 y.1 y.2 at (state-tells edges groups (length states) y.0 y.1 t W b lt none
+    step-needed states t W b y.0 y.1 y.2 at (state-tells boundaries groups (length states) y.0 y.1 t W b lt none
     (λ a. ascii (asks-listed states y.0 y.1 at a)) exact y.4)
 
 -- ---- each boundary belongs to every partition that keeps the runs

@@ -1,12 +1,12 @@
 -- What a state without a fault names is there.
-use Rattle.std.proofs.Common.{◌≡◌, ℕ, ◌*◌, ◌<◌, ◌≤◌, Bool, true, false, nat_lt, cond, List, length, refl, subst, arith, slice_get, Option, Some, None}
+use Rattle.std.proofs.Common.{◌≡◌, ℕ, ◌*◌, ◌<◌, Bool, true, false, nat_lt, cond, List, length, refl, subst, arith, slice_get, Option, Some, None}
 use Rattle.std.proofs.lemmas.Bool.Decides.{nat_tests}
 use Rattle.std.proofs.lemmas.Option.{slice_get_within}
 use Rattle.rsc_captures.specs.Groups.{GroupLists, all_groups}
 use Rattle.rsc_nfa.specs.declared.state.State.{State}
 use Rattle.rsc_nfa.specs.declared.state.State.TheVariants.{ByteRange, Assert, Fork, Capture, Accept}
 use Rattle.rsc_nfa.specs.declared.error.BuildError.{BuildError}
-use Rattle.rsc_nfa.specs.Faults.{or_else, target_fault, fault_of_state, fault_in, AreFaultless, NamesWithin}
+use Rattle.rsc_nfa.specs.Faults.{or_else, target_fault, fault_in, AreFaultless, NamesWithin}
 
 -- where a test decides between no fault and one, and there is none, it passed; or it didn't, where the fault comes first
 passed : (x : Bool) (e : BuildError) → cond x None (Some e) ≡ None → x ≡ true

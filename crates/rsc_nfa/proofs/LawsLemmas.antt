@@ -1,9 +1,8 @@
 -- What one step looks at and where it leads, and how runs grow.
-use Rattle.std.proofs.Common.{◌≡◌, ◌↔◌, ℕ, zero, suc, ◌+◌, ◌-◌, ◌<◌, ◌≤◌, ◌⊎◌, inl, inr, ⊎_elim, Bool, true, false, true≢false, List, [], ◌∷◌, ◌++◌, length, length-append, slice_get, get_or, refl, sym, ap, ◌∙◌, subst, arith, Option, Some, None, MatchOption, MatchBool, IsTrue}
-use Rattle.std.proofs.lemmas.Bool.{cases_lt}
+use Rattle.std.proofs.Common.{◌≡◌, ◌↔◌, ℕ, zero, suc, ◌+◌, ◌-◌, ◌<◌, ◌≤◌, ◌⊎◌, inl, inr, ⊎_elim, Bool, true, false, true≢false, List, [], ◌∷◌, ◌++◌, length, length-append, slice_get, refl, sym, ap, ◌∙◌, subst, arith, Option, Some, MatchBool, IsTrue}
+use Rattle.std.proofs.lemmas.Bool.{cases_lt, false_from_ne_true}
 use Rattle.std.proofs.lemmas.List.{get_or_append_left, get_or-append_right}
-use Rattle.std.proofs.lemmas.List.Folds.{list_any_at}
-use Rattle.std.proofs.lemmas.Option.{slice_get_within, get_or_from_slice_get}
+use Rattle.std.proofs.lemmas.Option.{slice_get_within}
 use Rattle.rsc_captures.specs.Groups.{GroupLists}
 use Rattle.rsc_look.specs.declared.assertion.Look.{Look}
 use Rattle.rsc_look.specs.Looks.{is_unicode}
@@ -14,7 +13,7 @@ use Rattle.rsc_nfa.specs.Classes.{asks_characters, has_unicode, KeepsRuns, AreIn
 use Rattle.rsc_nfa.specs.Faults.{AreFaultless, NamesWithin}
 use Rattle.rsc_nfa.specs.Steps.{is_between, StepsTo, IsStep, IsRun, IsWithin, place, recorded, AreClosed}
 use Rattle.rsc_nfa.proofs.StepsLemmas.{recorded-last}
-use Rattle.rsc_nfa.proofs.ClassesLemmas.{asks-listed, AreInterchangedBy-sym}
+use Rattle.rsc_nfa.proofs.ClassesLemmas.{asks-listed, step_of, AreInterchangedBy-sym}
 use Rattle.rsc_nfa.proofs.FaultsLemmas.{faultless-names}
 
 -- ---- a step goes by the two neighbours
@@ -33,11 +32,8 @@ Holds-local l t W h k i j plain before after x =
     (subst (λ (n : Option ℕ). IsTrue (holds_at_bytes l t (byte_before h i) n)) after y)) x
 
 asks-none : (states : List State) (s : ℕ) (state : State) → slice_get states s ≡ Some state → has_unicode states ≡ false → asks_characters state ≡ false
-asks-none states s state e none = go (asks_characters state) refl
-  where
-    go : (b : Bool) → asks_characters state ≡ b → asks_characters state ≡ false
-    go false a = a
-    go true a = absurd (true≢false (sym (asks-listed states s state e a) ∙ none))
+asks-none states s state e none =
+    false_from_ne_true (asks_characters state) (λ a. true≢false (sym (asks-listed states s state e a) ∙ none))
 
 StepsTo-stays : (state : State) (t : ℕ) (W : ℕ → Bool) (h k : List ℕ) (end last i j u : ℕ) → asks_characters state ≡ false
     → byte_before h i ≡ byte_before k j → byte_after h i ≡ byte_after k j
@@ -61,32 +57,21 @@ StepsTo-advances (Accept p) t W h k end last i j u after room x = x
 pub IsStep-stays : (states : List State) (t : ℕ) (W : ℕ → Bool) (h k : List ℕ) (end last i j s u : ℕ) → has_unicode states ≡ false
     → byte_before h i ≡ byte_before k j → byte_after h i ≡ byte_after k j
     → IsStep states t W h end (s, i) (u, i) → IsStep states t W k last (s, j) (u, j)
-IsStep-stays states t W h k end last i j s u none before after x = go (slice_get states s) refl x
-  where
-    go : (o : Option State) → slice_get states s ≡ o → MatchOption o ⊥ (λ state. StepsTo state t W h end i (u, i))
-        → MatchOption o ⊥ (λ state. StepsTo state t W k last j (u, j))
-    go None q y = y
-    go (Some state) q y = StepsTo-stays state t W h k end last i j u (asks-none states s state q none) before after y
+IsStep-stays states t W h k end last i j s u none before after x =
+    let here = step_of states t W h end (s, i) (u, i) x in
+    rw here.1 (StepsTo-stays here.0 t W h k end last i j u (asks-none states s here.0 here.1 none) before after here.2)
 
 -- a step over a byte looks at that byte alone
 pub IsStep-advances : (states : List State) (t : ℕ) (W : ℕ → Bool) (h k : List ℕ) (end last i j s u : ℕ) → byte_after h i ≡ byte_after k j
     → (i < end → j < last) → IsStep states t W h end (s, i) (u, i + 1) → IsStep states t W k last (s, j) (u, j + 1)
-IsStep-advances states t W h k end last i j s u after room x = go (slice_get states s) x
-  where
-    go : (o : Option State) → MatchOption o ⊥ (λ state. StepsTo state t W h end i (u, i + 1))
-        → MatchOption o ⊥ (λ state. StepsTo state t W k last j (u, j + 1))
-    go None y = y
-    go (Some state) y = StepsTo-advances state t W h k end last i j u after room y
+IsStep-advances states t W h k end last i j s u after room x =
+    let here = step_of states t W h end (s, i) (u, i + 1) x in rw here.1 (StepsTo-advances here.0 t W h k end last i j u after room here.2)
 
 -- ---- where a step leads
 
 -- the state from which a step leads is there
 pub step-from : (states : List State) (t : ℕ) (W : ℕ → Bool) (h : List ℕ) (end : ℕ) (p q : ℕ × ℕ) → IsStep states t W h end p q → p.0 < length states
-step-from states t W h end p q x = go (slice_get states p.0) refl x
-  where
-    go : (o : Option State) → slice_get states p.0 ≡ o → MatchOption o ⊥ (λ state. StepsTo state t W h end p.1 q) → p.0 < length states
-    go None e y = absurd y
-    go (Some state) e y = slice_get_within states p.0 state e
+step-from states t W h end p q x = let here = step_of states t W h end p q x in slice_get_within states p.0 here.0 here.1
 
 leads_within : (groups : GroupLists) (n : ℕ) (state : State) (t : ℕ) (W : ℕ → Bool) (h : List ℕ) (end i : ℕ) (q : ℕ × ℕ) → NamesWithin groups n state
     → StepsTo state t W h end i q → q.0 < n
@@ -100,11 +85,9 @@ leads_within groups n (Accept p) t W h end i q named x = absurd x
 -- and in a list without a fault, so is the one to which it leads
 pub step-to : (groups : GroupLists) (states : List State) (t : ℕ) (W : ℕ → Bool) (h : List ℕ) (end : ℕ) (p q : ℕ × ℕ) → AreFaultless groups states
     → IsStep states t W h end p q → q.0 < length states
-step-to groups states t W h end p q faultless x = go (slice_get states p.0) refl x
-  where
-    go : (o : Option State) → slice_get states p.0 ≡ o → MatchOption o ⊥ (λ state. StepsTo state t W h end p.1 q) → q.0 < length states
-    go None e y = absurd y
-    go (Some state) e y = leads_within groups (length states) state t W h end p.1 q (faultless-names groups states faultless p.0 state e) y
+step-to groups states t W h end p q faultless x =
+    let here = step_of states t W h end p q x in
+    leads_within groups (length states) here.0 t W h end p.1 q (faultless-names groups states faultless p.0 here.0 here.1) here.2
 
 StepsTo-position : (state : State) (t : ℕ) (W : ℕ → Bool) (h : List ℕ) (end i : ℕ) (q : ℕ × ℕ) → StepsTo state t W h end i q
     → (q.1 ≡ i) ⊎ ((q.1 ≡ i + 1) × (i < end))
@@ -117,11 +100,7 @@ StepsTo-position (Accept p) t W h end i q x = absurd x
 -- a step stays, or goes one byte on
 pub step-position : (states : List State) (t : ℕ) (W : ℕ → Bool) (h : List ℕ) (end : ℕ) (p q : ℕ × ℕ) → IsStep states t W h end p q
     → (q.1 ≡ p.1) ⊎ ((q.1 ≡ p.1 + 1) × (p.1 < end))
-step-position states t W h end p q x = go (slice_get states p.0) x
-  where
-    go : (o : Option State) → MatchOption o ⊥ (λ state. StepsTo state t W h end p.1 q) → (q.1 ≡ p.1) ⊎ ((q.1 ≡ p.1 + 1) × (p.1 < end))
-    go None y = absurd y
-    go (Some state) y = StepsTo-position state t W h end p.1 q y
+step-position states t W h end p q x = let here = step_of states t W h end p q x in StepsTo-position here.0 t W h end p.1 q here.2
 
 no_fall : (states : List State) (t : ℕ) (W : ℕ → Bool) (h : List ℕ) (end : ℕ) (p q : ℕ × ℕ) → IsStep states t W h end p q → p.1 ≤ q.1
 no_fall states t W h end p q x =

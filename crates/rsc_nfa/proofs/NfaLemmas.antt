@@ -1,5 +1,5 @@
 -- More boundaries than the states have, the assertions of states, and a run's records one after the other.
-use Rattle.std.proofs.Common.{◌≡◌, ◌≢◌, ◌↔◌, ℕ, zero, suc, ◌+◌, ◌-◌, ◌<◌, ◌≤◌, ◌||◌, Bool, true, false, nat_eq, nat_lt, cond, List, [], ◌∷◌, ◌++◌, length, take, get_or, set, get_or-set_same, get_or-set_other, length-set, replicate, refl, sym, ap, ap₂, ◌∙◌, subst, arith, min, max, slice_get, slice_index, Option, Some, None, append_assoc}
+use Rattle.std.proofs.Common.{◌≡◌, ◌≢◌, ℕ, ◌+◌, ◌-◌, ◌<◌, ◌≤◌, ◌||◌, Bool, true, false, nat_eq, nat_lt, cond, List, [], ◌∷◌, ◌++◌, length, take, get_or, set, get_or-set_same, get_or-set_other, length-set, refl, sym, ap, ap₂, ◌∙◌, subst, arith, slice_get, slice_index, Option, Some, None, append_assoc}
 use Rattle.std.specs.List.{list_any}
 use Rattle.std.specs.FinSet as sets
 use Rattle.std.proofs.lemmas.Bool.{or_left}
@@ -13,7 +13,7 @@ use Rattle.rsc_look.specs.declared.assertion.Look.TheVariants.{WordUnicode}
 use Rattle.rsc_look.specs.LookSets.{Looks, unicode_words}
 use Rattle.rsc_nfa.specs.declared.state.State.{State}
 use Rattle.rsc_nfa.specs.declared.state.State.TheVariants.{ByteRange, Assert, Fork, Capture, Accept}
-use Rattle.rsc_nfa.specs.Classes.{boundaries_of_state, boundaries_of_states, asks_characters, has_unicode, asserts, IsFiner, KeepsRuns, AreInterchangedBy}
+use Rattle.rsc_nfa.specs.Classes.{boundaries_of_states, asks_characters, has_unicode, asserts, IsFiner, KeepsRuns, AreInterchangedBy}
 use Rattle.rsc_nfa.specs.Steps.{is_capture_of, or_earlier, recorded}
 use Rattle.rsc_nfa.specs.StepsLayout.{slot_recorded, put_offset}
 use Rattle.rsc_nfa.proofs.ClassesLemmas.{OneClassIsTogether, HasBoundariesOfStates, HasBoundariesOfStates-from}

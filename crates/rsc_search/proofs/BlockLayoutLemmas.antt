@@ -1,10 +1,10 @@
 -- The bits of a block and of a list of blocks: the lowest, the highest, and what is left without either.
-use Rattle.std.proofs.Common.{◌≡◌, ◌≢◌, ℕ, zero, suc, ◌+◌, ◌-◌, ◌*◌, ◌/◌, ◌%◌, ◌^◌, ◌<◌, ◌≤◌, ◌⊎◌, inl, inr, min, true, false, not, ◌&&◌, ◌||◌, refl, ap, sym, ◌∙◌, arith, w64, bit_and, eqb, bit_or, pow-suc, ◌↔◌, Bool, List, get_or, bytes_eq, ext_get_or}
+use Rattle.std.proofs.lemmas.Bool.Decides.{nat_tests}
+use Rattle.std.proofs.Common.{◌≡◌, ◌≢◌, ℕ, zero, suc, ◌+◌, ◌-◌, ◌*◌, ◌/◌, ◌%◌, ◌^◌, ◌<◌, ◌≤◌, inl, inr, true, false, ◌||◌, refl, ap, sym, ◌∙◌, arith, w64, bit_and, eqb, bit_or, pow-suc, ◌↔◌, Bool, List, get_or, bytes_eq, ext_get_or}
 use Rattle.std.specs.Int.{bit_at, leading_zeros, trailing_zeros, div_ceil}
 use Rattle.std.specs.Int.Bits.{bit_xor, xor_add_and}
 use Rattle.std.specs.Int.Count.{leading_of_zero, trailing_of_zero}
-use Rattle.std.proofs.Math.Bool.{and-false}
-use Rattle.std.proofs.lemmas.Bool.{true≢false, cases_eq, cases_lt, cases_order, eq-eqb, eqb-true, ne_eqb}
+use Rattle.std.proofs.lemmas.Bool.{true≢false, cases_eq, cases_lt, eq-eqb, ne_eqb}
 use Rattle.std.proofs.lemmas.Nat.Bits.{bit_at_above, bit_at_lowest, bit_at-suc, bit_at-zero, bit_at_and, bit_at_xor, bit_at-pow_same, bit_at-pow_other, bit_at-trailing_zeros, bit_at_set_same, bit_at_set_other, bit_at-lt, same_from_bits_below}
 use Rattle.std.proofs.lemmas.Nat.{and_mask, div_below, le-div, leading_length, leading_top, one_shl, pow_pos, or_lt, trailing_le}
 use Rattle.rsc_primitives.specs.BitsLaws.{same_digit}
@@ -47,41 +47,21 @@ pred_above (suc i) (suc j) n lt one =
 
 -- `n & (n - 1)` has the bits of n but the lowest
 pub lowest_taken : (n : ℕ) → 0 < n → n < 2 ^ 64 → IsWithout n (trailing_zeros w64 n) (bit_and n (n - 1))
-lowest_taken n some fits = record {
-  bits_are = λ j. rw (bit_at_and n (n - 1) j)
-      (go j (bit_at-trailing_zeros w64 n some fits) (cases_order j (trailing_zeros w64 n)));
-}
-  where
-    go : (j : ℕ) → (trailing_zeros w64 n < 64) × (bit_at n (trailing_zeros w64 n) ≡ 1) × ((i : ℕ) → i < trailing_zeros w64 n → bit_at n i ≡ 0)
-        → (j ≡ trailing_zeros w64 n) ⊎ ((j < trailing_zeros w64 n) ⊎ (trailing_zeros w64 n < j))
-        → eqb (min (bit_at n j) (bit_at (n - 1) j)) 1 ≡ (not (eqb j (trailing_zeros w64 n)) && has_bit n j)
-    go j found (inl here) =
-        let gone : bit_at (n - 1) j ≡ 0 = rw here (pred_lowest (trailing_zeros w64 n) n some found.1 found.2) in
-        let none : min (bit_at n j) 0 ≡ 0 = omega arith in
-        rw (gone, none, eq-eqb j (trailing_zeros w64 n) here) refl
-    go j found (inr (inl below)) =
-        let none : min 0 (bit_at (n - 1) j) ≡ 0 = omega arith in
-        rw (found.2 j below, none) (sym (and-false (not (eqb j (trailing_zeros w64 n)))))
-    go j found (inr (inr above)) =
-        let one : min (bit_at n j) (bit_at n j) ≡ bit_at n j = omega arith in
-        rw (pred_above (trailing_zeros w64 n) j n above found.1, one, ne_eqb j (trailing_zeros w64 n) (λ e. omega (arith, e, above))) refl
+lowest_taken n some fits =
+    let k = trailing_zeros w64 n in
+    let found = bit_at-trailing_zeros w64 n some fits in
+    let gone = pred_lowest k n some found.1 found.2 in
+    record { bits_are = λ j. grind (arith, nat_tests, bit_at_and n (n - 1) j, bit_at-lt n j, gone, found.1, found.2 j, pred_above k j n) }
 
 -- `n ^ (1 << k)` has the bits of n but k, which n has
 pub bit_taken : (n k : ℕ) → k < 64 → has_bit n k ≡ true → IsWithout n k (bit_xor n (1 * 2 ^ k % 2 ^ 64))
-bit_taken n k within is = rw (one_shl k 64 within) (record { bits_are = λ j. rw (bit_at_xor n (2 ^ k) j) (go j (cases_eq j k)) })
-  where
-    go : (j : ℕ) → (j ≡ k) ⊎ (j ≡ k → ⊥) → eqb ((bit_at n j + bit_at (2 ^ k) j) % 2) 1 ≡ (not (eqb j k) && has_bit n j)
-    go j (inl here) = rw (here, eqb-true (bit_at n k) 1 is, bit_at-pow_same k, eq-eqb k k refl) refl
-    go j (inr other) =
-        let bit : (bit_at n j + 0) % 2 ≡ bit_at n j = omega (arith, bit_at-lt n j) in
-        rw (bit_at-pow_other k j other, bit, ne_eqb j k other) refl
+bit_taken n k within is = rw (one_shl k 64 within) (record {
+  bits_are = λ j. grind (arith, nat_tests, bit_at_xor n (2 ^ k) j, bit_at-lt n j, bit_at-pow_same k, bit_at-pow_other k j, is);
+})
 
 -- `n | 1 << k`
 pub bit_set : (n k : ℕ) → k < 64 → (j : ℕ) → has_bit (bit_or n (1 * 2 ^ k % 2 ^ 64)) j ≡ (eqb j k || has_bit n j)
-bit_set n k within j = elim (cases_eq j k) [
-  | inl here ↦ rw (here, bit_at_set_same w64 n k within, eq-eqb k k refl) refl
-  | inr other ↦ rw (bit_at_set_other w64 n k within j other, ne_eqb j k other) refl
-]
+bit_set n k within j = grind (arith, nat_tests, bit_at_set_same w64 n k within, bit_at_set_other w64 n k within j)
 
 -- numbers of 64 bits are the same if the same bits are set
 pub same_from_set : (m n : ℕ) → m < 2 ^ 64 → n < 2 ^ 64 → ((i : ℕ) → i < 64 → has_bit m i ≡ has_bit n i) → m ≡ n

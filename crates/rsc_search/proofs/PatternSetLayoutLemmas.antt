@@ -1,5 +1,5 @@
 -- The members of a set by its blocks, and what the iterator over them has left.
-use Rattle.std.proofs.Common.{◌≡◌, ◌≢◌, ℕ, zero, suc, replicate, ◌+◌, ◌/◌, ◌%◌, inl, inr, get_or, ◌<◌, ◌≤◌, ◌↔◌, Bool, true, false, ◌||◌, List, [], ◌++◌, length, take, drop, set, refl, sym, ap, ◌∙◌, arith, eqb, get_or-set_other, get_or-set_same, All, bytes_eq, ◌-◌, ◌*◌, ◌^◌, ◌∷◌, w64, length-append}
+use Rattle.std.proofs.Common.{◌≡◌, ◌≢◌, ℕ, replicate, ◌+◌, ◌/◌, ◌%◌, inl, inr, get_or, ◌<◌, ◌≤◌, ◌↔◌, Bool, true, false, ◌||◌, List, [], ◌++◌, length, take, drop, set, refl, sym, ap, ◌∙◌, arith, eqb, get_or-set_other, get_or-set_same, All, bytes_eq, ◌-◌, ◌*◌, ◌^◌, ◌∷◌, w64, length-append}
 use Rattle.std.proofs.Math.Seq.{take-append_seam}
 use Rattle.std.proofs.lemmas.List.{get_or_default, length-replicate, length-set}
 use Rattle.std.proofs.lemmas.List.Elements.{All-filter}
@@ -7,6 +7,8 @@ use Rattle.std.proofs.lemmas.List.FromFn.{length-range_with_len, get_or-range_wi
 use Rattle.std.proofs.lemmas.List.Kept.{IsStrictlyIncreasing-filter}
 use Rattle.std.specs.List.{range_with_len, filter}
 use Rattle.std.specs.List.Sorted.{IsStrictlyIncreasing}
+use Rattle.std.proofs.lemmas.Bool.Decides.{nat_tests}
+use Rattle.std.proofs.lemmas.Grind.{common_steps}
 use Rattle.std.proofs.lemmas.Bool.{and_parts, cases_Bool, cases_eq, cases_lt, eq-eqb, ne_eqb}
 use Rattle.std.proofs.lemmas.Nat.Bits.{bit_at-zero, bit_at-trailing_zeros}
 use Rattle.std.proofs.lemmas.Slice.Eq.{bytes_eq-Decides}
@@ -32,10 +34,7 @@ pub changed_bit : (blocks : List ℕ) (p block : ℕ) → p / 64 < length blocks
     → (q : ℕ) → is_set (set blocks (p / 64) block) q ≡ (eqb q p || is_set blocks q)
 changed_bit blocks p block lt bits q = elim (cases_eq (q / 64) (p / 64)) [
   | inl here ↦
-      let whole : eqb (q % 64) (p % 64) ≡ eqb q p = elim (cases_eq q p) [
-        | inl eq ↦ rw (eq, eq-eqb p p refl, eq-eqb (p % 64) (p % 64) refl) refl
-        | inr ne ↦ rw (ne_eqb q p ne, ne_eqb (q % 64) (p % 64) (λ e. ne (omega (arith, here, e)))) refl
-      ] in
+      let whole : eqb (q % 64) (p % 64) ≡ eqb q p = grind (arith, nat_tests) in
       rw (here, get_or-set_same {A = ℕ}) (bits (q % 64) ∙ rw whole refl)
   | inr there ↦ rw (ne_eqb q p (λ e. there (ap (λ n. n / 64) e)), get_or-set_other {A = ℕ}) refl
 ]
@@ -43,13 +42,7 @@ changed_bit blocks p block lt bits q = elim (cases_eq (q / 64) (p / 64)) [
 -- no bit of zeros is set
 none_of_zeros : (n p : ℕ) → is_set (replicate n 0) p ≡ false
 none_of_zeros n p =
-    let clear : has_bit 0 (p % 64) ≡ false = ap (λ (b : ℕ). eqb b 1) (bit_at-zero (p % 64)) in
-    ap (λ (block : ℕ). has_bit block (p % 64)) (zeros n (p / 64)) ∙ clear
-  where
-    zeros : (n i : ℕ) → block_of (replicate n 0) i ≡ 0
-    zeros zero i = refl
-    zeros (suc n) zero = refl
-    zeros (suc n) (suc i) = zeros n i
+    let zero : block_of (replicate n 0) (p / 64) ≡ 0 = grind (arith, common_steps) in rw (zero, bit_at-zero (p % 64)) refl
 
 -- blocks of zeros have no member
 pub no_members : (capacity n : ℕ) → numbers_below capacity (is_set (replicate n 0)) ≡ []

@@ -3,7 +3,7 @@ use Rattle.std.proofs.Common.{◌≡◌, ◌≢◌, ℕ, zero, suc, ◌+◌, ◌
 use Rattle.std.proofs.Math.Bool.{and-true}
 use Rattle.std.proofs.lemmas.Bool.{cases_eq, cases_lt, eqb-true, le-leb, lt-ltb, cases_Bool, eq-eqb, ne_eqb}
 use Rattle.std.proofs.lemmas.Bool.Decides.{nat_tests, Decides-eqb}
-use Rattle.std.proofs.lemmas.Map.Views.{any-filter_same}
+use Rattle.std.proofs.lemmas.Map.Views.{any-filter_same, Contains-from_any}
 use Rattle.std.proofs.lemmas.List.Elements.{filter-append, All-cons, All-head, All-tail, All-weaker}
 use Rattle.std.proofs.lemmas.List.FromFn.{length-range_with_len}
 use Rattle.std.proofs.lemmas.List.Sums.{count_by-le-length, length-filter}
@@ -13,7 +13,6 @@ use Rattle.rsc_search.specs.PatternSets.{has_member, Patterns, IsSet, numbers_be
 use Rattle.std.proofs.lemmas.List.Folds.{list_any_at}
 use Rattle.std.proofs.lemmas.List.Kept.{AllPairs-from_increasing}
 use Rattle.std.specs.List.Sorted.{IsStrictlyIncreasing}
-use mathlib.Core.Bool.{true≢false}
 
 -- ---- the numbers of a range that pass a test
 
@@ -21,10 +20,7 @@ range_longer : (a n q : ℕ) → (eqb a q || (leb (a + 1) q && ltb q (a + 1 + n)
 range_longer a n q = grind (arith, nat_tests)
 
 in_range : (a n q : ℕ) → has_member (range_with_len a n) q ≡ (leb a q && ltb q (a + n))
-in_range a zero q = no_more a q
-  where
-    no_more : (a q : ℕ) → false ≡ (leb a q && ltb q (a + 0))
-    no_more a q = grind (arith, nat_tests)
+in_range a zero q = grind (arith, nat_tests)
 in_range a (suc n) q = rw (in_range (a + 1) n q) (range_longer a n q)
 
 module _ (t : ℕ → Bool) where
@@ -96,12 +92,7 @@ length_filter_le t a n =
 -- ---- the test of membership, in std's words
 
 to_contains : (members : List ℕ) (p : ℕ) → has_member members p ≡ true → Contains members p
-to_contains [] p h = absurd (true≢false (sym h))
-to_contains (q ∷ members) p h =
-    elim (eqb q p) as (λ b. eqb q p ≡ b → (b || has_member members p) ≡ true → Contains (q ∷ members) p) [
-      | true ↦ λ e _. (0, omega arith, (Decides-eqb q p).0 e)
-      | false ↦ λ _ rest. let there : Contains members p = to_contains members p rest in (suc there.0, omega (arith, there.1), there.2)
-    ] refl h
+to_contains members p h = Contains-from_any {eq = λ q r. eqb r q} (λ q r e. sym (eqb-true r q e)) p members h
 
 from_contains : (members : List ℕ) (p : ℕ) → Contains members p → has_member members p ≡ true
 from_contains members p there = list_any_at (λ q. eqb q p) members there.0 p there.1 ((Decides-eqb (get_or members there.0 p) p).1 there.2)

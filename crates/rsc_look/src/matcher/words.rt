@@ -107,6 +107,7 @@ impl<W: WordClass> LookMatcher<W> {
     /// assert!(rt; !matcher.matches(Look::WordUnicodeNegate, "𝛃".as_bytes(), 2));
     /// assert!(rt; !matcher.matches(Look::WordUnicode, "𝛃".as_bytes(), 2));
     /// ```
+    #[tactic(auto, using(crate::proofs::HoldsLemmas::agrees, crate::proofs::HoldsLemmas::invalid_before))]
     #[inline(never)]
     pub fn is_word_unicode_negate(
         &self,

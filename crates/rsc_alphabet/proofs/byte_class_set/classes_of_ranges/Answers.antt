@@ -1,12 +1,8 @@
 use Rattle.std.proofs.Common.{◌≡◌, ℕ, List, ◌≤◌, ◌<◌, sym, ap, ap₂, ◌∙◌, ◌||◌, take, length, take_all, nat_cmp}
 use Rattle.std.specs.FinSet as sets
-use Rattle.std.specs.FinSet.{contains-empty}
 use Rattle.rsc_alphabet.proofs.Prelude.{has_boundary, class_map, contains-joined, class_map_same}
 use Rattle.rsc_alphabet.proofs.RangesLemmas.{boundary_if_unlike, has_boundary_more, same_class_is}
 use Rattle.rsc_alphabet.proofs.byte_class_set.classes_of_ranges.Goals as goal
-
-pub loop-start-init : goal.loop-start-init
-loop-start-init c = λ k h. rw c.empty-partition.ensures.set (contains-empty nat_cmp k)
 
 pub loop-start-preserved : goal.loop-start-preserved
 loop-start-preserved c = λ k h.

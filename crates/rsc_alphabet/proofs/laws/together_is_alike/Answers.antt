@@ -1,5 +1,5 @@
-use Rattle.rsc_alphabet.proofs.PartitionsLemmas.{together-alike}
+use Rattle.rsc_alphabet.proofs.PartitionsLemmas.{together_alike}
 use Rattle.rsc_alphabet.proofs.laws.together_is_alike.Goals as goal
 
 pub returns : goal.returns
-returns c = together-alike
+returns c = together_alike

@@ -1,8 +1,5 @@
 use Rattle.rsc_nfa.proofs.LawsLemmas.{IsStep-stays, IsStep-advances}
 use Rattle.rsc_nfa.proofs.laws.a_step_is_local.Goals as goal
 
-pub returns-clause-stays : goal.returns-clause-stays
-returns-clause-stays c = IsStep-stays
-
-pub returns-clause-advances : goal.returns-clause-advances
-returns-clause-advances c = IsStep-advances
+pub returns : goal.returns
+returns c = record { stays = IsStep-stays; advances = IsStep-advances }

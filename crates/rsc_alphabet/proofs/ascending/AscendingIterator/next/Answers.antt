@@ -3,18 +3,13 @@ use Rattle.rsc_alphabet.specs.ByteSetLayout.{members_left}
 use Rattle.rsc_alphabet.proofs.ByteSetLayoutLemmas.{none_left, next_block, whole_block_fits, lowest_left, first_left}
 use Rattle.rsc_alphabet.proofs.ascending.AscendingIterator.next.Goals as goal
 
-pub returns-then-self-eq1-clause-steps : goal.returns-then-self-eq1-clause-steps
-returns-then-self-eq1-clause-steps c =
-    let s = c.self.inside in
-    sym c.self.view_is ∙ first_left s.set s.number s.byte s.block c.block_shifted_right-self-inside.result (omega (arith, c.self.ranges)) c.if-self-eq1.true
-    c.block_shifted_right-self-inside.ensures
-
-pub returns-then-self-eq1-clause-goes : goal.returns-then-self-eq1-clause-goes
-returns-then-self-eq1-clause-goes c =
+pub returns-then-self-eq1 : goal.returns-then-self-eq1
+returns-then-self-eq1 c =
     let s = c.self.inside in
     let steps : c.args.self.now ≡ s.byte ∷ members_left s.set s.number (s.byte + 1) c.block_shifted_right-self-inside.result =
-    returns-then-self-eq1-clause-steps c in
-    search rules
+    sym c.self.view_is ∙ first_left s.set s.number s.byte s.block c.block_shifted_right-self-inside.result (omega (arith, c.self.ranges)) c.if-self-eq1.true
+    c.block_shifted_right-self-inside.ensures in
+    record { steps = steps; goes = search rules }
 
 pub returns-then-self-eq3-clause-steps : goal.returns-then-self-eq3-clause-steps
 returns-then-self-eq3-clause-steps c =
@@ -33,18 +28,13 @@ loop-self-preserved c =
           ∙ sym (ap (members_left s.set s.number s.byte) c.loop-self-test.true) ∙ c.loop-self.invariant.2,
     )
 
-pub returns-clause-steps : goal.returns-clause-steps
-returns-clause-steps c =
+pub returns : goal.returns
+returns c =
     let s = c.loop-self.self-inside in
     let low = c.lowest_bit-gap.ensures in
-    rw c.from-2.ensures (
+    let steps : c.args.self.now ≡ (s.byte + c.from-2.result) ∷ members_left s.set s.number (s.byte + c.from-2.result + 1)
+    c.block_shifted_right-self-inside-2.result = rw c.from-2.ensures (
     sym c.loop-self.invariant.2
     ∙ lowest_left s.set s.number s.byte s.block c.block_shifted_right-self-inside-2.result c.lowest_bit-gap.result (omega arith) low.fits low.here low.below
-    (λ i. c.block_shifted_right-self-inside-2.ensures i ∙ c.block_shifted_right.ensures (1 + i)))
-
-pub returns-clause-goes : goal.returns-clause-goes
-returns-clause-goes c =
-    let s = c.loop-self.self-inside in
-    let steps : c.args.self.now ≡ (s.byte + c.from-2.result) ∷ members_left s.set s.number (s.byte + c.from-2.result + 1)
-    c.block_shifted_right-self-inside-2.result = returns-clause-steps c in
-    search rules
+    (λ i. c.block_shifted_right-self-inside-2.ensures i ∙ c.block_shifted_right.ensures (1 + i))) in
+    record { steps = steps; goes = search rules }

@@ -5,14 +5,6 @@ use Rattle.rsc_alphabet.proofs.IteratorsLemmas.{class_more}
 use Rattle.rsc_alphabet.proofs.PartitionsLemmas.{boundary_below, map_of_counts}
 use Rattle.rsc_alphabet.proofs.byte_class_set.ByteClassSet.byte_classes.Goals as goal
 
-pub loop-byte-preserved : goal.loop-byte-preserved
-loop-byte-preserved c =
-    let l = c.loop-byte in
-    rw (c.set.ensures, c.count_below.ensures.count) (
-      length-set l.classes l.byte _ ∙ l.invariant.0,
-      class_more (class_of (sets.contains c.self.inside.ends)) l.classes l.byte l.invariant.0 l.invariant.1 (omega arith),
-    )
-
 pub returns-2-clause-map : goal.returns-2-clause-map
 returns-2-clause-map c =
     let l = c.loop-byte in

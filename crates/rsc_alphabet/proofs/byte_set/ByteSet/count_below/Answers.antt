@@ -1,16 +1,14 @@
-use Rattle.std.proofs.Common.{◌≡◌, ◌+◌, ◌-◌, ap, ◌∙◌, arith}
-use Rattle.std.specs.FinSet as sets
-use Rattle.rsc_alphabet.proofs.Prelude.{class_of, masked}
-use Rattle.rsc_alphabet.proofs.PartitionsLemmas.{class_of-low, class_of-high}
+use Rattle.std.proofs.Common.{◌∙◌, arith}
+use Rattle.rsc_alphabet.proofs.PartitionsLemmas.{class_of_low, class_of_high}
 use Rattle.rsc_alphabet.proofs.byte_set.ByteSet.count_below.Goals as goal
 
 pub returns-then-byte-lt128-clause-count : goal.returns-then-byte-lt128-clause-count
 returns-then-byte-lt128-clause-count c =
     let s = c.self.inside in
-    rw (← c.self.view_is) (c.ones_below.ensures.count ∙ class_of-low s.low s.high c.args.byte c.self.invariant.1 (omega arith))
+    rw (← c.self.view_is) (c.ones_below.ensures.count ∙ class_of_low s.low s.high c.args.byte c.self.invariant.1 (omega arith))
 
 pub returns-else-byte-lt128-clause-count : goal.returns-else-byte-lt128-clause-count
 returns-else-byte-lt128-clause-count c =
     let s = c.self.inside in
-    let halves = class_of-high s.low s.high c.args.byte c.self.invariant.1 (omega arith) in
+    let halves = class_of_high s.low s.high c.args.byte c.self.invariant.1 (omega arith) in
     rw (← c.self.view_is) (omega (arith, c.ones.ensures.count, c.ones_below-else-byte-lt128.ensures.count, halves))

@@ -1,5 +1,4 @@
-use Rattle.std.proofs.Common.{◌≡◌, ◌<◌, ◌≤◌, length, rules}
-use Rattle.rsc_nfa.specs.Classes.{boundaries_of_states}
+use Rattle.std.proofs.Common.{◌<◌, ◌≤◌, length, rules}
 use Rattle.rsc_nfa.proofs.ClassesLemmas.{AreGathered-none, AreGathered-more, AreGathered-all}
 use Rattle.rsc_nfa.proofs.nfa.Nfa.boundaries.Goals as goal
 

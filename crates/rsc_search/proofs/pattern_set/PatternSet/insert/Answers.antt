@@ -1,4 +1,4 @@
-use Rattle.std.proofs.Common.{◌≡◌, ◌≢◌, ◌<◌, ◌||◌, ◌/◌, ℕ, ap, not, set, sym, ◌∙◌, arith, eqb, refl, false, true}
+use Rattle.std.proofs.Common.{◌≡◌, ◌≢◌, ◌<◌, ap, not, sym, ◌∙◌, arith, refl, false, true}
 use Rattle.rsc_search.specs.BlockLayout.{is_set}
 use Rattle.rsc_search.proofs.PatternSetLayoutLemmas.{has_member-set, members_within, member_before, same_at, new_member, more_at, more_packed, with_one_more, one_more_member}
 use Rattle.rsc_search.proofs.pattern_set.PatternSet.insert.Goals as goal

@@ -1,4 +1,4 @@
-use Rattle.std.proofs.Common.{◌≡◌, length, replicate, refl}
+use Rattle.std.proofs.Common.{refl}
 use Rattle.rsc_search.proofs.PatternSetLayoutLemmas.{no_members, zeros_packed}
 use Rattle.rsc_search.proofs.pattern_set.PatternSet.new.Goals as goal
 

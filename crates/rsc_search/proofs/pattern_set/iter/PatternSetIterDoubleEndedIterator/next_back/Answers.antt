@@ -21,13 +21,8 @@ pub invariant_of-self : goal.invariant_of-self
 invariant_of-self c = back_between c.self.invariant c.if-self-eq0.false c.last_until-index.ensures c.without_highest-self-inside.type_inv
     c.without_highest-self-inside.ensures
 
-pub returns-clause-steps : goal.returns-clause-steps
-returns-clause-steps c =
-    rw (c.must.ensures, c.highest.ensures) (sym c.self.view_is
-    ∙ back_step c.self.invariant c.if-self-eq0.false c.last_until-index.ensures c.without_highest-self-inside.type_inv c.without_highest-self-inside.ensures)
-
-pub returns-clause-goes : goal.returns-clause-goes
-returns-clause-goes c =
+pub returns : goal.returns
+returns c =
     let step = sym c.self.view_is ∙ back_step c.self.invariant c.if-self-eq0.false c.last_until-index.ensures c.without_highest-self-inside.type_inv
     c.without_highest-self-inside.ensures in
-    rw step (search (rules, length-append))
+    record { steps = rw (c.must.ensures, c.highest.ensures) step; goes = rw step (search (rules, length-append)) }

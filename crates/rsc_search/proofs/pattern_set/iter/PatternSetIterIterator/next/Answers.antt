@@ -18,13 +18,8 @@ pub invariant_of-self : goal.invariant_of-self
 invariant_of-self c = front_between c.self.invariant c.if-self-eq0.false c.first_from-index.ensures c.without_lowest-self-inside.type_inv
     c.without_lowest-self-inside.ensures
 
-pub returns-clause-steps : goal.returns-clause-steps
-returns-clause-steps c =
-    rw c.must.ensures (sym c.self.view_is ∙ front_step c.self.invariant c.if-self-eq0.false c.first_from-index.ensures c.without_lowest-self-inside.type_inv
-    c.without_lowest-self-inside.ensures)
-
-pub returns-clause-goes : goal.returns-clause-goes
-returns-clause-goes c =
+pub returns : goal.returns
+returns c =
     let step = sym c.self.view_is ∙ front_step c.self.invariant c.if-self-eq0.false c.first_from-index.ensures c.without_lowest-self-inside.type_inv
     c.without_lowest-self-inside.ensures in
-    rw step (search rules)
+    record { steps = rw c.must.ensures step; goes = rw step (search rules) }
