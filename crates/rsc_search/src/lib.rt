@@ -15,10 +15,10 @@
 #![tactic(auto)]
 
 mod anchored;
+mod blocks;
 mod error;
 mod input;
 /// Laws that a caller can cite.
-mod blocks;
 pub mod laws;
 mod matches;
 mod pattern_set;

@@ -1,7 +1,7 @@
 //! Sets of patterns.
 //!
-//! A set is held as one bit for each number below its capacity. The Rust has a list of `bool`s: a block answers for 64 of them at
-//! once, where a set is cleared, compared, or gone through.
+//! A set is held as one bit for each number below its capacity. The original has a list of `bool`s: a block answers for 64 of
+//! them at once, where a set is cleared, compared, or gone through.
 ghost use Rattle.std.specs.Prelude.{◌≡◌, ℕ, ◌-◌, ◌<◌, ◌≤◌, ◌↔◌, ◌+◌, if◌then◌else◌, true, false, not, All, length, IsTrue, IsOk, IfOk, IfErr, IfSome, OnOk, OnErr, Some};
 ghost use Rattle.std.specs.List.Sorted.{IsStrictlyIncreasing};
 ghost use Rattle.rsc_search.specs.PatternSets.{Patterns, IsSet, no_patterns, has_member, with_member};

@@ -10,25 +10,25 @@ use Rattle.rsc_look.specs.Keeping.{IsCoarsestMap, IsExactFor, IsNeeded, Keeps}
 use Rattle.rsc_look.specs.KeepingLaws.{same_as_only}
 use Rattle.rsc_show.specs.Ranges.{HasBoundary, IsCoarsestParting, BoundsRange, IsOfLook, Parts}
 
--- one more range parts, if its edges are added and no boundary is lost
+-- one more range parts, if its boundaries are added and no boundary is lost
 pub parts_more : (p q : ℕ → Bool) (ranges : List (ℕ × ℕ)) (r : ℕ × ℕ) → ((b : ℕ) → p b ≡ true → q b ≡ true)
     → (r.0 ≤ r.1 → (b : ℕ) → b < 255 → BoundsRange b r → q b ≡ true) → Parts p ranges → Parts q (ranges ++ r ∷ [])
-parts_more p q ranges r grows added before = λ x inside fills b lt edge.
-    ⊎_elim (λ (old : Contains ranges x). grows b (before x old fills b lt edge))
-    (λ (same : r ≡ x). added (subst (λ y. y.0 ≤ y.1) (sym same) fills) b lt (subst (λ y. BoundsRange b y) (sym same) edge))
+parts_more p q ranges r grows added before = λ x inside fills b lt boundary.
+    ⊎_elim (λ (old : Contains ranges x). grows b (before x old fills b lt boundary))
+    (λ (same : r ≡ x). added (subst (λ y. y.0 ≤ y.1) (sym same) fills) b lt (subst (λ y. BoundsRange b y) (sym same) boundary))
     (Contains-push_cases ranges r x inside)
 
--- an edge of one of the ranges is one of them and one more
+-- a boundary of one of the ranges is one of them and one more
 pub edge_kept : (b : ℕ) (ranges : List (ℕ × ℕ)) (r : ℕ × ℕ) → HasBoundary b ranges → HasBoundary b (ranges ++ r ∷ [])
 edge_kept b ranges r e = record {
   range = e.range;
   listed = Contains-append_left ranges (r ∷ []) e.range e.listed;
   holds_a_byte = e.holds_a_byte;
-  edge = e.edge;
+  boundary = e.boundary;
 }
 
-pub edge_added : (b : ℕ) (ranges : List (ℕ × ℕ)) (r : ℕ × ℕ) → r.0 ≤ r.1 → BoundsRange b r → HasBoundary b (ranges ++ r ∷ [])
-edge_added b ranges r fills edge = record { range = r; listed = Contains-push ranges r; holds_a_byte = fills; edge = edge }
+pub boundary_added : (b : ℕ) (ranges : List (ℕ × ℕ)) (r : ℕ × ℕ) → r.0 ≤ r.1 → BoundsRange b r → HasBoundary b (ranges ++ r ∷ [])
+boundary_added b ranges r fills boundary = record { range = r; listed = Contains-push ranges r; holds_a_byte = fills; boundary = boundary }
 
 keeps_one : (q : ℕ → Bool) (looks : List Look) (l : Look) (t : ℕ) (W : ℕ → Bool) → Contains looks l → Keeps q looks t W → Keeps q (l ∷ []) t W
 keeps_one q looks l t W listed keeps = record {
@@ -45,7 +45,7 @@ needed_in b looks l t W listed needed = record {
   tells = needed.tells;
 }
 
--- a partition that keeps and parts, and has no boundary but those of assertions and edges, is the coarsest one
+-- a partition that keeps and parts, and has no boundary but those of assertions and boundaries, is the coarsest one
 pub coarsest_parting : (p : ℕ → Bool) (ranges : List (ℕ × ℕ)) (looks : List Look) (t : ℕ) (W : ℕ → Bool)
     → ((l : Look) → IsExactFor (sets.contains (boundaries_of l t)) l t W) → Keeps p looks t W → Parts p ranges
     → ((b : ℕ) → b < 255 → p b ≡ true → HasBoundary b ranges ⊎ IsOfLook b looks t) → IsCoarsestParting (class_map p) ranges looks t W
@@ -55,7 +55,7 @@ coarsest_parting p ranges looks t W exact keeps parts only = record {
   keeps = keeps;
   parts = parts;
   least = λ q kept parted b lt e.
-      ⊎_elim (λ (h : HasBoundary b ranges). parted h.range h.listed h.holds_a_byte b lt h.edge)
+      ⊎_elim (λ (h : HasBoundary b ranges). parted h.range h.listed h.holds_a_byte b lt h.boundary)
       (λ (f : IsOfLook b looks t). (exact f.look).least q (keeps_one q looks f.look t W f.listed kept) b lt f.boundary)
       (only b lt e);
   needed = λ b lt e.
@@ -87,20 +87,20 @@ coarsest_map p ranges looks t W exact keeps parts only none =
     without_ranges (class_map p) looks t W
     (subst (λ r. IsCoarsestParting (class_map p) r looks t W) none (coarsest_parting p ranges looks t W exact keeps parts only))
 
--- the set has the edges of the ranges, and no others
+-- the set has the boundaries of the ranges, and no others
 abbrev pub AreBoundariesOf : (ℕ → Bool) → List (ℕ × ℕ) → Type 0
 AreBoundariesOf p ranges = Parts p ranges × ((b : ℕ) → b < 255 → p b ≡ true → HasBoundary b ranges)
 
 -- and so it has with those of one more range that holds a byte
-pub edges_added : (p q edges : ℕ → Bool) (ranges : List (ℕ × ℕ)) (r : ℕ × ℕ) → ((b : ℕ) → q b ≡ (p b || edges b))
-    → ((b : ℕ) → b < 255 → (edges b ≡ true) ↔ BoundsRange b r) → r.0 ≤ r.1 → AreBoundariesOf p ranges → AreBoundariesOf q (ranges ++ r ∷ [])
-edges_added p q edges ranges r joined edge fills before = (
-  parts_more p q ranges r (λ b e. joined b ∙ or_left (p b) (edges b) e)
-      (λ _ b lt at. joined b ∙ or_right (p b) (edges b) ((edge b lt).1 at)) before.0,
+pub boundaries_added : (p q boundaries : ℕ → Bool) (ranges : List (ℕ × ℕ)) (r : ℕ × ℕ) → ((b : ℕ) → q b ≡ (p b || boundaries b))
+    → ((b : ℕ) → b < 255 → (boundaries b ≡ true) ↔ BoundsRange b r) → r.0 ≤ r.1 → AreBoundariesOf p ranges → AreBoundariesOf q (ranges ++ r ∷ [])
+boundaries_added p q boundaries ranges r joined boundary fills before = (
+  parts_more p q ranges r (λ b e. joined b ∙ or_left (p b) (boundaries b) e)
+      (λ _ b lt at. joined b ∙ or_right (p b) (boundaries b) ((boundary b lt).1 at)) before.0,
   λ b lt e.
       ⊎_elim (λ (old : p b ≡ true). edge_kept b ranges r (before.1 b lt old))
-      (λ new. edge_added b ranges r fills ((edge b lt).0 new))
-      (or_cases (p b) (edges b) (sym (joined b) ∙ e)),
+      (λ new. boundary_added b ranges r fills ((boundary b lt).0 new))
+      (or_cases (p b) (boundaries b) (sym (joined b) ∙ e)),
 )
 
 -- and as it is, with one more range that holds none

@@ -16,7 +16,7 @@ pub record HasBoundary (b : ℕ) (ranges : List (ℕ × ℕ)) : Type 0 where
   pub range : ℕ × ℕ
   pub listed : Contains ranges range
   pub holds_a_byte : range.0 ≤ range.1
-  pub edge : BoundsRange b range
+  pub boundary : BoundsRange b range
 
 -- a listed assertion has the boundary
 pub record IsOfLook (b : ℕ) (looks : List Look) (t : ℕ) : Type 0 where

@@ -37,7 +37,7 @@ fn alphabet_of(matcher: &LookMatcher<Words>, looks: &[Look], ranges: &[(u8, u8)]
     set
 }
 
-// The edges of ranges.
+// The boundaries of ranges.
 fn set_of(ranges: &[(u8, u8)]) -> ByteClassSet
     ensures parts { Parts (sets.contains result) ranges.now }
     ensures only { (b : ℕ) → b < 255 → sets.contains result b ≡ true → HasBoundary b ranges.now }

@@ -133,7 +133,7 @@ fn push_boundary(page: &mut Page, request: &Request, matcher: &LookMatcher<Words
     page.push_str(" and ");
     page.push_digits(byte + 1);
     page.push(':');
-    let (told, edge) = witnesses(
+    let (told, boundary) = witnesses(
         matcher,
         request.looks.as_slice(),
         request.ranges.as_slice(),
@@ -144,12 +144,12 @@ fn push_boundary(page: &mut Page, request: &Request, matcher: &LookMatcher<Words
             push_witness(page, matcher, look, position, byte);
         }
     }
-    if let Some((start, end)) = edge {
+    if let Some((start, end)) = boundary {
         if told.is_some() {
             page.push('\n');
             page.push_spaces(BETWEEN_WIDTH);
         }
-        push_edge(page, start, end, start == byte + 1);
+        push_range(page, start, end, start == byte + 1);
     }
     page.push('\n');
 }
@@ -178,7 +178,7 @@ fn push_witness(
 }
 
 // A range that begins or ends there.
-fn push_edge(page: &mut Page, start: u8, end: u8, begins: bool) {
+fn push_range(page: &mut Page, start: u8, end: u8, begins: bool) {
     page.push(' ');
     page.push_digits(start);
     page.push('-');

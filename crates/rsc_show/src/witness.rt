@@ -43,18 +43,18 @@ pub fn witnesses(
     requires { byte < 255 }
     ensures told { IfSome result.0 (λ w. Contains looks.now w.0 × (w.1 ≤ 1)
         × Tells w.0 matcher.now.0 (chosen_words matcher.now.1) (byte ∷ []) ((byte + 1) ∷ []) w.1) }
-    ensures edge { IfSome result.1 (λ r. Contains ranges.now r × BoundsRange byte r) }
+    ensures range { IfSome result.1 (λ r. Contains ranges.now r × BoundsRange byte r) }
     ensures boundary { (m : List ℕ) → IsCoarsestParting m ranges.now looks.now matcher.now.0 (chosen_words matcher.now.1) →
         slice_index m byte ≢ slice_index m (byte + 1) → IsSome result.0 ⊎ IsSome result.1 }
 {
     one_class_is_together();
-    (witness(matcher, looks, byte), edge_at(ranges, byte))
+    (witness(matcher, looks, byte), boundary_at(ranges, byte))
 }
 
 // The first range that begins after a byte or ends at it.
-fn edge_at(ranges: &[(u8, u8)], byte: u8) -> Option<(u8, u8)>
+fn boundary_at(ranges: &[(u8, u8)], byte: u8) -> Option<(u8, u8)>
     requires { byte < 255 }
-    ensures edge { IfSome result (λ r. Contains ranges.now r × BoundsRange byte r) }
+    ensures range { IfSome result (λ r. Contains ranges.now r × BoundsRange byte r) }
     ensures found { (r : ℕ × ℕ) → Contains ranges.now r → BoundsRange byte r → IsSome result }
 {
     for (start, end) in ranges {

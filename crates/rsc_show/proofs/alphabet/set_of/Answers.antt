@@ -3,7 +3,7 @@ use Rattle.std.specs.FinSet as sets
 use Rattle.std.proofs.lemmas.List.{take_all, take_more}
 use Rattle.rsc_alphabet.specs.Partitions.{boundaries_of_range}
 use Rattle.rsc_show.specs.Ranges.{Parts}
-use Rattle.rsc_show.proofs.RangesLemmas.{edges_added, edges_as_they_are}
+use Rattle.rsc_show.proofs.RangesLemmas.{boundaries_added, edges_as_they_are}
 use Rattle.rsc_show.proofs.alphabet.set_of.Goals as goal
 use Rattle.rsc_show.proofs.alphabet.set_of.Goals.{then-start-end, else-start-end}
 
@@ -17,7 +17,7 @@ loop-start-preserved c =
       | then-start-end w ↦
           rw w.set-is
           (rw (take_more ranges i (0, 0) c.loop-start-test.true)
-          (edges_added before (sets.contains w.set_range.new.self) (sets.contains (boundaries_of_range r)) (take i ranges) r
+          (boundaries_added before (sets.contains w.set_range.new.self) (sets.contains (boundaries_of_range r)) (take i ranges) r
           (λ b. w.set_range.ensures.boundaries b ∙ ap (λ x. before b || x) (sym (c.boundaries_part_a_range.ensures.members r.0 r.1 b)))
           (λ b lt. c.boundaries_part_a_range.ensures.boundary r b lt)
           (omega (arith, w.if-start-end))
