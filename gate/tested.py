@@ -15,8 +15,8 @@ The edits stand in crates/CRATE/tested-bodies.edits; gate/edits.py explains the 
 
 Each is compiled and run without a proof, in a copy of the repository. It passes if a test fails, or if the tests don't compile because a type lacks a
 trait. The compiler takes half a minute for the toolchain's library alone, so a crate's edits are compiled together: edit 3 of a part of those of
-`rsc_search` as a crate `rsc_search_3`, with its tests in a module `v3`, and edits of a program as modules of one program. The edits with a snippet, with
-seconds or of one run are tried alone.
+`rsc_search` as a crate `rsc_search_3`, with its tests in a module `v3`, and edits of a program as modules of one program. The edits of rsc_show and those with
+a snippet, with seconds or of one run are tried alone.
 """
 import os
 import pathlib
@@ -26,11 +26,16 @@ import shlex
 import shutil
 import subprocess
 import tempfile
+import threading
 
 from edits import ROOT, blocks, in_lanes, replaced
 
 FIELDS = ("file", "tests", "modules", "snippet", "seconds", "runs", "also")
 IN_ONE = 16
+# A program that the compiler takes ten minutes for as six modules: its edits are tried one by one.
+ONE_BY_ONE = ("rsc_show",)
+# What the unchanged programs answer in all stored runs, by crate.
+UNCHANGED, IS_ASKED = {}, threading.Lock()
 
 
 def tested_edits(wanted):
@@ -62,8 +67,8 @@ def misfits(wanted):
     return found
 
 
-def rt_try(folder, *words, given=""):
-    ran = subprocess.run(["rt", "try", *words], cwd=folder, input=given, stdout=subprocess.PIPE, stderr=subprocess.STDOUT, encoding="utf-8", errors="replace")
+def rt_try(folder, *words):
+    ran = subprocess.run(["rt", "try", *words], cwd=folder, stdin=subprocess.DEVNULL, stdout=subprocess.PIPE, stderr=subprocess.STDOUT, errors="replace")
     return ran.stdout
 
 
@@ -238,18 +243,49 @@ def judge_programs(copy, crate, edits):
     answers = {number: dict(re.findall(rf"^case=v{number}-(\S+) (.*)", said, flags=re.M)) for number in [0, *left]}
     failing = {0: [name for name, answer in answers[0].items() if "output=differs" in answer]}
     for number, (_, fields, _) in left.items():
-        files = [f"{crate}-{it.removesuffix('.txt')}-" for it in fields["runs"].split() if it != "all"]
-        failing[number] = [it for it in answers[0] if answers[number].get(it) != answers[0][it] and (not files or it.startswith(tuple(files)))]
+        files = files_of(crate, fields["runs"])
+        failing[number] = [it for it in answers[0] if answers[number].get(it) != answers[0][it] and (not files or it.startswith(files))]
     return results + [*judged(crate, left, failing)]
 
 
+def files_of(crate, runs):
+    """Returns how the names of the wanted stored runs begin, or nothing if all are wanted."""
+    return tuple(f"{crate}-{it.removesuffix('.txt')}-" for it in runs.split() if it != "all")
+
+
+def answers_to_all(copy, crate):
+    """Returns the answers of a copy's program in its plain stored runs, by their names."""
+    with tempfile.TemporaryDirectory(prefix="cases-") as cases:
+        subprocess.run([f"{ROOT}/gate/stored-runs.py", "--cases", crate, cases], check=True)
+        return dict(re.findall(r"^case=(\S+) (.*)", rt_try(f"{copy}/crates/{crate}", "--steps", "0", "--cases", cases), flags=re.M))
+
+
+def unchanged(copy, crate):
+    """Returns the answers of the unchanged program, which is asked once."""
+    with IS_ASKED:
+        if crate not in UNCHANGED:
+            UNCHANGED[crate] = answers_to_all(copy, crate)
+    return UNCHANGED[crate]
+
+
+def judge_runs(copy, crate, name, runs, wanted):
+    """Runs the program of a copy, and returns whether an answer isn't that of the unchanged program, with a line that says which."""
+    found, files = answers_to_all(copy, crate), files_of(crate, runs)
+    failing = [it for it in wanted if found.get(it) != wanted[it] and (not files or it.startswith(files))]
+    if not found:
+        return False, f"{crate}/{name}: NOT JUDGED: no run ended"
+    return (True, f"{crate}/{name}: fails {', '.join(failing)[:150]}") if failing else (False, f"{crate}/{name}: NOTHING FAILS")
+
+
 def answers_of(copy, crate, run):
-    """Returns what the program of a copy prints in a run, line by line."""
+    """Returns what the program of a copy prints in a run, line by line: first on standard error, then, after `> `, on standard output."""
     run, _, given = run.partition(" < ")
     words = [re.sub(rb"\\x([0-9a-f]{2})", lambda it: bytes([int(it[1], 16)]), it.encode()) for it in shlex.split(run)]
     flags = ["--steps", "0", *(words[:2] if words[:1] == [b"--fail-alloc"] else [])]
     given = given.replace("\\n", "\n").replace("\\t", "\t")
-    return rt_try(f"{copy}/crates/{crate}", *flags, "--", *words[len(flags) - 2 :], given=given).splitlines()
+    ran = subprocess.run(["rt", "try", *flags, "--", *words[len(flags) - 2 :]], cwd=f"{copy}/crates/{crate}", input=given, capture_output=True,
+                         encoding="utf-8", errors="replace")
+    return [*ran.stderr.splitlines(), *(f"> {it}" for it in ran.stdout.splitlines())]
 
 
 def judge_run(copy, crate, name, run, wanted):
@@ -282,12 +318,14 @@ def judge_tests(copy, crate, name, fields):
 
 def judge_alone(copy, crate, name, fields, pairs):
     """Tries one edit in a copy, and returns whether a test or a run fails, with a line that says which."""
-    wanted = answers_of(copy, crate, fields["runs"]) if "runs" in fields else []
+    runs = fields.get("runs", "")
+    are_stored = runs == "all" or runs.endswith(".txt")
+    wanted = unchanged(copy, crate) if are_stored else answers_of(copy, crate, runs) if runs else []
     try:
         for source, (_, after) in changed(copy, crate, fields, pairs).items():
             pathlib.Path(copy, "crates", crate, source).write_text(after, encoding="utf-8")
-        if "runs" in fields:
-            return judge_run(copy, crate, name, fields["runs"], wanted)
+        if runs:
+            return (judge_runs if are_stored else judge_run)(copy, crate, name, runs, wanted)
         return judge_tests(copy, crate, name, fields)
     finally:
         reset(copy, crate, *([fields["tests"]] if "tests" in fields else []))
@@ -301,7 +339,7 @@ def try_tested(wanted):
     together, calls = {}, {}
     for crate, name, fields, pairs in wanted:
         runs = fields.get("runs", "")
-        if {"snippet", "seconds"} & {*fields} or runs and runs != "all" and not runs.endswith(".txt"):
+        if {"snippet", "seconds"} & {*fields} or runs and (crate in ONE_BY_ONE or runs != "all" and not runs.endswith(".txt")):
             calls[crate, name] = lambda copy, it=(crate, name, fields, pairs): [judge_alone(copy, *it)]
         else:
             together.setdefault((crate, fields.get("tests")), []).append((name, fields, pairs))
