@@ -63,7 +63,7 @@ pub fn written(step: Step) -> Lead
 
 /// Where the entry of a row and a unit is, in a table of that many rows and entries.
 #[inline(always)]
-pub fn place_of<W: WordClass>(
+pub fn entry_index<W: WordClass>(
     plan: &Plan<'_, W>,
     row: usize,
     unit: Option<u8>,

@@ -9,7 +9,7 @@ ghost use Rattle.rsc_engine.specs.Searches.{search_in};
 ghost use Rattle.rsc_engine.specs.Tables.{IsExact, IsRow, IsStepTo, IsMade, IsGrown, StandsAt};
 
 use super::entries::{
-    Lead, Step, are_alike, are_same, is_byte, key_of, place_of, read, widen, written,
+    Lead, Step, are_alike, are_same, entry_index, is_byte, key_of, read, widen, written,
 };
 use super::lawful::steps_are_lawful;
 use super::plan::{Plan, byte_at};
@@ -146,8 +146,8 @@ impl Table {
         ensures { IfSome result (λ next.
             IsStepTo (machine W.word_chars plan.now.program.now) plan.now.classes self.now.rows.items self.now.rows.items row (Some byte) (Goes next)) }
     {
-        let place = place_of(plan, row, Some(byte), self.rows.len(), self.leads.len());
-        match self.leads[place] {
+        let entry = entry_index(plan, row, Some(byte), self.rows.len(), self.leads.len());
+        match self.leads[entry] {
             Lead::To(next) => Some(next as usize),
             Lead::Unknown | Lead::Match => None,
         }
@@ -186,8 +186,8 @@ impl Table {
         ensures { IfSome result (IsMade (machine W.word_chars plan.now.program.now) plan.now.classes self.now.rows.items self.now.rows.items row unit) }
     {
         is_byte(unit);
-        let place = place_of(plan, row, unit, self.rows.len(), self.leads.len());
-        read(self.leads[place])
+        let entry = entry_index(plan, row, unit, self.rows.len(), self.leads.len());
+        read(self.leads[entry])
     }
 
     // Where a unit leads from a row, made from the row's states.
@@ -244,8 +244,8 @@ impl Table {
         ensures rows { self.new.rows.items ≡ self.old.rows.items }
     {
         is_byte(unit);
-        let place = place_of(plan, row, unit, self.rows.len(), self.leads.len());
-        self.leads[place] = written(step);
+        let entry = entry_index(plan, row, unit, self.rows.len(), self.leads.len());
+        self.leads[entry] = written(step);
     }
 
     /// The row of a mode, the byte before and a set: one that is there, or a new one. The second part is false if the table was cleared.
