@@ -102,6 +102,7 @@ impl<A: Allocator + Clone + Drop> SharedLists<A> {
     }
 
     /// The pair of slots of a group, or `None` where there is no such group. The slots 2i and 2i + 1 are pair i.
+    #[tactic(auto, using(crate::proofs::SlotOwnersLemmas::explicit_slot))]
     #[inline]
     pub(crate) fn pair(&self, p: usize, group: usize) -> Option<usize>
         ensures value { option_map (λ pair. 2 * pair) result ≡ slot_of self.now p group }

@@ -9,11 +9,3 @@ overflow_add-result g c =
 pub overflow_add-result-else-group-eq0 : goal.overflow_add-result-else-group-eq0
 overflow_add-result-else-group-eq0 g c =
     omega (arith, (explicit_slot _ _ c.args.group _ c.first.ensures.faultless c.first.ensures.value (omega arith) (omega arith)).1)
-
-pub returns-else-group-eq0-clause-value : goal.returns-else-group-eq0-clause-value
-returns-else-group-eq0-clause-value g c =
-    rw c.len.ensures.value (explicit_slot _ _ c.args.group _ c.first.ensures.faultless c.first.ensures.value (omega arith) (omega arith)).0
-
-pub returns-else-group-eq0-clause-limit : goal.returns-else-group-eq0-clause-limit
-returns-else-group-eq0-clause-limit g c =
-    omega (arith, c.len.ensures.value, (explicit_slot _ _ c.args.group _ c.first.ensures.faultless c.first.ensures.value (omega arith) (omega arith)).1)
