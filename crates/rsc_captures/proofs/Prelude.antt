@@ -8,7 +8,7 @@ pub use Rattle.rsc_captures.specs.Groups.{Groups, groups_in, GroupLists, groups_
 pub use Rattle.rsc_captures.specs.Layout.{groups_before, AreFirsts, IsAt, names_of, lists_held, AreOrdered, IsLayout}
 pub use Rattle.rsc_captures.specs.NameIterators.{groups_from, patterns_from, all_names_of, names_left}
 pub use Rattle.rsc_captures.specs.NamesLayout.{name_held, names_held, entry_held, IsCut, AreCut, AreHeld}
-pub use Rattle.rsc_captures.specs.OrderLayout.{name_at, name_cmp, IsOrder, named_cmp, group_with_name, HasGroups, IsSortedByName}
+pub use Rattle.rsc_captures.specs.OrderLayout.{name_at, name_cmp, IsOrder, named_cmp, group_with_name, IsSortedByName}
 pub use Rattle.rsc_captures.specs.RepeatsLayout.{is_repeat, AreDistinctBelow, HaveDifferentNames, IsFirstNotLess, HasNoRepeatBefore, IsFirstRepeatBefore}
 pub use Rattle.rsc_captures.specs.SlotOwners.{IsSlotOf, IsOwned}
 pub use Rattle.rsc_captures.specs.declared.names.Entry.{Entry}

@@ -16,10 +16,6 @@ name_at groups g = slice_index_or groups g None
 abbrev pub name_cmp : Option (List ℕ) → Option (List ℕ) → Ordering
 name_cmp = option_cmp (slice_cmp nat_cmp)
 
--- each of the first n groups is in the list
-abbrev pub HasGroups : List ℕ → ℕ → Type 0
-HasGroups order n = (g : ℕ) → g < n → Contains order g
-
 -- groups are ordered by their names, and those of one name by their numbers
 abbrev pub named_cmp : Option (List ℕ) × ℕ → Option (List ℕ) × ℕ → Ordering
 named_cmp x y = ordering_then (name_cmp x.0 y.0) (nat_cmp x.1 y.1)
@@ -34,5 +30,5 @@ IsSortedByName order groups = IsSortedByKey (group_with_name groups) named_cmp o
 
 -- the list has the groups, in the order of their names
 pub record IsOrder (order : List ℕ) (groups : Groups) : Type 0 where
-  pub complete : HasGroups order (length groups)
+  pub complete : (g : ℕ) → g < length groups → Contains order g
   pub sorted : IsSortedByName order groups

@@ -217,41 +217,38 @@ impl<A: Allocator + Clone + Drop> Captures<A> {
             ForSome (slot_here self.old index) (λ slot. self.new ≡ record self.old { offsets = with_span self.old.offsets slot span }) }
         ensures refused { ¬ (IsTrue result) → self.new ≡ self.old }
     {
-        match self.slot_here(index) {
+        match self.pair_here(index) {
             None => false,
-            Some(slot) => match offsets_of(span) {
+            Some(pair) => match offsets_of(span) {
                 None => false,
                 Some((start, end)) => {
                     let slots = self.slots.as_mut_slice();
-                    slots[slot] = start;
-                    slots[slot + 1] = end;
+                    slots[2 * pair] = start;
+                    slots[2 * pair + 1] = end;
                     true
                 }
             },
         }
     }
 
-    // The first slot of a group of the pattern that matched, where both its slots are here.
+    // The pair of slots of a group of the pattern that matched, where both are here. Pairs are compared with half the number of slots.
     #[inline]
-    fn slot_here(&self, index: usize) -> Option<usize>
-        ensures slot { result ≡ slot_here self.now index }
-        ensures here { IfSome result (λ slot. slot + 1 < length self.now.offsets) }
+    fn pair_here(&self, index: usize) -> Option<usize>
+        ensures slot { option_map (λ pair. 2 * pair) result ≡ slot_here self.now index }
+        ensures here { IfSome result (λ pair. 2 * pair + 1 < length self.now.offsets) }
     {
         let pid = self.pid?;
-        let count = self.slots.len();
-        let patterns = self.group_info.pattern_len();
-        if patterns == 1 {
-            if index >= count / 2 {
-                return None;
-            }
-            Some(2 * index)
+        let pairs = self.slots.len() / 2;
+        let lists = self.group_info.lists();
+        let pair = if lists.len() == 1 {
+            index
         } else {
-            let slot = self.group_info.slot(pid, index)?;
-            if slot + 1 >= count {
-                return None;
-            }
-            Some(slot)
+            lists.pair(pid.as_usize(), index)?
+        };
+        if pair >= pairs {
+            return None;
         }
+        Some(pair)
     }
 
     /// The pattern that matched with the span of the whole match, or `None` where either is missing. Needs the span, where

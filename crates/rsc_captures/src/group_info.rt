@@ -265,9 +265,9 @@ impl<A: Allocator + Clone + Drop> GroupInfo<A> {
         2 * (lists.all_group_len() - lists.len())
     }
 
-    // The lists that all clones share.
+    /// The lists that all clones share.
     #[inline]
-    fn lists(&self) -> &SharedLists<A>
+    pub(crate) fn lists(&self) -> &SharedLists<A>
         ensures { result.now ≡ self.now }
     {
         &self.inner

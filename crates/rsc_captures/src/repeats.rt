@@ -74,6 +74,7 @@ fn count_before(count: usize, p: usize, group: (usize, usize)) -> usize
 }
 
 // The first of the groups before `end` whose name a lesser group has, or `end`.
+#[tactic(auto, using(crate::proofs::RepeatsLayoutLemmas::distinct_from_differ))]
 fn first_repeat(groups: &[Option<&str>], end: usize) -> usize
     requires within { end ≤ length groups.now }
     requires limit { end ≤ max_index + 1 }

@@ -1,21 +1,17 @@
-use Rattle.std.proofs.Common.{◌≡◌, ◌-◌, ◌<◌, ◌≤◌, length, arith, ⊎_elim}
-use Rattle.std.proofs.lemmas.Bool.{cases_lt}
+use Rattle.std.proofs.Common.{◌≡◌, ℕ, zero, suc, ◌+◌, ◌<◌, ◌≤◌, length, arith}
 use Rattle.rsc_captures.proofs.GroupsLemmas.{groups_of_in, group_count_in}
 use Rattle.rsc_captures.proofs.RepeatsLayoutLemmas.{repeat_of_pattern, none_before, none_so_far}
 use Rattle.rsc_captures.specs.Groups.{lists_in, group_count}
 use Rattle.rsc_captures.proofs.repeats.first_repeat_before.Goals as goal
 
+-- as many groups as have numbers within the limit
+bounded : (n m : ℕ) → ((g : ℕ) → g < n → g ≤ m) → n ≤ m + 1
+bounded zero m within = omega arith
+bounded (suc n) m within = omega (arith, within n (omega arith))
+
 pub first_repeat-g-requires-clause-limit : goal.first_repeat-g-requires-clause-limit
-first_repeat-g-requires-clause-limit c =
-    let lt : c.loop-p.p < length c.args.lists.now = omega arith in
-    ⊎_elim
-    (λ (some : 0 < c.count_before-end.result).
-    let last : c.count_before-end.result - 1 ≤ 2147483646 =
-    c.requires.groups c.loop-p.p (c.count_before-end.result - 1) (omega (arith, some, c.count_before-end.ensures.within, group_count_in _ _ lt))
-    (c.count_before-end.ensures.before (c.count_before-end.result - 1) (omega arith)) in
-    omega (arith, last))
-    (λ (none : c.count_before-end.result ≤ 0). omega (arith, none))
-    (cases_lt 0 c.count_before-end.result)
+first_repeat-g-requires-clause-limit c = bounded _ _ (λ g lt. c.requires.groups c.loop-p.p g
+    (omega (arith, lt, c.count_before-end.ensures.within, group_count_in c.args.lists.now c.loop-p.p (omega arith))) (c.count_before-end.ensures.before g lt))
 
 pub repeated-requires-clause-number : goal.repeated-requires-clause-number
 repeated-requires-clause-number c = c.requires.patterns c.loop-p.p (c.count_before-end.ensures.before 0 (omega (arith, c.if-g-end.true)))
