@@ -43,6 +43,8 @@ FORMS = (
     ("rsc_primitives/src/utf8.rt", "const WORD_BYTES_FROM_80: u128 = 0;\n"),
     ("rsc_search/src/pattern_set.rt", "    blocks: Vec<u64, A>,\n    capacity: usize,\n    count: usize,\n}"),
 )
+# The types whose values the main statement speaks of.
+SEEN = (("rsc_look", "matcher.rt", "LookMatcher"), ("rsc_alphabet", "byte_classes.rt", "ByteClasses"))
 LIBRARIES = ("rsc_primitives", "rsc_alphabet", "rsc_look", "rsc_search", "rsc_captures", "rsc_nfa", "rsc_engine")
 
 
@@ -137,7 +139,13 @@ def trusted():
         size = sum(len(found[it].splitlines()) for it in names)
         count, total = count + len(names), total + size
         lines.append(f"| `{crate}/specs/{module}.antt` | {size} | {', '.join(f'`{it}`' for it in found if it in names)} |")
-    lines += ["", f"Together {count} definitions, {total} lines. They use types of the libraries, and names of the toolchain:", "", "| Module | Names |", "|---|---|"]
+    lines += ["", "A clause speaks of what a contract sees of a value, by the type's `impl Model`:", "", "| Type | What is seen | Its type |", "|---|---|---|"]
+    for crate, file, name in SEEN:
+        source = (ROOT / "crates" / crate / "src" / file).read_text(encoding="utf-8")
+        model = re.search(rf"Model for {name}\b.*?ghost Value = {{ (.*?) }};.*?ghost view = {{ (.*?) }};", source, flags=re.S)
+        lines.append(f"| `{crate}::{name}` | `{model[2]}` | `{model[1]}` |")
+    lines += ["", "The contracts of `LookMatcher::new` and `set_line_terminator` say which matcher a caller makes, and that of `ByteClasses::get` what it reads from the map.", ""]
+    lines += [f"Together {count} definitions, {total} lines. They use types of the libraries, and names of the toolchain:", "", "| Module | Names |", "|---|---|"]
     lines += [f"| `{module}` | {', '.join(f'`{it}`' for it in sorted(names))} |" for module, names in sorted(outside.items())]
     return "\n".join(lines) + "\n", count, total, len(own)
 
