@@ -1,6 +1,7 @@
 //! Repeated names in long lists, which are read block by block.
 
-use rsc_captures::GroupInfo;
+use rsc_captures::{GroupInfo, GroupInfoErrorKind};
+use rsc_primitives::PatternID;
 use std::alloc::{AllocError, Global};
 use std::test::Fail;
 
@@ -13,58 +14,46 @@ fn names(alloc: Global, count: usize) -> Result<Vec<String>, AllocError> {
     Ok(names)
 }
 
-// That many groups: the first has no name, and each other the name with its number.
-fn groups<'a>(
+// Whether the first name that these groups repeat is found to be this one, and without one no fault but that of a second pattern, where it
+// is wanted.
+fn is_found(
     alloc: Global,
-    names: &'a [String],
-    count: usize,
-) -> Result<Vec<Option<&'a str>>, AllocError> {
-    let mut groups: Vec<Option<&str>> = Vec::new(alloc);
-    groups.push(None)?;
-    for name in names.iter().take(count).skip(1) {
-        groups.push(Some(name.as_str()))?;
-    }
-    Ok(groups)
-}
-
-// What the list says whose first pattern has these groups, and whose second, where it is wanted, has a fault of its own.
-fn answer(alloc: Global, groups: &[Option<&str>], with_fault: bool) -> Result<String, Fail> {
+    groups: &[Option<&str>],
+    repeat: Option<&str>,
+    with_fault: bool,
+) -> Result<bool, AllocError> {
     let faulty: [Option<&str>; 1] = [Some("faulty")];
     let mut lists: Vec<&[Option<&str>]> = Vec::new(alloc);
     lists.push(groups)?;
     if with_fault {
         lists.push(&faulty)?;
     }
-    match GroupInfo::new(alloc, &lists) {
-        Ok(_) => Ok(String::from_str(alloc, "no fault")?),
-        Err(error) => Ok(error.to_string(alloc)?),
-    }
-}
-
-// What it has to say if this is the first repeated name.
-fn wanted(alloc: Global, repeat: Option<&str>, with_fault: bool) -> Result<String, AllocError> {
-    match repeat {
-        Some(name) => {
-            format!(in alloc; "duplicate capture group name '{name}' found for pattern 0")
-        }
-        None if with_fault => String::from_str(
-            alloc,
-            "first capture group (at index 0) for pattern 1 has a name (it must be unnamed)",
-        ),
-        None => String::from_str(alloc, "no fault"),
-    }
+    Ok(match GroupInfo::new(alloc, &lists) {
+        Ok(_) => repeat.is_none() && !with_fault,
+        Err(error) => match error.kind() {
+            GroupInfoErrorKind::Duplicate { pattern, name } => {
+                *pattern == PatternID::ZERO && repeat == Some(name.as_str())
+            }
+            GroupInfoErrorKind::FirstMustBeUnnamed { .. } => repeat.is_none() && with_fault,
+            _ => false,
+        },
+    })
 }
 
 // Whether a list of that many groups is refused for the name of the last pair alone, where each pair's later group has the name of
-// its earlier one.
+// its earlier one. The first group has no name, and each other the name with its number.
 fn is_refused(
     alloc: Global,
     names: &[String],
     count: usize,
     pairs: &[(usize, usize)],
     with_fault: bool,
-) -> Result<bool, Fail> {
-    let mut list = groups(alloc, names, count)?;
+) -> Result<bool, AllocError> {
+    let mut list: Vec<Option<&str>> = Vec::new(alloc);
+    list.push(None)?;
+    for name in names.iter().take(count).skip(1) {
+        list.push(Some(name.as_str()))?;
+    }
     let mut repeat: Option<&str> = None;
     for (earlier, later) in pairs {
         if let Some(name) = names.get(*earlier) {
@@ -74,7 +63,7 @@ fn is_refused(
             }
         }
     }
-    Ok(answer(alloc, &list, with_fault)? == wanted(alloc, repeat, with_fault)?)
+    is_found(alloc, &list, repeat, with_fault)
 }
 
 #[test]
@@ -164,8 +153,7 @@ fn agrees_with_plain_comparisons(rt: HostRuntime) -> Result<(), Fail> {
         }
         let repeat = first_repeated(&list);
         for with_fault in [false, true] {
-            let wanted = wanted(alloc, repeat, with_fault)?;
-            assert!(rt; answer(alloc, &list, with_fault)? == wanted, "{count}");
+            assert!(rt; is_found(alloc, &list, repeat, with_fault)?, "{count}");
         }
     }
     Ok(())
