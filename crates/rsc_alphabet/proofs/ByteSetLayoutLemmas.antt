@@ -23,7 +23,7 @@ use Rattle.std.proofs.lemmas.Simd.{length-chunk, get_or-chunk, bit_mask_l, bitma
 pub bit_at_shr : (n k i : ℕ) → bit_at (n / 2 ^ k) i ≡ bit_at n (k + i)
 bit_at_shr n k i = ap (λ x. x % 2) (shr-shr n k i)
 
-pub bit_at_mod : (n k i : ℕ) → i < k → bit_at (n % 2 ^ k) i ≡ bit_at n i
+bit_at_mod : (n k i : ℕ) → i < k → bit_at (n % 2 ^ k) i ≡ bit_at n i
 bit_at_mod n k i l = rw (← and_mask n k) (bit_at_and n (2 ^ k - 1) i ∙ rw (bit_at_ones k i l) (omega (arith, bit_at-lt n i)))
 
 -- the bits of a number that was shifted left: the kept ones, from the lowest on, and below it
@@ -102,9 +102,11 @@ ones_class_of n (suc k) =
     swap : (x y : ℕ) → x + y ≡ y + x
     swap x y = omega arith
 
+-- how many bits of a number are 1
 pub ones_all : (n : ℕ) → n < 2 ^ 128 → ones n ≡ class_of (has_bit n) 128
 ones_all n fits = ap ones (sym (mod-eq_of_lt fits)) ∙ ones_class_of n 128
 
+-- and how many below an index
 pub ones_under : (n k : ℕ) → k < 128 → ones (bit_and n (1 * 2 ^ k % 2 ^ 128 - 1)) ≡ class_of (has_bit n) k
 ones_under n k l = rw (one_shl k 128 l, and_mask n k) (ones_class_of n k)
 

@@ -198,11 +198,10 @@ members_ascending s =
 
 -- ---- runs
 
--- the runs are ordered, maximal and apart
-
 not_before : (s : Numbers) (low : ℕ) → parts_no_run s low ≡ true → sets.contains s low ≡ true → low < 256 → (b : ℕ) → b + 1 ≡ low → sets.contains s b ≡ false
 not_before s low clean is l b e = let at : low - 1 ≡ b = omega (arith, e) in grind (arith, nat_tests, rw at at clean)
 
+-- the byte after the end of a run is no member
 pub not_after : (s : Numbers) (e : ℕ) → ends_run s e ≡ true → e < 255 → sets.contains s (e + 1) ≡ false
 not_after s e last l = grind (arith, nat_tests)
 
@@ -269,6 +268,7 @@ runs_exactly s r = (
   (λ m. maximal_are_runs s 256 0 (omega arith) (clean_start s) r m (omega arith)),
 )
 
+-- each run ends at or after its first byte
 pub runs_ordered : (s : Numbers) → All (λ r. r.0 ≤ r.1) (runs s)
 runs_ordered s = All-weaker (Contains (runs s)) (λ r. r.0 ≤ r.1) (λ r c. ((runs_exactly s r).0 c).ordered) (runs s) (All-contains_itself (runs s))
 

@@ -140,7 +140,7 @@ boundaries_from s k =
     ends : (x y : Bool) (e : ℕ) → (x && (nat_eq e 255 || not y)) ≡ true → e < 255 → ((x && not y) || (not x && y)) ≡ true
     ends x y e is h = grind (arith, nat_tests)
 
--- a boundary is an edge of one of the ranges
+-- a boundary of several ranges is a boundary of one of them
 pub contains-boundaries_of_ranges : (ranges : List (ℕ × ℕ)) (k : ℕ) → sets.contains (boundaries_of_ranges ranges) k ≡ list_any (is_boundary_of_range k) ranges
 contains-boundaries_of_ranges [] k = contains-empty nat_cmp k
 contains-boundaries_of_ranges (r ∷ rest) k = contains-joined (boundaries_of_range r) (boundaries_of_ranges rest) k

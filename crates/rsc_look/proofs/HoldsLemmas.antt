@@ -168,6 +168,7 @@ side_is W h i b e = go (W b) refl
     go true f = (b, e, f)
     go false f = (b, e, f)
 
+-- the same after a position
 pub side_is_after : (W : ℕ → Bool) (h : List ℕ) (i b : ℕ) → BeginsAt h i b → IsAfter W h i (cond (W b) Word Other)
 side_is_after W h i b e = go (W b) refl
   where
