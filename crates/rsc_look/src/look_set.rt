@@ -117,7 +117,6 @@ impl LookSet {
     }
 
     /// The set of all eighteen assertions.
-    #[tactic(auto, using(crate::proofs::LookSetLayoutLemmas::looks_of_all, crate::proofs::LookSetLayoutLemmas::contains_looks_of_all))]
     #[inline]
     pub fn full() -> LookSet
         ensures value { result ≡ sets.from_list every_look }
