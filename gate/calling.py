@@ -101,6 +101,10 @@ def contracts(crate):
     return "\n".join(parts)
 
 
+# The files of specs/ beside `..Layout` that serve a crate's own code alone.
+PRIVATE = {"rsc_engine": ("Begins", "Flags", "Groups", "Lawful", "Links", "Moves", "Rows", "Starts", "Tables", "Walks")}
+
+
 def own_text(lines):
     """Returns what stands for a comment that a definition lacks: the lines below its first, which define it."""
     own = itertools.takewhile(str.strip, lines)
@@ -108,7 +112,7 @@ def own_text(lines):
 
 
 def words(crate):
-    """Returns the definitions of specs/, each with the comment above it, or how it is defined; those of lemmas and layout come last."""
+    """Returns the definitions of specs/, each with the comment above it, or how it is defined; the lemmas come last, and private ones are left out."""
     believed, others = [], []
     for file in sorted((ROOT / "crates" / crate / "specs").glob("**/*.antt")):
         comment, is_taken = "", False
@@ -119,7 +123,9 @@ def words(crate):
             if line.startswith(("-- ", "  -- ")):
                 comment, is_taken = f"{'' if is_taken else comment} {line.strip()[3:]}".strip(), False
             elif name and not line.startswith("pub mod"):
-                rows = others if re.search(r"Laws|Layout|Same", file.stem) else believed
+                if "Layout" in file.stem or file.stem in PRIVATE.get(crate, ()):
+                    continue
+                rows = others if re.search(r"Laws|Same", file.stem) else believed
                 if " record " in line:
                     fields = itertools.takewhile(lambda it: it.startswith("  "), lines[k + 1 :])
                     names = [f"`{found[1]}`" for it in fields if (found := re.match(r"  pub (\S+) :", it))]
@@ -127,7 +133,9 @@ def words(crate):
                 else:
                     fields = ""
                 if comment or rows is believed:
-                    text = (comment + fields).strip() or own_text(lines[k + 1 :])
+                    text, own = (comment + fields).strip(), own_text(lines[k + 1 :])
+                    # A comment above several definitions says of none what it is, so a short one is shown as well.
+                    text = f"{text}: {own}" if text and not fields and own.count("`") == 2 and len(own) < 70 else text or own
                     rows.append(f"| `{file.stem}.{name[1]}` | {text.replace('|', chr(92) + '|')} |")
                 # Of several definitions in a row the comment is that of each.
                 is_taken = True
@@ -135,7 +143,7 @@ def words(crate):
                 comment, is_taken = "", False
     parts = ["## Names of `specs/`", "", "| Name | What it says |", "|---|---|", *believed, ""]
     if others:
-        parts += ["These serve proofs and the layout, and need no trust:", "", "| Name | What it says |", "|---|---|", *others, ""]
+        parts += ["These serve proofs, and need no trust:", "", "| Name | What it says |", "|---|---|", *others, ""]
     return "\n".join(parts)
 
 
@@ -156,6 +164,12 @@ def items(crate):
     copied = [f"`{it}`" for it, found in derived.items() if found and re.search(r"\bCopy\b", found[1])]
     others = [f"`{it}`" for it, found in derived.items() if found and not re.search(r"\bCopy\b", found[1])]
     lines = ["## Items", "", f"{', '.join(paths)}, and the laws in `{crate}::laws`.", ""]
+    for it in types:
+        body = re.search(rf"^pub enum {it}\b[^{{]*\{{\n(.*?)^\}}", every, flags=re.M | re.S)
+        if body:
+            variants = re.sub(r"\s*(///|#\[|//)[^\n]*", "", body[1])
+            variants = re.findall(r"^ {4}(\w+(?:\([^)]*\)| \{[^}]*\})?)", variants, flags=re.M)
+            lines += [f"`{it}` is " + ", ".join(f"`{re.sub(r',? *}', ' }', ' '.join(v.split()))}`" for v in variants) + ".", ""]
     lines += [f"`Copy`: {', '.join(copied)}. Not `Copy`: {', '.join(others)}." if copied else "No type is `Copy`.", ""]
     return "\n".join(lines)
 
