@@ -63,7 +63,7 @@ A law is a public function of `{crate}::laws` that does nothing, and whose contr
 A contract or a proof of yours may use all of `Rattle.{crate}.specs`: a name `{module}.{word}` of the table below by
 `ghost use Rattle.{crate}.specs.{module}.{{{word}}};`, and a struct or an enum `TYPE` of `src/FILE.rt` by
 `ghost use Rattle.{crate}.specs.declared.FILE.TYPE.{{TYPE}};`. A proof may also cite the lemmas of `specs/..Laws`, which are about definitions
-alone. `Rattle.{crate}.proofs` and `specs/..Layout` are private: the gate refuses an import of them by another crate.
+alone. `Rattle.{crate}.proofs` and what that table lacks of `specs/` are private: they may change in any version.
 """
 
 
@@ -91,7 +91,7 @@ def is_exported(crate, path, owner, signature):
 
 
 def contracts(crate):
-    head = "`specs/` defines the names, and the `ghost use` lines of the quoted file say where. Below `impl TRAIT for TYPE` is what its methods promise."
+    head = "`specs/` defines the names, and the `ghost use` lines of the quoted file say where; `sets` is `Rattle.std.specs.FinSet`. Below `impl TRAIT for TYPE` is what its methods promise."
     parts = ["## Contracts", "", f"Quoted from `crates/{crate}/src`; {head}", ""]
     for path, text in sources(crate):
         shown = [shortened(owner, it) for owner, is_public, it in functions(text) if is_public and is_exported(crate, path, owner, it)]

@@ -14,13 +14,14 @@ libraries=(rsc_primitives rsc_alphabet rsc_look rsc_search rsc_captures rsc_nfa 
 mkdir -p "$1/crates/$2/src"
 git init -q "$1"
 for library in "${libraries[@]}"; do
-  tar -C "$here/crates" --exclude=out --exclude=wrong-bodies --exclude=must-not-compile -cf - "$library" | tar -C "$1/crates" -xf -
+  tar -C "$here/crates" --exclude=out --exclude=wrong-bodies --exclude=must-not-compile --exclude=tested-bodies.edits -cf - "$library" | tar -C "$1/crates" -xf -
   grep "^$library:" "$here/crates.txt" >> "$1/crates.txt"
 done
 echo "$2: ${libraries[*]}" >> "$1/crates.txt"
 echo 'Handles allowed: none.' > "$1/HANDLES"
 echo 'out/' > "$1/.gitignore"
 cp "$here/LICENSE-MIT" "$here/NOTICE" "$1"
+git -C "$here" rev-parse HEAD > "$1/LIBRARIES"
 cp "$here/own/first.txt" "$1/crates/$2/src/lib.rt"
 echo "In $1/crates/$2: 'rt try --test' runs the test without a proof; 'rt check' proves the crate. The first check proves the libraries too, which"
-echo "takes some 10 minutes on an idle machine (with the engine more), so start it now and write meanwhile."
+echo "takes some 10 minutes on an idle machine (with the engine more), so start it now and write meanwhile. Pages that the copies link to are in $here."
