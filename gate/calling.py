@@ -101,9 +101,6 @@ def contracts(crate):
     return "\n".join(parts)
 
 
-# The files of specs/ beside `..Layout` that serve a crate's own code alone.
-PRIVATE = {"rsc_engine": ("Begins", "Flags", "Groups", "Lawful", "Links", "Moves", "Rows", "Starts", "Tables", "Walks")}
-
 
 def own_text(lines):
     """Returns what stands for a comment that a definition lacks: the lines below its first, which define it."""
@@ -123,7 +120,7 @@ def words(crate):
             if line.startswith(("-- ", "  -- ")):
                 comment, is_taken = f"{'' if is_taken else comment} {line.strip()[3:]}".strip(), False
             elif name and not line.startswith("pub mod"):
-                if "Layout" in file.stem or file.stem in PRIVATE.get(crate, ()):
+                if "Layout" in file.stem:
                     continue
                 rows = others if re.search(r"Laws|Same", file.stem) else believed
                 if " record " in line:

@@ -12,11 +12,11 @@ use Rattle.rsc_search.specs.declared.anchored.Anchored.{Anchored}
 use Rattle.rsc_engine.specs.Searches.{Search}
 use Rattle.rsc_engine.specs.Runs.{Leads, IsPlace, accepts, IsMatchRun, HasNoMatch}
 use Rattle.rsc_engine.specs.Preferred.{IsOnce, IsPreferredTo, IsPreferred, IsLeftmostFirst, HasNone}
-use Rattle.rsc_engine.specs.Moves.{IsMove, other_of}
-use Rattle.rsc_engine.specs.Walks.{IsTrail, IsOnward, IsOn, IsDone, IsClosed, IsClosedFrom, IsBarred, IsFirstWay, IsExplored, StandsAfter, IsLess, HasFlags, is_flagged, number_in, left_to_do}
+use Rattle.rsc_engine.specs.MovesLayout.{IsMove, other_of}
+use Rattle.rsc_engine.specs.WalksLayout.{IsTrail, IsOnward, IsOn, IsDone, IsClosed, IsClosedFrom, IsBarred, IsFirstWay, IsExplored, StandsAfter, IsLess, HasFlags, is_flagged, number_in, left_to_do}
 use Rattle.rsc_engine.specs.declared.moves.Move.{Move}
 use Rattle.rsc_engine.specs.declared.moves.Move.TheVariants.{Fails, Goes, Forks, Accepts}
-use Rattle.rsc_engine.proofs.WalksLemmas.{IsTrail-more, IsOnward-more, IsMatchRun-more, place-before, place-after, leads-rises}
+use Rattle.rsc_engine.proofs.WalksLayoutLemmas.{IsTrail-more, IsOnward-more, IsMatchRun-more, place-before, place-after, leads-rises}
 
 -- ---- what a fork's steps are
 

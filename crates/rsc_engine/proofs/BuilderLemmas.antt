@@ -7,8 +7,8 @@ use Rattle.rsc_look.specs.declared.assertion.Look.{Look}
 use Rattle.rsc_nfa.specs.declared.state.State.{State}
 use Rattle.rsc_nfa.specs.declared.state.State.TheVariants.{ByteRange, Assert, Fork, Capture}
 use Rattle.rsc_engine.specs.Patterns.{Pattern, Empty, Never, Class, Literal, Assertion, Then, Either, Repeat, Text, Goes}
-use Rattle.rsc_engine.specs.Links.{IsIn, Adds, Builds, IsAdded, IsChoice, Realizes, copies, up_to}
-use Rattle.rsc_engine.proofs.LinksLemmas.{Realizes-never, Realizes-range, Realizes-assert, Realizes-capture, Realizes-is, Realizes-then, Realizes-either, Realizes-choice, Realizes-star, Realizes-plus}
+use Rattle.rsc_engine.specs.LinksLayout.{IsIn, Adds, Builds, IsAdded, IsChoice, Realizes, copies, up_to}
+use Rattle.rsc_engine.proofs.LinksLayoutLemmas.{Realizes-never, Realizes-range, Realizes-assert, Realizes-capture, Realizes-is, Realizes-then, Realizes-either, Realizes-choice, Realizes-star, Realizes-plus}
 use Rattle.rsc_engine.proofs.PatternsLemmas.{class-is, class-back, literal-is, literal-back, star-is, star-back, limited-is, limited-back, unlimited-is, unlimited-back}
 
 -- ---- what a list has at an index

@@ -4,9 +4,9 @@ use Rattle.std.specs.List.{Contains}
 use Rattle.std.proofs.lemmas.Bool.{cases_lt, cases_eq}
 use Rattle.std.proofs.lemmas.List.{get_or_append_left, get_or-append_right, get_or_default, get_or-set_same, get_or-set_other, length-set}
 use Rattle.std.proofs.lemmas.List.Elements.{Contains-get_or, Contains-append_left, Contains-push, Contains-push_cases}
-use Rattle.rsc_engine.specs.Rows.{Machine}
+use Rattle.rsc_engine.specs.RowsLayout.{Machine}
 use Rattle.rsc_search.specs.declared.anchored.Anchored.{Anchored}
-use Rattle.rsc_engine.specs.Rows.{Follows, Moves, AreLed, IsClosure, IsMoved, IsAfterByte, Gathers, AddsOne, AddsSome, AreStates, first_unless}
+use Rattle.rsc_engine.specs.RowsLayout.{Follows, Moves, AreLed, IsClosure, IsMoved, IsAfterByte, Gathers, AddsOne, AddsSome, AreStates, first_unless}
 
 -- ---- marks
 

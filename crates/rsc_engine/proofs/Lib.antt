@@ -1,15 +1,15 @@
-pub mod GroupsLemmas  -- what a run records, from its end on
-pub mod FlagsLemmas  -- flags, by the bits of their blocks
-pub mod WalksLemmas  -- a trail grows by a place and goes back to one
-pub mod StartsLemmas  -- no match begins with a byte that isn't marked
+pub mod GroupsLayoutLemmas  -- what a run records, from its end on
+pub mod FlagsLayoutLemmas  -- flags, by the bits of their blocks
+pub mod WalksLayoutLemmas  -- a trail grows by a place and goes back to one
+pub mod StartsLayoutLemmas  -- no match begins with a byte that isn't marked
 pub mod BacktrackLemmas  -- what is known of the places that were seen, from visit to visit
 pub mod NextMatchesLemmas  -- which match is next, as the search's start moves on
-pub mod RowsLemmas  -- a row at a position is exact, and so is the next one
-pub mod LawfulLemmas  -- what follows from the laws of steps: the bytes on both sides, or others of their classes, stand for a position
+pub mod RowsLayoutLemmas  -- a row at a position is exact, and so is the next one
+pub mod LawfulLayoutLemmas  -- what follows from the laws of steps: the bytes on both sides, or others of their classes, stand for a position
 pub mod DfaLemmas  -- a closure as it grows
-pub mod TablesLemmas  -- what the table of a DFA says is so, and stays so as it grows
+pub mod TablesLayoutLemmas  -- what the table of a DFA says is so, and stays so as it grows
 pub mod PartsLemmas  -- the pattern of a tree, by its variants
 pub mod PatternsLemmas  -- patterns that go where others go: bytes, classes and repetitions
-pub mod LinksLemmas  -- how single states lead on, and what follows for parts made of parts
+pub mod LinksLayoutLemmas  -- how single states lead on, and what follows for parts made of parts
 pub mod BuilderLemmas  -- how lists of states grow, part by part
-pub mod BeginsLemmas  -- the runs of a program that was built: from the state at which a pattern begins its matches are found, and no others
+pub mod BeginsLayoutLemmas  -- the runs of a program that was built: from the state at which a pattern begins its matches are found, and no others

@@ -15,7 +15,7 @@ use Rattle.rsc_engine.specs.Searches.{Search, Compiled, search_in}
 use Rattle.rsc_engine.specs.Runs.{Leads, accepts, is_accepting, IsMatchRun, IsMatchOf, HasNoMatch}
 use Rattle.rsc_engine.specs.Preferred.{IsPreferredTo, IsPreferred, IsLeftmostFirst, HasNone, IsOf}
 use Rattle.rsc_engine.specs.NextMatches.{IsRepeat, IsSplit, IsRepeated, IsPassed, IsOpen, IsNext, IsOver, from_start}
-use Rattle.rsc_engine.proofs.WalksLemmas.{run-rises}
+use Rattle.rsc_engine.proofs.WalksLayoutLemmas.{run-rises}
 use Rattle.rsc_engine.proofs.BacktrackLemmas.{is_no}
 
 -- ---- there is one preferred match

@@ -4,7 +4,7 @@ use Rattle.std.specs.List.{list_any}
 use Rattle.std.proofs.lemmas.Bool.{cases_lt, leb-true, le-leb}
 use Rattle.rsc_nfa.specs.Steps.{is_between}
 use Rattle.rsc_engine.specs.Patterns.{Pattern, Empty, Never, Class, Literal, Assertion, Then, Either, Repeat, Text, Times, IsAtMost, Goes}
-use Rattle.rsc_engine.specs.Links.{copies, up_to}
+use Rattle.rsc_engine.specs.LinksLayout.{copies, up_to}
 
 -- ---- n times
 

@@ -1,17 +1,17 @@
 pub mod Searches  -- a program, and what a search is over
 pub mod Runs  -- runs that are matches
-pub mod Groups  -- the match that a run makes
-pub mod Starts  -- the bytes with which a match may begin
-pub mod Flags  -- how the code holds flags: 64 to a block
+pub mod GroupsLayout  -- the match that a run makes
+pub mod StartsLayout  -- the bytes with which a match may begin
+pub mod FlagsLayout  -- how the code holds flags: 64 to a block
 pub mod Preferred  -- which match is first
 pub mod NextMatches  -- which match is next; `last` is where the last one ended, if there was one
-pub mod Moves  -- what a state does at a position
-pub mod Walks  -- what a backtracker has on hand
+pub mod MovesLayout  -- what a state does at a position
+pub mod WalksLayout  -- what a backtracker has on hand
 pub mod Patterns  -- what a pattern matches, and which programs match it
 pub mod Parts  -- which pattern a part is
-pub mod Links  -- how the states of a part lead on
-pub mod Begins  -- at which state the matches of a pattern, or of several, begin
+pub mod LinksLayout  -- how the states of a part lead on
+pub mod BeginsLayout  -- at which state the matches of a pattern, or of several, begin
 pub mod Ends  -- where matches end, and what a DFA answers
-pub mod Rows  -- the rows of a DFA, and where a byte leads from one
-pub mod Tables  -- the table of a DFA
-pub mod Lawful  -- the laws of steps and runs that the proof of `dfa` rests on, as one record: each is a law of a library below
+pub mod RowsLayout  -- the rows of a DFA, and where a byte leads from one
+pub mod TablesLayout  -- the table of a DFA
+pub mod LawfulLayout  -- the laws of steps and runs that the proof of `dfa` rests on, as one record: each is a law of a library below

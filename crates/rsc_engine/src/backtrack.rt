@@ -7,9 +7,9 @@ ghost use Rattle.rsc_engine.specs.declared.moves.Move.TheVariants.{Accepts};
 ghost use Rattle.rsc_engine.specs.Searches.{search_in};
 ghost use Rattle.rsc_engine.specs.Runs.{HasNoMatch};
 ghost use Rattle.rsc_engine.specs.Ends.{BeginsFrom};
-ghost use Rattle.rsc_engine.specs.Starts.{AreStarts};
+ghost use Rattle.rsc_engine.specs.StartsLayout.{AreStarts};
 ghost use Rattle.rsc_engine.specs.Preferred.{IsPreferred, IsLeftmostFirst, HasNone};
-ghost use Rattle.rsc_engine.specs.Walks.{HasFlags, IsTrail, IsOnward, IsClosed, IsClosedFrom, IsExplored, is_flagged, StandsAfter, IsLess, left_to_do};
+ghost use Rattle.rsc_engine.specs.WalksLayout.{HasFlags, IsTrail, IsOnward, IsClosed, IsClosedFrom, IsExplored, is_flagged, StandsAfter, IsLess, left_to_do};
 
 use crate::flags::Flags;
 use crate::moves::{Move, move_of, other_way};

@@ -6,8 +6,8 @@ ghost use Rattle.rsc_engine.specs.Searches.{search_in};
 ghost use Rattle.rsc_engine.specs.Preferred.{HasNone, IsFirstMatch};
 ghost use Rattle.rsc_nfa.specs.Steps.{place};
 ghost use Rattle.rsc_engine.specs.Ends.{IsAnswer, IsLeftmostEnd, BeginsFrom};
-ghost use Rattle.rsc_engine.specs.Rows.{machine, IsPlan, IsNeverEntered};
-ghost use Rattle.rsc_engine.specs.Tables.{IsExact};
+ghost use Rattle.rsc_engine.specs.RowsLayout.{machine, IsPlan, IsNeverEntered};
+ghost use Rattle.rsc_engine.specs.TablesLayout.{IsExact};
 
 mod entries;
 mod lawful;
@@ -53,8 +53,8 @@ pub struct Dfa<'p, W: WordClass> {
 impl<'p, W: WordClass> Model for Dfa<'p, W> {
     ghost use Rattle.rsc_engine.specs.Searches.{Compiled};
     ghost use Rattle.std.specs.Prelude.{◌≡◌, true};
-    ghost use Rattle.rsc_engine.specs.Rows.{machine, IsPlan, IsNeverEntered};
-    ghost use Rattle.rsc_engine.specs.Tables.{IsExact};
+    ghost use Rattle.rsc_engine.specs.RowsLayout.{machine, IsPlan, IsNeverEntered};
+    ghost use Rattle.rsc_engine.specs.TablesLayout.{IsExact};
 
     ghost Value = { Compiled W };
 

@@ -17,7 +17,7 @@ pub struct Flags {
 
 impl Model for Flags {
     ghost use Rattle.std.specs.Prelude.{◌*◌, ◌≤◌, List, Bool, length};
-    ghost use Rattle.rsc_engine.specs.Flags.{flags_of};
+    ghost use Rattle.rsc_engine.specs.FlagsLayout.{flags_of};
 
     ghost Value = { List Bool };
 

@@ -3,7 +3,7 @@ ghost use Rattle.std.specs.Prelude.{◌≡◌, ◌+◌, ◌-◌, ◌<◌, ◌≤
 ghost use Rattle.rsc_nfa.specs.Steps.{is_capture_of, or_earlier, place};
 ghost use Rattle.rsc_engine.specs.Searches.{search_in};
 ghost use Rattle.rsc_engine.specs.Runs.{IsMatchRun, IsMatchOf, AreRecords};
-ghost use Rattle.rsc_engine.specs.Groups.{IsInSpan, AreEmpty};
+ghost use Rattle.rsc_engine.specs.GroupsLayout.{IsInSpan, AreEmpty};
 ghost use Rattle.rsc_engine.specs.Preferred.{IsOf};
 
 use crate::Program;

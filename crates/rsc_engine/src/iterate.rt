@@ -6,12 +6,12 @@ ghost use Rattle.rsc_search.specs.declared.anchored.Anchored.TheVariants.{No};
 ghost use Rattle.rsc_primitives.specs.Decoding.{IsBoundary};
 ghost use Rattle.rsc_engine.specs.declared.error.Error.TheVariants.{OutOfMemory, TooLarge};
 ghost use Rattle.rsc_engine.specs.Searches.{search_in};
-ghost use Rattle.rsc_engine.specs.Groups.{IsInSpan};
+ghost use Rattle.rsc_engine.specs.GroupsLayout.{IsInSpan};
 ghost use Rattle.rsc_engine.specs.Preferred.{IsLeftmostFirst, IsFirstMatch, IsOf, HasNone};
 ghost use Rattle.rsc_engine.specs.NextMatches.{IsNext, IsOver, IsNextMatch, from_start};
 ghost use Rattle.rsc_engine.specs.Ends.{BeginsFrom};
-ghost use Rattle.rsc_engine.specs.Starts.{AreStarts};
-ghost use Rattle.rsc_engine.specs.Walks.{HasFlags, IsClosed, is_flagged};
+ghost use Rattle.rsc_engine.specs.StartsLayout.{AreStarts};
+ghost use Rattle.rsc_engine.specs.WalksLayout.{HasFlags, IsClosed, is_flagged};
 
 use crate::backtrack::{Walk, first_run};
 use crate::groups::write_match;

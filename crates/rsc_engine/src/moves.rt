@@ -1,7 +1,7 @@
 //! What a state does at a position.
 ghost use Rattle.std.specs.Prelude.{◌≡◌, ◌<◌, ◌≤◌, length};
 ghost use Rattle.rsc_engine.specs.Searches.{search_in};
-ghost use Rattle.rsc_engine.specs.Moves.{IsMove, other_of};
+ghost use Rattle.rsc_engine.specs.MovesLayout.{IsMove, other_of};
 ghost use Rattle.rsc_engine.specs.Runs.{is_wanted};
 ghost use Rattle.rsc_search.specs.Modes.{pattern_of_mode};
 

@@ -3,7 +3,7 @@ ghost use Rattle.std.specs.Prelude.{◌≡◌, ◌<◌, ◌≤◌, ◌⊎◌, �
 ghost use Rattle.rsc_engine.specs.declared.error.Error.TheVariants.{OutOfMemory};
 ghost use Rattle.rsc_engine.specs.Searches.{search_in};
 ghost use Rattle.rsc_engine.specs.Runs.{HasNoMatch};
-ghost use Rattle.rsc_engine.specs.Starts.{AreStarts, IsOpened, IsMarked};
+ghost use Rattle.rsc_engine.specs.StartsLayout.{AreStarts, IsOpened, IsMarked};
 ghost use Rattle.rsc_nfa.specs.declared.state.State.{State};
 
 use crate::{Error, Program};

@@ -3,8 +3,8 @@ ghost use Rattle.std.specs.Prelude.{◌≡◌, ◌++◌, [], ◌∷◌, map, len
 ghost use Rattle.rsc_nfa.specs.declared.state.State.TheVariants.{Fork};
 ghost use Rattle.rsc_engine.specs.Patterns.{Never, Class, Literal, in_order};
 ghost use Rattle.rsc_engine.specs.Parts.{pattern_of, pattern_in};
-ghost use Rattle.rsc_engine.specs.Links.{Adds, Builds, IsAdded};
-ghost use Rattle.rsc_engine.specs.Begins.{Begins, IsOfOne, IsOfSome};
+ghost use Rattle.rsc_engine.specs.LinksLayout.{Adds, Builds, IsAdded};
+ghost use Rattle.rsc_engine.specs.BeginsLayout.{Begins, IsOfOne, IsOfSome};
 
 use super::Part;
 use super::tree::Tree;

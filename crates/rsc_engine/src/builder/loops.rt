@@ -3,7 +3,7 @@ ghost use Rattle.std.specs.Prelude.{◌≡◌, ◌⊎◌, None, IfOk};
 ghost use Rattle.rsc_nfa.specs.declared.state.State.TheVariants.{Fork};
 ghost use Rattle.rsc_engine.specs.Patterns.{Repeat};
 ghost use Rattle.rsc_engine.specs.Parts.{pattern_in};
-ghost use Rattle.rsc_engine.specs.Links.{Builds, copies, up_to};
+ghost use Rattle.rsc_engine.specs.LinksLayout.{Builds, copies, up_to};
 
 use super::compile::Compiler;
 use super::tree::{Times, Tree};

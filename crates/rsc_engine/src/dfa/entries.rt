@@ -1,8 +1,8 @@
 //! The entries of the table of a DFA.
 ghost use Rattle.std.specs.Prelude.{◌≡◌, ◌+◌, ◌*◌, ◌<◌, ◌≤◌, ◌⊎◌, ℕ, IfErr, IfSome, OnOk, Some, None, true, length, slice_index_or};
 ghost use Rattle.rsc_engine.specs.declared.error.Error.TheVariants.{OutOfMemory};
-ghost use Rattle.rsc_engine.specs.Rows.{Alike, IsPlan, machine};
-ghost use Rattle.rsc_engine.specs.Tables.{step_of, column};
+ghost use Rattle.rsc_engine.specs.RowsLayout.{Alike, IsPlan, machine};
+ghost use Rattle.rsc_engine.specs.TablesLayout.{step_of, column};
 ghost use Rattle.rsc_engine.specs.declared.dfa.entries.Lead.TheVariants.{Unknown};
 
 use super::plan::Plan;

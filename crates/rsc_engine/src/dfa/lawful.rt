@@ -1,5 +1,5 @@
 //! The laws of steps and runs that the proof of a search rests on.
-ghost use Rattle.rsc_engine.specs.Lawful.{Lawful};
+ghost use Rattle.rsc_engine.specs.LawfulLayout.{Lawful};
 
 /// The laws of the libraries below, in one.
 pub fn steps_are_lawful()

@@ -2,9 +2,9 @@
 ghost use Rattle.std.specs.Prelude.{◌≡◌, ℕ, ◌<◌, ◌≤◌, IfSome, Some, true, false, length};
 ghost use Rattle.std.specs.FinSet as sets;
 ghost use Rattle.rsc_look.specs.Holds.{byte_before, byte_after};
-ghost use Rattle.rsc_engine.specs.Rows.{IsPlan, IsPlainUnit, IsNeverEntered, machine};
+ghost use Rattle.rsc_engine.specs.RowsLayout.{IsPlan, IsPlainUnit, IsNeverEntered, machine};
 ghost use Rattle.rsc_nfa.specs.declared.state.State.TheVariants.{ByteRange};
-ghost use Rattle.rsc_engine.specs.Tables.{IsBeyond, column};
+ghost use Rattle.rsc_engine.specs.TablesLayout.{IsBeyond, column};
 
 use crate::{AsciiWords, Program};
 use rsc_alphabet::{ByteClassSet, ByteClasses};

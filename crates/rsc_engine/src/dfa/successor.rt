@@ -3,7 +3,7 @@ ghost use Rattle.std.specs.Prelude.{◌≡◌, ◌+◌, ◌*◌, ◌<◌, ◌≤
 ghost use Rattle.rsc_search.specs.Modes.{pattern_of_mode};
 ghost use Rattle.rsc_engine.specs.declared.error.Error.TheVariants.{OutOfMemory};
 ghost use Rattle.rsc_engine.specs.Runs.{is_accepting};
-ghost use Rattle.rsc_engine.specs.Rows.{machine, Follows, Moves, IsClosure, HasMatch, IsSuccessor, Gathers, AddsOne, AddsSome, IsAfterByte, first_unless, around, middle, AreStates};
+ghost use Rattle.rsc_engine.specs.RowsLayout.{machine, Follows, Moves, IsClosure, HasMatch, IsSuccessor, Gathers, AddsOne, AddsSome, IsAfterByte, first_unless, around, middle, AreStates};
 
 use crate::{Error, Program};
 use rsc_look::WordClass;

@@ -1,12 +1,12 @@
 //! The table of a DFA: a row for a mode, the byte before and a set of states, with an entry for each class and the end of the input.
 ghost use Rattle.std.specs.Prelude.{◌≡◌, ◌∷◌, slice_get, ◌+◌, ◌*◌, ◌<◌, ◌≤◌, ◌⊎◌, ℕ, [], IfOk, IfErr, IfSome, OnOk, OnErr, Some, None, true, false, length, slice_index_or};
 ghost use Rattle.rsc_engine.specs.declared.error.Error.TheVariants.{OutOfMemory};
-ghost use Rattle.rsc_engine.specs.Rows.{machine, AreStates, IsPlan, IsPlainUnit, IsNeverEntered};
+ghost use Rattle.rsc_engine.specs.RowsLayout.{machine, AreStates, IsPlan, IsPlainUnit, IsNeverEntered};
 ghost use Rattle.rsc_engine.specs.Ends.{BeginsFrom};
 ghost use Rattle.rsc_engine.specs.declared.dfa.table.Row.{Row};
 ghost use Rattle.rsc_engine.specs.declared.dfa.entries.Step.TheVariants.{Goes};
 ghost use Rattle.rsc_engine.specs.Searches.{search_in};
-ghost use Rattle.rsc_engine.specs.Tables.{IsExact, IsRow, IsStepTo, IsMade, IsGrown, StandsAt};
+ghost use Rattle.rsc_engine.specs.TablesLayout.{IsExact, IsRow, IsStepTo, IsMade, IsGrown, StandsAt};
 
 use super::entries::{
     Lead, Step, are_alike, are_same, entry_index, is_byte, key_of, read, widen, written,

@@ -1,7 +1,7 @@
 use Rattle.std.proofs.Common.{◌≡◌, ◌<◌, ◌≤◌, [], ◌∷◌, refl, arith}
 use Rattle.rsc_look.specs.Holds.{byte_after}
 use Rattle.rsc_engine.specs.Searches.{search_in}
-use Rattle.rsc_engine.proofs.TablesLemmas.{StandsAt-first, StandsAt-next, StandsAt-match, StandsAt-last, StandsAt-within, quit_here, begins_first}
+use Rattle.rsc_engine.proofs.TablesLayoutLemmas.{StandsAt-first, StandsAt-next, StandsAt-match, StandsAt-last, StandsAt-within, quit_here, begins_first}
 use Rattle.rsc_engine.proofs.dfa.search.Goals as goal
 
 pub rows-init : goal.rows-init

@@ -1,7 +1,7 @@
 use Rattle.std.proofs.Common.{◌≤◌, ◌+◌, ◌-◌}
 use Rattle.rsc_engine.specs.Searches.{search_in}
-use Rattle.rsc_engine.specs.Rows.{machine}
-use Rattle.rsc_engine.specs.Tables.{IsExact, StandsAt}
+use Rattle.rsc_engine.specs.RowsLayout.{machine}
+use Rattle.rsc_engine.specs.TablesLayout.{IsExact, StandsAt}
 use Rattle.rsc_engine.specs.Ends.{BeginsFrom}
 use Rattle.rsc_engine.proofs.dfa.search.Given as goal
 

@@ -1,7 +1,7 @@
 use Rattle.std.proofs.Common.{◌<◌, ◌-◌, length, arith}
 use Rattle.std.proofs.lemmas.List.{get_or_read}
 use Rattle.rsc_engine.specs.Searches.{search_in}
-use Rattle.rsc_engine.proofs.WalksLemmas.{run-rises}
+use Rattle.rsc_engine.proofs.WalksLayoutLemmas.{run-rises}
 use Rattle.rsc_engine.proofs.groups.match_of.Goals as goal
 
 pub new-requires : goal.new-requires

@@ -1,7 +1,7 @@
 use Rattle.std.proofs.Common.{◌≡◌, ◌<◌, ◌≤◌, ◌-◌, ◌∙◌, ℕ, drop, length, sym, ap, arith}
 use Rattle.std.proofs.lemmas.List.{get_or_read}
 use Rattle.rsc_nfa.specs.Steps.{recorded}
-use Rattle.rsc_engine.proofs.GroupsLemmas.{recorded-more, recorded-last_place}
+use Rattle.rsc_engine.proofs.GroupsLayoutLemmas.{recorded-more, recorded-last_place}
 use Rattle.rsc_engine.proofs.groups.record.Goals as goal
 
 last_place : (k n : ℕ) → k ≤ n - 1 → 0 < k → k - 1 < n

@@ -1,5 +1,5 @@
 use Rattle.std.proofs.Common.{◌≡◌, ℕ, ◌<◌, ◌≤◌, length}
-use Rattle.rsc_engine.specs.Starts.{IsMarked}
+use Rattle.rsc_engine.specs.StartsLayout.{IsMarked}
 use Rattle.rsc_engine.proofs.starts.mark_range.Given as goal
 
 abbrev pub invariant-bytes : goal.invariant-bytes

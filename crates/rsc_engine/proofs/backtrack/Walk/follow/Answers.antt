@@ -1,6 +1,6 @@
 use Rattle.std.proofs.Common.{◌≡◌, ◌∙◌}
 use Rattle.rsc_engine.specs.Searches.{search_in}
-use Rattle.rsc_engine.specs.Walks.{is_flagged}
+use Rattle.rsc_engine.specs.WalksLayout.{is_flagged}
 use Rattle.rsc_engine.proofs.BacktrackLemmas.{closed_none, ends_there}
 use Rattle.rsc_engine.proofs.backtrack.Walk.follow.Goals as goal
 

@@ -1,6 +1,6 @@
 use Rattle.std.proofs.Common.{◌≡◌, length, Some}
 use Rattle.rsc_engine.specs.Searches.{search_in}
-use Rattle.rsc_engine.specs.Walks.{HasFlags, IsTrail, IsOnward, IsExplored, is_flagged, left_to_do}
+use Rattle.rsc_engine.specs.WalksLayout.{HasFlags, IsTrail, IsOnward, IsExplored, is_flagged, left_to_do}
 use Rattle.rsc_engine.proofs.backtrack.Walk.follow.Given as goal
 
 abbrev pub invariant-moves : goal.invariant-moves

@@ -1,7 +1,7 @@
 use Rattle.std.proofs.Common.{◌≡◌, ℕ, ◌≤◌, ◌<◌, length}
 use Rattle.rsc_engine.specs.Searches.{search_in}
 use Rattle.rsc_engine.specs.Runs.{HasNoMatch}
-use Rattle.rsc_engine.specs.Walks.{HasFlags, IsClosed, is_flagged}
+use Rattle.rsc_engine.specs.WalksLayout.{HasFlags, IsClosed, is_flagged}
 use Rattle.rsc_engine.proofs.backtrack.Walk.search.Given as goal
 
 abbrev pub invariant-starts : goal.invariant-starts

@@ -2,7 +2,7 @@ use Rattle.std.proofs.Common.{◌≡◌, ◌<◌, ◌+◌, ◌-◌, ◌∙◌, l
 use Rattle.std.proofs.lemmas.Grind.{common_steps}
 use Rattle.std.proofs.lemmas.List.{get_or_read}
 use Rattle.std.proofs.lemmas.List.Sums.{sum_by-take-le}
-use Rattle.rsc_engine.proofs.WalksLemmas.{IsTrail-none, IsOnward-back, IsTrail-less}
+use Rattle.rsc_engine.proofs.WalksLayoutLemmas.{IsTrail-none, IsOnward-back, IsTrail-less}
 use Rattle.rsc_engine.proofs.BacktrackLemmas.{explored-less, explored-back, explored-end, explored-begun}
 use Rattle.rsc_engine.proofs.backtrack.Walk.turn_back.Goals as goal
 

@@ -1,6 +1,6 @@
 use Rattle.std.proofs.Common.{◌≡◌, ◌≤◌, length, count_by, is_some, None}
 use Rattle.rsc_engine.specs.Searches.{search_in}
-use Rattle.rsc_engine.specs.Walks.{IsTrail, IsExplored, is_flagged}
+use Rattle.rsc_engine.specs.WalksLayout.{IsTrail, IsExplored, is_flagged}
 use Rattle.rsc_engine.proofs.backtrack.Walk.turn_back.Given as goal
 
 abbrev pub invariant-places : goal.invariant-places

@@ -1,7 +1,7 @@
 use Rattle.std.proofs.Common.{◌≡◌, ◌∙◌, sym, true, false, arith, get_or}
 use Rattle.std.proofs.lemmas.Grind.{common_steps}
 use Rattle.rsc_engine.specs.Searches.{search_in}
-use Rattle.rsc_engine.specs.Walks.{number_in}
+use Rattle.rsc_engine.specs.WalksLayout.{number_in}
 use Rattle.rsc_engine.proofs.BacktrackLemmas.{StandsAfter-more, explored-same, flagged_more, beyond, IsLess-flags}
 use Rattle.rsc_engine.proofs.backtrack.Walk.visit.Goals as goal
 

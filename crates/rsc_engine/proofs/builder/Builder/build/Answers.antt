@@ -1,8 +1,8 @@
 use Rattle.std.proofs.Common.{◌≡◌, ◌∙◌, sym, ap, subst, List, rules, map}
 use Rattle.rsc_engine.specs.Patterns.{Pattern}
-use Rattle.rsc_engine.specs.Begins.{Begins, IsOfSome}
+use Rattle.rsc_engine.specs.BeginsLayout.{Begins, IsOfSome}
 use Rattle.rsc_engine.specs.Parts.{pattern_of}
-use Rattle.rsc_engine.proofs.BeginsLemmas.{Recognizes-built}
+use Rattle.rsc_engine.proofs.BeginsLayoutLemmas.{Recognizes-built}
 use Rattle.rsc_engine.proofs.builder.Builder.build.Goals as goal
 
 pub returns-clause-matches : goal.returns-clause-matches

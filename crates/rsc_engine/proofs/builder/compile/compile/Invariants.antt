@@ -1,8 +1,8 @@
 use Rattle.std.proofs.Common.{[], map, List}
 use Rattle.rsc_nfa.specs.declared.state.State.{State}
 use Rattle.rsc_engine.specs.Parts.{pattern_of}
-use Rattle.rsc_engine.specs.Links.{Adds}
-use Rattle.rsc_engine.specs.Begins.{Begins, IsOfSome}
+use Rattle.rsc_engine.specs.LinksLayout.{Adds}
+use Rattle.rsc_engine.specs.BeginsLayout.{Begins, IsOfSome}
 use Rattle.rsc_engine.proofs.builder.compile.compile.Given as goal
 
 abbrev pub invariant-loop-index : goal.invariant-loop-index

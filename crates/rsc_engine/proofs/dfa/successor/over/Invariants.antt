@@ -1,5 +1,5 @@
 use Rattle.std.proofs.Common.{◌≡◌, length}
-use Rattle.rsc_engine.specs.Rows.{Gathers, machine}
+use Rattle.rsc_engine.specs.RowsLayout.{Gathers, machine}
 use Rattle.rsc_engine.proofs.DfaLemmas.{IsOver}
 use Rattle.rsc_engine.proofs.dfa.successor.over.Given as goal
 

@@ -1,6 +1,6 @@
 use Rattle.std.proofs.Common.{◌≡◌, ◌<◌, ◌≤◌, ◌*◌, ◌/◌, ◌∙◌, ℕ, Bool, List, false, length, get_or, ap, arith}
 use Rattle.std.proofs.lemmas.Grind.{common_steps}
-use Rattle.rsc_engine.proofs.FlagsLemmas.{length_is, flag_is, kept_all}
+use Rattle.rsc_engine.proofs.FlagsLayoutLemmas.{length_is, flag_is, kept_all}
 use Rattle.rsc_engine.proofs.flags.Flags.clear.Goals as goal
 
 block_of : (n count len room : ℕ) → n < count → count ≤ 64 * room → len ≡ room → n / 64 < len

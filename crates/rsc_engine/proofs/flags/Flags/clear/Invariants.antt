@@ -1,5 +1,5 @@
 use Rattle.std.proofs.Common.{◌≡◌, ◌≤◌, ◌<◌, ℕ, length, false}
-use Rattle.rsc_engine.specs.Flags.{flag_in}
+use Rattle.rsc_engine.specs.FlagsLayout.{flag_in}
 use Rattle.rsc_engine.proofs.flags.Flags.clear.Given as goal
 
 abbrev pub invariant-clears : goal.invariant-clears

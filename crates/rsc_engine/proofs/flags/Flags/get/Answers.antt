@@ -2,7 +2,7 @@ use Rattle.std.proofs.Common.{◌<◌, ◌/◌, ◌%◌, ◌==◌, ◌∙◌, �
 use Rattle.std.specs.Int.{bit_at}
 use Rattle.std.proofs.lemmas.Grind.{common_steps}
 use Rattle.std.proofs.lemmas.List.{get_or_read}
-use Rattle.rsc_engine.proofs.FlagsLemmas.{block_there, length_is, flag_is}
+use Rattle.rsc_engine.proofs.FlagsLayoutLemmas.{block_there, length_is, flag_is}
 use Rattle.rsc_engine.proofs.flags.Flags.get.Goals as goal
 
 pub index-requires : goal.index-requires

@@ -1,5 +1,5 @@
 use Rattle.std.proofs.Common.{sym}
-use Rattle.rsc_engine.proofs.FlagsLemmas.{length_is}
+use Rattle.rsc_engine.proofs.FlagsLayoutLemmas.{length_is}
 use Rattle.rsc_engine.proofs.flags.Flags.len.Goals as goal
 
 pub returns : goal.returns

@@ -1,4 +1,4 @@
-use Rattle.rsc_engine.proofs.FlagsLemmas.{count_is, none_set}
+use Rattle.rsc_engine.proofs.FlagsLayoutLemmas.{count_is, none_set}
 use Rattle.rsc_engine.proofs.flags.Flags.new.Goals as goal
 
 pub returns-clause-length : goal.returns-clause-length

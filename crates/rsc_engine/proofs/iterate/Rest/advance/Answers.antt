@@ -2,7 +2,7 @@ use Rattle.std.proofs.Common.{◌≡◌, ◌≤◌, ◌-◌, ◌∙◌, ap, leng
 use Rattle.rsc_search.specs.Inputs.{InputParts}
 use Rattle.rsc_nfa.specs.Steps.{place}
 use Rattle.rsc_engine.specs.Searches.{search_in}
-use Rattle.rsc_engine.specs.Walks.{IsClosedFrom, is_flagged}
+use Rattle.rsc_engine.specs.WalksLayout.{IsClosedFrom, is_flagged}
 use Rattle.rsc_engine.proofs.BacktrackLemmas.{later_start, fewer_flags}
 use Rattle.rsc_engine.proofs.iterate.Rest.advance.Goals as goal
 

@@ -2,7 +2,7 @@ use Rattle.std.proofs.Common.{◌≡◌, ◌+◌, ◌≤◌, ◌∙◌, ap, arit
 use Rattle.rsc_search.specs.Inputs.{InputParts}
 use Rattle.rsc_engine.specs.Searches.{search_in}
 use Rattle.rsc_engine.specs.NextMatches.{from_start}
-use Rattle.rsc_engine.specs.Walks.{is_flagged}
+use Rattle.rsc_engine.specs.WalksLayout.{is_flagged}
 use Rattle.rsc_engine.proofs.BacktrackLemmas.{even_later, fewer_flags}
 use Rattle.rsc_engine.proofs.NextMatchesLemmas.{turn_none, turn_next, turn_repeat, turn_split}
 use Rattle.rsc_engine.proofs.iterate.Rest.next.Goals as goal

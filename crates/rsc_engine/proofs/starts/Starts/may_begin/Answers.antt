@@ -1,5 +1,5 @@
 use Rattle.rsc_engine.specs.Searches.{search_in}
-use Rattle.rsc_engine.proofs.StartsLemmas.{none_begins}
+use Rattle.rsc_engine.proofs.StartsLayoutLemmas.{none_begins}
 use Rattle.rsc_engine.proofs.starts.Starts.may_begin.Goals as goal
 
 pub returns-then-self : goal.returns-then-self

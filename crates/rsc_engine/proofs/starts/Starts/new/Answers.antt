@@ -1,5 +1,5 @@
 use Rattle.std.proofs.Common.{arith}
-use Rattle.rsc_engine.proofs.StartsLemmas.{both, one_more, AreStarts-each, slice_get_there}
+use Rattle.rsc_engine.proofs.StartsLayoutLemmas.{both, one_more, AreStarts-each, slice_get_there}
 use Rattle.rsc_engine.proofs.starts.Starts.new.Goals as goal
 
 pub states-preserved : goal.states-preserved

@@ -1,6 +1,6 @@
 use Rattle.std.proofs.Common.{◌≡◌, ℕ, ◌<◌, true, length, slice_get, Some}
 use Rattle.rsc_nfa.specs.declared.state.State.{State}
-use Rattle.rsc_engine.specs.Starts.{IsMarked, IsOpened}
+use Rattle.rsc_engine.specs.StartsLayout.{IsMarked, IsOpened}
 use Rattle.rsc_engine.proofs.starts.Starts.new.Given as goal
 
 abbrev pub invariant-states : goal.invariant-states

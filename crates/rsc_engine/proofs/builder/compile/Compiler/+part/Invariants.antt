@@ -1,7 +1,7 @@
 use Rattle.std.proofs.Common.{map, drop}
 use Rattle.rsc_engine.specs.Patterns.{in_order}
 use Rattle.rsc_engine.specs.Parts.{pattern_in}
-use Rattle.rsc_engine.specs.Links.{Builds, copies, up_to}
+use Rattle.rsc_engine.specs.LinksLayout.{Builds, copies, up_to}
 use Rattle.rsc_engine.proofs.builder.compile.Compiler.+part.Given as goal
 
 abbrev pub invariant-concat-loop-index : goal.invariant-concat-loop-index

@@ -1,6 +1,6 @@
 use Rattle.std.proofs.Common.{drop}
 use Rattle.rsc_engine.specs.Patterns.{Literal}
-use Rattle.rsc_engine.specs.Links.{Builds}
+use Rattle.rsc_engine.specs.LinksLayout.{Builds}
 use Rattle.rsc_engine.proofs.builder.compile.Compiler.literal.Given as goal
 
 abbrev pub invariant-loop-index : goal.invariant-loop-index

@@ -1,6 +1,6 @@
 use Rattle.std.proofs.Common.{◌≡◌, rules}
 use Rattle.std.proofs.lemmas.Result.{IfOk-weaker}
-use Rattle.rsc_engine.proofs.BeginsLemmas.{Adds-pattern}
+use Rattle.rsc_engine.proofs.BeginsLayoutLemmas.{Adds-pattern}
 use Rattle.rsc_engine.proofs.builder.compile.Compiler.pattern.Goals as goal
 
 pub returns : goal.returns

@@ -2,7 +2,7 @@ use Rattle.std.proofs.Common.{◌≡◌, ◌<◌, ◌∙◌, length, subst, arit
 use Rattle.rsc_nfa.specs.Classes.{has_unicode}
 use Rattle.rsc_nfa.specs.Faults.{AreFaultless}
 use Rattle.rsc_look.specs.Keeping.{AgreesWithAscii}
-use Rattle.rsc_engine.proofs.LawfulLemmas.{parted}
+use Rattle.rsc_engine.proofs.LawfulLayoutLemmas.{parted}
 use Rattle.rsc_engine.proofs.dfa.plan.Plan.new.Goals as goal
 
 pub returns-clause-plan : goal.returns-clause-plan

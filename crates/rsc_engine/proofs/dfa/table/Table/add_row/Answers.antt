@@ -1,5 +1,5 @@
 use Rattle.std.proofs.Common.{◌≡◌, ◌+◌, ◌*◌, ◌≤◌, length, rules}
-use Rattle.rsc_engine.proofs.TablesLemmas.{IsExact-push, IsExact-wider, IsRow-last, IsGrown-push}
+use Rattle.rsc_engine.proofs.TablesLayoutLemmas.{IsExact-push, IsExact-wider, IsRow-last, IsGrown-push}
 use Rattle.rsc_engine.proofs.dfa.table.Table.add_row.Goals as goal
 
 pub returns-clause-exact : goal.returns-clause-exact

@@ -1,6 +1,6 @@
 use Rattle.std.proofs.Common.{sym, ◌∙◌}
 use Rattle.rsc_engine.specs.Searches.{search_in}
-use Rattle.rsc_engine.proofs.TablesLemmas.{begins_at_row, is_free}
+use Rattle.rsc_engine.proofs.TablesLayoutLemmas.{begins_at_row, is_free}
 use Rattle.rsc_engine.proofs.dfa.table.Table.begin_at.Goals as goal
 
 pub returns-then-is_first : goal.returns-then-is_first

@@ -2,9 +2,9 @@ use Rattle.std.proofs.Common.{◌≡◌, Some, ℕ, Option, sym, subst, arith}
 use Rattle.rsc_look.specs.Holds.{byte_after}
 use Rattle.rsc_engine.specs.declared.dfa.entries.Step.TheVariants.{Goes}
 use Rattle.rsc_engine.specs.Searches.{search_in}
-use Rattle.rsc_engine.specs.Rows.{machine}
-use Rattle.rsc_engine.specs.Tables.{StandsAt, IsStepTo}
-use Rattle.rsc_engine.proofs.TablesLemmas.{StandsAt-next}
+use Rattle.rsc_engine.specs.RowsLayout.{machine}
+use Rattle.rsc_engine.specs.TablesLayout.{StandsAt, IsStepTo}
+use Rattle.rsc_engine.proofs.TablesLayoutLemmas.{StandsAt-next}
 use Rattle.rsc_engine.proofs.dfa.table.Table.follow.Goals as goal
 
 pub begin_at-from-requires-clause-on : goal.begin_at-from-requires-clause-on

@@ -1,5 +1,5 @@
 use Rattle.rsc_engine.specs.Searches.{search_in}
-use Rattle.rsc_engine.specs.Tables.{StandsAt}
+use Rattle.rsc_engine.specs.TablesLayout.{StandsAt}
 use Rattle.rsc_engine.specs.Ends.{BeginsFrom}
 use Rattle.rsc_engine.proofs.dfa.table.Table.follow.Given as goal
 

@@ -1,6 +1,6 @@
 use Rattle.std.proofs.Common.{refl, length}
 use Rattle.std.proofs.lemmas.Option.{slice_get_read, slice_get_within}
-use Rattle.rsc_engine.proofs.TablesLemmas.{step_matches, step_goes, IsStepTo-kept}
+use Rattle.rsc_engine.proofs.TablesLayoutLemmas.{step_matches, step_goes, IsStepTo-kept}
 use Rattle.rsc_engine.proofs.dfa.table.Table.make.Goals as goal
 
 pub record-requires-clause-step : goal.record-requires-clause-step

@@ -1,5 +1,5 @@
 use Rattle.std.proofs.Common.{◌<◌, length, rules}
-use Rattle.rsc_engine.proofs.TablesLemmas.{IsExact-set}
+use Rattle.rsc_engine.proofs.TablesLayoutLemmas.{IsExact-set}
 use Rattle.rsc_engine.proofs.dfa.table.Table.record.Goals as goal
 
 pub returns-clause-exact : goal.returns-clause-exact

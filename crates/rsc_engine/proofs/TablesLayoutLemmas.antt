@@ -19,12 +19,12 @@ use Rattle.rsc_engine.specs.declared.dfa.entries.Step.TheVariants.{Matches, Goes
 use Rattle.rsc_engine.specs.Searches.{Search}
 use Rattle.rsc_engine.specs.Preferred.{HasNone}
 use Rattle.rsc_engine.specs.Ends.{IsEarliestEnd, IsQuit, BeginsFrom}
-use Rattle.rsc_engine.specs.Lawful.{Lawful}
+use Rattle.rsc_engine.specs.LawfulLayout.{Lawful}
 use Rattle.rsc_search.specs.declared.anchored.Anchored.TheVariants.{No, Yes, Pattern}
-use Rattle.rsc_engine.specs.Rows.{Machine, machine_of, Alike, IsPlainUnit, IsPlan, IsNeverEntered, IsSuccessor, IsNear, IsRowAt, around, middle}
-use Rattle.rsc_engine.specs.Tables.{column, step_of, IsSoundRow, IsRow, IsLed, LeadsTo, IsStepTo, IsBeyond, IsExact, IsGrown, StandsAt}
-use Rattle.rsc_engine.proofs.LawfulLemmas.{IsNear-from, Alike-self, Alike-trans}
-use Rattle.rsc_engine.proofs.RowsLemmas.{first_row, match_here, next_row, last_row, none_before_row}
+use Rattle.rsc_engine.specs.RowsLayout.{Machine, machine_of, Alike, IsPlainUnit, IsPlan, IsNeverEntered, IsSuccessor, IsNear, IsRowAt, around, middle}
+use Rattle.rsc_engine.specs.TablesLayout.{column, step_of, IsSoundRow, IsRow, IsLed, LeadsTo, IsStepTo, IsBeyond, IsExact, IsGrown, StandsAt}
+use Rattle.rsc_engine.proofs.LawfulLayoutLemmas.{IsNear-from, Alike-self, Alike-trans}
+use Rattle.rsc_engine.proofs.RowsLayoutLemmas.{first_row, match_here, next_row, last_row, none_before_row}
 
 -- ---- rows stay where they are
 

@@ -6,7 +6,7 @@ use Rattle.std.proofs.lemmas.Nat.Bits.{bit_at-zero}
 use Rattle.std.proofs.lemmas.Grind.{get_or-set_at}
 use Rattle.std.proofs.lemmas.List.{get_or-replicate, length-replicate, get_or_past, get_or-set_other, length-set, ext_get_or}
 use Rattle.std.proofs.lemmas.List.FromFn.{get_or-map-range_with_len, length-map-range_with_len}
-use Rattle.rsc_engine.specs.Flags.{flag_in, flags_of}
+use Rattle.rsc_engine.specs.FlagsLayout.{flag_in, flags_of}
 
 -- there are as many flags as are counted
 pub count_is : (count : ℕ) (blocks : List ℕ) → length (flags_of count blocks) ≡ count

@@ -14,9 +14,9 @@ use Rattle.rsc_engine.specs.Searches.{Search}
 use Rattle.rsc_engine.specs.Runs.{Leads, is_accepting, HasNoMatch}
 use Rattle.rsc_engine.specs.Preferred.{HasNone}
 use Rattle.rsc_engine.specs.Ends.{IsMatchEnd, IsEarliestEnd}
-use Rattle.rsc_engine.specs.Lawful.{Lawful}
-use Rattle.rsc_engine.specs.Rows.{machine_of, Follows, AreLed, IsClosure, IsMoved, IsSuccessor, IsNear, IsRowAt, IsStartRun, Reaches, first_unless, IsNeverEntered}
-use Rattle.rsc_engine.proofs.WalksLemmas.{place-before, place-after}
+use Rattle.rsc_engine.specs.LawfulLayout.{Lawful}
+use Rattle.rsc_engine.specs.RowsLayout.{machine_of, Follows, AreLed, IsClosure, IsMoved, IsSuccessor, IsNear, IsRowAt, IsStartRun, Reaches, first_unless, IsNeverEntered}
+use Rattle.rsc_engine.proofs.WalksLayoutLemmas.{place-before, place-after}
 
 -- ---- runs
 

@@ -7,7 +7,7 @@ use Rattle.rsc_nfa.specs.declared.state.State.{State}
 use Rattle.rsc_nfa.specs.declared.state.State.TheVariants.{ByteRange, Assert, Fork, Capture, Accept}
 use Rattle.rsc_nfa.specs.Steps.{IsStep, StepsTo, is_between}
 use Rattle.rsc_engine.specs.Patterns.{Pattern, Empty, Never, Class, Literal, Assertion, Then, Either, Repeat, Text, Times, Goes}
-use Rattle.rsc_engine.specs.Links.{Aim, Ends, HasEnd, GoesOn, Realizes, IsChoice}
+use Rattle.rsc_engine.specs.LinksLayout.{Aim, Ends, HasEnd, GoesOn, Realizes, IsChoice}
 
 -- ---- steps of one state
 

@@ -8,7 +8,7 @@ use Rattle.rsc_nfa.specs.declared.state.State.TheVariants.{ByteRange, Assert, Fo
 use Rattle.rsc_nfa.specs.Steps.{place, IsRun, StepsTo}
 use Rattle.rsc_engine.specs.Searches.{Search}
 use Rattle.rsc_engine.specs.Runs.{Leads, IsPlace, accepts, IsMatchRun}
-use Rattle.rsc_engine.specs.Walks.{IsTrail, IsOnward}
+use Rattle.rsc_engine.specs.WalksLayout.{IsTrail, IsOnward}
 
 -- ---- the places of a longer list
 

@@ -8,9 +8,9 @@ use Rattle.rsc_nfa.specs.Steps.{StepsTo, place, IsRun, IsStep}
 use Rattle.rsc_engine.specs.Patterns.{Pattern, Goes, Text, text_of, IsMatchIn, HasRunOf, Recognizes}
 use Rattle.rsc_engine.specs.declared.builder.Part.{Part}
 use Rattle.rsc_engine.specs.Parts.{pattern_of}
-use Rattle.rsc_engine.specs.Links.{Aim, Ends, HasEnd, Realizes, Adds, Builds, IsAdded}
-use Rattle.rsc_engine.specs.Begins.{Begins, IsOfOne, IsOfSome}
-use Rattle.rsc_engine.proofs.LinksLemmas.{choice_to, choice_first, choice_next}
+use Rattle.rsc_engine.specs.LinksLayout.{Aim, Ends, HasEnd, Realizes, Adds, Builds, IsAdded}
+use Rattle.rsc_engine.specs.BeginsLayout.{Begins, IsOfOne, IsOfSome}
+use Rattle.rsc_engine.proofs.LinksLayoutLemmas.{choice_to, choice_first, choice_next}
 use Rattle.rsc_engine.proofs.BuilderLemmas.{Adds-one, Adds-both, Adds-is}
 use Rattle.rsc_search.specs.Inputs.{InputParts}
 use Rattle.rsc_search.specs.Matches.{Matched}
@@ -19,7 +19,7 @@ use Rattle.rsc_engine.specs.Searches.{Search, Compiled, search_in}
 use Rattle.rsc_engine.specs.Runs.{Leads, IsPlace, IsMatchRun, IsMatchOf, accepts, is_accepting, is_wanted}
 use Rattle.rsc_captures.specs.Captured.{Captured}
 use Rattle.rsc_engine.specs.Preferred.{IsFirstMatch, MayBegin, HasNone}
-use Rattle.rsc_engine.proofs.WalksLemmas.{leads-rises, run-rises}
+use Rattle.rsc_engine.proofs.WalksLayoutLemmas.{leads-rises, run-rises}
 
 -- ---- one pattern
 

@@ -10,7 +10,7 @@ use Rattle.rsc_engine.specs.declared.dfa.entries.Lead.TheVariants.{Unknown, Matc
 use Rattle.rsc_engine.specs.declared.dfa.entries.Step.{Step}
 use Rattle.rsc_engine.specs.declared.dfa.entries.Step.TheVariants.{Matches, Goes, Quits}
 use Rattle.rsc_engine.specs.Searches.{Search}
-use Rattle.rsc_engine.specs.Rows.{Machine, Alike, AreStates, IsPlainUnit, IsSuccessor, IsRowAt, around, middle}
+use Rattle.rsc_engine.specs.RowsLayout.{Machine, Alike, AreStates, IsPlainUnit, IsSuccessor, IsRowAt, around, middle}
 
 -- the column of a byte, or of the end of the input
 abbrev pub column : List ℕ → Option ℕ → ℕ

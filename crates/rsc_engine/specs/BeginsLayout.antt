@@ -2,7 +2,7 @@
 use Rattle.std.specs.Prelude.{◌≡◌, ℕ, ◌≤◌, List, slice_get, Some}
 use Rattle.rsc_nfa.specs.declared.state.State.{State}
 use Rattle.rsc_engine.specs.Patterns.{Pattern, Goes}
-use Rattle.rsc_engine.specs.Links.{Aim, Ends, HasEnd}
+use Rattle.rsc_engine.specs.LinksLayout.{Aim, Ends, HasEnd}
 
 -- from the state `first` exactly the matches that are looked for are found
 pub record Begins (states : List State) (first : ℕ) (IsSought : Aim → ℕ → Type 0) : Type 0 where

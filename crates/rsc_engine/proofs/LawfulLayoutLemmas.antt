@@ -13,8 +13,8 @@ use Rattle.rsc_nfa.specs.declared.state.State.TheVariants.{ByteRange, Assert, Fo
 use Rattle.rsc_nfa.specs.Classes.{has_unicode, AreInterchangedBy}
 use Rattle.rsc_nfa.specs.Steps.{IsStep, StepsTo}
 use Rattle.rsc_engine.specs.Searches.{Search}
-use Rattle.rsc_engine.specs.Lawful.{Lawful}
-use Rattle.rsc_engine.specs.Rows.{Machine, machine_of, around, middle, Follows, Moves, IsNear, Alike, IsPlainUnit, IsPlan}
+use Rattle.rsc_engine.specs.LawfulLayout.{Lawful}
+use Rattle.rsc_engine.specs.RowsLayout.{Machine, machine_of, around, middle, Follows, Moves, IsNear, Alike, IsPlainUnit, IsPlan}
 
 -- ---- the small haystack
 

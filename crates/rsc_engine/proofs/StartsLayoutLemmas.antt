@@ -8,7 +8,7 @@ use Rattle.rsc_nfa.specs.declared.state.State.TheVariants.{ByteRange, Assert, Fo
 use Rattle.rsc_nfa.specs.Steps.{StepsTo, place, is_between}
 use Rattle.rsc_engine.specs.Searches.{Search}
 use Rattle.rsc_engine.specs.Runs.{Leads, is_accepting, HasNoMatch}
-use Rattle.rsc_engine.specs.Starts.{IsMarked, IsOpened, AreStarts}
+use Rattle.rsc_engine.specs.StartsLayout.{IsMarked, IsOpened, AreStarts}
 
 -- both parts of a conjunction
 pub both : (a b : Bool) → IsTrue (a && b) → (a ≡ true) × (b ≡ true)
