@@ -239,7 +239,7 @@ def page(crate, text):
 HEAD = """# The public calls
 
 Written by `gate/pages.py --write`. Each row is a public call, or an impl of a trait that promises something: the names of the clauses of its contract (`ensures`
-for one without a name), which CALLING.md of the crate quotes; a test that calls it; and a wrong body that the prover refuses in that very function (of several
+for one without a name), which CALLING.md of the crate quotes; a test that by its words calls it; and a wrong body that the prover refuses in that very function (of several
 the first, with their number). A function that passes a call on or reads a field may share a wrong body with another.
 """
 

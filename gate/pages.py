@@ -7,7 +7,7 @@
   crates/rsc_uses/src/FILE to show, come those callers, the contract of each public call, and the words of specs/ with their comments.
 - The first Rust block of a library's README.md: its file in crates/rsc_uses/src/readmes, a test. In the README.md of the repository, each
   block below a line `<!-- quoted: FILE [FUNCTION] -->`. README.md also gets how many definitions are to be believed
-  and what is proved by hand, and docs/TRUSTED.md each of those definitions.
+  and what is proved by hand, docs/TRUSTED.md each of those definitions, and docs/CALLS.md each public call.
 - The examples of doc comments: what is in a test of crates/rsc_uses/src/examples below the comment that names the item.
 - The table of docs/WRONG_BODIES.md: for each edit that it names, the function and the goal that refuse it.
 - The comments of each Lib.antt: the first sentence of each module's head. The table of test modules of each README.md of tests, likewise.
@@ -17,7 +17,7 @@ calls a function whose sums wrap, and that docs/DEFINITIONS.md has each definiti
 backquotes, alone or after its module, as `Holds` or `Holds.Holds`. A definition is a name of a crate's specs/ that a `ghost use` line brings
 into a file.
 
-A file that a page written by hand names in backquotes is there.
+A file that a page written by hand names in backquotes, below one of the usual folders, is there.
 
 No crate imports another crate's `proofs` or `specs/..Layout`: the layers compose by contracts, laws and definitions alone. No line of a .rt
 or .antt file is longer than 160 columns, except imports, tables of literals, and the quotation of a test or of a text that is longer.
@@ -129,7 +129,7 @@ def trusted():
     """Returns docs/TRUSTED.md: what is to be believed for the main statement, definition by definition."""
     own, outside = reached()
     lines = ["# What the main statement rests on", "", "Written by `gate/pages.py --write`: the definitions that the clauses of `classes_of` and `matches` of `rsc_look` reach, with all that",
-             "these use, and the meaning of `AsciiWord` and `UnicodeWord`. Whoever trusts the toolchain need believe these alone; [DEFINITIONS.md](DEFINITIONS.md)", "says each in words.", "",
+             "these use, and the meaning of `AsciiWord` and `UnicodeWord`. Whoever trusts the toolchain need believe these, the clauses,", "and what they see of a value; [DEFINITIONS.md](DEFINITIONS.md) explains all but helpers.", "",
              "| File | Lines | Definitions |", "|---|---|---|"]
     count = total = 0
     order = {crate: k for k, crate in enumerate(LIBRARIES)}

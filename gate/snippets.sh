@@ -4,10 +4,10 @@
 # crates/NAME/must-not-compile/*.snippet is misuse that the borrow checker must refuse: at the end of the crate's root file the
 # check must fail with the words of each of the snippet's lines `// refused: WORDS`.
 #
-# It also makes a repository by own/new-repository.sh and runs its test.
-#
 # crates/NAME/must-run/*.snippet is tests of calls whose callers the checker doesn't cover: at the end of the file that the first
 # line names, `// added to: FILE`, they are compiled and run without a proof, and each must pass.
+#
+# This script also makes a repository by own/new-repository.sh and runs its test.
 set -u
 cd "$(dirname "$0")/.."
 copy=$(mktemp -d)
