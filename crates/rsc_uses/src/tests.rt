@@ -2,6 +2,7 @@
 ghost use Rattle.std.specs.Prelude.{◌≡◌, ◌<◌, ℕ, slice_index};
 
 mod engine;
+mod indices;
 
 use crate::{alphabet, captures, look, nfa, primitives, search, threads, tokens};
 use rsc_alphabet::{ByteClassSet, ByteSet, Unit, classes_of_ranges, laws};
