@@ -291,7 +291,7 @@ def answers_of(copy, crate, run):
 def judge_run(copy, crate, name, run, wanted):
     """Runs the program of a copy once, and returns whether it answers otherwise than the unchanged program, with a line that says how."""
     found = answers_of(copy, crate, run)
-    differing = [it for it in found if it not in wanted] or [it for it in wanted if it not in found]
+    differing = [it for it in [*found, *wanted] if found.count(it) != wanted.count(it)]
     if not any(it.startswith("run=ended") for it in found):
         return False, f"{crate}/{name}: NOT JUDGED: {found[-1][:200] if found else 'no output'}"
     return (True, f"{crate}/{name}: fails {differing[0][:150]}") if differing else (False, f"{crate}/{name}: NOTHING FAILS")
