@@ -7,6 +7,7 @@ pub mod LayoutLemmas  -- where the names and the order of each pattern's groups 
 pub mod NameIteratorsLemmas  -- the steps of the iterator over all groups, and how many it gives
 pub mod NamesLayoutLemmas  -- names in one text, and where those of each pattern begin, as one more is added
 pub mod OrderLayoutLemmas  -- the groups in the order of their names
+pub mod PairsLayoutLemmas  -- where the slots of each group are, by the pairs of its pattern
 pub mod RepeatsLayoutLemmas  -- repeated names: of a pattern's first groups, and before a group
 pub mod SlotOwnersLemmas  -- each slot is a slot of exactly one group, and below the number of all slots
 pub mod Prelude  -- the definitions of `specs/` that most proofs cite, passed on by one file

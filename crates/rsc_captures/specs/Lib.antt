@@ -9,5 +9,6 @@ pub mod Lending  -- what writing through lent slots does to captures
 pub mod NameIterators  -- the iterators over the names of the groups: of one pattern, and of all patterns with the numbers of pattern and group
 pub mod NamesLayout  -- names as they are held, in one text
 pub mod OrderLayout  -- the groups of a pattern in the order of their names
+pub mod PairsLayout  -- where a group's slots are looked for
 pub mod RepeatsLayout  -- repeated names, as the code looks for them
 pub mod SlotOwners  -- which group a slot belongs to

@@ -7,6 +7,7 @@ ghost use Rattle.rsc_captures.specs.Groups.{all_groups, slots_of};
 ghost use Rattle.rsc_captures.specs.Captured.{Captured, no_offsets, span_at, group_span, slot_here, with_span, FitsSlots, matched_groups, matched_spans, named_span, match_of};
 
 use crate::group_info::GroupInfo;
+use crate::pairs::Pairs;
 use crate::span_iterator::CapturesPatternIter;
 use rsc_primitives::{NonMaxUsize, PatternID};
 use rsc_search::{Match, Span};
@@ -40,18 +41,22 @@ pub struct Captures<A: Allocator = Global> {
     group_info: GroupInfo<A>,
     pid: Option<PatternID>,
     slots: Vec<Option<NonMaxUsize>, A>,
+    // Those of the pattern that matched.
+    pairs: Pairs,
 }
 
 impl<A: Allocator> Model for Captures<A> {
     ghost use Rattle.std.specs.Prelude.{◌*◌, ◌≤◌, length};
     ghost use Rattle.rsc_captures.specs.Groups.{all_groups};
     ghost use Rattle.rsc_captures.specs.Captured.{Captured};
+    ghost use Rattle.rsc_captures.specs.PairsLayout.{ArePairs};
 
     ghost Value = { Captured };
 
     ghost view = { λ c. record { groups = c.group_info; pattern = c.pid; offsets = c.slots.items } };
 
-    ghost invariant = { λ c. length c.slots.items ≤ 2 * all_groups c.group_info };
+    ghost invariant = { λ c. (length c.slots.items ≤ 2 * all_groups c.group_info)
+        × ArePairs c.group_info c.pid (length c.slots.items) c.pairs.count c.pairs.first c.pairs.rest };
 }
 
 impl<A: Allocator + Clone + Drop> Captures<A> {
@@ -70,6 +75,7 @@ impl<A: Allocator + Clone + Drop> Captures<A> {
             group_info,
             pid: None,
             slots: vec![in alloc; None; count]?,
+            pairs: Pairs::none(),
         })
     }
 
@@ -106,6 +112,7 @@ impl<A: Allocator + Clone + Drop> Captures<A> {
             group_info,
             pid: None,
             slots: Vec::new(alloc),
+            pairs: Pairs::none(),
         })
     }
 
@@ -123,6 +130,7 @@ impl<A: Allocator + Clone + Drop> Captures<A> {
             group_info,
             pid: self.pid,
             slots,
+            pairs: self.pairs,
         })
     }
 
@@ -172,6 +180,7 @@ impl<A: Allocator + Clone + Drop> Captures<A> {
         ensures { self.new ≡ no_offsets self.old.groups (length self.old.offsets) }
     {
         self.pid = None;
+        self.pairs.clear();
         empty(self.slots.as_mut_slice());
     }
 
@@ -181,6 +190,7 @@ impl<A: Allocator + Clone + Drop> Captures<A> {
         ensures { self.new ≡ record self.old { pattern = pid } }
     {
         self.pid = pid;
+        self.pairs = Pairs::of(&self.group_info, self.pid, self.slots.len());
     }
 
     /// Sets the span of a group of the pattern that matched, or takes it away, and returns whether it did. The spans of all other groups stay.
@@ -210,6 +220,7 @@ impl<A: Allocator + Clone + Drop> Captures<A> {
     }
 
     // `set_group`, with what it writes.
+    #[tactic(auto, using(crate::proofs::PairsLayoutLemmas::here))]
     #[inline]
     fn write_group(&mut self, index: usize, span: Option<Span>) -> bool
         ensures done { IsTrue result ↔ (IsTrue (is_some (slot_here self.old index)) × ForSome span FitsSlots) }
@@ -217,38 +228,18 @@ impl<A: Allocator + Clone + Drop> Captures<A> {
             ForSome (slot_here self.old index) (λ slot. self.new ≡ record self.old { offsets = with_span self.old.offsets slot span }) }
         ensures refused { ¬ (IsTrue result) → self.new ≡ self.old }
     {
-        match self.pair_here(index) {
+        match self.pairs.slot(index) {
             None => false,
-            Some(pair) => match offsets_of(span) {
+            Some(slot) => match offsets_of(span) {
                 None => false,
                 Some((start, end)) => {
                     let slots = self.slots.as_mut_slice();
-                    slots[2 * pair] = start;
-                    slots[2 * pair + 1] = end;
+                    slots[slot] = start;
+                    slots[slot + 1] = end;
                     true
                 }
             },
         }
-    }
-
-    // The pair of slots of a group of the pattern that matched, where both are here. Pairs are compared with half the number of slots.
-    #[inline]
-    fn pair_here(&self, index: usize) -> Option<usize>
-        ensures slot { option_map (λ pair. 2 * pair) result ≡ slot_here self.now index }
-        ensures here { IfSome result (λ pair. 2 * pair + 1 < length self.now.offsets) }
-    {
-        let pid = self.pid?;
-        let pairs = self.slots.len() / 2;
-        let lists = self.group_info.lists();
-        let pair = if lists.len() == 1 {
-            index
-        } else {
-            lists.pair(pid.as_usize(), index)?
-        };
-        if pair >= pairs {
-            return None;
-        }
-        Some(pair)
     }
 
     /// The pattern that matched with the span of the whole match, or `None` where either is missing. Needs the span, where
@@ -286,26 +277,15 @@ impl<A: Allocator + Clone + Drop> Captures<A> {
     }
 
     // `get_group`, with the one exact clause.
-    #[tactic(auto, using(crate::proofs::CapturedLemmas::none_past))]
+    #[tactic(auto, using(crate::proofs::PairsLayoutLemmas::span_here, crate::proofs::PairsLayoutLemmas::here))]
     #[inline]
     fn group_span(&self, index: usize) -> Option<Span>
         ensures span { result ≡ group_span self.now index }
         ensures room { length self.now.offsets ≤ 2 * all_groups self.now.groups }
     {
-        let pid = self.pid?;
         let slots = self.slots.as_slice();
-        if self.group_info.pattern_len() == 1 {
-            if index >= slots.len() / 2 {
-                return None;
-            }
-            span_at(slots, 2 * index)
-        } else {
-            let slot = self.group_info.slot(pid, index)?;
-            if slot + 1 >= slots.len() {
-                return None;
-            }
-            span_at(slots, slot)
-        }
+        let slot = self.pairs.slot(index)?;
+        span_at(slots, slot)
     }
 
     /// The span of the group that has the name in the pattern that matched.

@@ -27,7 +27,7 @@ const SLOT_LIMIT: usize = PatternID::LIMIT - 1;
 
 /// Which capturing groups the patterns of a search have, with their names, and which slots hold a group's offsets.
 ///
-/// The first group of each pattern stands for its whole match, and has no name; the slots of the first groups come before
+/// The first group of each pattern, group 0, stands for its whole match, and has no name; the slots of these groups come before
 /// all others. A group's offsets are in a slot and the next. A contract sees a group info as the list of its patterns,
 /// each the list of its groups' names. A clone shares its memory.
 ///
@@ -265,9 +265,9 @@ impl<A: Allocator + Clone + Drop> GroupInfo<A> {
         2 * (lists.all_group_len() - lists.len())
     }
 
-    /// The lists that all clones share.
+    // The lists that all clones share.
     #[inline]
-    pub(crate) fn lists(&self) -> &SharedLists<A>
+    fn lists(&self) -> &SharedLists<A>
         ensures { result.now ≡ self.now }
     {
         &self.inner

@@ -4,7 +4,7 @@
 //! group: where that group has the name, it is the one. Nothing depends on the hints, so no contract speaks of them.
 //! Where none has the name, a binary search in the order of the pattern's names decides.
 ghost use Rattle.std.specs.Prelude.{◌≡◌, ◌*◌, ◌<◌, ◌≤◌, length, IfOk, IfSome, Some};
-ghost use Rattle.std.specs.Option.{option_copied, option_map};
+ghost use Rattle.std.specs.Option.{option_copied};
 ghost use Rattle.rsc_captures.specs.Groups.{lists_in, groups_of, group_count, name_of, index_of, slot_of, all_groups};
 ghost use Rattle.rsc_primitives.specs.Indices.{max_index};
 ghost use Rattle.rsc_captures.specs.Faults.{IsFaultless};
@@ -97,24 +97,12 @@ impl<A: Allocator + Clone + Drop> SharedLists<A> {
         ensures value { result ≡ slot_of self.now p group }
         ensures faultless { IsFaultless max_index self.now }
     {
-        let pair = self.pair(p, group)?;
-        Some(2 * pair)
-    }
-
-    /// The pair of slots of a group, or `None` where there is no such group. The slots 2i and 2i + 1 are pair i.
-    #[tactic(auto, using(crate::proofs::SlotOwnersLemmas::explicit_slot))]
-    #[inline]
-    pub(crate) fn pair(&self, p: usize, group: usize) -> Option<usize>
-        ensures value { option_map (λ pair. 2 * pair) result ≡ slot_of self.now p group }
-        ensures limit { IfSome result (λ pair. pair < max_index) }
-        ensures faultless { IsFaultless max_index self.now }
-    {
         if group >= self.group_len(p) {
             None
         } else if group == 0 {
-            Some(p)
+            Some(2 * p)
         } else {
-            Some(self.len() - p + self.first(p) + group - 1)
+            Some(2 * (self.len() - p + self.first(p) + group - 1))
         }
     }
 

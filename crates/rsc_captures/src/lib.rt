@@ -25,6 +25,7 @@ mod layout;
 mod name_iterators;
 mod names;
 mod order;
+mod pairs;
 mod repeats;
 mod span_iterator;
 

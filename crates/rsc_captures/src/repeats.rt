@@ -1,4 +1,4 @@
-//! Repeated names: the first group of a pattern whose name a lesser group has.
+//! Repeated names: the least group of a pattern whose name a lesser group has.
 //!
 //! A group's name is looked up by binary search among groups that are sorted by name and then by number. A list with another fault
 //! takes no memory: its groups are sorted in blocks, each in a table on the stack.
@@ -49,7 +49,7 @@ pub(crate) fn repeated<'a>(lists: &[&[Option<&'a str>]], p: usize, g: usize) -> 
     (PatternID::must(p), name_at(lists[p], g).unwrap_or(""))
 }
 
-/// The first group whose name a lesser one has, or the number of groups.
+/// The least group whose name a lesser one has, or the number of groups.
 pub(crate) fn repeat_in_order(groups: &[Option<&str>], order: &[u32]) -> usize
     requires { IsOrder order.now (groups_in groups.now) }
     ensures within { result ≤ length groups.now }
@@ -73,7 +73,7 @@ fn count_before(count: usize, p: usize, group: (usize, usize)) -> usize
     }
 }
 
-// The first of the groups before `end` whose name a lesser group has, or `end`.
+// The least of the groups before `end` whose name a lesser group has, or `end`.
 #[tactic(auto, using(crate::proofs::RepeatsLayoutLemmas::distinct_from_differ))]
 fn first_repeat(groups: &[Option<&str>], end: usize) -> usize
     requires within { end ≤ length groups.now }
@@ -95,7 +95,7 @@ fn first_repeat(groups: &[Option<&str>], end: usize) -> usize
     least
 }
 
-// The first of the groups from `from` to `end` whose name a lesser group of the block has, or `end`.
+// The least of the groups from `from` to `end` whose name a lesser group of the block has, or `end`.
 fn repeat_of_block(groups: &[Option<&str>], order: &[u32], from: usize, end: usize) -> usize
     requires { IsSortedByName order.now (groups_in groups.now) }
     ensures within { result ≤ end }

@@ -225,7 +225,7 @@ fn find_nothing(watch: &mut Watch<'_>, info: &GroupInfo<&Bump>) -> bool {
         && is_ended
 }
 
-// Notes each call on captures without a match, and those that take a span away. Whether each answered as it should.
+// Notes each call on captures without a match, and one that takes a span away. Whether each answered as it should.
 fn read_nothing(watch: &mut Watch<'_>, captures: &mut Captures<&Bump>) -> bool {
     let is_match = captures.is_match() || captures.pattern().is_some();
     watch.note("is_match, pattern of no match");
