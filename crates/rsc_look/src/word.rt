@@ -6,11 +6,11 @@ ghost use Rattle.rsc_look.specs.Words.{is_unicode_word};
 use rsc_primitives::utf8;
 use unicode::perl;
 
-/// A choice of word characters, which the six Unicode assertions ask for.
+/// A word predicate: which characters are word characters, as the six Unicode assertions ask.
 ///
-/// A contract names the choice that a value makes by `word_chars`, the test of the characters that it accepts.
+/// A contract names a value's word characters by `word_chars`, the test that they pass.
 ///
-/// A choice of your own is a type with these two members; `rsc_uses::look::Letters` is one.
+/// A predicate of your own is a type with these two members; `rsc_uses::look::Letters` is one.
 pub trait WordClass: Drop {
     /// The word characters that the value stands for.
     ghost word_chars: { Self → ℕ → Bool };

@@ -1,4 +1,4 @@
--- UTF-8 by RFC 3629, section 4: which bytes encode which character, and where in a list of bytes a character is.
+-- UTF-8 by RFC 3629, sections 3 and 4: which bytes encode which character, and where in a list of bytes a character is.
 use Rattle.std.specs.Prelude.{◌≡◌, ℕ, ◌+◌, ◌-◌, ◌*◌, ◌<◌, ◌≤◌, Bool, ◌||◌, ◌==◌, ◌⊎◌, List, [], ◌∷◌, ◌++◌, length, slice_range}
 use Rattle.std.specs.Int.{IsInRange, is_in_range}
 

@@ -1,4 +1,4 @@
-//! UTF-8 read from either end of any bytes: RFC 3629, section 4.
+//! UTF-8 read from either end of any bytes: RFC 3629, sections 3 and 4.
 ghost use Rattle.std.specs.Prelude.{◌≡◌, ◌==◌, ◌↔◌, ◌⊎◌, ℕ, ◌+◌, ◌-◌, ◌*◌, ◌%◌, ◌<◌, ◌≤◌, IsTrue, MatchOption, IfSome, IfOk, length, slice_index};
 ghost use Rattle.std.specs.Char.{len_utf8};
 ghost use Rattle.std.specs.Int.{IsInRange, bit_at};
@@ -62,7 +62,7 @@ pub fn is_boundary(bytes: &[u8], at: usize) -> bool
 
 /// The character whose encoding begins the bytes, or else the first byte. `None` is for no bytes.
 ///
-/// It looks at no more than four bytes. What counts as an encoding is RFC 3629, section 4: no overlong form, no surrogate, no
+/// It looks at no more than four bytes. An encoding is one by RFC 3629, section 4: no overlong form, no surrogate, no
 /// number above 10FFFF.
 ///
 /// The error is one byte, so that a scan of any bytes can go on after it: each byte that begins no character counts as one.

@@ -133,3 +133,9 @@ fn traits_of_each_type(_rt: HostRuntime) {
     is_walked::<ByteSetIter<'_>>();
     is_walked::<ByteSetRangeIter<'_>>();
 }
+
+#[test]
+fn units_are_ordered(rt: HostRuntime) {
+    assert!(rt; Unit::u8(1) < Unit::u8(2) && Unit::u8(2).cmp(&Unit::u8(1)).is_gt());
+    assert!(rt; Unit::u8(255) < Unit::eoi(0) && Unit::eoi(1).cmp(&Unit::eoi(2)).is_lt());
+}

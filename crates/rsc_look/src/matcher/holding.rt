@@ -6,7 +6,7 @@ ghost use Rattle.rsc_look.specs.declared.assertion.Look.{Look};
 ghost use Rattle.rsc_look.specs.LookSets.{Looks};
 ghost use Rattle.rsc_look.specs.LookSetLayout.{is_same};
 ghost use Rattle.rsc_look.specs.Holds.{HoldsFor, IsBefore, IsAfter, holds_at_bytes, holds_at_sides};
-ghost use Rattle.rsc_look.specs.HoldingLayout.{holds_at_words};
+ghost use Rattle.rsc_look.specs.HoldingLayout.{holds_at_words, is_within_line};
 
 use crate::matcher::{CARRIAGE_RETURN, LINE_FEED};
 use crate::side::{Side, byte_after, byte_before, is_byte, is_word_neighbor};
@@ -120,14 +120,17 @@ fn with(set: LookSet, look: Look, holds: bool) -> LookSet
 fn holding_at_bytes(terminator: u8, before: Option<u8>, after: Option<u8>) -> LookSet
     ensures { (look : Look) → sets.contains result look ≡ holds_at_bytes look terminator before after }
 {
+    let words = holding_at_words(is_word_neighbor(before), is_word_neighbor(after));
+    if is_within_line(terminator, before) & is_within_line(terminator, after) {
+        return words;
+    }
     let starts = before.is_none()
         | is_byte(LINE_FEED, before)
         | (is_byte(CARRIAGE_RETURN, before) & !is_byte(LINE_FEED, after));
     let ends = after.is_none()
         | is_byte(CARRIAGE_RETURN, after)
         | (is_byte(LINE_FEED, after) & !is_byte(CARRIAGE_RETURN, before));
-    let set = holding_at_words(is_word_neighbor(before), is_word_neighbor(after));
-    let set = with(set, Look::Start, before.is_none());
+    let set = with(words, Look::Start, before.is_none());
     let set = with(set, Look::End, after.is_none());
     let set = with(
         set,
@@ -141,6 +144,17 @@ fn holding_at_bytes(terminator: u8, before: Option<u8>, after: Option<u8>) -> Lo
     );
     let set = with(set, Look::StartCRLF, starts);
     with(set, Look::EndCRLF, ends)
+}
+
+// Whether a neighbour is there, and no line begins or ends beside it. Between two of them only assertions about words hold.
+#[inline(always)]
+fn is_within_line(terminator: u8, neighbor: Option<u8>) -> bool
+    ensures { result ≡ is_within_line terminator neighbor }
+{
+    match neighbor {
+        Some(byte) => (byte != terminator) & (byte != LINE_FEED) & (byte != CARRIAGE_RETURN),
+        None => false,
+    }
 }
 
 // The assertions about words of ASCII, by whether a word byte is before, and whether one is after: the sums of their numbers.

@@ -252,3 +252,15 @@ fn refuses_the_greatest_offset_alone(rt: HostRuntime) -> Result<(), Fail> {
     }
     Ok(())
 }
+
+#[test]
+fn orders_offsets_and_begins_at_zero(rt: HostRuntime) -> Result<(), Fail> {
+    let one = NonMaxUsize::new(1).ok_or("refused")?;
+    // A lesser number in its first byte.
+    let other = NonMaxUsize::new(256).ok_or("refused")?;
+    assert!(rt; one < other && other > one && one.cmp(&other).is_lt() && one.cmp(&one).is_eq());
+    assert!(rt; SmallIndex::default() == SmallIndex::ZERO);
+    assert!(rt; PatternID::default() == PatternID::ZERO);
+    assert!(rt; StateID::default() == StateID::ZERO);
+    Ok(())
+}
