@@ -13,7 +13,7 @@ use Rattle.rsc_engine.specs.Searches.{Search}
 use Rattle.rsc_engine.specs.Runs.{Leads, IsPlace, accepts, IsMatchRun, HasNoMatch}
 use Rattle.rsc_engine.specs.Preferred.{IsOnce, IsPreferredTo, IsPreferred, IsLeftmostFirst, HasNone}
 use Rattle.rsc_engine.specs.MovesLayout.{IsMove, other_of}
-use Rattle.rsc_engine.specs.WalksLayout.{IsTrail, IsOnward, IsOn, IsDone, IsClosed, IsClosedFrom, IsBarred, IsFirstWay, IsExplored, StandsAfter, IsLess, HasFlags, is_flagged, number_in, left_to_do}
+use Rattle.rsc_engine.specs.WalksLayout.{IsTrail, IsOnward, IsOn, IsDone, IsClosed, IsClosedFrom, IsBarred, IsFirstWay, IsExplored, StandsAfter, IsLess, AreEnough, HasFlags, is_flagged, number_in, left_to_do}
 use Rattle.rsc_engine.specs.declared.moves.Move.{Move}
 use Rattle.rsc_engine.specs.declared.moves.Move.TheVariants.{Fails, Goes, Forks, Accepts}
 use Rattle.rsc_engine.proofs.WalksLayoutLemmas.{IsTrail-more, IsOnward-more, IsMatchRun-more, place-before, place-after, leads-rises}
@@ -532,5 +532,5 @@ pub even_later : (e : Search) (i : ℕ) (seen : ℕ × ℕ → Bool) → e.start
 even_later e i seen up closed = later_start e i seen up (λ p there from s. closed p there s)
 
 -- and needs no more flags
-pub fewer_flags : (e : Search) (i : ℕ) (v : List Bool) → e.start ≤ i → HasFlags e v → HasFlags (record e { start = i }) v
-fewer_flags e i v up room = omega (arith, room, mul-le-mul_right {m = e.end + 1 - i} {n = e.end + 1 - e.start} (length e.states) (omega (arith, up)))
+pub fewer_flags : (e : Search) (i n : ℕ) → e.start ≤ i → AreEnough e n → AreEnough (record e { start = i }) n
+fewer_flags e i n up room = omega (arith, room, mul-le-mul_right {m = e.end + 1 - i} {n = e.end + 1 - e.start} (length e.states) (omega (arith, up)))

@@ -1,25 +1,24 @@
 -- The runs of a program that was built: from the state at which a pattern begins its matches are found, and no others.
-use Rattle.std.proofs.Common.{map, get_or, option_map, ◌≡◌, ℕ, zero, suc, ◌+◌, ◌-◌, ◌<◌, ◌≤◌, ◌⊎◌, inl, inr, ⊎_elim, List, [], ◌∷◌, ◌++◌, length, slice_get, refl, sym, ap, ◌∙◌, subst, arith, Option, Some, None, MatchOption, ◌↔◌, Bool, true, false, true≢false}
+use Rattle.std.proofs.Common.{map, get_or, option_map, ◌≡◌, ℕ, zero, suc, ◌+◌, ◌-◌, ◌<◌, ◌≤◌, ◌⊎◌, inl, inr, ⊎_elim, List, [], ◌∷◌, length, slice_get, refl, sym, ap, ◌∙◌, subst, arith, Option, Some, None, MatchOption, ◌↔◌, Bool}
 use Rattle.std.proofs.lemmas.Bool.{cases_lt, cases_eq}
 use Rattle.std.proofs.lemmas.Option.{slice_get_within, slice_get_read, slice_get-map}
 use Rattle.rsc_nfa.specs.declared.state.State.{State}
-use Rattle.rsc_nfa.specs.declared.state.State.TheVariants.{Fork, Accept, ByteRange, Assert, Capture}
-use Rattle.rsc_nfa.specs.Steps.{StepsTo, place, IsRun, IsStep}
-use Rattle.rsc_engine.specs.Patterns.{Pattern, Goes, Text, text_of, IsMatchIn, HasRunOf, Recognizes}
+use Rattle.rsc_nfa.specs.declared.state.State.TheVariants.{Fork, Accept}
+use Rattle.rsc_nfa.specs.Steps.{StepsTo, place, IsRun}
+use Rattle.rsc_engine.specs.Patterns.{Pattern, Goes, subject_of, IsMatchIn, HasRunOf, Recognizes}
 use Rattle.rsc_engine.specs.declared.builder.Part.{Part}
 use Rattle.rsc_engine.specs.Parts.{pattern_of}
-use Rattle.rsc_engine.specs.LinksLayout.{Aim, Ends, HasEnd, Realizes, Adds, Builds, IsAdded}
+use Rattle.rsc_engine.specs.LinksLayout.{Aim, Ends, Realizes, Adds, Builds, IsAdded}
 use Rattle.rsc_engine.specs.BeginsLayout.{Begins, IsOfOne, IsOfSome}
 use Rattle.rsc_engine.proofs.LinksLayoutLemmas.{choice_to, choice_first, choice_next}
 use Rattle.rsc_engine.proofs.BuilderLemmas.{Adds-one, Adds-both, Adds-is}
-use Rattle.rsc_search.specs.Inputs.{InputParts}
 use Rattle.rsc_search.specs.Matches.{Matched}
 use Rattle.rsc_search.specs.Modes.{pattern_of_mode}
 use Rattle.rsc_engine.specs.Searches.{Search, Compiled, search_in}
-use Rattle.rsc_engine.specs.Runs.{Leads, IsPlace, IsMatchRun, IsMatchOf, accepts, is_accepting, is_wanted}
+use Rattle.rsc_engine.specs.Runs.{Leads, IsPlace, IsMatchRun, IsMatchOf, is_accepting, is_wanted}
 use Rattle.rsc_captures.specs.Captured.{Captured}
 use Rattle.rsc_engine.specs.Preferred.{IsFirstMatch, MayBegin, HasNone}
-use Rattle.rsc_engine.proofs.WalksLayoutLemmas.{leads-rises, run-rises}
+use Rattle.rsc_engine.proofs.WalksLayoutLemmas.{leads-rises}
 
 -- ---- one pattern
 
@@ -140,7 +139,7 @@ its_pattern parts k part l is =
 
 -- the match that is looked for, in a search
 abbrev aim_of : Search → Matched → Aim
-aim_of e found = record { text = text_of e; end = e.end; pattern = found.pattern; position = found.span.end }
+aim_of e found = record { text = subject_of e; end = e.end; pattern = found.pattern; position = found.span.end }
 
 -- ---- from a run to a way
 

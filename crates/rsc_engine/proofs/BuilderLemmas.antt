@@ -1,13 +1,12 @@
 -- How lists of states grow, part by part.
-use Rattle.std.proofs.Common.{true≢false, drop, drop-cons, get_or, ◌≡◌, ℕ, zero, suc, ◌+◌, ◌-◌, ◌<◌, ◌≤◌, ◌⊎◌, inl, inr, ⊎_elim, List, [], ◌∷◌, ◌++◌, length, set, slice_get, refl, sym, ap, ◌∙◌, subst, arith, length-append, Option, Some, None}
+use Rattle.std.proofs.Common.{true≢false, drop, drop-cons, get_or, ◌≡◌, ℕ, zero, suc, ◌+◌, ◌-◌, ◌<◌, ◌≤◌, ◌⊎◌, inl, inr, List, [], ◌∷◌, ◌++◌, length, set, slice_get, refl, sym, ap, ◌∙◌, subst, arith, length-append, Some, None}
 use Rattle.std.proofs.lemmas.List.{length-set}
 use Rattle.std.proofs.Math.Seq.{drop-length}
-use Rattle.std.proofs.lemmas.Bool.{cases_lt}
 use Rattle.rsc_look.specs.declared.assertion.Look.{Look}
 use Rattle.rsc_nfa.specs.declared.state.State.{State}
 use Rattle.rsc_nfa.specs.declared.state.State.TheVariants.{ByteRange, Assert, Fork, Capture}
-use Rattle.rsc_engine.specs.Patterns.{Pattern, Empty, Never, Class, Literal, Assertion, Then, Either, Repeat, Text, Goes}
-use Rattle.rsc_engine.specs.LinksLayout.{IsIn, Adds, Builds, IsAdded, IsChoice, Realizes, copies, up_to}
+use Rattle.rsc_engine.specs.Patterns.{Pattern, Empty, Never, Class, Literal, Assertion, Then, Either, Repeat, Subject, Goes}
+use Rattle.rsc_engine.specs.LinksLayout.{Adds, Builds, IsAdded, IsChoice, Realizes, copies, up_to}
 use Rattle.rsc_engine.proofs.LinksLayoutLemmas.{Realizes-never, Realizes-range, Realizes-assert, Realizes-capture, Realizes-is, Realizes-then, Realizes-either, Realizes-choice, Realizes-star, Realizes-plus}
 use Rattle.rsc_engine.proofs.PatternsLemmas.{class-is, class-back, literal-is, literal-back, star-is, star-back, limited-is, limited-back, unlimited-is, unlimited-back}
 
@@ -92,8 +91,8 @@ Builds-then old middle new first between next p q x y =
     (λ (all : List State). Realizes all first next (Then p q)) x y (λ all a b. Realizes-then all first between next p q a b)
 
 -- a part is what goes where it goes
-pub Builds-is : (old new : List State) (first next : ℕ) (p q : Pattern) → ((x : Text) (i j : ℕ) → Goes x p i j → Goes x q i j)
-    → ((x : Text) (i j : ℕ) → Goes x q i j → Goes x p i j) → Builds old new first next p → Builds old new first next q
+pub Builds-is : (old new : List State) (first next : ℕ) (p q : Pattern) → ((x : Subject) (i j : ℕ) → Goes x p i j → Goes x q i j)
+    → ((x : Subject) (i j : ℕ) → Goes x q i j → Goes x p i j) → Builds old new first next p → Builds old new first next q
 Builds-is old new first next p q to back x =
     Adds-is old new (λ (all : List State). Realizes all first next p) (λ (all : List State). Realizes all first next q)
     (λ all r. Realizes-is all first next p q to back r) x

@@ -181,7 +181,7 @@ IsStep-stay states t W h k end last i j s u holds x = go (slice_get states s) x
 
 -- ---- a step goes by the two neighbours, and by their classes
 
-module _ (w : Lawful) (classes : List ℕ) (m : Machine) (stride : ℕ) (unicode : Bool) (plan : IsPlan m classes stride unicode) where
+module _ (w : Lawful) (classes : List ℕ) (m : Machine) (width : ℕ) (unicode : Bool) (plan : IsPlan m classes width unicode) where
   stays : (h k : List ℕ) (end last i j s u : ℕ) → i ≤ length h → j ≤ length k → byte_before h i ≡ byte_before k j → byte_after h i ≡ byte_after k j
       → IsPlainUnit m (byte_before h i) → IsPlainUnit m (byte_after h i)
       → IsStep m.states m.terminator m.words h end (s, i) (u, i) → IsStep m.states m.terminator m.words k last (s, j) (u, j)
@@ -237,12 +237,12 @@ room_after [] i p l = absurd (omega (arith, l))
 room_after (x ∷ h) zero p l = around-room p x
 room_after (x ∷ h) (suc i) p l = room_after h i p (omega (arith, l))
 
-pub IsNear-from : Lawful → (classes : List ℕ) (e : Search) (stride : ℕ) (unicode : Bool) (i : ℕ) (q o : Option ℕ)
-    → IsPlan (machine_of e) classes stride unicode
+pub IsNear-from : Lawful → (classes : List ℕ) (e : Search) (width : ℕ) (unicode : Bool) (i : ℕ) (q o : Option ℕ)
+    → IsPlan (machine_of e) classes width unicode
     → e.end ≤ length e.haystack → i ≤ e.end → Alike classes (byte_before e.haystack i) q → Alike classes (byte_after e.haystack i) o
     → IsPlainUnit (machine_of e) (byte_before e.haystack i) → IsPlainUnit (machine_of e) (byte_after e.haystack i)
     → IsPlainUnit (machine_of e) q → IsPlainUnit (machine_of e) o → IsNear e i (around q o) (middle q)
-IsNear-from w classes e stride unicode i q o plan within low a b pp pn pq po = record { follows = follows; moves = moves }
+IsNear-from w classes e width unicode i q o plan within low a b pp pn pq po = record { follows = follows; moves = moves }
   where
     m : Machine
     m = machine_of e
@@ -258,24 +258,24 @@ IsNear-from w classes e stride unicode i q o plan within low a b pp pn pq po = r
 
     follows : (s u : ℕ) → IsStep e.states e.terminator e.words e.haystack e.end (s, i) (u, i) ↔ Follows (machine_of e) (around q o) (middle q) s u
     follows s u = (
-      λ x. follows_alike w classes m stride unicode plan p q n o s u a b pp pq pn po
-          (stays w classes m stride unicode plan h (around p n) e.end (length (around p n)) i (middle p) s u (omega (arith, low, within))
+      λ x. follows_alike w classes m width unicode plan p q n o s u a b pp pq pn po
+          (stays w classes m width unicode plan h (around p n) e.end (length (around p n)) i (middle p) s u (omega (arith, low, within))
           (around-least p n) (sym (around-before p n)) (sym (around-after p n)) pp pn x),
-      λ x. stays w classes m stride unicode plan (around p n) h (length (around p n)) e.end (middle p) i s u (around-least p n)
+      λ x. stays w classes m width unicode plan (around p n) h (length (around p n)) e.end (middle p) i s u (around-least p n)
           (omega (arith, low, within)) (around-before p n) (around-after p n)
           (subst (λ (y : Option ℕ). IsPlainUnit m y) (sym (around-before p n)) pp)
           (subst (λ (y : Option ℕ). IsPlainUnit m y) (sym (around-after p n)) pn)
-          (follows_alike w classes m stride unicode plan q p o n s u (Alike-sym classes p q a) (Alike-sym classes n o b) pq pp po pn x),
+          (follows_alike w classes m width unicode plan q p o n s u (Alike-sym classes p q a) (Alike-sym classes n o b) pq pp po pn x),
     )
 
     moves : (s u : ℕ) → i < e.end → IsStep e.states e.terminator e.words e.haystack e.end (s, i) (u, i + 1) ↔ Moves (machine_of e) (around q o) (middle q) s u
     moves s u l = (
-      λ x. moves_alike w classes m stride unicode plan p q n o s u a b pp pq pn po
+      λ x. moves_alike w classes m width unicode plan p q n o s u a b pp pq pn po
           (w.advances m.states m.terminator m.words h (around p n) e.end (length (around p n)) i (middle p) s u
           (sym (around-after p n)) (λ _. room_after h i p (omega (arith, l, within))) x),
       λ x. w.advances m.states m.terminator m.words (around p n) h (length (around p n)) e.end (middle p) i s u
           (around-after p n) (λ _. l)
-          (moves_alike w classes m stride unicode plan q p o n s u (Alike-sym classes p q a) (Alike-sym classes n o b) pq pp po pn x),
+          (moves_alike w classes m width unicode plan q p o n s u (Alike-sym classes p q a) (Alike-sym classes n o b) pq pp po pn x),
     )
 
 -- ---- the classes of a plan

@@ -5,6 +5,7 @@ pub mod StartsLayoutLemmas  -- no match begins with a byte that isn't marked
 pub mod BacktrackLemmas  -- what is known of the places that were seen, from visit to visit
 pub mod NextMatchesLemmas  -- which match is next, as the search's start moves on
 pub mod RowsLayoutLemmas  -- a row at a position is exact, and so is the next one
+pub mod NeededLayoutLemmas  -- no match is where no byte of the one range is directly after one of the other
 pub mod LawfulLayoutLemmas  -- what follows from the laws of steps: the bytes on both sides, or others of their classes, stand for a position
 pub mod DfaLemmas  -- a closure as it grows
 pub mod TablesLayoutLemmas  -- what the table of a DFA says is so, and stays so as it grows

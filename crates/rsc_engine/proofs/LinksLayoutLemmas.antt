@@ -1,12 +1,10 @@
 -- How single states lead on, and what follows for parts made of parts.
-use Rattle.std.proofs.Common.{◌≡◌, ◌↔◌, ℕ, zero, suc, ◌+◌, ◌-◌, ◌<◌, ◌≤◌, ◌⊎◌, inl, inr, ⊎_elim, Bool, true, false, ◌||◌, ◌&&◌, true≢false, nat_le, IsTrue, List, [], ◌∷◌, ◌++◌, length, slice_get, refl, sym, ap, ◌∙◌, subst, arith, Option, Some, None, MatchOption}
-use Rattle.std.specs.List.{list_any}
-use Rattle.std.proofs.lemmas.Bool.{cases_lt}
+use Rattle.std.proofs.Common.{◌≡◌, ℕ, zero, suc, ◌<◌, ◌≤◌, ◌⊎◌, inl, inr, ⊎_elim, Bool, true, false, ◌||◌, true≢false, List, [], ◌∷◌, slice_get, refl, sym, ap, ◌∙◌, subst, arith, Option, Some, None, MatchOption}
 use Rattle.rsc_look.specs.declared.assertion.Look.{Look}
 use Rattle.rsc_nfa.specs.declared.state.State.{State}
 use Rattle.rsc_nfa.specs.declared.state.State.TheVariants.{ByteRange, Assert, Fork, Capture, Accept}
-use Rattle.rsc_nfa.specs.Steps.{IsStep, StepsTo, is_between}
-use Rattle.rsc_engine.specs.Patterns.{Pattern, Empty, Never, Class, Literal, Assertion, Then, Either, Repeat, Text, Times, Goes}
+use Rattle.rsc_nfa.specs.Steps.{StepsTo, is_between}
+use Rattle.rsc_engine.specs.Patterns.{Pattern, Empty, Never, Class, Assertion, Then, Either, Repeat, Subject, Times, Goes}
 use Rattle.rsc_engine.specs.LinksLayout.{Aim, Ends, HasEnd, GoesOn, Realizes, IsChoice}
 
 -- ---- steps of one state
@@ -137,8 +135,8 @@ Realizes-range states s x y next is = record {
 -- ---- parts made of parts
 
 -- a part is what goes where it goes
-pub Realizes-is : (states : List State) (first next : ℕ) (p q : Pattern) → ((x : Text) (i j : ℕ) → Goes x p i j → Goes x q i j)
-    → ((x : Text) (i j : ℕ) → Goes x q i j → Goes x p i j) → Realizes states first next p → Realizes states first next q
+pub Realizes-is : (states : List State) (first next : ℕ) (p q : Pattern) → ((x : Subject) (i j : ℕ) → Goes x p i j → Goes x q i j)
+    → ((x : Subject) (i j : ℕ) → Goes x q i j → Goes x p i j) → Realizes states first next p → Realizes states first next q
 Realizes-is states first next p q to back r = record {
   sound = λ a n i e.
       let g = r.sound a n i e in
@@ -276,6 +274,6 @@ Realizes-plus states s first next p c r = Realizes-is states first next (Then p 
     (λ x i j g. back x i j g.0 g.1 g.3)
     (Realizes-then states first s next p (Repeat 0 None p) (Realizes-star states s first next p c r) r)
   where
-    back : (x : Text) (i j n : ℕ) → 1 ≤ n → Times (Goes x p) n i j → Goes x (Then p (Repeat 0 None p)) i j
+    back : (x : Subject) (i j n : ℕ) → 1 ≤ n → Times (Goes x p) n i j → Goes x (Then p (Repeat 0 None p)) i j
     back x i j zero l t = absurd (omega (arith, l))
     back x i j (suc n) l t = (t.0, t.1, (n, omega arith, tt, t.2))

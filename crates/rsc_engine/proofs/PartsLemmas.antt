@@ -1,5 +1,5 @@
 -- The pattern of a tree, by its variants.
-use Rattle.std.proofs.Common.{◌≡◌, ℕ, [], ◌∷◌, map, Vec, Box, Global, sym, ap, ◌∙◌}
+use Rattle.std.proofs.Common.{◌≡◌, ℕ, [], ◌∷◌, Box, Global, sym, ap, ◌∙◌}
 use Rattle.rsc_look.specs.declared.assertion.Look.{Look}
 use Rattle.rsc_engine.specs.Patterns.{Pattern, Class, Assertion, Then, Either}
 use Rattle.rsc_engine.specs.Parts.{pattern_in, pattern_of_node}

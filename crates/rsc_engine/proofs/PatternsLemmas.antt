@@ -1,9 +1,9 @@
 -- Patterns that go where others go: bytes, classes and repetitions.
-use Rattle.std.proofs.Common.{◌≡◌, ℕ, zero, suc, ◌+◌, ◌-◌, ◌<◌, ◌≤◌, ◌⊎◌, inl, inr, ⊎_elim, Bool, true, false, ◌||◌, ◌&&◌, true≢false, nat_le, IsTrue, List, [], ◌∷◌, slice_get, refl, sym, ap, ◌∙◌, subst, arith, Option, Some, None}
+use Rattle.std.proofs.Common.{◌≡◌, ℕ, zero, suc, ◌+◌, ◌-◌, ◌<◌, ◌≤◌, ◌⊎◌, inl, inr, ⊎_elim, Bool, true, false, ◌||◌, ◌&&◌, true≢false, nat_le, List, [], ◌∷◌, slice_get, refl, sym, ap, subst, arith, Option, Some, None}
 use Rattle.std.specs.List.{list_any}
 use Rattle.std.proofs.lemmas.Bool.{cases_lt, leb-true, le-leb}
 use Rattle.rsc_nfa.specs.Steps.{is_between}
-use Rattle.rsc_engine.specs.Patterns.{Pattern, Empty, Never, Class, Literal, Assertion, Then, Either, Repeat, Text, Times, IsAtMost, Goes}
+use Rattle.rsc_engine.specs.Patterns.{Pattern, Empty, Class, Literal, Then, Either, Repeat, Subject, Times, Goes}
 use Rattle.rsc_engine.specs.LinksLayout.{copies, up_to}
 
 -- ---- n times
@@ -26,15 +26,15 @@ Times-split R (suc n) m i j x =
     let z = Times-split R n m y.0 j y.2 in
     (z.0, (y.0, y.1, z.1), z.2)
 
-copies-times : (x : Text) (p : Pattern) (n i j : ℕ) → Goes x (copies n p) i j → Times (Goes x p) n i j
+copies-times : (x : Subject) (p : Pattern) (n i j : ℕ) → Goes x (copies n p) i j → Times (Goes x p) n i j
 copies-times x p zero i j g = g
 copies-times x p (suc n) i j g = (g.0, g.1, copies-times x p n g.0 j g.2)
 
-times-copies : (x : Text) (p : Pattern) (n i j : ℕ) → Times (Goes x p) n i j → Goes x (copies n p) i j
+times-copies : (x : Subject) (p : Pattern) (n i j : ℕ) → Times (Goes x p) n i j → Goes x (copies n p) i j
 times-copies x p zero i j g = g
 times-copies x p (suc n) i j g = (g.0, g.1, times-copies x p n g.0 j g.2)
 
-up_to-times : (x : Text) (p : Pattern) (n i j : ℕ) → Goes x (up_to n p) i j → (m : ℕ) × (m ≤ n) × Times (Goes x p) m i j
+up_to-times : (x : Subject) (p : Pattern) (n i j : ℕ) → Goes x (up_to n p) i j → (m : ℕ) × (m ≤ n) × Times (Goes x p) m i j
 up_to-times x p zero i j g = (0, omega arith, g)
 up_to-times x p (suc n) i j g = ⊎_elim
     (λ (h : Goes x (Then p (up_to n p)) i j).
@@ -42,7 +42,7 @@ up_to-times x p (suc n) i j g = ⊎_elim
     (λ (h : i ≡ j). (0, omega arith, h))
     g
 
-times-up_to : (x : Text) (p : Pattern) (n m i j : ℕ) → m ≤ n → Times (Goes x p) m i j → Goes x (up_to n p) i j
+times-up_to : (x : Subject) (p : Pattern) (n m i j : ℕ) → m ≤ n → Times (Goes x p) m i j → Goes x (up_to n p) i j
 times-up_to x p zero zero i j l t = t
 times-up_to x p zero (suc m) i j l t = absurd (omega (arith, l))
 times-up_to x p (suc n) zero i j l t = inr t
@@ -50,7 +50,7 @@ times-up_to x p (suc n) (suc m) i j l t = inl (t.0, t.1, times-up_to x p n m t.0
 
 -- ---- counted repetitions
 
-pub limited-is : (min max : ℕ) (p : Pattern) (x : Text) (i j : ℕ) → Goes x (Then (copies min p) (up_to (max - min) p)) i j
+pub limited-is : (min max : ℕ) (p : Pattern) (x : Subject) (i j : ℕ) → Goes x (Then (copies min p) (up_to (max - min) p)) i j
     → Goes x (Repeat min (Some max) p) i j
 limited-is min max p x i j g =
     let r = up_to-times x p (max - min) g.0 j g.2 in
@@ -59,7 +59,7 @@ limited-is min max p x i j g =
     most : (m : ℕ) → m ≤ max - min → (min + m ≤ max) ⊎ (min + m ≤ min)
     most m l = ⊎_elim (λ (h : max < min). inr (omega (arith, h, l))) (λ (h : min ≤ max). inl (omega (arith, h, l))) (cases_lt max min)
 
-pub limited-back : (min max : ℕ) (p : Pattern) (x : Text) (i j : ℕ) → Goes x (Repeat min (Some max) p) i j
+pub limited-back : (min max : ℕ) (p : Pattern) (x : Subject) (i j : ℕ) → Goes x (Repeat min (Some max) p) i j
     → Goes x (Then (copies min p) (up_to (max - min) p)) i j
 limited-back min max p x i j g =
     let whole : g.0 ≡ min + (g.0 - min) = omega (arith, g.1) in
@@ -70,12 +70,12 @@ limited-back min max p x i j g =
     fits : (n : ℕ) → (n ≤ max) ⊎ (n ≤ min) → n - min ≤ max - min
     fits n h = ⊎_elim (λ (l : n ≤ max). omega (arith, l)) (λ (l : n ≤ min). omega (arith, l)) h
 
-pub unlimited-is : (min : ℕ) (p : Pattern) → 0 < min → (x : Text) (i j : ℕ) → Goes x (Then (copies (min - 1) p) (Repeat 1 None p)) i j
+pub unlimited-is : (min : ℕ) (p : Pattern) → 0 < min → (x : Subject) (i j : ℕ) → Goes x (Then (copies (min - 1) p) (Repeat 1 None p)) i j
     → Goes x (Repeat min None p) i j
 unlimited-is min p some x i j g =
     (min - 1 + g.2.0, omega (arith, some, g.2.1), tt, Times-add (Goes x p) (min - 1) g.2.0 i g.0 j (copies-times x p (min - 1) i g.0 g.1) g.2.3)
 
-pub unlimited-back : (min : ℕ) (p : Pattern) → 0 < min → (x : Text) (i j : ℕ) → Goes x (Repeat min None p) i j
+pub unlimited-back : (min : ℕ) (p : Pattern) → 0 < min → (x : Subject) (i j : ℕ) → Goes x (Repeat min None p) i j
     → Goes x (Then (copies (min - 1) p) (Repeat 1 None p)) i j
 unlimited-back min p some x i j g =
     let whole : g.0 ≡ (min - 1) + (g.0 - (min - 1)) = omega (arith, g.1) in
@@ -84,13 +84,13 @@ unlimited-back min p some x i j g =
     (s.0, times-copies x p (min - 1) i s.0 s.1, (g.0 - (min - 1), omega (arith, g.1, some), tt, s.2))
 
 -- any number of times is once or more, or not at all
-pub star-is : (p : Pattern) (x : Text) (i j : ℕ) → Goes x (Either (Repeat 1 None p) Empty) i j → Goes x (Repeat 0 None p) i j
+pub star-is : (p : Pattern) (x : Subject) (i j : ℕ) → Goes x (Either (Repeat 1 None p) Empty) i j → Goes x (Repeat 0 None p) i j
 star-is p x i j g = ⊎_elim
     (λ (h : Goes x (Repeat 1 None p) i j). (h.0, omega arith, tt, h.3))
     (λ (h : i ≡ j). (0, omega arith, tt, h))
     g
 
-pub star-back : (p : Pattern) (x : Text) (i j : ℕ) → Goes x (Repeat 0 None p) i j → Goes x (Either (Repeat 1 None p) Empty) i j
+pub star-back : (p : Pattern) (x : Subject) (i j : ℕ) → Goes x (Repeat 0 None p) i j → Goes x (Either (Repeat 1 None p) Empty) i j
 star-back p x i j g = go g.0 g.3
   where
     go : (n : ℕ) → Times (Goes x p) n i j → Goes x (Either (Repeat 1 None p) Empty) i j
@@ -111,10 +111,10 @@ or_other : (a b : Bool) → b ≡ true → (a || b) ≡ true
 or_other true b h = refl
 or_other false b h = h
 
-has : Text → ℕ → ℕ × ℕ → Bool
+has : Subject → ℕ → ℕ × ℕ → Bool
 has x i r = is_between r.0 r.1 (slice_get x.haystack i)
 
-pub class-is : (a b : ℕ) (rest : List (ℕ × ℕ)) (x : Text) (i j : ℕ) → Goes x (Either (Class ((a, b) ∷ [])) (Class rest)) i j
+pub class-is : (a b : ℕ) (rest : List (ℕ × ℕ)) (x : Subject) (i j : ℕ) → Goes x (Either (Class ((a, b) ∷ [])) (Class rest)) i j
     → Goes x (Class ((a, b) ∷ rest)) i j
 unfolding has
 class-is a b rest x i j g = ⊎_elim
@@ -126,7 +126,7 @@ class-is a b rest x i j g = ⊎_elim
     (λ (h : Goes x (Class rest) i j). (or_other (has x i (a, b)) (list_any (has x i) rest) h.0, h.1))
     g
 
-pub class-back : (a b : ℕ) (rest : List (ℕ × ℕ)) (x : Text) (i j : ℕ) → Goes x (Class ((a, b) ∷ rest)) i j
+pub class-back : (a b : ℕ) (rest : List (ℕ × ℕ)) (x : Subject) (i j : ℕ) → Goes x (Class ((a, b) ∷ rest)) i j
     → Goes x (Either (Class ((a, b) ∷ [])) (Class rest)) i j
 unfolding has
 class-back a b rest x i j g = ⊎_elim
@@ -152,7 +152,7 @@ itself b o e = rw e (both (nat_le b b) (le-leb b b (omega arith)))
     both true h = refl
     both false h = h
 
-pub literal-is : (b : ℕ) (rest : List ℕ) (x : Text) (i j : ℕ) → Goes x (Then (Class ((b, b) ∷ [])) (Literal rest)) i j → Goes x (Literal (b ∷ rest)) i j
+pub literal-is : (b : ℕ) (rest : List ℕ) (x : Subject) (i j : ℕ) → Goes x (Then (Class ((b, b) ∷ [])) (Literal rest)) i j → Goes x (Literal (b ∷ rest)) i j
 unfolding has
 literal-is b rest x i j g = (
   only b (slice_get x.haystack i)
@@ -160,6 +160,6 @@ literal-is b rest x i j g = (
   subst (λ (k : ℕ). Goes x (Literal rest) k j) g.1.1 g.2,
 )
 
-pub literal-back : (b : ℕ) (rest : List ℕ) (x : Text) (i j : ℕ) → Goes x (Literal (b ∷ rest)) i j → Goes x (Then (Class ((b, b) ∷ [])) (Literal rest)) i j
+pub literal-back : (b : ℕ) (rest : List ℕ) (x : Subject) (i j : ℕ) → Goes x (Literal (b ∷ rest)) i j → Goes x (Then (Class ((b, b) ∷ [])) (Literal rest)) i j
 unfolding has
 literal-back b rest x i j g = (i + 1, (or_one (has x i (b, b)) false (itself b (slice_get x.haystack i) g.0), refl), g.1)

@@ -346,3 +346,45 @@ none_before_row w e i set row free never is at low early run m =
         (row.all run starts (k + 1) h (omega (arith, here, on.0, before)) (λ j e. let j_is : j ≡ k = omega (arith, e) in rw j_is before))))))
         (cases_lt (place run (k + 1)).1 i))
         (w.position e.states e.terminator e.words e.haystack e.end (place run k) (place run (k + 1)) (m.is_run.steps k h)))
+
+-- if the row has no state, no match begins where one may
+pub no_state_row : Lawful → (e : Search) (i : ℕ) (set : List ℕ) → IsRowAt e i set → set ≡ [] → e.first < length e.states → e.start ≤ i → i ≤ e.end
+    → HasNone e
+unfolding Reaches-start
+no_state_row w e i set row is there low high = none_ends e none
+  where
+    empty : (s : ℕ) → ¬ (Contains set s)
+    empty s has = none_there s (subst (λ (x : List ℕ). Contains x s) is has)
+
+    anchored : ¬ (e.mode ≡ No)
+    anchored free =
+        let starts : IsStartRun e ((e.first, i) ∷ []) = (Reaches-start w e i there low high (λ a. absurd (a free))).from_start in
+        empty e.first (row.all ((e.first, i) ∷ []) starts 0 (omega arith) refl (λ j none. absurd (omega (arith, none))))
+
+    none : (j : ℕ) → ¬ (IsMatchEnd e j)
+    none j x = row.none_before j (subst (λ (y : ℕ). y < i) x.ends (below (length x.run - 1) (omega (arith, x.is_match.some)))) x
+      where
+        starts : IsStartRun e x.run
+        starts = start_of e j x
+
+        below : (k : ℕ) → k < length x.run → (place x.run k).1 < i
+        below zero l = ⊎_elim
+            (λ (h : (place x.run 0).1 < i). h)
+            (λ (h : i ≤ (place x.run 0).1). absurd (empty (place x.run 0).0
+            (row.all x.run starts 0 l (omega (arith, h, starts.at_start anchored, low)) (λ n none. absurd (omega (arith, none))))))
+            (cases_lt (place x.run 0).1 i)
+        below (suc k) l =
+            let same : suc k ≡ k + 1 = omega arith in
+            let h : k + 1 < length x.run = omega (arith, l) in
+            let before : (place x.run k).1 < i = below k (omega (arith, h)) in
+            rw same (⊎_elim
+            (λ (less : (place x.run (k + 1)).1 < i). less)
+            (λ (here : i ≤ (place x.run (k + 1)).1). absurd (empty (place x.run (k + 1)).0
+            (row.all x.run starts (k + 1) h (on k h before here) (λ n e. let n_is : n ≡ k = omega (arith, e) in rw n_is before))))
+            (cases_lt (place x.run (k + 1)).1 i))
+          where
+            on : (k : ℕ) → k + 1 < length x.run → (place x.run k).1 < i → i ≤ (place x.run (k + 1)).1 → (place x.run (k + 1)).1 ≡ i
+            on k h before here = ⊎_elim
+                (λ (stays : (place x.run (k + 1)).1 ≡ (place x.run k).1). omega (arith, stays, before, here))
+                (λ (over : ((place x.run (k + 1)).1 ≡ (place x.run k).1 + 1) × ((place x.run k).1 < e.end)). omega (arith, over.0, before, here))
+                (w.position e.states e.terminator e.words e.haystack e.end (place x.run k) (place x.run (k + 1)) (x.is_match.is_run.steps k h))

@@ -17,7 +17,7 @@ both true false t = absurd (true≢false (sym t))
 both false b t = absurd (true≢false (sym t))
 
 -- a byte from a to b is there
-between : (a b : ℕ) (o : Option ℕ) → IsTrue (is_between a b o) → (x : ℕ) × (o ≡ Some x) × (a ≤ x) × (x ≤ b)
+pub between : (a b : ℕ) (o : Option ℕ) → IsTrue (is_between a b o) → (x : ℕ) × (o ≡ Some x) × (a ≤ x) × (x ≤ b)
 between a b None t = absurd (true≢false (sym t))
 between a b (Some x) t =
     let parts = both (nat_le a x) (nat_le x b) t in

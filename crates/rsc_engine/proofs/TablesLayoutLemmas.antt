@@ -1,16 +1,17 @@
 -- What the table of a DFA says is so, and stays so as it grows.
-use Rattle.std.proofs.Common.{◌≡◌, ℕ, zero, suc, ◌+◌, ◌*◌, ◌/◌, ◌%◌, ◌<◌, ◌≤◌, ◌⊎◌, ⊎_elim, inl, inr, Bool, true, false, List, [], ◌∷◌, ◌++◌, length, get_or, set, slice_index_or, refl, sym, ap, ◌∙◌, subst, arith, length-append, slice_get, Option, Some, None, IfSome, IsTrue, true≢false}
+use Rattle.std.proofs.Common.{◌≡◌, ℕ, zero, suc, ◌+◌, ◌*◌, ◌/◌, ◌%◌, ◌<◌, ◌≤◌, ◌⊎◌, ⊎_elim, inl, inr, Bool, true, false, List, [], ◌∷◌, ◌++◌, length, get_or, set, slice_index, slice_index_or, refl, sym, ap, ◌∙◌, subst, arith, length-append, slice_get, Option, Some, None, IfSome, IsTrue, true≢false}
 use Rattle.std.specs.List.{All}
-use Rattle.std.proofs.lemmas.Bool.{cases_eq}
+use Rattle.std.proofs.lemmas.Bool.{cases_eq, cases_lt}
 use Rattle.std.proofs.lemmas.Grind.{get_or-set_at}
 use Rattle.std.proofs.lemmas.Nat.{div-mul-add, mod-mul-add}
 use Rattle.std.proofs.lemmas.List.{get_or-set_other, length-set}
 use Rattle.std.proofs.lemmas.List.Elements.{All-push, All-contains}
-use Rattle.std.proofs.lemmas.Option.{slice_get_within, get_or_from_slice_get}
+use Rattle.std.proofs.lemmas.Option.{slice_get_within, slice_get-get_or, get_or_from_slice_get}
 use Rattle.rsc_alphabet.specs.Partitions.{LastClassIsGreatest}
 use Rattle.rsc_alphabet.specs.Iterators.{symbol_count}
 use Rattle.rsc_look.specs.Holds.{byte_before, byte_after}
 use Rattle.rsc_search.specs.declared.anchored.Anchored.{Anchored}
+use Rattle.rsc_nfa.specs.Classes.{has_unicode}
 use Rattle.rsc_engine.specs.declared.dfa.table.Row.{Row}
 use Rattle.rsc_engine.specs.declared.dfa.entries.Lead.{Lead}
 use Rattle.rsc_engine.specs.declared.dfa.entries.Lead.TheVariants.{Unknown}
@@ -24,7 +25,7 @@ use Rattle.rsc_search.specs.declared.anchored.Anchored.TheVariants.{No, Yes, Pat
 use Rattle.rsc_engine.specs.RowsLayout.{Machine, machine_of, Alike, IsPlainUnit, IsPlan, IsNeverEntered, IsSuccessor, IsNear, IsRowAt, around, middle}
 use Rattle.rsc_engine.specs.TablesLayout.{column, step_of, IsSoundRow, IsRow, IsLed, LeadsTo, IsStepTo, IsBeyond, IsExact, IsGrown, StandsAt}
 use Rattle.rsc_engine.proofs.LawfulLayoutLemmas.{IsNear-from, Alike-self, Alike-trans}
-use Rattle.rsc_engine.proofs.RowsLayoutLemmas.{first_row, match_here, next_row, last_row, none_before_row}
+use Rattle.rsc_engine.proofs.RowsLayoutLemmas.{first_row, match_here, next_row, last_row, no_state_row, none_before_row}
 
 -- ---- rows stay where they are
 
@@ -102,22 +103,22 @@ IsStepTo-alike m classes old new row unit other step a x = record {
 
 -- ---- entries
 
-pub column_below : (classes : List ℕ) (stride : ℕ) (unit : Option ℕ) → stride ≡ symbol_count classes → LastClassIsGreatest classes
-    → IfSome unit (λ b. b < 256) → column classes unit < stride
-column_below classes stride None e rise b = omega (arith, e)
-column_below classes stride (Some u) e rise b = omega (arith, e, rise.within u b)
+pub column_below : (classes : List ℕ) (width : ℕ) (unit : Option ℕ) → width ≡ symbol_count classes → LastClassIsGreatest classes
+    → IfSome unit (λ b. b < 256) → column classes unit < width
+column_below classes width None e bounded b = omega (arith, e)
+column_below classes width (Some u) e bounded b = omega (arith, e, bounded.within u b)
 
 column_alike : (classes : List ℕ) (u v : Option ℕ) → LastClassIsGreatest classes → IfSome u (λ b. b < 256) → IfSome v (λ b. b < 256)
     → column classes u ≡ column classes v → Alike classes u v
-column_alike classes None None rise a b e = tt
-column_alike classes (Some u) (Some v) rise a b e = (a, b, e)
-column_alike classes None (Some v) rise a b e = absurd (omega (arith, e, rise.within v b))
-column_alike classes (Some u) None rise a b e = absurd (omega (arith, e, rise.within u a))
+column_alike classes None None bounded a b e = tt
+column_alike classes (Some u) (Some v) bounded a b e = (a, b, e)
+column_alike classes None (Some v) bounded a b e = absurd (omega (arith, e, bounded.within v b))
+column_alike classes (Some u) None bounded a b e = absurd (omega (arith, e, bounded.within u a))
 
-one_place : (stride k row c d : ℕ) → c < stride → d < stride → k * stride + c ≡ row * stride + d → (k ≡ row) × (c ≡ d)
-one_place stride k row c d l h e = (
-  sym (div-mul-add k stride c l) ∙ ap (λ (x : ℕ). x / stride) e ∙ div-mul-add row stride d h,
-  sym (mod-mul-add k stride c l) ∙ ap (λ (x : ℕ). x % stride) e ∙ mod-mul-add row stride d h,
+one_place : (width k row c d : ℕ) → c < width → d < width → k * width + c ≡ row * width + d → (k ≡ row) × (c ≡ d)
+one_place width k row c d l h e = (
+  sym (div-mul-add k width c l) ∙ ap (λ (x : ℕ). x / width) e ∙ div-mul-add row width d h,
+  sym (mod-mul-add k width c l) ∙ ap (λ (x : ℕ). x % width) e ∙ mod-mul-add row width d h,
 )
 
 map_some : {X : Type 0} → (o : Option X) (P Q : X → Type 0) → ((x : X) → P x → Q x) → IfSome o P → IfSome o Q
@@ -130,47 +131,47 @@ written_so None step P w x = tt
 written_so (Some y) step P (inl e) x = absurd (cc)
 written_so (Some y) step P (inr e) x = let same : step ≡ y = cc in subst P same x
 
-pub IsExact-wider : (m : Machine) (classes : List ℕ) (stride : ℕ) (rows : List Row) (leads wider : List Lead) → IsExact m classes stride rows leads
-    → ((i : ℕ) → slice_index_or wider i Unknown ≡ slice_index_or leads i Unknown) → length leads ≤ length wider → IsExact m classes stride rows wider
-IsExact-wider m classes stride rows leads wider x same longer = record {
+pub IsExact-wider : (m : Machine) (classes : List ℕ) (width : ℕ) (rows : List Row) (leads wider : List Lead) → IsExact m classes width rows leads
+    → ((i : ℕ) → slice_index_or wider i Unknown ≡ slice_index_or leads i Unknown) → length leads ≤ length wider → IsExact m classes width rows wider
+IsExact-wider m classes width rows leads wider x same longer = record {
   sound = x.sound;
   room = omega (arith, x.room, longer);
-  each = λ k unit b. rw (same (k * stride + column classes unit)) (x.each k unit b);
+  each = λ k unit b. rw (same (k * width + column classes unit)) (x.each k unit b);
 }
 
-pub IsExact-push : (m : Machine) (classes : List ℕ) (stride : ℕ) (rows : List Row) (leads : List Lead) (row : Row) → IsExact m classes stride rows leads
-    → IsSoundRow m row → length rows * stride + stride ≤ length leads → IsExact m classes stride (rows ++ row ∷ []) leads
-IsExact-push m classes stride rows leads row x sound room = record {
+pub IsExact-push : (m : Machine) (classes : List ℕ) (width : ℕ) (rows : List Row) (leads : List Lead) (row : Row) → IsExact m classes width rows leads
+    → IsSoundRow m row → length rows * width + width ≤ length leads → IsExact m classes width (rows ++ row ∷ []) leads
+IsExact-push m classes width rows leads row x sound room = record {
   sound = All-push (IsSoundRow m) rows row x.sound sound;
   room = rw (length-append rows (row ∷ [])) (omega (arith, room));
-  each = λ k unit b. map_some (step_of (slice_index_or leads (k * stride + column classes unit) Unknown)) (IsStepTo m classes rows rows k unit)
+  each = λ k unit b. map_some (step_of (slice_index_or leads (k * width + column classes unit) Unknown)) (IsStepTo m classes rows rows k unit)
       (IsStepTo m classes (rows ++ row ∷ []) (rows ++ row ∷ []) k unit)
       (λ step s. IsStepTo-grown m classes rows (rows ++ row ∷ []) k unit step (IsGrown-push rows row) s) (x.each k unit b);
 }
 
-pub IsExact-set : (m : Machine) (classes : List ℕ) (stride : ℕ) (rows : List Row) (leads : List Lead) (row place : ℕ) (unit : Option ℕ) (step : Step)
-    (lead : Lead) → IsExact m classes stride rows leads → stride ≡ symbol_count classes → LastClassIsGreatest classes → IfSome unit (λ b. b < 256)
-    → IsStepTo m classes rows rows row unit step → (step_of lead ≡ None) ⊎ (step_of lead ≡ Some step) → place ≡ row * stride + column classes unit
-    → place < length leads → IsExact m classes stride rows (set leads place lead)
-IsExact-set m classes stride rows leads row place unit step lead x columns rise byte s says at below = record {
+pub IsExact-set : (m : Machine) (classes : List ℕ) (width : ℕ) (rows : List Row) (leads : List Lead) (row place : ℕ) (unit : Option ℕ) (step : Step)
+    (lead : Lead) → IsExact m classes width rows leads → width ≡ symbol_count classes → LastClassIsGreatest classes → IfSome unit (λ b. b < 256)
+    → IsStepTo m classes rows rows row unit step → (step_of lead ≡ None) ⊎ (step_of lead ≡ Some step) → place ≡ row * width + column classes unit
+    → place < length leads → IsExact m classes width rows (set leads place lead)
+IsExact-set m classes width rows leads row place unit step lead x columns bounded byte s says at below = record {
   sound = x.sound;
   room = rw (length-set leads place lead) x.room;
   each = each;
 }
   where
     each : (k : ℕ) (u : Option ℕ) → IfSome u (λ b. b < 256)
-        → IfSome (step_of (get_or (set leads place lead) (k * stride + column classes u) Unknown)) (IsStepTo m classes rows rows k u)
+        → IfSome (step_of (get_or (set leads place lead) (k * width + column classes u) Unknown)) (IsStepTo m classes rows rows k u)
     each k u b = ⊎_elim
-        (λ (same : k * stride + column classes u ≡ place).
-        let one = one_place stride k row (column classes u) (column classes unit) (column_below classes stride u columns rise b)
-        (column_below classes stride unit columns rise byte) (same ∙ at) in
-        rw (get_or-set_at leads place (k * stride + column classes u) lead Unknown same below)
+        (λ (same : k * width + column classes u ≡ place).
+        let one = one_place width k row (column classes u) (column classes unit) (column_below classes width u columns bounded b)
+        (column_below classes width unit columns bounded byte) (same ∙ at) in
+        rw (get_or-set_at leads place (k * width + column classes u) lead Unknown same below)
         (written_so (step_of lead) step (IsStepTo m classes rows rows k u) says
-        (IsStepTo-alike m classes rows rows k u unit step (column_alike classes u unit rise b byte one.1)
+        (IsStepTo-alike m classes rows rows k u unit step (column_alike classes u unit bounded b byte one.1)
         (subst (λ (r : ℕ). IsStepTo m classes rows rows r unit step) (sym one.0) s))))
-        (λ (apart : (k * stride + column classes u ≡ place) → ⊥).
-        rw (get_or-set_other leads place (k * stride + column classes u) lead Unknown apart) (x.each k u b))
-        (cases_eq (k * stride + column classes u) place)
+        (λ (apart : (k * width + column classes u ≡ place) → ⊥).
+        rw (get_or-set_other leads place (k * width + column classes u) lead Unknown apart) (x.each k u b))
+        (cases_eq (k * width + column classes u) place)
 
 -- ---- what is made
 
@@ -208,20 +209,23 @@ sound_at m rows k row all there =
 some_same : {X : Type 0} → (x y : X) → Some x ≡ Some y → x ≡ y
 some_same x y e = cc
 
-plain_alike : (m : Machine) (classes : List ℕ) (stride : ℕ) (unicode : Bool) (p q : Option ℕ) → IsPlan m classes stride unicode
+plain_alike : (m : Machine) (classes : List ℕ) (width : ℕ) (unicode : Bool) (p q : Option ℕ) → IsPlan m classes width unicode
     → Alike classes p q → IsPlainUnit m q → IsPlainUnit m p
-plain_alike m classes stride unicode None None plan a x = x
-plain_alike m classes stride unicode (Some b) (Some c) plan a x = λ is. plan.parted is c b (x is) a.0 (sym a.2)
-plain_alike m classes stride unicode None (Some q) plan a x = absurd a
-plain_alike m classes stride unicode (Some p) None plan a x = absurd a
+plain_alike m classes width unicode None None plan a x = x
+plain_alike m classes width unicode (Some b) (Some c) plan a x = λ is. plan.parted is c b (x is) a.0 (sym a.2)
+plain_alike m classes width unicode None (Some q) plan a x = absurd a
+plain_alike m classes width unicode (Some p) None plan a x = absurd a
+
+plain_byte : (m : Machine) (h : List ℕ) (j : ℕ) → j < length h → has_unicode m.states ≡ true → IsPlainUnit m (slice_get h j) → slice_index h j < 128
+plain_byte m h j l unicode x = subst (λ (u : Option ℕ). IsPlainUnit m u) (slice_get-get_or h j 0 l) x unicode
 
 -- what a search knows throughout
-pub record IsSearched (e : Search) (classes : List ℕ) (stride : ℕ) (unicode : Bool) : Type 0 where
+pub record IsSearched (e : Search) (classes : List ℕ) (width : ℕ) (unicode : Bool) : Type 0 where
   pub laws : Lawful
-  pub plan : IsPlan (machine_of e) classes stride unicode
+  pub plan : IsPlan (machine_of e) classes width unicode
   pub within : e.end ≤ length e.haystack
 
-module _ (e : Search) (classes : List ℕ) (stride : ℕ) (unicode : Bool) (s : IsSearched e classes stride unicode) where
+module _ (e : Search) (classes : List ℕ) (width : ℕ) (unicode : Bool) (s : IsSearched e classes width unicode) where
   leads_here : (old new : List Row) (k i : ℕ) (unit : Option ℕ) (step : Step) (on : StandsAt e classes old k i)
       → (a : IsStepTo (machine_of e) classes old new k unit step) → LeadsTo (machine_of e) classes new on.row a.other step
   leads_here old new k i unit step on a =
@@ -232,9 +236,9 @@ module _ (e : Search) (classes : List ℕ) (stride : ℕ) (unicode : Bool) (s : 
       → IsNear e i (around on.row.before a.other) (middle on.row.before)
   near_on old new k i step sound low on a =
       let before : IsPlainUnit (machine_of e) on.row.before = (sound_at (machine_of e) old k on.row sound on.there).plain in
-      IsNear-from s.laws classes e stride unicode i on.row.before a.other s.plan s.within low on.alike a.alike
-      (plain_alike (machine_of e) classes stride unicode (byte_before e.haystack i) on.row.before s.plan on.alike before)
-      (plain_alike (machine_of e) classes stride unicode (byte_after e.haystack i) a.other s.plan a.alike a.plain)
+      IsNear-from s.laws classes e width unicode i on.row.before a.other s.plan s.within low on.alike a.alike
+      (plain_alike (machine_of e) classes width unicode (byte_before e.haystack i) on.row.before s.plan on.alike before)
+      (plain_alike (machine_of e) classes width unicode (byte_after e.haystack i) a.other s.plan a.alike a.plain)
       before a.plain
 
   pub StandsAt-match : (old new : List Row) (k i : ℕ) → All (IsSoundRow (machine_of e)) old → i ≤ e.end → StandsAt e classes old k i
@@ -269,6 +273,12 @@ module _ (e : Search) (classes : List ℕ) (stride : ℕ) (unicode : Bool) (s : 
         same_mode = led.is_row.same_mode ∙ on.same_mode;
         alike = Alike-trans classes (byte_before e.haystack (i + 1)) a.other led.is_row.to.before
             (subst (λ (j : ℕ). Alike classes (byte_before e.haystack j) a.other) same a.alike) led.is_row.alike;
+        ascii = λ is j from below. ⊎_elim
+            (λ (h : j < i). on.ascii is j from h)
+            (λ (h : i ≤ j). subst (λ (k : ℕ). slice_index e.haystack k < 128) (omega (arith, h, below))
+            (plain_byte (machine_of e) e.haystack i (omega (arith, high, s.within)) is
+            (plain_alike (machine_of e) classes width unicode (byte_after e.haystack i) a.other s.plan a.alike a.plain)))
+            (cases_lt j i);
         is_row = next_row s.laws e i (around on.row.before a.other) (middle on.row.before) on.row.set.items led.is_row.to.set.items on.is_row
             (near_on old new k i (Goes next) sound (omega (arith, high)) on a) s.plan.there
             (λ x has. All-contains (λ y. y < length e.states) led.is_row.to.set.items x states has) low high
@@ -280,15 +290,24 @@ module _ (e : Search) (classes : List ℕ) (stride : ℕ) (unicode : Bool) (s : 
       }
 
   pub StandsAt-first : (rows : List Row) (k i : ℕ) (before : Option ℕ) (set : List ℕ) → e.start ≤ e.end → before ≡ byte_before e.haystack i → i ≡ e.start
-      → set ≡ e.first ∷ [] → IsRow classes rows k e.mode before set → StandsAt e classes rows k i
-  StandsAt-first rows k i before set order is at alone r = record {
+      → set ≡ e.first ∷ [] → IsPlainUnit (machine_of e) before → IsRow classes rows k e.mode before set → StandsAt e classes rows k i
+  StandsAt-first rows k i before set order is at alone plain r = record {
     row = r.to;
     there = r.there;
     same_mode = r.same_mode;
     alike = subst (λ (b : Option ℕ). Alike classes b r.to.before) is r.alike;
+    ascii = λ has j from below.
+        let same : i ≡ suc j = omega (arith, from, below, at) in
+        plain_byte (machine_of e) e.haystack j (omega (arith, below, at, order, s.within)) has
+        (subst (λ (k : ℕ). IsPlainUnit (machine_of e) (byte_before e.haystack k)) same
+        (subst (λ (b : Option ℕ). IsPlainUnit (machine_of e) b) is plain));
     is_row = subst (λ (x : List ℕ). IsRowAt e i x) (sym (r.is_set ∙ alone))
         (subst (λ (j : ℕ). IsRowAt e j (e.first ∷ [])) (sym at) (first_row s.laws e s.plan.there order));
   }
+
+  pub StandsAt-none : (rows : List Row) (k i : ℕ) → e.start ≤ i → i ≤ e.end → StandsAt e classes rows k i
+      → ((row : Row) → slice_get rows k ≡ Some row → row.set.items ≡ []) → HasNone e
+  StandsAt-none rows k i low high on empty = no_state_row s.laws e i on.row.set.items on.is_row (empty on.row on.there) s.plan.there low high
 
 -- the row of the position is there
 pub StandsAt-within : (e : Search) (classes : List ℕ) (rows : List Row) (k i : ℕ) → StandsAt e classes rows k i → k < length rows
@@ -296,10 +315,13 @@ StandsAt-within e classes rows k i on = slice_get_within rows k on.row on.there
 
 -- ---- where a search quits
 
-pub quit_here : (e : Search) (classes : List ℕ) (rows : List Row) (k i : ℕ) → StandsAt e classes rows k i
+pub quit_here : (e : Search) (classes : List ℕ) (rows : List Row) (k i : ℕ) → e.start ≤ i → i ≤ e.end → StandsAt e classes rows k i
     → IsBeyond (machine_of e) (byte_after e.haystack i) → IsQuit e i
-quit_here e classes rows k i on x = record {
+quit_here e classes rows k i low high on x = record {
   unicode = x.unicode;
+  low = omega (arith, low);
+  high = high;
+  ascii = on.ascii x.unicode;
   within = slice_get_within e.haystack i x.byte x.is_byte;
   beyond = subst (λ (b : ℕ). 128 ≤ b) (sym (get_or_from_slice_get e.haystack i x.byte 0 x.is_byte)) x.beyond;
   none_before = on.is_row.none_before;

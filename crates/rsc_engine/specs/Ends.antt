@@ -1,5 +1,5 @@
 -- Where matches end, and what a DFA answers.
-use Rattle.std.specs.Prelude.{◌≡◌, ℕ, ◌-◌, ◌<◌, ◌≤◌, true, List, length, slice_index}
+use Rattle.std.specs.Prelude.{◌≡◌, ℕ, ◌+◌, ◌-◌, ◌<◌, ◌≤◌, true, List, length, slice_index}
 use Rattle.rsc_nfa.specs.Classes.{has_unicode}
 use Rattle.rsc_nfa.specs.Steps.{place}
 use Rattle.rsc_engine.specs.Searches.{Search}
@@ -21,11 +21,19 @@ pub record IsEarliestEnd (e : Search) (i : ℕ) : Type 0 where
   pub ends : IsMatchEnd e i
   pub none_before : (j : ℕ) → j < i → ¬ (IsMatchEnd e j)
 
--- an assertion looks at characters, the byte at the position is above 7F, and no match ends earlier
+-- the bytes before the position are below 128, from the one directly before the span on
+abbrev pub AreAsciiTo : Search → ℕ → Type 0
+AreAsciiTo e i = (j : ℕ) → e.start ≤ j + 1 → j < i → slice_index e.haystack j < 128
+
+-- an assertion looks at characters, the byte at the position is the first one above 7F from directly before the span to directly after it, and no
+-- match ends earlier
 pub record IsQuit (e : Search) (i : ℕ) : Type 0 where
   pub unicode : has_unicode e.states ≡ true
+  pub low : e.start ≤ i + 1
+  pub high : i ≤ e.end
   pub within : i < length e.haystack
   pub beyond : 128 ≤ slice_index e.haystack i
+  pub ascii : AreAsciiTo e i
   pub none_before : (j : ℕ) → j < i → ¬ (IsMatchEnd e j)
 
 -- the leftmost-first match ends at the position

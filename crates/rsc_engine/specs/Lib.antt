@@ -1,4 +1,5 @@
 pub mod Searches  -- a program, and what a search is over
+pub mod Refusals  -- why there is no automaton
 pub mod Runs  -- runs that are matches
 pub mod GroupsLayout  -- the match that a run makes
 pub mod StartsLayout  -- the bytes with which a match may begin
@@ -13,5 +14,6 @@ pub mod LinksLayout  -- how the states of a part lead on
 pub mod BeginsLayout  -- at which state the matches of a pattern, or of several, begin
 pub mod Ends  -- where matches end, and what a DFA answers
 pub mod RowsLayout  -- the rows of a DFA, and where a byte leads from one
+pub mod NeededLayout  -- two bytes that stand side by side in every match
 pub mod TablesLayout  -- the table of a DFA
 pub mod LawfulLayout  -- the laws of steps and runs that the proof of `dfa` rests on, as one record: each is a law of a library below

@@ -1,13 +1,13 @@
 -- How the states of a part lead on.
-use Rattle.std.specs.Prelude.{◌≡◌, ◌↔◌, ℕ, zero, suc, ◌+◌, ◌<◌, ◌≤◌, ◌⊎◌, List, [], ◌∷◌, ◌++◌, length, slice_get, Option, Some, None}
+use Rattle.std.specs.Prelude.{◌≡◌, ℕ, zero, suc, ◌<◌, ◌≤◌, ◌⊎◌, List, [], ◌∷◌, ◌++◌, length, slice_get, Some}
 use Rattle.rsc_nfa.specs.declared.state.State.{State}
 use Rattle.rsc_nfa.specs.declared.state.State.TheVariants.{Fork, Accept}
 use Rattle.rsc_nfa.specs.Steps.{IsStep}
-use Rattle.rsc_engine.specs.Patterns.{Pattern, Empty, Then, Either, Text, Goes}
+use Rattle.rsc_engine.specs.Patterns.{Pattern, Empty, Then, Either, Subject, Goes}
 
 -- a match that is looked for: in a text up to an end, of a pattern, to a position
 pub record Aim : Type 0 where
-  pub text : Text
+  pub text : Subject
   pub end : ℕ
   pub pattern : ℕ
   pub position : ℕ

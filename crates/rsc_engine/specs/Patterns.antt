@@ -1,12 +1,12 @@
 -- What a pattern matches, and which programs match it.
-use Rattle.std.specs.Prelude.{◌≡◌, ◌↔◌, ℕ, zero, suc, ◌+◌, ◌≤◌, ◌⊎◌, Bool, true, IsTrue, List, [], ◌∷◌, length, slice_get, Option, Some, None}
+use Rattle.std.specs.Prelude.{◌≡◌, ◌↔◌, ℕ, zero, suc, ◌+◌, ◌≤◌, ◌⊎◌, Bool, true, IsTrue, List, [], ◌∷◌, slice_get, Option, Some, None}
 use Rattle.std.specs.List.{list_any}
 use Rattle.rsc_look.specs.declared.assertion.Look.{Look}
 use Rattle.rsc_look.specs.Holds.{Holds}
 use Rattle.rsc_search.specs.Inputs.{InputParts}
 use Rattle.rsc_search.specs.Matches.{Matched}
 use Rattle.rsc_search.specs.Modes.{pattern_of_mode}
-use Rattle.rsc_nfa.specs.Steps.{is_between, place}
+use Rattle.rsc_nfa.specs.Steps.{is_between}
 use Rattle.rsc_engine.specs.Searches.{Compiled, Search, search_in}
 use Rattle.rsc_engine.specs.Runs.{IsMatchRun, IsMatchOf, is_wanted}
 
@@ -34,7 +34,7 @@ in_order [] = Empty
 in_order (p ∷ rest) = Then p (in_order rest)
 
 -- a haystack, and what assertions ask besides: the line terminator and the word characters
-pub record Text : Type 0 where
+pub record Subject : Type 0 where
   pub haystack : List ℕ
   pub terminator : ℕ
   pub words : ℕ → Bool
@@ -55,7 +55,7 @@ IsAtMost min None n = Unit {0}
 IsAtMost min (Some max) n = (n ≤ max) ⊎ (n ≤ min)
 
 -- the pattern goes from the position i to j
-abbrev pub Goes : Text → Pattern → ℕ → ℕ → Type 0
+abbrev pub Goes : Subject → Pattern → ℕ → ℕ → Type 0
 Goes x Empty i j = i ≡ j
 Goes x Never i j = ⊥
 Goes x (Class ranges) i j = IsTrue (list_any (λ r. is_between r.0 r.1 (slice_get x.haystack i)) ranges) × (j ≡ i + 1)
@@ -65,9 +65,9 @@ Goes x (Then a b) i j = (k : ℕ) × Goes x a i k × Goes x b k j
 Goes x (Either a b) i j = Goes x a i j ⊎ Goes x b i j
 Goes x (Repeat min max a) i j = (n : ℕ) × (min ≤ n) × IsAtMost min max n × Times (Goes x a) n i j
 
--- the text of a search
-abbrev pub text_of : Search → Text
-text_of e = record { haystack = e.haystack; terminator = e.terminator; words = e.words }
+-- the subject of a search
+abbrev pub subject_of : Search → Subject
+subject_of e = record { haystack = e.haystack; terminator = e.terminator; words = e.words }
 
 -- the match is in the search's span, of a pattern that may match, and that pattern goes from its start to its end
 pub record IsMatchIn (patterns : List Pattern) (e : Search) (found : Matched) : Type 0 where
@@ -76,7 +76,7 @@ pub record IsMatchIn (patterns : List Pattern) (e : Search) (found : Matched) : 
   pub wanted : is_wanted (pattern_of_mode e.mode) found.pattern ≡ true
   pub start : e.start ≤ found.span.start
   pub end : found.span.end ≤ e.end
-  pub goes : Goes (text_of e) pattern found.span.start found.span.end
+  pub goes : Goes (subject_of e) pattern found.span.start found.span.end
 
 -- some run from the state at which matches begin makes the match
 pub record HasRunOf (e : Search) (found : Matched) : Type 0 where

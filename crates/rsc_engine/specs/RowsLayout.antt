@@ -156,7 +156,7 @@ abbrev pub IsPlainUnit : Machine → Option ℕ → Type 0
 IsPlainUnit m unit = has_unicode m.states ≡ true → IfSome unit (λ b. b < 128)
 
 -- what a DFA is made from: the classes keep runs, and if an assertion looks at characters, no class has bytes on both sides of 128
-pub record IsPlan (m : Machine) (classes : List ℕ) (stride : ℕ) (unicode : Bool) : Type 0 where
+pub record IsPlan (m : Machine) (classes : List ℕ) (width : ℕ) (unicode : Bool) : Type 0 where
   pub groups : GroupLists
   pub faultless : AreFaultless groups m.states
   pub there : m.first < length m.states
@@ -164,5 +164,5 @@ pub record IsPlan (m : Machine) (classes : List ℕ) (stride : ℕ) (unicode : B
   pub keeps : KeepsRuns classes m.states m.terminator m.words
   pub agreed : AgreesWithAscii m.words
   pub parted : has_unicode m.states ≡ true → (b c : ℕ) → b < 128 → c < 256 → slice_index classes b ≡ slice_index classes c → c < 128
-  pub columns : stride ≡ symbol_count classes
-  pub rise : LastClassIsGreatest classes
+  pub columns : width ≡ symbol_count classes
+  pub bounded : LastClassIsGreatest classes

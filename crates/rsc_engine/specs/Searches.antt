@@ -7,7 +7,7 @@ use Rattle.rsc_nfa.specs.Automata.{Automaton}
 use Rattle.rsc_nfa.specs.declared.state.State.{State}
 use Rattle.rsc_nfa.specs.declared.state.State.TheVariants.{ByteRange, Assert, Fork, Capture, Accept}
 
--- an automaton, the state at which each match begins, and whether haystacks are text, so that no empty match is within a character
+-- an automaton, the state at which each match begins, and whether haystacks are text, so that an iteration leaves out empty matches within a character
 pub record Compiled (W : Type 0) : Type 0 where
   pub automaton : Automaton W
   pub start : ℕ

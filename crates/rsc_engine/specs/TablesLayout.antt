@@ -6,10 +6,11 @@ use Rattle.rsc_look.specs.Holds.{byte_before}
 use Rattle.rsc_nfa.specs.Classes.{has_unicode}
 use Rattle.rsc_engine.specs.declared.dfa.table.Row.{Row}
 use Rattle.rsc_engine.specs.declared.dfa.entries.Lead.{Lead}
-use Rattle.rsc_engine.specs.declared.dfa.entries.Lead.TheVariants.{Unknown, Match, To}
+use Rattle.rsc_engine.specs.declared.dfa.entries.Lead.TheVariants.{Unknown, Match, To, Last}
 use Rattle.rsc_engine.specs.declared.dfa.entries.Step.{Step}
 use Rattle.rsc_engine.specs.declared.dfa.entries.Step.TheVariants.{Matches, Goes, Quits}
 use Rattle.rsc_engine.specs.Searches.{Search}
+use Rattle.rsc_engine.specs.Ends.{AreAsciiTo}
 use Rattle.rsc_engine.specs.RowsLayout.{Machine, Alike, AreStates, IsPlainUnit, IsSuccessor, IsRowAt, around, middle}
 
 -- the column of a byte, or of the end of the input
@@ -22,6 +23,7 @@ abbrev pub step_of : Lead → Option Step
 step_of Unknown = None
 step_of Match = Some Matches
 step_of (To row) = Some (Goes row)
+step_of (Last row) = Some (Goes row)
 
 -- the row is of states
 pub record IsSoundRow (m : Machine) (row : Row) : Type 0 where
@@ -71,20 +73,21 @@ IsMade m classes old new row unit (Goes next) = IsStepTo m classes old new row u
 IsMade m classes old new row unit Quits = IsBeyond m unit
 
 -- each row is of states, and each entry says what is so
-pub record IsExact (m : Machine) (classes : List ℕ) (stride : ℕ) (rows : List Row) (leads : List Lead) : Type 0 where
+pub record IsExact (m : Machine) (classes : List ℕ) (width : ℕ) (rows : List Row) (leads : List Lead) : Type 0 where
   pub sound : All (IsSoundRow m) rows
-  pub room : length rows * stride ≤ length leads
+  pub room : length rows * width ≤ length leads
   pub each : (k : ℕ) (unit : Option ℕ) → IfSome unit (λ b. b < 256)
-      → IfSome (step_of (slice_index_or leads (k * stride + column classes unit) Unknown)) (IsStepTo m classes rows rows k unit)
+      → IfSome (step_of (slice_index_or leads (k * width + column classes unit) Unknown)) (IsStepTo m classes rows rows k unit)
 
 -- each row is where it was
 pub record IsGrown (old new : List Row) : Type 0 where
   pub kept : (k : ℕ) (row : Row) → slice_get old k ≡ Some row → slice_get new k ≡ Some row
 
--- the row is that of the position
+-- the row is that of the position, and no byte up to there makes the search quit
 pub record StandsAt (e : Search) (classes : List ℕ) (rows : List Row) (k i : ℕ) : Type 0 where
   pub row : Row
   pub there : slice_get rows k ≡ Some row
   pub same_mode : row.mode ≡ e.mode
   pub alike : Alike classes (byte_before e.haystack i) row.before
+  pub ascii : has_unicode e.states ≡ true → AreAsciiTo e i
   pub is_row : IsRowAt e i row.set.items

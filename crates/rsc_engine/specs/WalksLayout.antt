@@ -68,9 +68,12 @@ StandsAfter e from p seen run others Accepts = IsPreferred e from run
 
 -- ---- the flags of places, those of the last position first, so that they stay where they are as a search's start moves on
 
--- a flag for each state and each position of the span
+-- that many are enough for a flag for each state and each position of the span
+abbrev pub AreEnough : Search → ℕ → Type 0
+AreEnough e n = (e.end + 1 - e.start) * length e.states ≤ n
+
 abbrev pub HasFlags : Search → List Bool → Type 0
-HasFlags e flags = (e.end + 1 - e.start) * length e.states ≤ length flags
+HasFlags e flags = AreEnough e (length flags)
 
 -- the number of a place
 abbrev pub number_in : Search → ℕ × ℕ → ℕ

@@ -4,12 +4,12 @@ ghost use Rattle.rsc_nfa.specs.Steps.{place};
 ghost use Rattle.rsc_search.specs.declared.anchored.Anchored.TheVariants.{No};
 ghost use Rattle.rsc_engine.specs.declared.error.Error.TheVariants.{OutOfMemory};
 ghost use Rattle.rsc_engine.specs.declared.moves.Move.TheVariants.{Accepts};
-ghost use Rattle.rsc_engine.specs.Searches.{search_in};
+ghost use Rattle.rsc_engine.specs.Searches.{Search, search_in};
 ghost use Rattle.rsc_engine.specs.Runs.{HasNoMatch};
 ghost use Rattle.rsc_engine.specs.Ends.{BeginsFrom};
 ghost use Rattle.rsc_engine.specs.StartsLayout.{AreStarts};
 ghost use Rattle.rsc_engine.specs.Preferred.{IsPreferred, IsLeftmostFirst, HasNone};
-ghost use Rattle.rsc_engine.specs.WalksLayout.{HasFlags, IsTrail, IsOnward, IsClosed, IsClosedFrom, IsExplored, is_flagged, StandsAfter, IsLess, left_to_do};
+ghost use Rattle.rsc_engine.specs.WalksLayout.{AreEnough, HasFlags, IsTrail, IsOnward, IsClosed, IsClosedFrom, IsExplored, is_flagged, StandsAfter, IsLess, left_to_do};
 
 use crate::flags::Flags;
 use crate::moves::{Move, move_of, other_way};
@@ -34,26 +34,31 @@ pub struct Walk {
 }
 
 impl Walk {
-    /// A walk that has visited nothing.
-    pub fn new<W: WordClass>(
-        alloc: Global,
-        program: &Program<W>,
-        input: &Input<'_>,
-    ) -> Result<Walk, Error>
-        ensures room { IfOk result (λ walk. HasFlags (search_in W.word_chars program.now input.now) walk.visited) }
-        ensures closed { IfOk result (λ walk. IsClosed (search_in W.word_chars program.now input.now)
-            (is_flagged (search_in W.word_chars program.now input.now) walk.visited)) }
+    /// A walk that has visited nothing. It has no flags yet.
+    pub fn new(alloc: Global, start: StateID) -> Walk
+        ensures { (e : Search) → IsClosed e (is_flagged e result.visited) }
     {
-        let positions = input.end() + 1 - input.start();
-        let Some(places) = positions.checked_mul(program.len()) else {
-            return Err(Error::TooLarge);
-        };
-        Ok(Walk {
-            from: (program.start(), 0),
+        Walk {
+            from: (start, 0),
             run: Vec::new(alloc),
             others: Vec::new(alloc),
-            visited: Flags::new(alloc, places)?,
-        })
+            visited: Flags::none(alloc),
+        }
+    }
+
+    /// Makes that many flags, unless it has as many.
+    pub fn open(&mut self, alloc: Global, places: usize) -> Result<(), Error>
+        ensures room { OnOk result (length self.new.visited ≡ places) }
+        ensures closed { (e : Search) → IsClosed e (is_flagged e self.old.visited) → IsClosed e (is_flagged e self.new.visited) }
+        ensures forgets { IfErr result (λ e. (n : ℕ) → slice_index_or self.new.visited n false ≡ false) }
+        ensures memory { IfErr result (λ e. e ≡ OutOfMemory) }
+    {
+        let len = self.visited.len();
+        if len != places {
+            self.visited.clear(0, len);
+            self.visited = Flags::new(alloc, places)?;
+        }
+        Ok(())
     }
 
     /// Whether a match begins in the input's span, in which none does before a position. If so, the walk has its run.
@@ -296,11 +301,27 @@ pub fn first_run<W: WordClass>(
     ensures none { IfOk result (λ found. IfNone found (HasNone (search_in W.word_chars program.now input.now))) }
 {
     let starts = Starts::new(alloc, program)?;
-    let mut walk = Walk::new(alloc, program, input)?;
+    let mut walk = Walk::new(alloc, program.start());
+    walk.open(alloc, place_count(program, input)?)?;
     if !walk.search(program, input, &starts, from)? {
         return Ok(None);
     }
     Ok(Some(walk))
+}
+
+/// How many flags a walk needs.
+///
+/// # Errors
+///
+/// `TooLarge` where the span has too many positions for the number of states.
+pub fn place_count<W: WordClass>(program: &Program<W>, input: &Input<'_>) -> Result<usize, Error>
+    ensures { IfOk result (AreEnough (search_in W.word_chars program.now input.now)) }
+{
+    let positions = input.end() + 1 - input.start();
+    match positions.checked_mul(program.len()) {
+        Some(places) => Ok(places),
+        None => Err(Error::TooLarge),
+    }
 }
 
 // The last position at which a match may begin.

@@ -88,7 +88,7 @@ impl<'n> Builder<'n> {
         self.leaf(Tree::Assertion(look), true)
     }
 
-    /// No byte.
+    /// The empty string, which is at each position.
     pub fn empty(&self) -> Part<'n>
         ensures { pattern_of result ≡ Empty }
     {

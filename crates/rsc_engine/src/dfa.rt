@@ -11,6 +11,7 @@ ghost use Rattle.rsc_engine.specs.TablesLayout.{IsExact};
 
 mod entries;
 mod lawful;
+mod needed;
 mod plan;
 mod successor;
 mod table;
@@ -19,6 +20,7 @@ use crate::backtrack::first_run;
 use crate::{AsciiWords, Error, Program, iterate};
 use entries::Step;
 use lawful::steps_are_lawful;
+use needed::Needed;
 use plan::{Plan, after_of, before_of};
 use rsc_captures::Captures;
 use rsc_look::WordClass;
@@ -28,6 +30,9 @@ use std::alloc::Global;
 use std::marker::Model;
 use table::Table;
 
+// An input of fewer bytes is not looked through for what each match has.
+const LONG: usize = 4096;
+
 /// Where the first match to end ends.
 #[derive(Clone, Copy, Debug, PartialEq, Eq)]
 pub enum Answer {
@@ -35,7 +40,8 @@ pub enum Answer {
     End(usize),
     /// No match begins where one may.
     NoMatch,
-    /// The search has not gone past the position: an assertion looks at characters, and the byte there isn't ASCII. No match ends earlier.
+    /// The search has not gone past the position: an assertion looks at characters, and the byte there is the first one that isn't ASCII, from
+    /// the one directly before the span to the one directly after it. No match ends earlier.
     Quit(usize),
 }
 
@@ -48,11 +54,15 @@ pub struct Dfa<'p, W: WordClass> {
     alloc: Global,
     plan: Plan<'p, W>,
     table: Table,
+    // What each match has, if that is known, and whether it was looked for.
+    needed: Option<Needed>,
+    is_sought: bool,
 }
 
 impl<'p, W: WordClass> Model for Dfa<'p, W> {
     ghost use Rattle.rsc_engine.specs.Searches.{Compiled};
-    ghost use Rattle.std.specs.Prelude.{◌≡◌, true};
+    ghost use Rattle.std.specs.Prelude.{◌≡◌, true, IfSome};
+    ghost use Rattle.rsc_engine.specs.NeededLayout.{IsNeeded};
     ghost use Rattle.rsc_engine.specs.RowsLayout.{machine, IsPlan, IsNeverEntered};
     ghost use Rattle.rsc_engine.specs.TablesLayout.{IsExact};
 
@@ -60,9 +70,10 @@ impl<'p, W: WordClass> Model for Dfa<'p, W> {
 
     ghost view = { λ d. d.plan.program.now };
 
-    ghost invariant = { λ d. IsPlan (machine W.word_chars d.plan.program.now) d.plan.classes d.plan.stride d.plan.unicode
+    ghost invariant = { λ d. IsPlan (machine W.word_chars d.plan.program.now) d.plan.classes d.plan.width d.plan.unicode
         × (d.plan.once ≡ true → IsNeverEntered (machine W.word_chars d.plan.program.now))
-        × IsExact (machine W.word_chars d.plan.program.now) d.plan.classes d.plan.stride d.table.rows.items d.table.leads.items };
+        × IsExact (machine W.word_chars d.plan.program.now) d.plan.classes d.plan.width d.table.rows.items d.table.leads.items
+        × IfSome d.needed (λ n. IsNeeded (machine W.word_chars d.plan.program.now) n.first n.second) };
 }
 
 impl<'p, W: WordClass + AsciiWords> Dfa<'p, W> {
@@ -75,7 +86,34 @@ impl<'p, W: WordClass + AsciiWords> Dfa<'p, W> {
             alloc,
             plan: Plan::new(program, most_rows),
             table: Table::new(alloc),
+            needed: None,
+            is_sought: false,
         }
+    }
+
+    // Looks for what each match has, once.
+    fn seek(&mut self)
+        ensures { self.new ≡ self.old }
+    {
+        if !self.is_sought {
+            self.is_sought = true;
+            self.needed = Needed::of(self.plan.program);
+        }
+    }
+
+    // Whether the input lacks what each match has. Only a long one is looked through, and none that is anchored, whose match may end soon.
+    fn lacks_needed(&mut self, input: &Input<'_>) -> bool
+        ensures program { self.new ≡ self.old }
+        ensures none { result ≡ true → HasNone (search_in W.word_chars self.old input.now) }
+    {
+        if input.get_anchored().is_anchored() || input.end().saturating_sub(input.start()) < LONG {
+            return false;
+        }
+        self.seek();
+        let Some(needed) = self.needed else {
+            return false;
+        };
+        needed.are_missing(self.plan.program, input)
     }
 
     /// The least position at which a match ends that begins where one may, in the span of the input.
@@ -88,6 +126,9 @@ impl<'p, W: WordClass + AsciiWords> Dfa<'p, W> {
         ensures answer { IfOk result (IsAnswer (search_in W.word_chars self.old input.now)) }
         ensures memory { IfErr result (λ e. e ≡ OutOfMemory) }
     {
+        if self.lacks_needed(input) {
+            return Ok(Answer::NoMatch);
+        }
         Ok(search(self.alloc, &self.plan, &mut self.table, input, false)?.0)
     }
 
@@ -102,6 +143,9 @@ impl<'p, W: WordClass + AsciiWords> Dfa<'p, W> {
         ensures none { IfOk result (λ found. IfNone found (HasNone (search_in W.word_chars self.old input.now))) }
         ensures begin { IfOk result (λ found. IfSome found (BeginsFrom (search_in W.word_chars self.old input.now))) }
     {
+        if self.lacks_needed(input) {
+            return Ok(None);
+        }
         let (answer, begin) = search(self.alloc, &self.plan, &mut self.table, input, true)?;
         if let Answer::NoMatch = answer {
             return Ok(None);
@@ -210,7 +254,7 @@ fn is_match_by_walk<W: WordClass>(
     Ok(true)
 }
 
-// The same, over a table, and a position before which no match begins: as late as the rows tell, if it's wanted.
+// The answer of `earliest_end` by a table, and a position before which no match begins: as late as the rows tell, if it's wanted.
 fn search<W: WordClass>(
     alloc: Global,
     plan: &Plan<'_, W>,
@@ -219,9 +263,9 @@ fn search<W: WordClass>(
     is_wanted: bool,
 ) -> Result<(Answer, usize), Error>
     requires once { plan.now.once ≡ true → IsNeverEntered (machine W.word_chars plan.now.program.now) }
-    requires plan { IsPlan (machine W.word_chars plan.now.program.now) plan.now.classes plan.now.stride plan.now.unicode }
-    requires exact { IsExact (machine W.word_chars plan.now.program.now) plan.now.classes plan.now.stride table.old.rows.items table.old.leads.items }
-    ensures exact { IsExact (machine W.word_chars plan.now.program.now) plan.now.classes plan.now.stride table.new.rows.items table.new.leads.items }
+    requires plan { IsPlan (machine W.word_chars plan.now.program.now) plan.now.classes plan.now.width plan.now.unicode }
+    requires exact { IsExact (machine W.word_chars plan.now.program.now) plan.now.classes plan.now.width table.old.rows.items table.old.leads.items }
+    ensures exact { IsExact (machine W.word_chars plan.now.program.now) plan.now.classes plan.now.width table.new.rows.items table.new.leads.items }
     ensures answer { IfOk result (λ r. IsAnswer (search_in W.word_chars plan.now.program.now input.now) r.0) }
     ensures begin { IfOk result (λ r. BeginsFrom (search_in W.word_chars plan.now.program.now input.now) r.1) }
     ensures memory { IfErr result (λ e. e ≡ OutOfMemory) }
@@ -252,6 +296,9 @@ fn search<W: WordClass>(
             Step::Quits => return Ok((Answer::Quit(position), from)),
             Step::Goes(next) => {
                 if position == end {
+                    return Ok((Answer::NoMatch, from));
+                }
+                if table.has_no_state(next) {
                     return Ok((Answer::NoMatch, from));
                 }
                 begin = from;

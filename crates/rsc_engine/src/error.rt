@@ -1,6 +1,7 @@
 //! Why there is no program, or no answer.
-ghost use Rattle.std.specs.Prelude.{◌≡◌};
+ghost use Rattle.std.specs.Prelude.{◌≡◌, if◌then◌else◌};
 ghost use Rattle.rsc_engine.specs.declared.error.Error.TheVariants.{OutOfMemory, Faulty};
+ghost use Rattle.rsc_engine.specs.Refusals.{is_out_of_memory};
 
 use rsc_nfa::BuildError;
 use std::alloc::{AllocError, AllocFailed};
@@ -52,9 +53,12 @@ impl<T: Drop> From<AllocFailed<T>> for Error {
 }
 
 impl From<BuildError> for Error {
-    ghost from_gives = { λ _ e. e ≡ Faulty };
+    ghost from_gives = { λ fault e. e ≡ (if is_out_of_memory fault then OutOfMemory else Faulty) };
 
-    fn from(_fault: BuildError) -> Error {
-        Error::Faulty
+    fn from(fault: BuildError) -> Error {
+        match fault {
+            BuildError::OutOfMemory => Error::OutOfMemory,
+            _ => Error::Faulty,
+        }
     }
 }

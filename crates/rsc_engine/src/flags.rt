@@ -1,6 +1,7 @@
 //! A list of flags, 64 to a block.
-ghost use Rattle.std.specs.Prelude.{◌≡◌, ◌≢◌, ◌+◌, ◌<◌, ◌≤◌, ◌==◌, ℕ, IfOk, false, true, length, replicate, slice_index_or, slice_set};
+ghost use Rattle.std.specs.Prelude.{◌≡◌, ◌≢◌, ◌+◌, ◌<◌, ◌≤◌, ◌==◌, ℕ, [], IfOk, IfErr, false, true, length, replicate, slice_index_or, slice_set};
 ghost use Rattle.std.specs.Int.{bit_at};
+ghost use Rattle.rsc_engine.specs.declared.error.Error.TheVariants.{OutOfMemory};
 
 use crate::Error;
 use std::alloc::Global;
@@ -27,10 +28,21 @@ impl Model for Flags {
 }
 
 impl Flags {
+    /// No flags.
+    pub fn none(alloc: Global) -> Flags
+        ensures { result ≡ [] }
+    {
+        Flags {
+            blocks: Vec::new(alloc),
+            count: 0,
+        }
+    }
+
     /// That many flags, none of them set.
     pub fn new(alloc: Global, count: usize) -> Result<Flags, Error>
         ensures length { IfOk result (λ flags. length flags ≡ count) }
         ensures none { IfOk result (λ flags. (n : ℕ) → slice_index_or flags n false ≡ false) }
+        ensures memory { IfErr result (λ e. e ≡ OutOfMemory) }
     {
         Ok(Flags {
             blocks: no_blocks(alloc, count.div_ceil(BITS))?,
@@ -81,7 +93,8 @@ impl Flags {
 
 // That many blocks of zero.
 fn no_blocks(alloc: Global, count: usize) -> Result<Vec<u64>, Error>
-    ensures { IfOk result (λ blocks. blocks.items ≡ replicate count 0) }
+    ensures blocks { IfOk result (λ blocks. blocks.items ≡ replicate count 0) }
+    ensures memory { IfErr result (λ e. e ≡ OutOfMemory) }
 {
     Ok(vec![in alloc; 0; count]?)
 }

@@ -11,9 +11,9 @@ ghost use Rattle.rsc_engine.specs.Preferred.{IsLeftmostFirst, IsFirstMatch, IsOf
 ghost use Rattle.rsc_engine.specs.NextMatches.{IsNext, IsOver, IsNextMatch, from_start};
 ghost use Rattle.rsc_engine.specs.Ends.{BeginsFrom};
 ghost use Rattle.rsc_engine.specs.StartsLayout.{AreStarts};
-ghost use Rattle.rsc_engine.specs.WalksLayout.{HasFlags, IsClosed, is_flagged};
+ghost use Rattle.rsc_engine.specs.WalksLayout.{AreEnough, IsClosed, is_flagged};
 
-use crate::backtrack::{Walk, first_run};
+use crate::backtrack::{Walk, first_run, place_count};
 use crate::groups::write_match;
 use crate::starts::Starts;
 use crate::{AsciiWords, Dfa, Error, Program};
@@ -104,15 +104,18 @@ impl<'p, 'h, W: WordClass + AsciiWords> Matches<'p, 'h, W> {
         ensures { IfOk result (λ m. m ≡ record { program = program.now; input = input.entry; last = None }) }
     {
         let starts = Starts::new(alloc, program)?;
-        let walk = Walk::new(alloc, program, &input)?;
+        let places = place_count(program, &input)?;
+        let walk = Walk::new(alloc, program.start());
         Ok(Matches {
             rest: Rest {
+                alloc,
                 program,
                 input,
                 starts,
                 dfa: Dfa::new(alloc, program, MOST_ROWS),
                 is_far: true,
                 walk,
+                places,
                 last_end: None,
             },
         })
@@ -145,15 +148,18 @@ impl<'p, 'h, W: WordClass + AsciiWords> Matches<'p, 'h, W> {
 // What is left of an iteration.
 #[derive(Drop)]
 struct Rest<'p, 'h, W: WordClass> {
+    alloc: Global,
     program: &'p Program<W>,
     input: Input<'h>,
     starts: Starts,
     dfa: Dfa<'p, W>,
     // Whether the last match began far from where it was looked for.
     is_far: bool,
+    // It has no flags before it is first needed, and then that many.
     walk: Walk,
+    places: usize,
     last_end: Option<usize>,
-    ghost room: { HasFlags (search_in W.word_chars program.now input) walk.visited },
+    ghost enough: { AreEnough (search_in W.word_chars program.now input) places },
     ghost closed: { IsClosed (search_in W.word_chars program.now input) (is_flagged (search_in W.word_chars program.now input) walk.visited) },
     ghost table: { dfa ≡ program.now },
     ghost begins: { starts.known ≡ true → AreStarts program.now.automaton.states program.now.start starts.marks.items starts.bytes.items },
@@ -220,7 +226,7 @@ impl<'p, 'h, W: WordClass + AsciiWords> Rest<'p, 'h, W> {
         ensures over { IfOk result (λ found. IfNone found (self.new.input ≡ self.old.input)) }
         ensures kept { OnErr result (self.new.input ≡ self.old.input) }
         ensures forgets { OnErr result ((n : ℕ) → slice_index_or self.new.walk.visited n false ≡ false) }
-        ensures size { length self.new.walk.visited ≡ length self.old.walk.visited }
+        ensures places { self.new.places ≡ self.old.places }
         ensures program { self.new.program ≡ self.old.program }
         ensures memory { IfErr result (λ e. e ≡ OutOfMemory) }
         ensures last { self.new.last_end ≡ self.old.last_end }
@@ -233,6 +239,7 @@ impl<'p, 'h, W: WordClass + AsciiWords> Rest<'p, 'h, W> {
         let Some(from) = begin_of(&mut self.dfa, self.is_far, &self.input) else {
             return Ok(None);
         };
+        self.walk.open(self.alloc, self.places)?;
         if !self
             .walk
             .search(self.program, &self.input, &self.starts, from)?

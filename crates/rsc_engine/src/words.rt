@@ -1,9 +1,9 @@
-//! Word classes that are those of ASCII below 128.
+//! Word predicates that are those of ASCII below 128.
 ghost use Rattle.rsc_look.specs.Keeping.{AgreesWithAscii};
 
 use rsc_look::{AsciiWord, UnicodeWord, WordClass};
 
-/// A word class whose word characters below 128 are the word bytes. A DFA is made of a program with such a class, so that beside ASCII
+/// A word predicate whose word characters below 128 are the word bytes. A DFA is made of a program with such a predicate, so that beside ASCII
 /// it can answer an assertion about characters by the bytes.
 pub trait AsciiWords: WordClass {
     /// The law, for a proof: nothing is done.

@@ -2,13 +2,11 @@
 #![tactic(auto)]
 
 mod calls;
+mod pairs;
 mod patterns;
 mod texts;
 
-use rsc_captures::Captures;
-use rsc_engine::{Builder, Error, Matches};
-use rsc_look::UnicodeWord;
-use rsc_search::Input;
+use pairs::pairs;
 use std::env;
 use std::fmt::Display;
 use std::process::ExitCode;
@@ -38,30 +36,4 @@ fn main(rt: HostRuntime) -> ExitCode {
 fn failure<E: Display>(rt: &HostRuntime, error: &E) -> ExitCode {
     let _ = rt.eprintln(error);
     ExitCode::FAILURE
-}
-
-// Prints the values of all matches of `(\w+)=(?P<value>\w+)`, where each byte of a character above ASCII counts as a word byte.
-fn pairs(rt: &HostRuntime, text: &str) -> Result<(), Error> {
-    let builder = Builder::new(rt.alloc());
-    let word = builder.class(&patterns::WORD)?;
-    let word = builder.plus(word)?;
-    let key = builder.group(None, word)?;
-    let equals = builder.literal(b"=")?;
-    let word = builder.class(&patterns::WORD)?;
-    let word = builder.plus(word)?;
-    let value = builder.group(Some("value"), word)?;
-    let whole = builder.concat(vec![in rt.alloc(); key, equals, value]?)?;
-    let program = builder.build(UnicodeWord, true, whole)?;
-
-    let mut captures = Captures::all(rt.alloc(), program.nfa().group_info().clone()?)?;
-    let mut matches = Matches::new(rt.alloc(), &program, Input::new(text.as_bytes()))?;
-    for _ in 0..=text.len() {
-        if matches.next(&mut captures)?.is_none() {
-            break;
-        }
-        if let Some(value) = captures.get_group_by_name("value") {
-            let _ = rt.println(value.get_str(text).unwrap_or("?"));
-        }
-    }
-    Ok(())
 }

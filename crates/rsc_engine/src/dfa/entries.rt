@@ -22,6 +22,8 @@ pub enum Lead {
     Match,
     /// The unit leads to the row.
     To(u32),
+    /// The unit leads to the row, which has no state: a search ends there.
+    Last(u32),
 }
 
 /// Where a unit leads from a row.
@@ -43,18 +45,22 @@ pub fn read(lead: Lead) -> Option<Step>
     match lead {
         Lead::Unknown => None,
         Lead::Match => Some(Step::Matches),
-        Lead::To(row) => Some(Step::Goes(row as usize)),
+        Lead::To(row) | Lead::Last(row) => Some(Step::Goes(row as usize)),
     }
 }
 
-/// The entry that says the step, or nothing.
-pub fn written(step: Step) -> Lead
+/// The entry that says the step, or nothing. It may be one to a row with no state.
+pub fn written(step: Step, is_last: bool) -> Lead
     ensures { (step_of result ≡ None) ⊎ (step_of result ≡ Some step) }
 {
     match step {
         Step::Matches => Lead::Match,
         Step::Goes(row) => match u32::try_from(row) {
-            Ok(row) => Lead::To(row),
+            Ok(row) => if is_last {
+                Lead::Last(row)
+            } else {
+                Lead::To(row)
+            },
             Err(_) => Lead::Unknown,
         },
         Step::Quits => Lead::Unknown,
@@ -70,14 +76,14 @@ pub fn entry_index<W: WordClass>(
     rows: usize,
     len: usize,
 ) -> usize
-    requires plan { IsPlan (machine W.word_chars plan.now.program.now) plan.now.classes plan.now.stride plan.now.unicode }
+    requires plan { IsPlan (machine W.word_chars plan.now.program.now) plan.now.classes plan.now.width plan.now.unicode }
     requires row { row < rows }
-    requires room { rows * plan.now.stride ≤ len }
-    ensures value { result ≡ row * plan.now.stride + column plan.now.classes unit }
+    requires room { rows * plan.now.width ≤ len }
+    ensures value { result ≡ row * plan.now.width + column plan.now.classes unit }
     ensures within { result < len }
 {
     let in_row = plan.column(unit);
-    row * plan.stride + in_row
+    row * plan.width + in_row
 }
 
 /// Puts unknown entries at the end of the list, until it has that many.
@@ -145,7 +151,7 @@ pub fn are_same(one: &[StateID], other: &[StateID]) -> bool
     one == other
 }
 
-/// A byte is below 256.
+/// For the prover: a byte is below 256. Nothing is done.
 pub fn is_byte(unit: Option<u8>)
     ensures { IfSome unit (λ b. b < 256) }
 {

@@ -23,7 +23,7 @@ pub struct Plan<'p, W: WordClass> {
     /// Bytes of one class lead to the same rows.
     pub classes: ByteClasses,
     /// How many classes there are, with one for the end of the input.
-    pub stride: usize,
+    pub width: usize,
     /// Whether an assertion looks at characters.
     pub unicode: bool,
     /// Whether no byte leads to the first state, as far as is known.
@@ -36,20 +36,21 @@ impl<'p, W: WordClass + AsciiWords> Plan<'p, W> {
     /// The plan of a program.
     pub fn new(program: &'p Program<W>, most_rows: usize) -> Plan<'p, W>
         ensures program { result.program.now ≡ program.now }
-        ensures plan { IsPlan (machine W.word_chars program.now) result.classes result.stride result.unicode }
+        ensures plan { IsPlan (machine W.word_chars program.now) result.classes result.width result.unicode }
         ensures once { result.once ≡ true → IsNeverEntered (machine W.word_chars program.now) }
     {
         W::agrees_with_ascii();
+        // For the prover: what these calls promise of the program.
         let _start = program.start();
         let nfa = program.nfa();
         let _states = nfa.states();
         let unicode = nfa.looks().contains_word_unicode();
         let classes = nfa.classes_with(&past_ascii(unicode));
-        let stride = classes.alphabet_len();
+        let width = classes.alphabet_len();
         Plan {
             program,
             classes,
-            stride,
+            width,
             unicode,
             once: is_never_entered(program),
             most_rows,
@@ -61,19 +62,19 @@ impl<'p, W: WordClass> Plan<'p, W> {
     /// The column of a byte, or of the end of the input.
     #[inline(always)]
     pub fn column(&self, unit: Option<u8>) -> usize
-        requires { IsPlan (machine W.word_chars self.now.program.now) self.now.classes self.now.stride self.now.unicode }
+        requires { IsPlan (machine W.word_chars self.now.program.now) self.now.classes self.now.width self.now.unicode }
         ensures column { result ≡ column self.now.classes unit }
-        ensures within { result < self.now.stride }
+        ensures within { result < self.now.width }
     {
         match unit {
             Some(byte) => usize::from(self.classes.get(byte)),
-            None => self.stride - 1,
+            None => self.width - 1,
         }
     }
 
     /// Whether a search quits at a unit.
     pub fn quits_at(&self, unit: Option<u8>) -> bool
-        requires { IsPlan (machine W.word_chars self.now.program.now) self.now.classes self.now.stride self.now.unicode }
+        requires { IsPlan (machine W.word_chars self.now.program.now) self.now.classes self.now.width self.now.unicode }
         ensures yes { result ≡ true → IsBeyond (machine W.word_chars self.now.program.now) unit }
         ensures no { result ≡ false → IsPlainUnit (machine W.word_chars self.now.program.now) unit }
     {
@@ -90,14 +91,14 @@ fn is_never_entered<W: WordClass>(program: &Program<W>) -> bool
 {
     let mut once = true;
     'states: for index in 0..program.len() {
-        let other = leads_past(program.nfa().states()[index], program.start());
+        let other = never_leads_to(program.nfa().states()[index], program.start());
         once = once & other;
     }
     once
 }
 
-// Whether a byte doesn't lead from a state to another.
-fn leads_past(state: State, first: StateID) -> bool
+// Whether no byte leads from a state to another.
+fn never_leads_to(state: State, first: StateID) -> bool
     ensures { result ≡ true → (a b next : ℕ) → state ≡ ByteRange a b next → ¬ (next ≡ first) }
 {
     match state {

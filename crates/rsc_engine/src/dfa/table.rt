@@ -66,8 +66,8 @@ impl Table {
         begin: usize,
         is_wanted: bool,
     ) -> (usize, usize, usize)
-        requires plan { IsPlan (machine W.word_chars plan.now.program.now) plan.now.classes plan.now.stride plan.now.unicode }
-        requires exact { IsExact (machine W.word_chars plan.now.program.now) plan.now.classes plan.now.stride self.now.rows.items self.now.leads.items }
+        requires plan { IsPlan (machine W.word_chars plan.now.program.now) plan.now.classes plan.now.width plan.now.unicode }
+        requires exact { IsExact (machine W.word_chars plan.now.program.now) plan.now.classes plan.now.width self.now.rows.items self.now.leads.items }
         requires on { StandsAt (search_in W.word_chars plan.now.program.now input.now) plan.now.classes self.now.rows.items row at }
         requires once { plan.now.once ≡ true → IsNeverEntered (machine W.word_chars plan.now.program.now) }
         requires begin { BeginsFrom (search_in W.word_chars plan.now.program.now input.now) begin }
@@ -95,7 +95,8 @@ impl Table {
         (here, end, from)
     }
 
-    // The position before which no match begins: the row's, if its only state is the first one, so that no match that began earlier goes on.
+    // The position before which no match begins: the row's, if its only state is the one at which each match begins, so that none that began earlier
+    // goes on.
     #[inline(always)]
     fn begin_at<W: WordClass>(
         &self,
@@ -116,7 +117,7 @@ impl Table {
         if is_wanted
             && plan.once
             && !input.get_anchored().is_anchored()
-            && self.is_first(plan, row)
+            && self.has_start_alone(plan, row)
         {
             at
         } else {
@@ -124,9 +125,20 @@ impl Table {
         }
     }
 
-    // Whether the row's only state is the first one.
+    /// Whether a row has no state, so that no match goes on from there.
+    pub fn has_no_state(&self, row: usize) -> bool
+        ensures { result ≡ true → (found : Row) → slice_get self.now.rows.items row ≡ Some found → found.set.items ≡ [] }
+    {
+        if row < self.rows.len() {
+            self.rows[row].set.is_empty()
+        } else {
+            false
+        }
+    }
+
+    // Whether the row's only state is the one at which each match begins.
     #[inline(always)]
-    fn is_first<W: WordClass>(&self, plan: &Plan<'_, W>, row: usize) -> bool
+    fn has_start_alone<W: WordClass>(&self, plan: &Plan<'_, W>, row: usize) -> bool
         ensures { result ≡ true → (found : Row) → slice_get self.now.rows.items row ≡ Some found → found.set.items ≡ plan.now.program.now.start ∷ [] }
     {
         if row < self.rows.len() {
@@ -140,8 +152,8 @@ impl Table {
     // The row to which a byte leads from a row, if it is known.
     #[inline(always)]
     fn known_row<W: WordClass>(&self, plan: &Plan<'_, W>, row: usize, byte: u8) -> Option<usize>
-        requires plan { IsPlan (machine W.word_chars plan.now.program.now) plan.now.classes plan.now.stride plan.now.unicode }
-        requires exact { IsExact (machine W.word_chars plan.now.program.now) plan.now.classes plan.now.stride self.now.rows.items self.now.leads.items }
+        requires plan { IsPlan (machine W.word_chars plan.now.program.now) plan.now.classes plan.now.width plan.now.unicode }
+        requires exact { IsExact (machine W.word_chars plan.now.program.now) plan.now.classes plan.now.width self.now.rows.items self.now.leads.items }
         requires row { row < length self.now.rows.items }
         ensures { IfSome result (λ next.
             IsStepTo (machine W.word_chars plan.now.program.now) plan.now.classes self.now.rows.items self.now.rows.items row (Some byte) (Goes next)) }
@@ -149,7 +161,7 @@ impl Table {
         let entry = entry_index(plan, row, Some(byte), self.rows.len(), self.leads.len());
         match self.leads[entry] {
             Lead::To(next) => Some(next as usize),
-            Lead::Unknown | Lead::Match => None,
+            Lead::Unknown | Lead::Match | Lead::Last(_) => None,
         }
     }
 
@@ -160,10 +172,10 @@ impl Table {
         row: usize,
         unit: Option<u8>,
     ) -> Result<Step, Error>
-        requires plan { IsPlan (machine W.word_chars plan.now.program.now) plan.now.classes plan.now.stride plan.now.unicode }
-        requires exact { IsExact (machine W.word_chars plan.now.program.now) plan.now.classes plan.now.stride self.old.rows.items self.old.leads.items }
+        requires plan { IsPlan (machine W.word_chars plan.now.program.now) plan.now.classes plan.now.width plan.now.unicode }
+        requires exact { IsExact (machine W.word_chars plan.now.program.now) plan.now.classes plan.now.width self.old.rows.items self.old.leads.items }
         requires row { row < length self.old.rows.items }
-        ensures exact { IsExact (machine W.word_chars plan.now.program.now) plan.now.classes plan.now.stride self.new.rows.items self.new.leads.items }
+        ensures exact { IsExact (machine W.word_chars plan.now.program.now) plan.now.classes plan.now.width self.new.rows.items self.new.leads.items }
         ensures step { IfOk result (IsMade (machine W.word_chars plan.now.program.now) plan.now.classes self.old.rows.items self.new.rows.items row unit) }
         ensures memory { IfErr result (λ e. e ≡ OutOfMemory) }
     {
@@ -180,8 +192,8 @@ impl Table {
         row: usize,
         unit: Option<u8>,
     ) -> Option<Step>
-        requires plan { IsPlan (machine W.word_chars plan.now.program.now) plan.now.classes plan.now.stride plan.now.unicode }
-        requires exact { IsExact (machine W.word_chars plan.now.program.now) plan.now.classes plan.now.stride self.now.rows.items self.now.leads.items }
+        requires plan { IsPlan (machine W.word_chars plan.now.program.now) plan.now.classes plan.now.width plan.now.unicode }
+        requires exact { IsExact (machine W.word_chars plan.now.program.now) plan.now.classes plan.now.width self.now.rows.items self.now.leads.items }
         requires row { row < length self.now.rows.items }
         ensures { IfSome result (IsMade (machine W.word_chars plan.now.program.now) plan.now.classes self.now.rows.items self.now.rows.items row unit) }
     {
@@ -197,10 +209,10 @@ impl Table {
         row: usize,
         unit: Option<u8>,
     ) -> Result<Step, Error>
-        requires plan { IsPlan (machine W.word_chars plan.now.program.now) plan.now.classes plan.now.stride plan.now.unicode }
-        requires exact { IsExact (machine W.word_chars plan.now.program.now) plan.now.classes plan.now.stride self.old.rows.items self.old.leads.items }
+        requires plan { IsPlan (machine W.word_chars plan.now.program.now) plan.now.classes plan.now.width plan.now.unicode }
+        requires exact { IsExact (machine W.word_chars plan.now.program.now) plan.now.classes plan.now.width self.old.rows.items self.old.leads.items }
         requires row { row < length self.old.rows.items }
-        ensures exact { IsExact (machine W.word_chars plan.now.program.now) plan.now.classes plan.now.stride self.new.rows.items self.new.leads.items }
+        ensures exact { IsExact (machine W.word_chars plan.now.program.now) plan.now.classes plan.now.width self.new.rows.items self.new.leads.items }
         ensures step { IfOk result (IsMade (machine W.word_chars plan.now.program.now) plan.now.classes self.old.rows.items self.new.rows.items row unit) }
         ensures memory { IfErr result (λ e. e ≡ OutOfMemory) }
     {
@@ -220,32 +232,40 @@ impl Table {
         )?;
         match next {
             None => {
-                self.record(plan, row, unit, Step::Matches);
+                self.record(plan, row, unit, Step::Matches, false);
                 Ok(Step::Matches)
             }
             Some(next) => {
+                let is_last = next.is_empty();
                 let found = self.row_of(plan, &mode, unit, next)?;
                 let to = found.0;
                 if found.1 {
-                    self.record(plan, row, unit, Step::Goes(to));
+                    self.record(plan, row, unit, Step::Goes(to), is_last);
                 }
                 Ok(Step::Goes(to))
             }
         }
     }
 
-    // Records where a unit leads.
-    fn record<W: WordClass>(&mut self, plan: &Plan<'_, W>, row: usize, unit: Option<u8>, step: Step)
-        requires plan { IsPlan (machine W.word_chars plan.now.program.now) plan.now.classes plan.now.stride plan.now.unicode }
-        requires exact { IsExact (machine W.word_chars plan.now.program.now) plan.now.classes plan.now.stride self.old.rows.items self.old.leads.items }
+    // Records where a unit leads, and whether that is a row with no state.
+    fn record<W: WordClass>(
+        &mut self,
+        plan: &Plan<'_, W>,
+        row: usize,
+        unit: Option<u8>,
+        step: Step,
+        is_last: bool,
+    )
+        requires plan { IsPlan (machine W.word_chars plan.now.program.now) plan.now.classes plan.now.width plan.now.unicode }
+        requires exact { IsExact (machine W.word_chars plan.now.program.now) plan.now.classes plan.now.width self.old.rows.items self.old.leads.items }
         requires row { row < length self.old.rows.items }
         requires step { IsStepTo (machine W.word_chars plan.now.program.now) plan.now.classes self.old.rows.items self.old.rows.items row unit step }
-        ensures exact { IsExact (machine W.word_chars plan.now.program.now) plan.now.classes plan.now.stride self.new.rows.items self.new.leads.items }
+        ensures exact { IsExact (machine W.word_chars plan.now.program.now) plan.now.classes plan.now.width self.new.rows.items self.new.leads.items }
         ensures rows { self.new.rows.items ≡ self.old.rows.items }
     {
         is_byte(unit);
         let entry = entry_index(plan, row, unit, self.rows.len(), self.leads.len());
-        self.leads[entry] = written(step);
+        self.leads[entry] = written(step, is_last);
     }
 
     /// The row of a mode, the byte before and a set: one that is there, or a new one. The second part is false if the table was cleared.
@@ -256,10 +276,10 @@ impl Table {
         before: Option<u8>,
         set: Vec<StateID>,
     ) -> Result<(usize, bool), Error>
-        requires exact { IsExact (machine W.word_chars plan.now.program.now) plan.now.classes plan.now.stride self.old.rows.items self.old.leads.items }
+        requires exact { IsExact (machine W.word_chars plan.now.program.now) plan.now.classes plan.now.width self.old.rows.items self.old.leads.items }
         requires set { AreStates (length plan.now.program.now.automaton.states) set.items }
         requires plain { IsPlainUnit (machine W.word_chars plan.now.program.now) before }
-        ensures exact { IsExact (machine W.word_chars plan.now.program.now) plan.now.classes plan.now.stride self.new.rows.items self.new.leads.items }
+        ensures exact { IsExact (machine W.word_chars plan.now.program.now) plan.now.classes plan.now.width self.new.rows.items self.new.leads.items }
         ensures row { IfOk result (λ found. IsRow plan.now.classes self.new.rows.items found.0 mode.now before set.items) }
         ensures grows { IfOk result (λ found. found.1 ≡ true → IsGrown self.old.rows.items self.new.rows.items) }
         ensures memory { IfErr result (λ e. e ≡ OutOfMemory) }
@@ -321,10 +341,10 @@ impl Table {
         before: Option<u8>,
         set: Vec<StateID>,
     ) -> Result<usize, Error>
-        requires exact { IsExact (machine W.word_chars plan.now.program.now) plan.now.classes plan.now.stride self.old.rows.items self.old.leads.items }
+        requires exact { IsExact (machine W.word_chars plan.now.program.now) plan.now.classes plan.now.width self.old.rows.items self.old.leads.items }
         requires set { AreStates (length plan.now.program.now.automaton.states) set.items }
         requires plain { IsPlainUnit (machine W.word_chars plan.now.program.now) before }
-        ensures exact { IsExact (machine W.word_chars plan.now.program.now) plan.now.classes plan.now.stride self.new.rows.items self.new.leads.items }
+        ensures exact { IsExact (machine W.word_chars plan.now.program.now) plan.now.classes plan.now.width self.new.rows.items self.new.leads.items }
         ensures row { IfOk result (λ row. IsRow plan.now.classes self.new.rows.items row mode.now before set.items) }
         ensures grows { IsGrown self.old.rows.items self.new.rows.items }
         ensures memory { IfErr result (λ e. e ≡ OutOfMemory) }
@@ -332,7 +352,7 @@ impl Table {
         is_byte(before);
         let row = self.rows.len();
         self.known.insert(key, row)?;
-        widen(&mut self.leads, row * plan.stride + plan.stride)?;
+        widen(&mut self.leads, row * plan.width + plan.width)?;
         self.rows.push(Row {
             mode: *mode,
             before,

@@ -263,3 +263,83 @@ fn sees_the_byte_after_the_span(rt: HostRuntime) -> Result<(), Fail> {
     assert!(rt; dfa.earliest_end(&Input::new(b"-ab"))? == Answer::End(3));
     Ok(())
 }
+
+// `\bé\b`: the first byte that isn't ASCII, from directly before the span to directly after it, ends the search.
+#[test]
+fn quits_at_the_first_byte_that_is_not_ascii(rt: HostRuntime) -> Result<(), Fail> {
+    let alloc = rt.alloc();
+    let program = made(alloc, 19)?;
+    let mut dfa = Dfa::new(alloc, &program, 1000);
+    for (start, end, want) in [
+        (0, 5, Answer::Quit(2)),
+        (0, 2, Answer::Quit(2)),
+        (0, 1, Answer::NoMatch),
+        (2, 3, Answer::Quit(2)),
+        (3, 3, Answer::Quit(2)),
+        (4, 5, Answer::Quit(3)),
+        (5, 5, Answer::NoMatch),
+    ] {
+        let mut input = Input::new("abéa".as_bytes());
+        if start <= end && end <= input.haystack().len() {
+            input.set_span(Span { start, end });
+            assert!(rt; dfa.earliest_end(&input)? == want, "{start}..{end}");
+        }
+    }
+    Ok(())
+}
+
+// `[a-z]+[0-9]`
+fn letters_and_digit(alloc: Global) -> Result<Program<AsciiWord>, Error> {
+    let builder = Builder::new(alloc);
+    let letters = builder.plus(builder.range(b'a', b'z'))?;
+    let whole = builder.then(letters, builder.range(b'0', b'9'))?;
+    builder.build(AsciiWord, true, whole)
+}
+
+// A text of blanks but for a letter, and a digit after it: a long text is first looked through for such a pair.
+#[test]
+fn finds_a_pair_of_bytes_in_a_long_text(rt: HostRuntime) -> Result<(), Fail> {
+    let alloc = rt.alloc();
+    let program = letters_and_digit(alloc)?;
+    let mut dfa = Dfa::new(alloc, &program, 1000);
+    for at in [1usize, 2, 63, 64, 65, 66, 128, 129, 4095, 4096, 4999] {
+        let mut text: Vec<u8> = vec![in alloc; b' '; 5000]?;
+        let end = text.len();
+        if 0 < at && at < end {
+            text[at - 1] = b'x';
+            text[at] = b'7';
+            let mut input = Input::new(&text);
+            assert!(rt; dfa.earliest_end(&input)? == Answer::End(at + 1), "{at}");
+            // Of the pair the span has the digit alone.
+            input.set_span(Span { start: at, end });
+            assert!(rt; dfa.earliest_end(&input)? == Answer::NoMatch, "{at}");
+        }
+    }
+    let letters: Vec<u8> = vec![in alloc; b'x'; 5000]?;
+    assert!(rt; dfa.earliest_end(&Input::new(&letters))? == Answer::NoMatch);
+    Ok(())
+}
+
+// That many blanks.
+fn blanks(alloc: Global, count: usize) -> Result<Vec<u8>, Error> {
+    Ok(vec![in alloc; b' '; count]?)
+}
+
+// Anchored searches from many positions of blanks on. Each ends at once, since no state is left: one that read on to the end would take minutes.
+#[test]
+fn ends_where_no_state_is_left(rt: HostRuntime) -> Result<(), Fail> {
+    let alloc = rt.alloc();
+    let program = letters_and_digit(alloc)?;
+    let mut dfa = Dfa::new(alloc, &program, 1000);
+    let text = blanks(alloc, 4_000_000)?;
+    let end = text.len();
+    let mut input = Input::new(&text);
+    input.set_anchored(Anchored::Yes);
+    for start in 0..end / 40 {
+        if start <= end && end <= input.haystack().len() {
+            input.set_span(Span { start, end });
+            assert!(rt; dfa.earliest_end(&input)? == Answer::NoMatch, "{start}");
+        }
+    }
+    Ok(())
+}

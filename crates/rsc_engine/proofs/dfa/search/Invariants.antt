@@ -7,7 +7,7 @@ use Rattle.rsc_engine.proofs.dfa.search.Given as goal
 
 abbrev pub invariant-rows : goal.invariant-rows
 invariant-rows g l = record {
-  exact : IsExact (machine g.W.WordClass.word_chars l.plan.program.now) l.plan.classes l.plan.stride l.table.rows.items l.table.leads.items;
+  exact : IsExact (machine g.W.WordClass.word_chars l.plan.program.now) l.plan.classes l.plan.width l.table.rows.items l.table.leads.items;
   on : StandsAt (search_in g.W.WordClass.word_chars l.plan.program.now l.input) l.plan.classes l.table.rows.items l.row l.at;
   begin : BeginsFrom (search_in g.W.WordClass.word_chars l.plan.program.now l.input) l.begin;
   start : l.input.span.start ≤ l.at;

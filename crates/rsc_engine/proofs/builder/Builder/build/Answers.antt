@@ -1,7 +1,3 @@
-use Rattle.std.proofs.Common.{◌≡◌, ◌∙◌, sym, ap, subst, List, rules, map}
-use Rattle.rsc_engine.specs.Patterns.{Pattern}
-use Rattle.rsc_engine.specs.BeginsLayout.{Begins, IsOfSome}
-use Rattle.rsc_engine.specs.Parts.{pattern_of}
 use Rattle.rsc_engine.proofs.BeginsLayoutLemmas.{Recognizes-built}
 use Rattle.rsc_engine.proofs.builder.Builder.build.Goals as goal
 

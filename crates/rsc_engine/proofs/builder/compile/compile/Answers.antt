@@ -1,4 +1,4 @@
-use Rattle.std.proofs.Common.{◌≡◌, ◌+◌, ◌-◌, ◌∙◌, length, map, slice_get, Some, ap, sym, arith, rules}
+use Rattle.std.proofs.Common.{◌≡◌, ◌+◌, ◌-◌, ◌∙◌, length, map, sym, arith, rules}
 use Rattle.std.proofs.lemmas.List.{length-map}
 use Rattle.rsc_engine.specs.Parts.{pattern_of}
 use Rattle.rsc_engine.proofs.BeginsLayoutLemmas.{Adds-last, Adds-more, Adds-now, its_pattern}

@@ -5,4 +5,4 @@ pub returns-clause-length : goal.returns-clause-length
 returns-clause-length c = count_is _ _
 
 pub returns-clause-none : goal.returns-clause-none
-returns-clause-none c = λ n. rw c.in_ok-no_blocks.ensures (none_set _ _ n)
+returns-clause-none c = λ n. rw c.in_ok-no_blocks.ensures.blocks (none_set _ _ n)

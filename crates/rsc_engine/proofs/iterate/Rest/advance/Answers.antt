@@ -6,6 +6,11 @@ use Rattle.rsc_engine.specs.WalksLayout.{IsClosedFrom, is_flagged}
 use Rattle.rsc_engine.proofs.BacktrackLemmas.{later_start, fewer_flags}
 use Rattle.rsc_engine.proofs.iterate.Rest.advance.Goals as goal
 
+pub search-requires-clause-closed : goal.search-requires-clause-closed
+search-requires-clause-closed g c =
+    let e = search_in g.W.WordClass.word_chars c.args.self.now.program.now c.args.self.now.input in
+    c.open.ensures.closed e c.args.self.now.closed
+
 pub returns-then-not-branch-clause-none : goal.returns-then-not-branch-clause-none
 returns-then-not-branch-clause-none g c = c.in_ok-search.ensures.none c.if-not-branch.true
 
@@ -20,7 +25,7 @@ invariant_of-self-2 g c =
     let start : c.set_start.new.self.span.start ≡ c.end.result = ap (λ (x : InputParts). x.span.start) c.set_start.ensures in
     let after : IsClosedFrom e c.end.result seen = rw position (c.in_ok-search.ensures.after c.if-not-branch.false) in
     record {
-      room = rw c.set_start.ensures (fewer_flags e c.end.result c.search.new.self.visited up c.search.ensures.room);
+      enough = rw c.set_start.ensures (fewer_flags e c.end.result c.args.self.now.places up c.args.self.now.enough);
       closed = rw c.set_start.ensures (later_start e c.end.result seen up after);
       table = c.begin_of.ensures.program ∙ c.args.self.now.table;
       begins = c.args.self.now.begins;

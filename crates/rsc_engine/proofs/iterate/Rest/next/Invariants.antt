@@ -7,7 +7,7 @@ invariant-matches g l = record {
   turn : IsTurn g.W.WordClass.word_chars l.initial.self.program.now l.self.program.now l.initial.self.input l.self.input
       l.initial.self.last_end l.self.last_end;
   program : l.self.program ≡ l.initial.self.program;
-  size : length l.self.walk.visited ≡ length l.initial.self.walk.visited;
+  places : l.self.places ≡ l.initial.self.places;
   groups : l.captures.groups ≡ l.initial.captures.groups;
   slots : length l.captures.offsets ≡ length l.initial.captures.offsets;
 }

@@ -1,6 +1,5 @@
-use Rattle.std.proofs.Common.{◌≡◌, ◌<◌, ◌+◌, ◌-◌, ℕ, suc, arith, length, add-one, ap, sym, ◌∙◌, map, drop, rules}
+use Rattle.std.proofs.Common.{◌<◌, add-one, rules}
 use Rattle.std.proofs.lemmas.Result.{IfOk-weaker}
-use Rattle.rsc_engine.specs.Parts.{pattern_in}
 use Rattle.rsc_engine.proofs.PartsLemmas.{pattern-range, pattern-assertion, pattern-then, pattern-either}
 use Rattle.rsc_engine.proofs.BuilderLemmas.{Builds-range, Builds-assert, Builds-then, Builds-either, Builds-group, Builds-optional, Builds-star, Builds-again, Builds-plus, Builds-limited, Builds-unlimited, drop-last}
 use Rattle.rsc_engine.proofs.builder.compile.Compiler.+part.Goals as goal

@@ -1,4 +1,3 @@
-use Rattle.std.proofs.Common.{arith}
 use Rattle.rsc_engine.proofs.BuilderLemmas.{Builds-byte, drop-last}
 use Rattle.rsc_engine.proofs.builder.compile.Compiler.literal.Goals as goal
 

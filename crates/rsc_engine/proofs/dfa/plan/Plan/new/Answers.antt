@@ -21,6 +21,6 @@ returns-clause-plan g c =
       agreed = agreed;
       parted = λ is. parted _ c.classes_with-classes.result c.classes_with-classes.ensures.classes
           (c.classes_with-classes.ensures.parted 127 (omega arith) (c.past_ascii.ensures (looks ∙ is)));
-      columns = c.alphabet_len-stride.ensures.value;
-      rise = c.classes_with-classes.ensures.bounded;
+      columns = c.alphabet_len-width.ensures.value;
+      bounded = c.classes_with-classes.ensures.bounded;
     }

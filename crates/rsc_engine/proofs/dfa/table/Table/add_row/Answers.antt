@@ -6,7 +6,7 @@ pub returns-clause-exact : goal.returns-clause-exact
 returns-clause-exact g c =
     let wider = IsExact-wider _ _ _ _ _ _ c.requires.exact c.widen.ensures.same c.widen.ensures.longer in
     let rows : c.len-row.result ≡ length c.args.self.now.rows.items = search rules in
-    let room : length c.args.self.now.rows.items * c.args.plan.now.stride + c.args.plan.now.stride ≤ length c.widen.new.leads.items =
+    let room : length c.args.self.now.rows.items * c.args.plan.now.width + c.args.plan.now.width ≤ length c.widen.new.leads.items =
     rw rows at c.in_ok-widen.ensures.room in
     rw (c.in_ok-push.ensures.items) (IsExact-push _ _ _ _ _ _ wider record { states = c.requires.set; plain = c.requires.plain } room)
 

@@ -13,7 +13,7 @@ begin_at-from-requires-clause-on g c =
     let rows = c.args.self.now.rows.items in
     let after : byte_after c.args.input.now.haystack c.bytes.position ≡ Some c.byte_at.result =
     rw c.haystack-haystack.ensures.bytes at c.byte_at.ensures.after in
-    StandsAt-next e c.args.plan.now.classes c.args.plan.now.stride c.args.plan.now.unicode
+    StandsAt-next e c.args.plan.now.classes c.args.plan.now.width c.args.plan.now.unicode
     record { laws = c.steps_are_lawful.ensures; plan = c.requires.plan; within = c.haystack-haystack.ensures.within }
     rows rows c.bytes.here c.in-Some.next c.bytes.position c.requires.exact.sound c.requires.exact.sound
     (omega (arith, c.requires.start, c.bytes.auto.position)) (omega (arith, c.bytes-test.true, c.end-end.ensures.end)) c.bytes.invariant.on
@@ -26,7 +26,7 @@ bytes-preserved g c =
     let rows = c.args.self.now.rows.items in
     let after : byte_after c.args.input.now.haystack c.bytes.position ≡ Some c.byte_at.result =
     rw c.haystack-haystack.ensures.bytes at c.byte_at.ensures.after in
-    let on = StandsAt-next e c.args.plan.now.classes c.args.plan.now.stride c.args.plan.now.unicode
+    let on = StandsAt-next e c.args.plan.now.classes c.args.plan.now.width c.args.plan.now.unicode
     record { laws = c.steps_are_lawful.ensures; plan = c.requires.plan; within = c.haystack-haystack.ensures.within }
     rows rows c.bytes.here c.in-Some.next c.bytes.position c.requires.exact.sound c.requires.exact.sound
     (omega (arith, c.requires.start, c.bytes.auto.position)) (omega (arith, c.bytes-test.true, c.end-end.ensures.end)) c.bytes.invariant.on
