@@ -4,10 +4,10 @@ use Rattle.rsc_search.specs.Inputs.{InputParts, whole}
 use Rattle.rsc_search.specs.Matches.{Matched}
 use Rattle.rsc_engine.specs.Searches.{Compiled, search_in}
 use Rattle.rsc_engine.specs.Preferred.{MayBegin}
-use Rattle.rsc_engine.specs.Patterns.{Pattern, Text, Goes, IsMatchIn}
+use Rattle.rsc_engine.specs.Patterns.{Pattern, Subject, Goes, IsMatchIn}
 
 -- a haystack as a text whose lines end by \n
-abbrev pub text : List ℕ → (ℕ → Bool) → Text
+abbrev pub text : List ℕ → (ℕ → Bool) → Subject
 text haystack chars = record { haystack = haystack; terminator = 10; words = chars }
 
 its_only : (p q : Pattern) (n : ℕ) → slice_get (p ∷ []) n ≡ Some q → q ≡ p

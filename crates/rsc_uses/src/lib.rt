@@ -5,15 +5,9 @@
 pub mod alphabet;
 pub mod captures;
 pub mod engine;
-#[cfg(test)]
-mod examples;
 pub mod look;
 pub mod nfa;
 pub mod primitives;
-#[cfg(test)]
-mod readmes;
 pub mod search;
-#[cfg(test)]
-mod tests;
 pub mod threads;
 pub mod tokens;

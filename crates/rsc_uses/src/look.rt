@@ -143,7 +143,8 @@ pub fn byte_classes_of<W: WordClass>(matcher: &LookMatcher<W>, looks: &[Look]) -
     matcher.classes_of(looks)
 }
 
-/// One partition for ranges and for assertions, as an automaton needs it: it keeps the assertions.
+/// One partition for ranges and for assertions, as an automaton needs it: it keeps the assertions, and for a Unicode one it parts ASCII from the
+/// other bytes, at which a table stops.
 pub fn alphabet_of<W: WordClass>(
     matcher: &LookMatcher<W>,
     ranges: &[(u8, u8)],
@@ -151,13 +152,15 @@ pub fn alphabet_of<W: WordClass>(
 ) -> ByteClassSet
     requires ranges { All (λ r. r.0 ≤ r.1) ranges.now }
     requires words { AgreesWhereAsked (W.word_chars matcher.now.1) looks.now }
-    ensures { Keeps (sets.contains result) looks.now matcher.now.0 (W.word_chars matcher.now.1) }
+    ensures keeps { Keeps (sets.contains result) looks.now matcher.now.0 (W.word_chars matcher.now.1) }
+    ensures stops { list_any is_unicode looks.now ≡ true → sets.contains result 127 ≡ true }
 {
     laws::kept_lists_are_joined();
     let mut set = ByteClassSet::empty();
     for &(start, end) in ranges {
         set.set_range(start, end);
     }
+    set.add_set(&matcher.quit_bytes(looks));
     for look in looks {
         matcher.add_to_byteset(*look, &mut set);
     }

@@ -1,9 +1,9 @@
 //! The callers of the engine, run on values.
-use crate::engine;
 use rsc_captures::Captures;
 use rsc_engine::{Builder, Dfa, Matches};
 use rsc_look::AsciiWord;
 use rsc_search::Input;
+use rsc_uses::engine;
 use std::test::Fail;
 
 #[test]

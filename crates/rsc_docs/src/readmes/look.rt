@@ -5,7 +5,7 @@ use std::test::Fail;
 fn example(rt: HostRuntime) -> Result<(), Fail> {
     // The line terminator is \n, and the word characters are those of Unicode.
     let matcher = LookMatcher::new(UnicodeWord);
-    // A word ends after the four bytes of 𝛃, and no position between two of them is a boundary.
+    // A word ends after the four bytes of 𝛃, and no position between two of them is a word boundary.
     assert!(rt; matcher.matches(Look::WordUnicode, "𝛃 ".as_bytes(), 4));
     assert!(rt; !matcher.matches(Look::WordUnicode, "𝛃 ".as_bytes(), 2));
 

@@ -4,13 +4,13 @@ ghost use Rattle.std.specs.Prelude.{◌≡◌, ◌<◌, ℕ, slice_index};
 mod engine;
 mod indices;
 
-use crate::{alphabet, captures, look, nfa, primitives, search, threads, tokens};
 use rsc_alphabet::{ByteClassSet, ByteSet, Unit, classes_of_ranges, laws};
 use rsc_captures::{Captures, GroupInfo};
 use rsc_look::{AsciiWord, Look, LookMatcher, LookSet, UnicodeWord};
 use rsc_nfa::{Nfa, State};
 use rsc_primitives::{NonMaxUsize, PatternID, StateID};
 use rsc_search::{Input, Match, MatchError, MatchKind, PatternSet, Span};
+use rsc_uses::{alphabet, captures, look, nfa, primitives, search, threads, tokens};
 use std::test::Fail;
 
 fn are_positions(found: &[usize], want: &[usize]) -> bool {
@@ -164,6 +164,9 @@ fn classes_of_assertions(rt: HostRuntime) -> Result<(), Fail> {
     let set = look::alphabet_of(&matcher, &[(b'a', b'f')], &[Look::StartLF]);
     let classes = set.byte_classes();
     assert!(rt; classes.get(b'f') != classes.get(b'g') && classes.get(b'\n') != classes.get(b'\r'));
+    // ASCII from the bytes at which a table stops.
+    let classes = look::alphabet_of(&matcher, &[], &[Look::WordUnicode]).byte_classes();
+    assert!(rt; classes.get(0x7F) != classes.get(0x80));
     Ok(())
 }
 
