@@ -19,7 +19,8 @@ use crate::numbers::{
 use crate::request::Request;
 use std::alloc::Global;
 
-/// The sum, wrapping at 64 bits, of what each of `reps` repetitions of a kernel adds. README.md has the table of kernels.
+/// The sum, wrapping at 64 bits, of what each of `reps` repetitions of a kernel adds. `numbers.rt` names the kernels; the
+/// comment of a kernel's function says what a repetition does and adds.
 ///
 /// What a kernel needs is made once, before the repetitions. The answer is 0 for a number that is no kernel's, for `data` and
 /// `param` that aren't what the kernel reads, and if memory runs out.

@@ -11,7 +11,7 @@ use Rattle.rsc_alphabet.specs.ByteSets.{Numbers}
 use Rattle.rsc_alphabet.specs.PartitionsLaws.{contains-joined, union_none}
 use Rattle.rsc_nfa.specs.declared.state.State.{State}
 use Rattle.rsc_nfa.specs.declared.state.State.TheVariants.{ByteRange, Assert, Fork, Capture, Accept}
-use Rattle.rsc_nfa.specs.Classes.{boundaries_of_state, boundaries_of_states, asks_characters, has_unicode, AreInterchangedBy, KeepsRuns, IsStepNeeded, IsEachNeeded, KeepsRunsUnder, IsCoarsestForRuns}
+use Rattle.rsc_nfa.specs.Classes.{boundaries_of_state, boundaries_of_states, asks_characters, has_unicode, AreInterchangedBy, KeepsRuns, IsStepNeeded, IsEachNeeded, KeepsRunsUnder, HasNoSpareBoundary}
 use Rattle.std.proofs.lemmas.Option.{slice_get-get_or, get_or_from_slice_get, slice_get_within}
 use Rattle.rsc_look.specs.KeepingLaws.{is_its_member, next_together, alike_alone, not_told, same_as_only}
 use Rattle.rsc_alphabet.specs.Partitions.{Together, class_map, boundaries_of_range}
@@ -345,5 +345,5 @@ needed-parts q states t W b lt keeps n = true_from_ne_false (q b) (λ e.
     u = (n.there, omega arith, n.at_an_end)
 
 -- classes whose boundaries are needed are the coarsest
-pub IsCoarsestForRuns-from : (m : List ℕ) (states : List State) (t : ℕ) (W : ℕ → Bool) → IsEachNeeded m states t W → IsCoarsestForRuns m states t W
-IsCoarsestForRuns-from m states t W needed q keeps b lt differ = needed-parts q states t W b lt keeps (needed b lt differ)
+pub HasNoSpareBoundary-from : (m : List ℕ) (states : List State) (t : ℕ) (W : ℕ → Bool) → IsEachNeeded m states t W → HasNoSpareBoundary m states t W
+HasNoSpareBoundary-from m states t W needed q keeps b lt differ = needed-parts q states t W b lt keeps (needed b lt differ)

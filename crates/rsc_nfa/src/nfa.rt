@@ -5,7 +5,7 @@ ghost use Rattle.std.specs.FinSet as sets;
 ghost use Rattle.rsc_alphabet.specs.Partitions.{LastClassIsGreatest, class_map};
 ghost use Rattle.rsc_look.specs.Keeping.{AgreesWithAscii};
 ghost use Rattle.rsc_nfa.specs.Automata.{Automaton};
-ghost use Rattle.rsc_nfa.specs.Classes.{IsOrdered, IsFiner, asserts, boundaries_of_state, boundaries_of_states, has_unicode, KeepsRuns, IsEachNeeded, IsCoarsestForRuns};
+ghost use Rattle.rsc_nfa.specs.Classes.{IsOrdered, IsFiner, asserts, boundaries_of_state, boundaries_of_states, has_unicode, KeepsRuns, IsEachNeeded, HasNoSpareBoundary};
 ghost use Rattle.rsc_nfa.specs.Faults.{target_fault, fault_of_state, AreFaultless, IsFirstFaulty};
 ghost use Rattle.rsc_look.specs.declared.assertion.Look.{Look};
 ghost use Rattle.rsc_look.specs.LookSets.{has_one_of, unicode_words};
@@ -235,7 +235,7 @@ impl<W: WordClass, A: Allocator + Clone + Drop> Nfa<W, A> {
         ensures needed { (has_unicode self.now.states ≡ true → AgreesWithAscii (W.word_chars self.now.matcher.1)) →
             IsEachNeeded result self.now.states self.now.matcher.0 (W.word_chars self.now.matcher.1) }
         ensures coarsest { has_unicode self.now.states ≡ false →
-            IsCoarsestForRuns result self.now.states self.now.matcher.0 (W.word_chars self.now.matcher.1) }
+            HasNoSpareBoundary result self.now.states self.now.matcher.0 (W.word_chars self.now.matcher.1) }
     {
         rsc_alphabet::laws::one_class_is_together();
         rsc_alphabet::laws::each_class_comes_once();

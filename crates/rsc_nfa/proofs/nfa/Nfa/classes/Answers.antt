@@ -1,7 +1,7 @@
 use Rattle.std.proofs.Common.{true≢false, sym, ap, ◌∙◌}
 use Rattle.std.specs.FinSet as sets
 use Rattle.rsc_alphabet.specs.Partitions.{class_map}
-use Rattle.rsc_nfa.proofs.ClassesLemmas.{KeepsRuns-from, HasBoundariesOfStates-from, IsEachNeeded-from, IsCoarsestForRuns-from}
+use Rattle.rsc_nfa.proofs.ClassesLemmas.{KeepsRuns-from, HasBoundariesOfStates-from, IsEachNeeded-from, HasNoSpareBoundary-from}
 use Rattle.rsc_nfa.proofs.nfa.Nfa.classes.Goals as goal
 
 pub returns-clause-classes : goal.returns-clause-classes
@@ -21,4 +21,4 @@ returns-clause-needed g c = λ a.
     (λ l. c.boundaries_are_exact.ensures l _ _) c.boundaries-set.ensures.faultless a (c.one_class_is_together.ensures _) (returns-clause-classes g c)
 
 pub returns-clause-coarsest : goal.returns-clause-coarsest
-returns-clause-coarsest g c = λ none. IsCoarsestForRuns-from _ _ _ _ (returns-clause-needed g c (λ some. absurd (true≢false (sym some ∙ none))))
+returns-clause-coarsest g c = λ none. HasNoSpareBoundary-from _ _ _ _ (returns-clause-needed g c (λ some. absurd (true≢false (sym some ∙ none))))
