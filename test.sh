@@ -1,9 +1,10 @@
 #!/usr/bin/env bash
 # Proves and tests the repository, and says what it does as it goes.
 #
-#   ./test.sh          proves every crate and its tests from nothing, runs all tests and programs, compares the documents with the sources
+#   ./test.sh          proves, from nothing, each crate that hasn't passed on this machine in this state; runs all tests and programs; compares the
+#                      documents with the sources
 #   ./test.sh all      tries the wrong bodies too; this is the gate
-#   ./test.sh quick    proves nothing: runs all tests and programs, in three minutes on four processors
+#   ./test.sh quick    proves nothing: compares the documents, and runs all tests and programs, in three minutes on four processors
 set -eu
 cd "$(dirname "$0")"
 
@@ -38,6 +39,7 @@ case ${1:-} in
     fi
     ;;
   quick)
+    gate/pages.py
     gate/wrong-bodies.py --texts
     gate/stored-runs.py --unproved
     ;;

@@ -1,24 +1,27 @@
 """Makes the lower part of a library's CALLING.md of its sources, its definitions and its callers in rsc_uses; and docs/CALLS.md, which has each public
-call of the libraries, its clauses, a test that calls it, and a wrong body that is refused for them."""
+call of the libraries, the names of its clauses, what calls it, and a wrong body that is refused for them."""
 import itertools
 import pathlib
 import re
 
 from edits import blocks
+from typed import LIBRARIES, calls_of, files
 
 ROOT = pathlib.Path(__file__).resolve().parent.parent
 
 
 def functions(text):
-    """Yields each function of a file: its type or trait, whether the call is public, and its signature with its clauses."""
-    owner, is_open, lines = "", False, None
+    """Yields each function of a file: its type or trait, whether the call is public, its signature with its clauses, and the head of its `impl`, if
+    that is one of a type and has bounds."""
+    owner, is_open, bounds, lines = "", False, "", None
     for line in text.splitlines():
-        block = re.match(r"(?:pub )?(impl|trait)\b(?:<.*?>)? ?(.*?) ?\{", line)
+        block = re.match(r"(?:pub )?(impl|trait)\b(<.*?>)? ?(.*?) ?\{", line)
         if block:
-            owner = block[2].partition(":")[0] if block[1] == "trait" else block[2]
+            owner = block[3].partition(":")[0] if block[1] == "trait" else block[3]
             is_open = block[1] == "trait" or " for " in owner
+            bounds = f"impl{block[2]} {owner}" if not is_open and ":" in (block[2] or "") else ""
         elif line.startswith("}"):
-            owner, is_open = "", False
+            owner, is_open, bounds = "", False, ""
         begins = re.match(r"\s*(pub )?(?:const )?fn \w", line)
         if begins:
             is_public, lines = bool(begins[1]) or is_open, []
@@ -29,7 +32,7 @@ def functions(text):
             lines.append(line)
         is_last_clause = re.match(r"\s*(requires|ensures)\b.*\};$", line)
         if is_body or is_last_clause or re.search(r"\{\s*(\}\s*)?$|;$", line) and not re.match(r"\s*(requires|ensures)", line):
-            yield owner, is_public, "\n".join(lines).removesuffix(";")
+            yield owner, is_public, "\n".join(lines).removesuffix(";"), bounds
             lines = None
 
 
@@ -72,10 +75,8 @@ def shortened(owner, signature):
     signature = re.sub(r"\s*\{\s*\}?\s*$", "", signature) if not signature.endswith("}") or signature.endswith("{}") else signature
     indent = re.match(r"\s*", signature)[0]
     lines = [it.removeprefix(indent) for it in signature.split("\n")]
-    prefix = f"<{owner.replace(' for ', '> for <')}>::" if " for " in owner else f"{owner}::" if owner else ""
-    if " for " in owner:
-        trait, _, of = owner.partition(" for ")
-        prefix = f"<{of} as {trait}>::"
+    trait, _, of = owner.rpartition(" for ")
+    prefix = f"<{of} as {trait}>::" if trait else f"{owner}::" if owner else ""
     lines[0] = re.sub(r"(?:pub )?((?:const )?fn )", lambda it: it[1] + prefix, lines[0], count=1)
     return "\n".join(lines)
 
@@ -90,22 +91,45 @@ def is_exported(crate, path, owner, signature):
     return name in names or f"pub mod {path.parts[0].removesuffix('.rt')};" in text
 
 
+# What a law speaks of that says what a derived `Clone`, `Default` or `Hash` does. `laws/clones.rt` has such laws alone.
+DERIVED = re.compile(r"⟦<[^⟧]* as (?:Clone|Default|Hash)>⟧")
+
+
 def contracts(crate):
-    head = "`specs/` defines the names, and the `ghost use` lines of the quoted file say where; `sets` is `Rattle.std.specs.FinSet`. Below `impl TRAIT for TYPE` is what its methods promise."
-    parts = ["## Contracts", "", f"Quoted from `crates/{crate}/src`; {head}", ""]
+    head = ("`specs/` defines the names, and the `ghost use` lines of the quoted file say where; `sets` is `Rattle.std.specs.FinSet`. A line `impl<..> TYPE` has the "
+            "bounds of that type's calls below it. Below `impl TRAIT for TYPE` is what its methods promise.")
+    parts, last = ["## Contracts", "", f"Quoted from `crates/{crate}/src`; {head}", ""], []
     for path, text in sources(crate):
-        shown = [shortened(owner, it) for owner, is_public, it in functions(text) if is_public and is_exported(crate, path, owner, it)]
+        shown, before = [], ""
+        for owner, is_public, signature, bounds in functions(text):
+            if is_public and is_exported(crate, path, owner, signature):
+                shown += [bounds] if bounds not in ("", before) else []
+                before = bounds
+                is_last = path.as_posix() == "laws/clones.rt" or path.stem == "laws" and DERIVED.search(signature)
+                (last if is_last else shown).append(shortened(owner, signature))
         shown += ["\n    ".join([f"impl {head}", *kept]) for head, kept in promises(text)]
         if shown:
             parts += [f"### `{path}`", "", "```text", *shown, "```", ""]
+    if last:
+        parts += ["### Laws on clones, defaults and hashes", "", "```text", *last, "```", ""]
     return "\n".join(parts)
-
 
 
 def own_text(lines):
     """Returns what stands for a comment that a definition lacks: the lines below its first, which define it."""
     own = itertools.takewhile(str.strip, lines)
     return "; ".join(f"`{it.strip()}`" for it in own if not it.strip().startswith("--"))
+
+
+def meaning(comment, line, below):
+    """Returns what a definition says: its comment, with a record's fields or a short definition after it, or else how it is defined."""
+    own = own_text(below)
+    if " record " in line:
+        fields = itertools.takewhile(lambda it: it.startswith("  "), below)
+        names = [f"`{found[1]}`" for it in fields if (found := re.match(r"  pub (\S+) :", it))]
+        return f"{comment} (a record: {', '.join(names)})".strip()
+    # A comment above several definitions says of none what it is, so a short one is shown as well.
+    return f"{comment}: {own}" if comment and own.count("`") == 2 and len(own) < 70 else comment or own
 
 
 def words(crate):
@@ -123,16 +147,8 @@ def words(crate):
                 if "Layout" in file.stem:
                     continue
                 rows = others if re.search(r"Laws|Same", file.stem) else believed
-                if " record " in line:
-                    fields = itertools.takewhile(lambda it: it.startswith("  "), lines[k + 1 :])
-                    names = [f"`{found[1]}`" for it in fields if (found := re.match(r"  pub (\S+) :", it))]
-                    fields = f" (a record: {', '.join(names)})"
-                else:
-                    fields = ""
                 if comment or rows is believed:
-                    text, own = (comment + fields).strip(), own_text(lines[k + 1 :])
-                    # A comment above several definitions says of none what it is, so a short one is shown as well.
-                    text = f"{text}: {own}" if text and not fields and own.count("`") == 2 and len(own) < 70 else text or own
+                    text = meaning(comment, line, lines[k + 1 :])
                     rows.append(f"| `{file.stem}.{name[1]}` | {text.replace('|', chr(92) + '|')} |")
                 # Of several definitions in a row the comment is that of each.
                 is_taken = True
@@ -194,6 +210,8 @@ def callers(path, names):
         shown.setdefault(name, text)
 
     for name in names:
+        if name not in places:
+            raise ValueError(f"crates/rsc_uses/src/{path} has no public function {name}, which a line `<!-- callers: .. -->` names")
         add(name)
     quoted = "\n\n".join(shown.values())
     folder = f"crates/rsc_uses/proofs/{path.removesuffix('.rt')}"
@@ -202,7 +220,9 @@ def callers(path, names):
     used = imports(path, quoted)
     own = " To copy one, copy what it names of `Rattle.rsc_uses` too." if "Rattle.rsc_uses." in used else ""
     head = f"From `crates/rsc_uses/src/{path}`, proved from the contracts below alone. {files}{own}"
-    return f"## Callers\n\n{head}\n\n```rust\n{used}\n\n{quoted}\n```\n"
+    loops = [ROOT / folder / it / "Invariants.antt" for it in shown if (ROOT / folder / it / "Invariants.antt").exists()]
+    files = "".join(f"\nThe invariant of a loop, `{it.relative_to(ROOT)}`:\n\n```text\n{it.read_text(encoding='utf-8')}```\n" for it in loops)
+    return f"## Callers\n\n{head}\n\n```rust\n{used}\n\n{quoted}\n```\n{files}"
 
 
 def imports(path, quoted):
@@ -227,54 +247,61 @@ def mentioned(name):
     return re.escape(sign) if word != sign and not sign.isalpha() else rf"(?<!\w){re.escape(sign)}(?!\w)"
 
 
+NOTATION = """In a clause `x.now` is the value behind a `&`; `x.old` and `x.new` are that behind a `&mut`, before and after the call; `x.entry` is an argument as it was
+passed. The pages that `rt doc` leads to have the rest.
+"""
+
+
 def page(crate, text):
     mark = MARK.search(text)
+    if not mark:
+        raise ValueError(f"crates/{crate}/CALLING.md lacks a line `<!-- callers: FILE FUNCTION .. -->`")
     laws = (ROOT / "crates" / crate / "src/laws.rt").read_text(encoding="utf-8")
     law = re.search(r"pub fn (\w+)\(\)", laws)[1]
     listed = words(crate)
     module, word = re.search(r"^\| `(\w+)\.([^`]+)` \|", listed, flags=re.M).groups()
-    return text[: mark.end()] + "\n" + "\n".join([items(crate), callers(mark[1], mark[2].split()), LAWS.format(crate=crate, law=law, module=module, word=word), contracts(crate), listed])
+    cited = LAWS.format(crate=crate, law=law, module=module, word=word)
+    return text[: mark.end()] + "\n" + "\n".join([NOTATION, items(crate), callers(mark[1], mark[2].split()), cited, contracts(crate), listed])
 
 
 HEAD = """# The public calls
 
-Written by `gate/pages.py --write`. Each row is a public call, or an impl of a trait that promises something: the names of the clauses of its contract (`ensures`
-for one without a name), which CALLING.md of the crate quotes; a test that by its words calls it; and a wrong body that the prover refuses in that very function (of several
-the first, with their number). A function that passes a call on or reads a field may share a wrong body with another.
+Written by `gate/pages.py --write`. Each row is a public call, or an impl of a trait that promises something, with a link to its source file: the names of the
+clauses of its contract (`ensures` for one without a name), which CALLING.md of the crate quotes; a test whose text makes the call, itself or by a function of
+its crate that it calls; and a wrong body that the prover refuses in that very function (of several the first, with their number), or in one that it calls
+or that is like it (an accessor, a conversion), which is named then: at one of its goals at least, not at each clause. A law is a public function with an empty body, whose contract is a lemma; its wrong body
+is another statement, or an edit of the constant or the impl that it speaks of.
+
+`gate/typed.py` finds the test: of the crate's own tests, of `rsc_docs`, `rsc_uses_tests` or of other crates' tests, a `must-run` snippet among them. It names one only where the
+text and the declared types of parameters and results tell which call it is, so an empty cell says that none was found so, not that there is none: tests that
+show a value, or ask what a closure gets or a pattern takes out, are often left out. Where no test is found but a function of another crate makes the call,
+itself or by one of its crate, that is named, as *proved* (maybe to be safe alone). Many laws are called by nothing here: they say what a derived trait does, or
+are for proofs of yours.
 """
 
 
-def tests_of(crate):
-    """Returns the tests of a crate: where each stands, its text, and the text of its file."""
-    found = []
-    for file in sorted((ROOT / "crates" / crate / "src").glob("**/*.rt")):
-        text = file.read_text(encoding="utf-8")
-        module = "::".join(file.relative_to(ROOT / "crates" / crate / "src").with_suffix("").parts).replace("tests::", "")
-        for name, body in re.findall(r"^#\[test\]\nfn (\w+)(.*?)^\}", text, flags=re.M | re.S):
-            found.append((f"{crate}: {module}::{name}", body, text))
-        found.append((f"{crate}: {module}", text if "#[test]" in text or "tests" in file.parts else "", text))
-    return found
+def callers_by_crate():
+    """Returns for each crate the functions that may call a library: whether each is a test, where it stands, and its calls."""
+    found = {}
+    for crate in re.findall(r"^(rsc_\w+)", (ROOT / "crates.txt").read_text(encoding="utf-8"), flags=re.M):
+        for file in files(crate):
+            for it in file.functions:
+                if it.is_test or it.start < it.end and not crate.endswith("_tests"):
+                    where = "::".join([*(part for part in file.module if part != "tests" or file.module == ["tests"]), it.name])
+                    found.setdefault(crate, []).append((it.is_test, f"{crate}: {where}", calls_of(it)))
+    # Tests of time and memory come last.
+    return {crate: sorted(them, key=lambda it: bool(re.search(r": (cost|memory|requests)::", it[1]))) for crate, them in found.items()}
 
 
-def calls_it(body, text, owner, name):
-    """Returns whether a test calls a function, as far as its words tell."""
-    if not owner:
-        return re.search(rf"(?<![\w.]){name}\(", body)
-    if owner not in text:
-        return re.search(rf"\.{name}\(", body) if name not in COMMON else None
-    return re.search(rf"\b{owner}::{name}\b|\.{name}\(", body)
-
-
-# Names that several types have, so that a test that calls one must name the type.
-COMMON = ("new", "len", "iter", "next", "is_empty", "contains", "insert", "clear", "clone", "empty", "get", "start", "end", "pattern", "find", "start_pattern")
-
-
-# What a test has of an impl of a trait.
-SIGNS = {
-    "Default": r"{of}::default\(", "Iterator": r"\.next\(\)|for \w+ in|\.collect\(|\.zip\(", "DoubleEndedIterator": r"\.next_back\(\)|\.rev\(\)",
-    "PartialEq": r"[=!]= |assert_eq!", "PartialOrd": r" [<>]=? |partial_cmp|\.cmp\(", "Ord": r" [<>]=? |\.cmp\(|\.max\(|\.min\(", "Hash": r"\.hash\(|hash_of|Hasher",
-    "Debug": r":[>.\d$w]*[#?]|shown|text", "Display": r"\{{[^}}?]*\}}|shown|text", "From": r"::from\(|\.into\(\)|\?", "TryFrom": r"::try_from\(|\.try_into\(\)",
-}
+def caller_of(crate, callers, call):
+    """Returns the cell of a call: a test that makes it, of the library's own first, or else another crate's function."""
+    others = [it for it in callers if it not in (crate, f"{crate}_tests", "rsc_uses", "rsc_uses_tests", "rsc_docs")]
+    for is_test, mark in ((True, ""), (False, "*proved* ")):
+        for of in (f"{crate}_tests", "rsc_docs", "rsc_uses_tests", "rsc_uses", *others):
+            for tests, where, made in callers.get(of, ()):
+                if tests == is_test and call in made:
+                    return f"{mark}`{where}`"
+    return ""
 
 
 def bodies_of(crate):
@@ -288,39 +315,76 @@ def bodies_of(crate):
     return found
 
 
-def rows(crate, tests):
+def bodies_below(path, text, signature, bodies):
+    """Returns the wrong bodies of the first function that a function calls and that has some: of its own file, or of the one type with such a method."""
+    indent = re.match(r"\s*", signature)[0]
+    begins = text.index(signature.strip()) + len(signature.strip())
+    body = text[begins : text.find(f"\n{indent}}}", begins)]
+    for of, dot, name in re.findall(r"(?:\b(\w+)(?:::<[^()]*>)?::|(\.)|\b)(\w+)(?:::<[^()]*>)?\(", body):
+        keys = [it for it in bodies if it.endswith(f"::{name}")] if dot else [f"{of or path.stem}::{name}"]
+        if len(keys) == 1 and keys[0] in bodies:
+            return [f"{it}` of `{keys[0]}" for it in bodies[keys[0]]]
+    return []
+
+
+def rows(crate, callers):
     """Yields the row of each call of a crate, and of each impl that promises something."""
     bodies = bodies_of(crate)
     for path, text in sources(crate):
-        for owner, is_public, signature in functions(text):
+        for owner, is_public, signature, _ in functions(text):
             named = re.match(r"\s*pub (?:const )?fn (\w+)", signature)
             if not named or not is_public or not is_exported(crate, path, owner, signature):
                 continue
             owner = re.match(r"\w*", owner)[0]
             call = f"{owner}::{named[1]}" if owner else f"{path.stem}::{named[1]}"
             clauses = [it or "ensures" for it in re.findall(r"^\s*ensures\*? (\w*) ?\{", signature, flags=re.M)]
-            test = "" if path.stem == "laws" else next((where for where, body, of in tests if calls_it(body, of, owner, named[1])), "")
-            yield row(call.removeprefix("lib::"), clauses, test, bodies.get(call, []))
+            made = ("call", owner, named[1]) if owner else ("fn", crate, named[1])
+            refused = bodies.get(call) or (bodies_below(path, text, signature, bodies) if path.stem != "laws" else [])
+            refused = refused or bodies_alike(call, bodies)
+            yield row(source(crate, path), call.removeprefix("lib::"), clauses, caller_of(crate, callers, made), refused)
         for head, kept in promises(text):
-            trait, of = re.match(r"(?:\w+::)*(\w+)(?:<.*?>)? for (\w+)", head).groups()
-            sign = SIGNS.get(trait, "(?!)").format(of=of)
-            test = next((where for where, body, file in tests if re.search(rf"\b{of}\b", file) and re.search(sign, body)), "")
+            trait, with_what, of = re.match(r"(?:\w+::)*(\w+)(?:<(.*)>)? for (\w+)", head).groups()
             # The checker names an impl by its type, its trait and the types in their brackets, as `SpanFromRangeUsize`.
-            of_what = re.match(r"(?:\w+::)*\w+<(?:&'\w+ \[)?(\w+)", head.partition(" for ")[0])
-            prefix = rf"{of}\w*{trait}" + (rf"\w*{of_what[1][0].upper()}{of_what[1][1:]}" if of_what else "") + r"\w*::"
+            other = re.match(r"(?:&'\w+ \[)?(\w+)", with_what)[1] if with_what else None
+            prefix = rf"{of}\w*{trait}" + (rf"\w*{other[0].upper()}{other[1:]}" if other else "") + r"\w*::"
             found = [name for function, names in bodies.items() if re.match(prefix, function) for name in names]
-            yield row(head, [it.partition(" ")[0] for it in kept], test, found)
+            made = ("trait", trait, of, other) if other else ("trait", trait, of)
+            found = found or bodies_alike(head, bodies)
+            yield row(source(crate, path), head, [it.partition(" ")[0] for it in kept], caller_of(crate, callers, made), found)
 
 
-def row(call, clauses, test, bodies):
+# Accessors and conversions that share the wrong body of another one, by the function that is refused; and the calls that have none (docs/DECISIONS.md).
+ALIKE = ((r"(PatternID|SmallIndex|StateID)::as_\w+", r"\1::as_.+"), (r"(?:Try)?From<\w+> for (PatternID|SmallIndex|StateID)", r"\1(?:Try)?From.+"),
+         ("MatchError::kind", "MatchError::new"), ("HalfMatch::pattern", "HalfMatch::offset"), ("Match::pattern", "Match::span"),
+         ("PatternSetInsertError::attempted", "PatternSetInsertError::capacity"), ("Captures::pattern", "Captures::is_match"),
+         ("Captures::group_info", "Captures::group_len"), ("GroupInfoError::kind", "GroupInfoError::clone"), ("Nfa::(?:group_info|matcher)", "Nfa::states"),
+         ("From<.*> for Error", "ErrorFromBuildError::from"), ("Program::(?:nfa|is_utf8|len|state)", "Program::start"))
+EXEMPT = ("GroupInfo::all_names", "Dfa::new")
+
+
+def bodies_alike(call, bodies):
+    """Returns the wrong bodies of a function that stands for a call without any."""
+    for pattern, alike in ALIKE:
+        if re.fullmatch(pattern, call):
+            refused = re.sub(f"^{pattern}$", alike, call)
+            return [f"{name}` of `{function}" for function, names in bodies.items() if re.fullmatch(refused, function) for name in names]
+    if call not in EXEMPT:
+        raise ValueError(f"{call} has no wrong body")
+    return []
+
+
+def source(crate, path):
+    return f"../crates/{crate}/src/{path.as_posix()}"
+
+
+def row(source, call, clauses, caller, bodies):
     wrong = f"`{bodies[0]}`" + (f" (of {len(bodies)})" if len(bodies) > 1 else "") if bodies else ""
-    return f"| `{call}` | {', '.join(f'`{it}`' for it in clauses)} | {f'`{test}`' if test else ''} | {wrong} |"
+    return f"| [`{call}`]({source}) | {', '.join(f'`{it}`' for it in clauses)} | {caller} | {wrong} |"
 
 
 def calls(crates):
     """Returns docs/CALLS.md."""
-    lines = [HEAD]
+    lines, callers = [HEAD], callers_by_crate()
     for crate in crates:
-        tests = [it for name in (f"{crate}_tests", "rsc_uses") for it in tests_of(name)]
-        lines += [f"## `{crate}`", "", "| Call | Clauses | Test | Wrong body |", "|---|---|---|---|", *rows(crate, tests), ""]
+        lines += [f"## `{crate}`", "", "| Call | Clauses | Test | Wrong body |", "|---|---|---|---|", *rows(crate, callers), ""]
     return "\n".join(lines)

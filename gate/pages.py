@@ -5,19 +5,20 @@
 
 - The lower part of each library's CALLING.md: below the line `<!-- callers: FILE FUNCTION .. -->`, which names the functions of
   crates/rsc_uses/src/FILE to show, come those callers, the contract of each public call, and the words of specs/ with their comments.
-- The first Rust block of a library's README.md: its file in crates/rsc_uses/src/readmes, a test. In the README.md of the repository, each
-  block below a line `<!-- quoted: FILE [FUNCTION] -->`. README.md also gets how many definitions are to be believed
+- The first Rust block of a library's README.md: its file in crates/rsc_docs/src/readmes, a test. In the README.md of the repository, each
+  block below a line `<!-- quoted: FILE -->`. README.md also gets how many definitions are to be believed
   and what is proved by hand, docs/TRUSTED.md each of those definitions, and docs/CALLS.md each public call.
-- The examples of doc comments: what is in a test of crates/rsc_uses/src/examples below the comment that names the item.
+- The examples of doc comments: what is in a test of crates/rsc_docs/src/examples below the comment that names the item, as `Span::get` in backquotes, after
+  four spaces and `// `. A test begins with such a comment, and its last example ends at its `Ok(())`.
 - The table of docs/WRONG_BODIES.md: for each edit that it names, the function and the goal that refuse it.
 - The comments of each Lib.antt: the first sentence of each module's head. The table of test modules of each README.md of tests, likewise.
 
-It compares the numbers that the code decides, asks that the forms under 'Forms that are asked for' of docs/DECISIONS.md are there, that no library
-calls a function whose sums wrap, and that docs/DEFINITIONS.md has each definition that a public contract or the promise of a trait's methods cites, in
-backquotes, alone or after its module, as `Holds` or `Holds.Holds`. A definition is a name of a crate's specs/ that a `ghost use` line brings
-into a file.
+It compares the sizes of a block of repeated names and README.md's totals of docs/PERFORMANCE.md with what decides them, asks that the forms under 'Forms that are asked for' of docs/DECISIONS.md are there, that no library
+calls a function whose sums wrap, and that docs/DEFINITIONS.md has each definition that a public contract or the promise of a trait's methods cites, and each of
+docs/TRUSTED.md, in backquotes, alone or after its module, as `Holds` or `Holds.Holds`, and no name at the head of a line that isn't there. A definition
+is a name of a crate's specs/ that a `ghost use` line brings into a file.
 
-A file that a page written by hand names in backquotes, below one of the usual folders, is there.
+A file that a page written by hand names in backquotes, below one of the usual folders, is there, and so is what a page links to.
 
 No crate imports another crate's `proofs` or `specs/..Layout`: the layers compose by contracts, laws and definitions alone. No line of a .rt
 or .antt file is longer than 160 columns, except imports, tables of literals, and the quotation of a test or of a text that is longer.
@@ -30,6 +31,7 @@ import sys
 
 from calling import ROOT, calls, functions, is_exported, page, promises, sources
 from edits import blocks
+from typed import LIBRARIES
 
 MOST_COLUMNS = 160
 # The forms that are asked for, however plain another is: a source, and a text that stands in it once. docs/DECISIONS.md names them.
@@ -45,7 +47,6 @@ FORMS = (
 )
 # The types whose values the main statement speaks of.
 SEEN = (("rsc_look", "matcher.rt", "LookMatcher"), ("rsc_alphabet", "byte_classes.rt", "ByteClasses"))
-LIBRARIES = ("rsc_primitives", "rsc_alphabet", "rsc_look", "rsc_search", "rsc_captures", "rsc_nfa", "rsc_engine")
 
 
 def readme(shown, text):
@@ -54,15 +55,12 @@ def readme(shown, text):
 
 
 def with_quotes(text):
-    """Returns README.md with each Rust block below a line `<!-- quoted: FILE [FUNCTION] -->`: the file, or that function with the comment above it."""
+    """Returns README.md with the file in each Rust block below a line `<!-- quoted: FILE -->`."""
 
     def block(found):
-        shown = (ROOT / found[2]).read_text(encoding="utf-8")
-        if found[3]:
-            shown = re.search(rf"(?:^//[^\n]*\n)*^(?:pub )?fn {found[3]}\b.*?^}}\n", shown, flags=re.M | re.S)[0]
-        return f"{found[1]}```rust\n{shown}```"
+        return f"{found[1]}```rust\n{(ROOT / found[2]).read_text(encoding='utf-8')}```"
 
-    return re.sub(r"(<!-- quoted: (\S+)(?: (\w+))? -->\n)```rust\n.*?```", block, text, flags=re.S)
+    return re.sub(r"(<!-- quoted: (\S+) -->\n)```rust\n.*?```", block, text, flags=re.S)
 
 
 def imports_of(text, ghost):
@@ -94,20 +92,53 @@ def tokens(text):
     return set(re.findall(r"[^\s(){}\[\],;.]+", re.sub(r"--.*", "", text)))
 
 
-# The main statement: the clauses of these functions, and what the two choices of word characters mean.
-HEADLINE = (("rsc_look/src/matcher.rt", r"pub fn matches\(.*?\n    \{"), ("rsc_look/src/boundaries.rt", r"pub fn classes_of\(.*?\n    \{"),
-            ("rsc_look/src/word.rt", r"ghost word_chars = .*?;"), ("rsc_look/src/matcher.rt", r"impl<W: WordClass> Model for .*?^\}"),
-            ("rsc_alphabet/src/byte_classes.rt", r"impl Model for ByteClasses .*?^\}"))
+# The main statement: the clauses of these functions, what the two choices of word characters mean, and what a clause sees of a value.
+MAIN = {"classes_of": "rsc_look/src/boundaries.rt", "matches": "rsc_look/src/matcher.rt"}
+MEANT = (("rsc_look/src/word.rt", r"ghost word_chars = .*?;"), ("rsc_look/src/matcher.rt", r"impl<W: WordClass> Model for .*?^\}"),
+         ("rsc_alphabet/src/byte_classes.rt", r"impl Model for ByteClasses .*?^\}"))
 
 
-def reached():
-    """Returns the definitions that the main statement's clauses reach, by their files, and the types and toolchain names that they use."""
-    left, own, outside = [], collections.defaultdict(set), collections.defaultdict(set)
-    for file, pattern in HEADLINE:
+def statement(is_quoted):
+    """Yields each part of the main statement with its file: all clauses, or those alone that README.md quotes, which must be as in the source."""
+    readme = (ROOT / "README.md").read_text(encoding="utf-8")
+    for name, file in MAIN.items():
+        shown = re.search(rf"^pub fn {name}\(.*?(?=\n\n|\n```)", readme, flags=re.M | re.S)[0].split()
         text = (ROOT / "crates" / file).read_text(encoding="utf-8")
-        for part in re.findall(pattern, text, flags=re.M | re.S):
-            brought = imports_of(text, "ghost ")
-            left += [brought[it] for it in tokens(part) if it in brought]
+        head, *clauses = re.split(r"\n {8}(?=ensures|requires)", re.search(rf"pub fn {name}\(.*?(?=\n    \{{)", text, flags=re.S)[0])
+        kept = [it for it in clauses if " ".join(it.split()) in " ".join(shown)]
+        if " ".join([head, *kept]).split() != shown:
+            raise ValueError(f"README.md quotes {name} otherwise than crates/{file} has it")
+        for it in kept if is_quoted else clauses:
+            yield file, it
+    for file, pattern in MEANT:
+        for it in re.findall(pattern, (ROOT / "crates" / file).read_text(encoding="utf-8"), flags=re.M | re.S):
+            yield file, it
+
+
+# What rsc_engine promises of a search: the clauses of these functions, each with the names of all that is promised.
+ENGINE = (("find", "iterate.rt"), ("next", "iterate.rt"), ("build", "builder.rt"), ("earliest_end", "dfa.rt"))
+
+
+ENGINE_MEANT = (("rsc_look/src/word.rt", r"ghost word_chars = .*?;"), ("rsc_engine/src/iterate.rt", r"impl<[^{]*Model for Matches.*?^\}"))
+ENGINE_SEEN = (("rsc_engine", "program.rt", "Program"), ("rsc_engine", "dfa.rt", "Dfa"), ("rsc_engine", "iterate.rt", "Matches"), ("rsc_nfa", "nfa.rt", "Nfa"),
+               ("rsc_search", "input.rt", "Input"), ("rsc_search", "matches.rt", "Match"), ("rsc_captures", "captures.rt", "Captures"))
+
+
+def engine_statement():
+    """Yields each clause of the functions of ENGINE with its file, and what they mean besides."""
+    for file, pattern in ENGINE_MEANT:
+        yield from ((file, it) for it in re.findall(pattern, (ROOT / "crates" / file).read_text(encoding="utf-8"), flags=re.M | re.S))
+    for name, file in ENGINE:
+        signature = re.search(rf"pub fn {name}\b.*?(?=\n *\{{\n)", (ROOT / "crates/rsc_engine/src" / file).read_text(encoding="utf-8"), flags=re.S)[0]
+        yield from ((f"rsc_engine/src/{file}", it) for it in re.split(r"\n +(?=ensures|requires)", signature)[1:])
+
+
+def reached(parts):
+    """Returns the definitions that these parts of files reach, by their files, and the types and toolchain names that they use."""
+    left, own, outside = [], collections.defaultdict(set), collections.defaultdict(set)
+    for file, part in parts:
+        brought = imports_of((ROOT / "crates" / file).read_text(encoding="utf-8"), "ghost ")
+        left += [brought[it] for it in tokens(part) if it in brought]
     while left:
         module, name = left.pop()
         crate, _, rest = module.partition(".specs.")
@@ -117,43 +148,75 @@ def reached():
         elif name not in own[crate, rest]:
             text = file.read_text(encoding="utf-8")
             found, brought = definitions(text), imports_of(text, "(?:pub )?")
-            if name not in found:
-                raise ValueError(f"{module} has no definition {name}")
+            # A constructor stands for its type.
+            name = name if name in found else next((it for it in found if re.search(rf"^  (?:pub )?{re.escape(name)} :", found[it], flags=re.M)), None)
+            if not name:
+                raise ValueError(f"{module} has no such definition")
             own[crate, rest].add(name)
             used = tokens(found[name])
             left += [brought[it] for it in used if it in brought] + [(module, it) for it in used if it in found and it not in brought]
     return own, outside
 
 
+def sizes(own):
+    """Returns how many definitions there are, and how many lines they have."""
+    texts = {it: definitions((ROOT / "crates" / it[0] / "specs" / f"{it[1]}.antt").read_text(encoding="utf-8")) for it in own}
+    return sum(map(len, own.values())), sum(len(texts[it][name].splitlines()) for it, names in own.items() for name in names)
+
+
 def trusted():
     """Returns docs/TRUSTED.md: what is to be believed for the main statement, definition by definition."""
-    own, outside = reached()
-    lines = ["# What the main statement rests on", "", "Written by `gate/pages.py --write`: the definitions that the clauses of `classes_of` and `matches` of `rsc_look` reach, with all that",
-             "these use, and the meaning of `AsciiWord` and `UnicodeWord`. Whoever trusts the toolchain need believe these, the clauses,", "and what they see of a value; [DEFINITIONS.md](DEFINITIONS.md) explains all but helpers.", "",
-             "| File | Lines | Definitions |", "|---|---|---|"]
-    count = total = 0
+    (own, outside), (quoted, _) = reached(statement(False)), reached(statement(True))
+    lines = ["# What the main statements rest on", "", "## `rsc_look`", "",
+             "Written by `gate/pages.py --write`: the definitions that the clauses of `classes_of` and `matches` of `rsc_look` reach, with all that these use, and the",
+             "meaning of `AsciiWord` and `UnicodeWord`. The last column has what only clauses need which README.md doesn't quote. Whoever trusts the toolchain need only",
+             "believe these, the clauses, and what they see of a value; [DEFINITIONS.md](DEFINITIONS.md) explains all.", "",
+             "| File | Lines | Definitions of the quoted clauses | Of other clauses alone |", "|---|---|---|---|"]
     order = {crate: k for k, crate in enumerate(LIBRARIES)}
     for (crate, module), names in sorted(own.items(), key=lambda it: (order[it[0][0]], it[0][1])):
-        text = (ROOT / "crates" / crate / "specs" / f"{module}.antt").read_text(encoding="utf-8")
-        found = definitions(text)
-        size = sum(len(found[it].splitlines()) for it in names)
-        count, total = count + len(names), total + size
-        lines.append(f"| `{crate}/specs/{module}.antt` | {size} | {', '.join(f'`{it}`' for it in found if it in names)} |")
-    lines += ["", "A clause speaks of what a contract sees of a value, by the type's `impl Model`:", "", "| Type | What is seen | Its type |", "|---|---|---|"]
-    for crate, file, name in SEEN:
-        source = (ROOT / "crates" / crate / "src" / file).read_text(encoding="utf-8")
-        model = re.search(rf"Model for {name}\b.*?ghost Value = {{ (.*?) }};.*?ghost view = {{ (.*?) }};", source, flags=re.S)
-        lines.append(f"| `{crate}::{name}` | `{model[2]}` | `{model[1]}` |")
+        found = definitions((ROOT / "crates" / crate / "specs" / f"{module}.antt").read_text(encoding="utf-8"))
+        listed = [", ".join(f"`{it}`" for it in found if it in names and (it in quoted[crate, module]) == is_quoted) for is_quoted in (True, False)]
+        lines.append(f"| `{crate}/specs/{module}.antt` | {sizes({(crate, module): names})[1]} | {listed[0]} | {listed[1]} |")
+    lines += ["", "A clause speaks of what a contract sees of a value, by the type's `impl Model`:", "", *views(SEEN)]
     lines += ["", "The contracts of `LookMatcher::new` and `set_line_terminator` say which matcher a caller makes, and that of `ByteClasses::get` what it reads from the map.", ""]
-    lines += [f"Together {count} definitions, {total} lines. They use types of the libraries, and names of the toolchain:", "", "| Module | Names |", "|---|---|"]
+    lines[-2:] = [f"{lines[-2]} Of the word predicates `AsciiWord` has `word_chars = λ _ c. is_word_byte c`, and `UnicodeWord` `λ _ c. is_unicode_word c`.", ""]
+    said = "The quoted clauses and the meaning of the two word predicates reach {} definitions, {} lines; all clauses {}, {} lines.".format(*sizes(quoted), *sizes(own))
+    lines += [f"{said} They use types of the libraries, and names of the toolchain:", "", "| Module | Names |", "|---|---|"]
     lines += [f"| `{module}` | {', '.join(f'`{it}`' for it in sorted(names))} |" for module, names in sorted(outside.items())]
-    return "\n".join(lines) + "\n", count, total, len(own)
+    lines += ["", "## `rsc_engine`", ""] + engine_trusted()
+    return "\n".join(lines) + "\n"
+
+
+def views(types):
+    """Returns a table of what a contract sees of values."""
+    lines = ["| Type | What is seen | Its type |", "|---|---|---|"]
+    for crate, file, name in types:
+        source = (ROOT / "crates" / crate / "src" / file).read_text(encoding="utf-8")
+        model = re.search(rf"Model for {name}\b.*?ghost Value = {{ (.*?) }};.*?ghost view = {{ (.*?) }};\n", source, flags=re.S)
+        lines.append(f"| `{crate}::{name}` | `{model[2]}` | `{model[1]}` |")
+    return lines
+
+
+def engine_trusted():
+    """Returns the lines of docs/TRUSTED.md on what the answers of rsc_engine rest on."""
+    own, outside = reached(engine_statement())
+    count, all_lines = sizes(own)
+    lines = [f"The clauses of `find`, `Matches::next`, `Builder::build` and `Dfa::earliest_end` reach {count} definitions, {all_lines} lines:", "",
+             "| File | Lines | Definitions |", "|---|---|---|"]
+    for (crate, module), names in sorted(own.items(), key=lambda it: (LIBRARIES.index(it[0][0]), it[0][1])):
+        found = definitions((ROOT / "crates" / crate / "specs" / f"{module}.antt").read_text(encoding="utf-8"))
+        lines.append(f"| `{crate}/specs/{module}.antt` | {sizes({(crate, module): names})[1]} | {', '.join(f'`{it}`' for it in found if it in names)} |")
+    lines += ["", "What is seen of a value:", "", *views(ENGINE_SEEN), "", "They use types of the libraries, and names of the toolchain:", "", "| Module | Names |", "|---|---|"]
+    return lines + [f"| `{module}` | {', '.join(f'`{it}`' for it in sorted(names))} |" for module, names in sorted(outside.items())]
 
 
 def believed(text):
-    """Returns README.md with how many definitions the main statement reaches."""
-    _, count, total, files = trusted()
-    return re.sub(r"<!-- believed -->.*?<!-- end -->", f"<!-- believed -->{count} definitions ({total} lines, in {files} files of `crates/*/specs`)<!-- end -->", text)
+    """Returns README.md with how many definitions the clauses that it quotes reach, and how many all clauses."""
+    (own, _), (quoted, _) = reached(statement(False)), reached(statement(True))
+    (count, lines), (all_count, all_lines) = sizes(quoted), sizes(own)
+    files = sum(map(bool, quoted.values()))
+    said = f"{count} definitions ({lines} lines, in {files} files of `crates/*/specs`), all clauses of both functions on {all_count} ({all_lines} lines)"
+    return re.sub(r"<!-- believed -->.*?<!-- end -->", f"<!-- believed -->{said}<!-- end -->", text)
 
 
 def by_hand(text):
@@ -169,16 +232,29 @@ def by_hand(text):
 
 def examples(crate):
     """Returns the examples of a library's doc comments, by the items that they are of."""
-    file = ROOT / "crates/rsc_uses/src/examples" / f"{crate.removeprefix('rsc_')}.rt"
-    found, lines = {}, None
-    for line in file.read_text(encoding="utf-8").splitlines() if file.exists() else ():
+    file = ROOT / "crates/rsc_docs/src/examples" / f"{crate.removeprefix('rsc_')}.rt"
+    found, lines, fault = {}, None, None
+    # Whether the line is in a test, and before its `Ok(())`.
+    is_inside = False
+    for number, line in enumerate(file.read_text(encoding="utf-8").splitlines() if file.exists() else (), 1):
         item = re.fullmatch(r"    // `(.*)`", line)
         if item:
+            fault = f"a second example of `{item[1]}`" if item[1] in found else fault
             lines = found[item[1]] = []
+        elif re.fullmatch(r"\s*//+\s*`?[A-Za-z_]\w*(?:::\w+)*`?\s*", line):
+            fault = "a comment that names an item has four spaces before `// `, and the name in backquotes"
         elif line == "    Ok(())":
-            lines = None
+            lines, is_inside = None, False
+        elif line.startswith("fn "):
+            is_inside = True
+        elif line == "}":
+            fault = "an example ends with a line `    Ok(())`" if is_inside else fault
         elif lines is not None:
             lines.append(line.removeprefix("    "))
+        elif is_inside and line.strip():
+            fault = "a test begins with a comment that names an item"
+        if fault:
+            raise ValueError(f"{file.relative_to(ROOT)}:{number}: {fault}")
     return {item: "\n".join(lines).strip("\n").split("\n") for item, lines in found.items()}
 
 
@@ -240,7 +316,7 @@ def pages():
         file = ROOT / "crates" / crate / "CALLING.md"
         yield file, page(crate, file.read_text(encoding="utf-8"))
         file = ROOT / "crates" / crate / "README.md"
-        example = ROOT / "crates/rsc_uses/src/readmes" / f"{crate.removeprefix('rsc_')}.rt"
+        example = ROOT / "crates/rsc_docs/src/readmes" / f"{crate.removeprefix('rsc_')}.rt"
         yield file, readme(example.read_text(encoding="utf-8"), file.read_text(encoding="utf-8"))
         file = ROOT / "crates" / f"{crate}_tests" / "README.md"
         yield file, test_modules(file.parent.name, file.read_text(encoding="utf-8"))
@@ -248,7 +324,7 @@ def pages():
         yield file, module_list(file)
     file = ROOT / "README.md"
     yield file, by_hand(believed(with_quotes(file.read_text(encoding="utf-8"))))
-    yield ROOT / "docs/TRUSTED.md", trusted()[0]
+    yield ROOT / "docs/TRUSTED.md", trusted()
     yield ROOT / "docs/CALLS.md", calls(LIBRARIES)
 
 
@@ -261,7 +337,7 @@ def cited():
             for of, module, names in re.findall(r"ghost use Rattle\.(rsc_\w+)\.specs\.([\w.]+)\.\{([^}]*)\}", text):
                 if not module.startswith("declared"):
                     imported.update({it.strip(): (of, module) for it in names.split(",")})
-            for owner, _, signature in functions(text):
+            for owner, _, signature, _ in functions(text):
                 named = re.match(r"\s*pub (?:const )?fn (\w+)", signature)
                 of_type = re.match(r"\w+", owner.rpartition(" for ")[2])
                 for word in set(re.findall(r"[\w-]+", signature)) & set(imported) if named and is_exported(crate, path, owner, signature) else ():
@@ -274,6 +350,32 @@ def cited():
                     if not word.startswith("same_"):
                         found[of][f"{module}.{word}"].add(f"the impl of {head} in {crate}")
     return found
+
+
+def unknown_definitions(text):
+    """Returns the names that a line of docs/DEFINITIONS.md begins with and that no file of specs/ has."""
+    there = collections.defaultdict(set)
+    for crate in LIBRARIES:
+        for file in (ROOT / "crates" / crate / "specs").glob("**/*.antt"):
+            there[".".join(file.relative_to(ROOT / "crates" / crate / "specs").with_suffix("").parts)] |= set(definitions(file.read_text(encoding="utf-8")))
+    unknown, module = [], ""
+    for line in re.findall(r"^- (`[A-Z]\w*\.[^:]*)", text, flags=re.M):
+        for name in re.findall(r"`([\w.-]+)`", line):
+            module = name.rpartition(".")[0] or module
+            if name.rpartition(".")[2] not in there[module]:
+                unknown.append(f"{module}.{name.rpartition('.')[2]}")
+    return unknown
+
+
+def definition_faults():
+    """Yields for each definition that a contract cites or docs/TRUSTED.md lists what docs/DEFINITIONS.md lacks, and the names there that no definition has."""
+    text = (ROOT / "docs/DEFINITIONS.md").read_text(encoding="utf-8")
+    shown = {it.rpartition(".")[2] for it in re.findall(r"`([\w.-]+)`", text)}
+    needed = [(crate, name, ", ".join(sorted(citing)[:3]) + " cites") for crate, names in sorted(cited().items()) for name, citing in sorted(names.items())]
+    needed += [(crate, f"{module}.{it}", "docs/TRUSTED.md lists") for (crate, module), names in sorted(reached([*statement(False), *engine_statement()])[0].items()) for it in sorted(names)]
+    for crate, name, why in needed:
+        yield [] if name.rpartition(".")[2] in shown else [f"docs/DEFINITIONS.md lacks `{name}` of {crate}, which {why}"]
+    yield [f"docs/DEFINITIONS.md names `{it}`, which isn't there" for it in unknown_definitions(text)]
 
 
 def named_bodies(text):
@@ -294,13 +396,25 @@ def named_bodies(text):
     return re.sub(r"^\| (.*) \| `(rsc_\w+/\w+)` \| .*\|$", row, text, flags=re.M), missing
 
 
-def numbers():
-    """Yields each place where a page must have a number that the code decides, with the words that it must have."""
+def number_faults():
+    """Yields for each number that the code decides what is wrong with the page that must have it."""
     source = "crates/rsc_captures/src/repeats.rt"
     table = int(re.search(r"^const TABLE: usize = (\d+);", (ROOT / source).read_text(encoding="utf-8"), flags=re.M)[1])
-    yield "docs/DECISIONS.md", f"blocks of {table:,} groups are sorted by name in a table of {4 * table // 1024} KiB"
-    yield "docs/DECISIONS.md", f"n²/{2 * table} look-ups"
-    yield "crates/rsc_captures_tests/src/tests/repeats.rt", f"has room for {table:,} groups"
+    for file, words in (
+        ("docs/DECISIONS.md", f"blocks of {table:,} groups are sorted by name in a table of {4 * table // 1024} KiB"),
+        ("docs/DECISIONS.md", f"n²/{2 * table} look-ups"),
+        ("crates/rsc_captures_tests/src/tests/repeats.rt", f"has room for {table:,} groups"),
+    ):
+        is_said = words in " ".join((ROOT / file).read_text(encoding="utf-8").split())
+        yield [] if is_said else [f"{file} lacks `{words}`, which the code decides"]
+    count, mean, slower, _, _ = re.search(r"^\| all \| (.*) \|$", (ROOT / "docs/PERFORMANCE.md").read_text(encoding="utf-8"), flags=re.M)[1].split(" | ")
+    text = " ".join((ROOT / "README.md").read_text(encoding="utf-8").split())
+    said = (f"Over {count} workloads", f"takes {mean} of the original's time", f"{slower} are slower")
+    yield [f"README.md lacks `{it}`, as docs/PERFORMANCE.md has it" for it in said if it not in text]
+    commands = (ROOT / "crates/rsc_compare/stdin").read_text(encoding="utf-8").splitlines()
+    bodies = sum(len(re.findall(r"^== ", path.read_text(encoding="utf-8"), flags=re.M)) for path in (ROOT / "crates").glob("**/*.edits"))
+    said = (f"replays {len(commands):,} commands", f"(in {sum('_port' in it for it in commands)} the", f"each of some {bodies // 10 * 10} wrong bodies")
+    yield [f"README.md lacks `{it}`, as the files have it" for it in said if it not in text]
 
 
 def form_faults():
@@ -318,16 +432,41 @@ def is_there(path, folders):
     return any((folder / f"{path}{end}").exists() for folder in folders for end in ("", ".antt", ".rt"))
 
 
+def documents():
+    """Yields each page with its text."""
+    for page in sorted(ROOT.glob("**/*.md")):
+        if "out" not in page.relative_to(ROOT).parts:
+            yield page, page.read_text(encoding="utf-8")
+
+
 def path_faults():
     """Yields for each page that is written by hand the files that it names in backquotes and that aren't there."""
     kinds = "bench|compare|crates|docs|gate|own|proofs|runs|specs|src"
-    for page in sorted(ROOT.glob("**/*.md")):
-        if page.name == "CALLING.md" or "out" in page.relative_to(ROOT).parts:
+    for page, text in documents():
+        if page.name == "CALLING.md":
             continue
-        named = re.findall(rf"`((?:{kinds})/(?!util)\w[\w/-]+(?:\.\w+)?)`", page.read_text(encoding="utf-8"))
+        named = re.findall(rf"`((?:{kinds})/(?!util)\w[\w/-]+(?:\.\w+)?)`", text)
         folders = [ROOT, page.parent, *(ROOT / "crates").iterdir()]
         missing = [it for it in named if "NAME" not in it and "XLemmas" not in it and not is_there(it, folders)]
         yield [f"{page.relative_to(ROOT)} names `{it}`, which isn't there" for it in missing]
+
+
+def anchors(page):
+    """Returns the headings of a page, as a link names them."""
+    heads = re.findall(r"^#+ (.*)$", re.sub(r"```.*?```", "", page.read_text(encoding="utf-8"), flags=re.S), flags=re.M)
+    return {re.sub(r"[^\w\- ]", "", it.lower()).replace(" ", "-") for it in heads}
+
+
+def link_faults():
+    """Yields for each page the links to a file or a heading that isn't there."""
+    for page, text in documents():
+        links = re.findall(r"\]\((?!https?:)([^)\s#]*)(?:#([^)\s]*))?\)", re.sub(r"```.*?```|`[^`\n]*`", "", text, flags=re.S))
+        missing = []
+        for path, head in links:
+            target = (page.parent / path).resolve() if path else page
+            if not target.exists() or head and head not in anchors(target):
+                missing.append(f"{path}#{head}" if head else path)
+        yield [f"{page.relative_to(ROOT)} links to {it}, which isn't there" for it in missing]
 
 
 def serves_nothing(crate, below):
@@ -340,7 +479,7 @@ def serves_nothing(crate, below):
 
 
 def source_faults():
-    """Yields each source and proof, with its faults: another crate's private modules, too many columns, a file of lemmas that serves none."""
+    """Yields for each source and proof its faults: another crate's private modules, too many columns, a file of lemmas that serves none."""
     for file in sorted((ROOT / "crates").glob("*/**/*")):
         crate, *below = file.relative_to(ROOT / "crates").parts
         if file.suffix not in (".antt", ".rt") or below[0] == "out":
@@ -358,31 +497,21 @@ def source_faults():
             is_import = "{" in line and "}" not in line if begins_import else is_import and "}" not in line
         if serves_nothing(crate, below):
             found.append(f"{file.relative_to(ROOT)} is named after no file of specs/ or src/")
-        yield file, found
+        yield found
 
 
 def main():
-    made, failures, count = dict(pages()), [], 0
-    for _, faults in source_faults():
-        count += 1
-        failures += faults
-    for faults in [*form_faults(), *path_faults()]:
-        count += 1
-        failures += faults
-    for file, words in numbers():
-        count += 1
-        if words not in (ROOT / file).read_text(encoding="utf-8"):
-            failures.append(f"{file} lacks `{words}`, which the code decides")
-    found, text = cited(), (ROOT / "docs/DEFINITIONS.md").read_text(encoding="utf-8")
-    shown = {it.rpartition(".")[2] for it in re.findall(r"`([\w.-]+)`", text)}
-    for crate, names in sorted(found.items()):
-        for name, functions_of in sorted(names.items()):
-            count += 1
-            if name.rpartition(".")[2] not in shown:
-                failures.append(f"docs/DEFINITIONS.md lacks `{name}` of {crate}, which {', '.join(sorted(functions_of)[:3])} cites")
+    try:
+        made, failures, count = dict(pages()), [], 0
+    except ValueError as fault:
+        print(fault, "pages: 0 passed, 1 failed", sep="\n")
+        return 1
     bodies = ROOT / "docs/WRONG_BODIES.md"
     made[bodies], missing = named_bodies(bodies.read_text(encoding="utf-8"))
-    failures += [f"docs/WRONG_BODIES.md names {it}, which isn't there" for it in missing]
+    faults_of = (source_faults, form_faults, path_faults, link_faults, number_faults, definition_faults)
+    for faults in [*itertools.chain.from_iterable(it() for it in faults_of), [f"docs/WRONG_BODIES.md names {it}, which isn't there" for it in missing]]:
+        count += 1
+        failures += faults
     for file, text in made.items():
         count += 1
         if text != file.read_text(encoding="utf-8"):

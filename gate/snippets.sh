@@ -21,6 +21,10 @@ add() {
   rm -rf "$copy/repository"
   mkdir -p "$copy/repository"
   tar --exclude=out --exclude=wrong-bodies -cf - crates crates.txt HANDLES | tar -xf - -C "$copy/repository"
+  if ! [ -f "${snippet%%/must-*}/$file" ]; then
+    echo "$snippet: no file $file in its crate" >&2
+    exit 1
+  fi
   cat "$snippet" >> "$copy/repository/${snippet%%/must-*}/$file"
 }
 

@@ -3,7 +3,7 @@ r"""Runs programs as people do, and compares what they write and their status wi
 
     gate/stored-runs.py [CRATE ..]         # by the programs that `rt ci` or `rt run` left in crates/CRATE/out; all crates that have runs without a name
     gate/stored-runs.py --unproved         # proves nothing: all tests, every program on its stored input, and the plain runs, by `rt try`
-    gate/stored-runs.py --cases CRATE DIR [FILE ..]  # writes the plain runs, of all files of runs/ or of these, to DIR as `rt try --cases` takes them
+    gate/stored-runs.py --joined CRATE DIR # writes the plain runs to DIR as `rt try --cases` takes them, with standard error after standard output
 
 The runs of a crate are in crates/CRATE/runs/*.txt, which read as a session does:
 
@@ -11,8 +11,9 @@ The runs of a crate are in crates/CRATE/runs/*.txt, which read as a session does
     $ CRATE looks StartLF -             the arguments, as a shell splits them; \xHH in them is a byte
     @ input a\n                         standard input, with \n and \xHH for bytes; a\{500} is 500 times the byte before it
     @ later b\n                         more of it, which comes a little later
-    @ terminal                          what is unusual: standard output is a terminal; a variable NAME=VALUE; `output full`,
-                                        which takes no byte; `output closed`, which nobody reads; `input unreadable`
+    @ terminal                          what is unusual: standard output is a terminal; `error terminal`, standard error is one; a variable NAME=VALUE;
+                                        `output full`, which takes no byte; `output short`, which takes a hundred; `output closed`, which nobody reads;
+                                        `input unreadable`; `input fails`, of which a read fails after the input that is given
     ..                                  any lines
     and all others                      standard output, a line each; \e is the escape character, and \# a `#`
     ! rsc_show: `a`: expected b         a line of standard error
@@ -24,15 +25,19 @@ import glob
 import os
 import pty
 import re
+import resource
 import shlex
 import shutil
+import signal
 import subprocess
 import sys
 import tempfile
 import time
+import tty
 
 ROOT = os.path.dirname(os.path.dirname(os.path.realpath(__file__)))
-UNREADABLE = "@ input unreadable"
+UNREADABLE, FAILING = "@ input unreadable", "@ input fails"
+SHORT = "@ output short"
 Run = collections.namedtuple("Run", "name args unusual stdin stdout stderr status")
 
 
@@ -57,7 +62,7 @@ def runs_of(crate):
                 if re.match(rf"\$ {crate}( |$)", line):
                     args = [unescaped(it) for it in shlex.split(line)[2:]]
                     found.append(Run(f"{crate}/{os.path.basename(path)}:{number}", args, [], [], [], [], [0]))
-                elif line.startswith(("@ input ", "@ later ")) and line != UNREADABLE:
+                elif line.startswith(("@ input ", "@ later ")) and line not in (UNREADABLE, FAILING):
                     found[-1].stdin.append((line[2:7] == "later", unescaped(line[8:])))
                 elif line.startswith("@ "):
                     found[-1].unusual.append(line)
@@ -81,11 +86,32 @@ def output_to(unusual):
     """Returns where a run writes to, and where what it writes can be read, or None."""
     if "@ output full" in unusual:
         return os.open("/dev/full", os.O_WRONLY), None
+    if SHORT in unusual:
+        return os.memfd_create("output"), None
     reader, writer = pty.openpty() if "@ terminal" in unusual else os.pipe()
     if "@ output closed" in unusual:
         os.close(reader)
         reader = None
     return writer, reader
+
+
+def take_a_hundred_bytes():
+    """Lets no file grow beyond a hundred bytes: a write of more is cut short, and the next one fails."""
+    signal.signal(signal.SIGXFSZ, signal.SIG_IGN)
+    resource.setrlimit(resource.RLIMIT_FSIZE, (100, 100))
+
+
+def unended_input(run):
+    """Returns what a run reads from whose input can't be read to its end: a folder, or a terminal whose other side is closed; or None."""
+    if UNREADABLE in run.unusual:
+        return os.open("/", os.O_RDONLY)
+    if FAILING not in run.unusual:
+        return None
+    reader, writer = pty.openpty()
+    tty.setraw(writer)
+    os.write(writer, b"".join(part for _, part in run.stdin))
+    os.close(writer)
+    return reader
 
 
 def read_to_end(file):
@@ -104,11 +130,13 @@ def read_to_end(file):
 def answer_of(program, run):
     writer, reader = output_to(run.unusual)
     variables = dict(unescaped(it[2:]).split(b"=", 1) for it in run.unusual if "=" in it)
-    unreadable = os.open("/", os.O_RDONLY) if UNREADABLE in run.unusual else None
-    child = subprocess.Popen([program, *run.args], env=variables, stdout=writer, stderr=subprocess.PIPE,
-                             stdin=subprocess.PIPE if unreadable is None else unreadable)
+    unended = unended_input(run)
+    shown, errors = pty.openpty() if "@ error terminal" in run.unusual else os.pipe()
+    child = subprocess.Popen([program, *run.args], env=variables, stdout=writer, stderr=errors, stdin=subprocess.PIPE if unended is None else unended,
+                             preexec_fn=take_a_hundred_bytes if SHORT in run.unusual else None)
     os.close(writer)
-    if unreadable is None:
+    os.close(errors)
+    if unended is None:
         try:
             for is_late, part in run.stdin:
                 if is_late:
@@ -119,7 +147,7 @@ def answer_of(program, run):
         except BrokenPipeError:
             pass
     output = b"" if reader is None else read_to_end(reader).replace(b"\r\n", b"\n")
-    errors = child.stderr.read()
+    errors = read_to_end(shown).replace(b"\r\n", b"\n")
     return lines_of(output), lines_of(errors), child.wait()
 
 
@@ -148,15 +176,14 @@ def judge(crate):
     return passed, failed
 
 
-def write_cases(crate, folder, *files):
+def write_cases(crate, folder, is_joined=False):
     os.makedirs(folder, exist_ok=True)
     for run in runs_of(crate):
-        if files and re.search(r"([^/]+):\d+$", run.name)[1] not in files:
-            continue
+        written = run.stdout + run.stderr if is_joined else run.stdout
         if not run.unusual and b".." not in run.stdout and all(it.isascii() for it in run.args):
             path = os.path.join(folder, run.name.replace("/", "-").replace(".txt:", "-"))
             for ending, text in (("", b"".join(part for _, part in run.stdin)), (".args", b"".join(it + b"\n" for it in run.args)),
-                                 (".stdout", b"".join(it + b"\n" for it in run.stdout))):
+                                 (".stdout", b"".join(it + b"\n" for it in written))):
                 with open(path + ending, "wb") as file:
                     file.write(text)
 
@@ -205,8 +232,8 @@ def rt_try(crate, *words):
 
 
 def main(words):
-    if words[:1] == ["--cases"]:
-        write_cases(*words[1:])
+    if words[:1] == ["--joined"]:
+        write_cases(*words[1:], is_joined=True)
         return 0
     if words == ["--unproved"]:
         return try_unproved()

@@ -7,16 +7,16 @@ The edits stand in crates/CRATE/tested-bodies.edits; gate/edits.py explains the 
                                          alone; without it all but those of cost, which take long
     snippet: allocators_are_dropped      if there: a snippet of that crate's must-run, whose tests are run too
     seconds: 240                         if there: the time that each test has
-    runs: all                            instead of tests: of the crate's plain stored runs (gate/stored-runs.py) one must print something else, or end
-                                         with another status; or those of some files of runs/, as `looks.txt`; or the arguments of one run, with \\xHH for
-                                         bytes, of which standard error counts too: `--fail-alloc 3 calls < l61\\t61\\n` has an argument and an input, and
-                                         its third request for memory is refused
+    runs: looks Start -- ''              instead of tests: the arguments, with \\xHH for bytes, of a plain stored run (gate/stored-runs.py), which must write
+                                         something else or end with another status; or files of runs/, as `looks.txt`, or `all`: one of these runs must
+    runs: --fail-alloc 3 calls < l61\\n   or a run that is stored nowhere, with its input, of which the third request for memory is refused
     also: src/span.rt: start: usize ⇒ pub(crate) start: usize      if there: a private field of another file that it needs
 
 Each is compiled and run without a proof, in a copy of the repository. It passes if a test fails, or if the tests don't compile because a type lacks a
 trait. The compiler takes half a minute for the toolchain's library alone, so a crate's edits are compiled together: edit 3 of a part of those of
-`rsc_search` as a crate `rsc_search_3`, with its tests in a module `v3`, and edits of a program as modules of one program. The edits of rsc_show and those with
-a snippet, with seconds or of one run are tried alone.
+`rsc_search` as a crate `rsc_search_3`, with its tests in a module `v3`, and edits of a program as modules of one program, which writes to standard output
+what they write to standard error. For each edit a stored run takes `rt try` a quarter of a second, and more in a larger program, so an edit of a program with
+many runs names the one that refuses it. The edits with a snippet, with seconds or with --fail-alloc are tried alone.
 """
 import os
 import pathlib
@@ -32,19 +32,17 @@ from edits import ROOT, blocks, in_lanes, replaced
 
 FIELDS = ("file", "tests", "modules", "snippet", "seconds", "runs", "also")
 IN_ONE = 16
-# A program that the compiler takes ten minutes for as six modules: its edits are tried one by one.
-ONE_BY_ONE = ("rsc_show",)
-# What the unchanged programs answer in all stored runs, by crate.
+# What the unchanged programs answer in single runs, by crate and run.
 UNCHANGED, IS_ASKED = {}, threading.Lock()
 
 
-def tested_edits(wanted):
-    """Returns the edits of these crates that a test must fail over, or of all crates: crate, name, fields and pairs."""
+def tested_edits(wanted, names=()):
+    """Returns the edits of these crates that a test must fail over, or of all crates, and of these names, or all: crate, name, fields and pairs."""
     found = []
     for crate in sorted(os.listdir(f"{ROOT}/crates")):
         path = f"{ROOT}/crates/{crate}/tested-bodies.edits"
         if os.path.exists(path) and (not wanted or crate in wanted):
-            found += [(crate, *it) for it in blocks(path, FIELDS)]
+            found += [(crate, *it) for it in blocks(path, FIELDS) if not names or it[0] in names]
     return found
 
 
@@ -160,6 +158,7 @@ def write_together(copy, crate, tests, edits):
         own = with_modules(texts, fields.get("modules", "").split())
         if tests == crate:
             own |= {source.removeprefix("src/"): after for source, (_, after) in changed(ROOT, crate, fields, pairs).items()}
+            own = {path: text.replace("rt.eprintln(", "rt.println(") for path, text in own.items()}
             own[root] = re.sub(r"^fn main\b", "pub fn main", own[root].replace("env::args(&rt)", REST), flags=re.M)
         else:
             variant_of(copy, crate, number, fields, pairs)
@@ -228,11 +227,12 @@ def judge_together(copy, crate, tests, edits):
 
 
 def judge_programs(copy, crate, edits):
-    """Tries edits of a program together by its plain stored runs: each of the programs is asked all of them."""
+    """Tries edits of a program together by plain stored runs: each program is asked the runs that its edit names, and the unchanged one all of these."""
     with tempfile.TemporaryDirectory(prefix="cases-") as cases:
-        subprocess.run([f"{ROOT}/gate/stored-runs.py", "--cases", crate, cases], check=True)
+        subprocess.run([f"{ROOT}/gate/stored-runs.py", "--joined", crate, cases], check=True)
         for args in [*pathlib.Path(cases).glob("*.args")]:
-            for number in range(len(edits) + 1):
+            asked = [number for number, (_, fields, _) in enumerate(edits, 1) if is_asked(fields["runs"], crate, args)]
+            for number in [0, *asked] if asked else []:
                 own = f"v{number}-{args.stem}"
                 shutil.copy(args.with_suffix(""), f"{cases}/{own}")
                 shutil.copy(args.with_suffix(".stdout"), f"{cases}/{own}.stdout")
@@ -241,51 +241,39 @@ def judge_programs(copy, crate, edits):
                 args.with_suffix(ending).unlink()
         left, said, results = run_together(copy, crate, crate, edits, lambda: rt_try(f"{copy}/crates/{crate}", "--steps", "0", "--cases", cases))
     answers = {number: dict(re.findall(rf"^case=v{number}-(\S+) (.*)", said, flags=re.M)) for number in [0, *left]}
-    failing = {0: [name for name, answer in answers[0].items() if "output=differs" in answer]}
-    for number, (_, fields, _) in left.items():
-        files = files_of(crate, fields["runs"])
-        failing[number] = [it for it in answers[0] if answers[number].get(it) != answers[0][it] and (not files or it.startswith(files))]
+    failing = {number: [it for it, answer in answers[number].items() if answer != answers[0].get(it)] for number in left}
+    failing[0] = [name for name, answer in answers[0].items() if "output=expected" not in answer]
     return results + [*judged(crate, left, failing)]
 
 
-def files_of(crate, runs):
-    """Returns how the names of the wanted stored runs begin, or nothing if all are wanted."""
-    return tuple(f"{crate}-{it.removesuffix('.txt')}-" for it in runs.split() if it != "all")
+def is_asked(runs, crate, args):
+    """Says whether an edit's runs are all, or name a stored run by its file or by its arguments, which are a file too."""
+    files = tuple(f"{crate}-{it.removesuffix('.txt')}-" for it in runs.split() if it.endswith(".txt"))
+    return runs == "all" or args.stem.startswith(files) or args.read_bytes() == b"".join(it + b"\n" for it in words_of(runs))
 
 
-def answers_to_all(copy, crate):
-    """Returns the answers of a copy's program in its plain stored runs, by their names."""
-    with tempfile.TemporaryDirectory(prefix="cases-") as cases:
-        subprocess.run([f"{ROOT}/gate/stored-runs.py", "--cases", crate, cases], check=True)
-        return dict(re.findall(r"^case=(\S+) (.*)", rt_try(f"{copy}/crates/{crate}", "--steps", "0", "--cases", cases), flags=re.M))
-
-
-def unchanged(copy, crate):
-    """Returns the answers of the unchanged program, which is asked once."""
-    with IS_ASKED:
-        if crate not in UNCHANGED:
-            UNCHANGED[crate] = answers_to_all(copy, crate)
-    return UNCHANGED[crate]
-
-
-def judge_runs(copy, crate, name, runs, wanted):
-    """Runs the program of a copy, and returns whether an answer isn't that of the unchanged program, with a line that says which."""
-    found, files = answers_to_all(copy, crate), files_of(crate, runs)
-    failing = [it for it in wanted if found.get(it) != wanted[it] and (not files or it.startswith(files))]
-    if not found:
-        return False, f"{crate}/{name}: NOT JUDGED: no run ended"
-    return (True, f"{crate}/{name}: fails {', '.join(failing)[:150]}") if failing else (False, f"{crate}/{name}: NOTHING FAILS")
+def words_of(run):
+    """Returns the arguments of a run, as a shell splits them, in which \\xHH is a byte."""
+    return [re.sub(rb"\\x([0-9a-f]{2})", lambda it: bytes([int(it[1], 16)]), it.encode()) for it in shlex.split(run)]
 
 
 def answers_of(copy, crate, run):
     """Returns what the program of a copy prints in a run, line by line: first on standard error, then, after `> `, on standard output."""
     run, _, given = run.partition(" < ")
-    words = [re.sub(rb"\\x([0-9a-f]{2})", lambda it: bytes([int(it[1], 16)]), it.encode()) for it in shlex.split(run)]
+    words = words_of(run)
     flags = ["--steps", "0", *(words[:2] if words[:1] == [b"--fail-alloc"] else [])]
     given = given.replace("\\n", "\n").replace("\\t", "\t")
     ran = subprocess.run(["rt", "try", *flags, "--", *words[len(flags) - 2 :]], cwd=f"{copy}/crates/{crate}", input=given, capture_output=True,
                          encoding="utf-8", errors="replace")
     return [*ran.stderr.splitlines(), *(f"> {it}" for it in ran.stdout.splitlines())]
+
+
+def unchanged(copy, crate, run):
+    """Returns what the unchanged program answers in a run, which it is asked once."""
+    with IS_ASKED:
+        if (crate, run) not in UNCHANGED:
+            UNCHANGED[crate, run] = answers_of(copy, crate, run)
+    return UNCHANGED[crate, run]
 
 
 def judge_run(copy, crate, name, run, wanted):
@@ -319,13 +307,12 @@ def judge_tests(copy, crate, name, fields):
 def judge_alone(copy, crate, name, fields, pairs):
     """Tries one edit in a copy, and returns whether a test or a run fails, with a line that says which."""
     runs = fields.get("runs", "")
-    are_stored = runs == "all" or runs.endswith(".txt")
-    wanted = unchanged(copy, crate) if are_stored else answers_of(copy, crate, runs) if runs else []
+    wanted = unchanged(copy, crate, runs) if runs else []
     try:
         for source, (_, after) in changed(copy, crate, fields, pairs).items():
             pathlib.Path(copy, "crates", crate, source).write_text(after, encoding="utf-8")
         if runs:
-            return (judge_runs if are_stored else judge_run)(copy, crate, name, runs, wanted)
+            return judge_run(copy, crate, name, runs, wanted)
         return judge_tests(copy, crate, name, fields)
     finally:
         reset(copy, crate, *([fields["tests"]] if "tests" in fields else []))
@@ -339,7 +326,7 @@ def try_tested(wanted):
     together, calls = {}, {}
     for crate, name, fields, pairs in wanted:
         runs = fields.get("runs", "")
-        if {"snippet", "seconds"} & {*fields} or runs and (crate in ONE_BY_ONE or runs != "all" and not runs.endswith(".txt")):
+        if {"snippet", "seconds"} & {*fields} or runs.startswith("--fail-alloc "):
             calls[crate, name] = lambda copy, it=(crate, name, fields, pairs): [judge_alone(copy, *it)]
         else:
             together.setdefault((crate, fields.get("tests")), []).append((name, fields, pairs))

@@ -1,8 +1,9 @@
 #!/usr/bin/env python3
 """Tries the wrong bodies: each must be refused by the contract of the function that it changes, or a test must fail over it.
 
-    gate/wrong-bodies.py [CRATE ..]                # the edits of crates/CRATE/wrong-bodies, all crates without a name: a contract must refuse each
+    gate/wrong-bodies.py [CRATE ..] [NAME ..]      # the edits of crates/CRATE/wrong-bodies, all crates without a name: a contract must refuse each
     gate/wrong-bodies.py --tested [CRATE ..]       # the edits of crates/CRATE/tested-bodies.edits, which no contract refuses: a test must fail over each
+    gate/wrong-bodies.py --tested CRATE NAME ..    # those of them that have these names
     gate/wrong-bodies.py --texts [CRATE ..]        # tries nothing: says in a second which edits of either kind don't fit the sources
     KEEP_OUT=1 gate/wrong-bodies.py [CRATE ..]     # uses what earlier checks kept in out/, while you write
 
@@ -10,16 +11,17 @@ gate/edits.py explains the format of an edit.
 
 wrong-bodies/FILE.edits has the edits of src/FILE.rt. The fields of an edit are
 
-    refused: span::Span::len: returns    the function that must be refused, without the crate's name, and how the goal begins that must stay unproved;
-                                         several goals are joined by ` and `
-    apart: extract_from                  if there: functions on whose proof this one's rests, so that their edits are tried apart from this
+    refused: span::Span::len: returns    the function that must be refused, without the crate's name, and how the goal begins that must stay unproved
+                                         (docs/WRONG_BODIES.md explains the names); several goals are joined by ` and `
+    apart: extract_from                  if there: functions that this one calls, whose edits are put into other batches. Of a function that calls a refused
+                                         one the checker reports no goal; the edit is then tried again alone, and this saves that second try
     also: set                            if there: functions besides the refused one that the edit changes
 
 `rt ci` tries the edits of crates/CRATE/must-fail one by one, each for the price of a start of the checker, and takes any refusal. Here edits of
-different functions are applied together to a copy, and one check of those functions judges them all: it goes on after a refused function, and the
-callers of a function see its contract alone. An edit passes only if its function is refused at a goal that begins as named (of a proof by hand, `by
-hand at ` and the word that is refused); a goal that is refused because a proof file names what the edit took away does not count. The crates below
-are proved first; `rt ci` proves the crate itself as it is.
+different functions are applied together to a copy, and one check of those functions judges them all: it goes on after a refused function. An edit that
+isn't refused there is tried again alone. An edit passes only if its function is refused at a goal that begins as named (of a proof by hand, `by hand at `
+and the word that is refused); a goal that is refused because a proof file names what the edit took away does not count. The crates below are proved first;
+`rt ci` proves the crate itself as it is.
 
 A contract says nothing of whether memory is there, of the texts that only tests show, and of what a program reads and writes. gate/tested.py explains
 how the edits of tested-bodies.edits are tried.
@@ -40,14 +42,15 @@ from tested import misfits, tested_edits, try_tested
 Edit = collections.namedtuple("Edit", "name file function goal pairs apart also")
 
 
-def edits_of(crate):
-    """Returns the edits of a crate, by the source files that they change."""
+def edits_of(crate, names=()):
+    """Returns the edits of a crate, by the source files that they change: those of these names, or all."""
     folder, found = f"{ROOT}/crates/{crate}/wrong-bodies", []
     for path in sorted(glob.glob(f"{folder}/**/*.edits", recursive=True)):
         source = f"src/{os.path.relpath(path, folder).removesuffix('.edits')}.rt"
         for name, fields, pairs in blocks(path, ("refused", "apart", "also")):
             function, _, goal = fields["refused"].rpartition(": ")
-            found.append(Edit(name, source, function, goal, pairs, fields.get("apart", "").split(), fields.get("also", "").split()))
+            if not names or name in names:
+                found.append(Edit(name, source, function, goal, pairs, fields.get("apart", "").split(), fields.get("also", "").split()))
     return found
 
 
@@ -122,8 +125,9 @@ def rt(folder, *words):
     return ran.returncode, ran.stdout
 
 
-def judge(crate, folder, batch, texts):
-    """Checks the crate with a batch of edits, and returns for each whether it passed, and a line that says so."""
+def judge(crate, folder, batch, texts, is_told):
+    """Checks the crate with a batch of edits, and returns for each whether it passed, and a line that says so; before them what the check said, if that is
+    told."""
     if texts is None:
         return [(False, f"{crate}/{it.name}: BAD EDIT: an old text isn't once in {it.file}") for it in batch]
     kept = {}
@@ -134,6 +138,8 @@ def judge(crate, folder, batch, texts):
             file.write(text)
     status, said = rt(folder, "check", *(word for it in batch for word in ("--only", it.function)))
     found, results = refusals(crate, folder, said), []
+    if is_told:
+        print(said)
     for path, text in kept.items():
         with open(f"{folder}/{path}", "w", encoding="utf-8") as file:
             file.write(text)
@@ -154,7 +160,7 @@ def prove(crate, room):
     return f"{crate}: NOT PROVED as it is: {said.strip().splitlines()[-1][:200]}" if status else ""
 
 
-def try_crate(crate, known, room, fault):
+def try_crate(crate, names, known, room, fault):
     """Tries a crate's edits in a copy of its own, over what its proof kept; returns the results, each with its line."""
     if fault:
         return [(False, fault)]
@@ -168,23 +174,26 @@ def try_crate(crate, known, room, fault):
     with open(f"{own}/crates.txt", "w", encoding="utf-8") as file:
         file.writelines(kept)
     results, folder = [], f"{own}/crates/{crate}"
-    for batch, texts in batches_of(edits_of(crate), folder):
-        results += judge(crate, folder, batch, texts)
+    for batch, texts in batches_of(edits_of(crate, names), folder):
+        for it, result in zip(batch, judge(crate, folder, batch, texts, bool(names))):
+            # What another edit leaves unproved may hide that this one is refused, so it is tried again alone.
+            alone = not result[0] and len(batch) > 1
+            results.append(judge(crate, folder, [it], apply(it, {}, folder), bool(names))[0] if alone else result)
     shutil.rmtree(own)
     return results
 
 
-def faults(crate):
-    """Yields a line for each edit of a crate that doesn't fit its source file."""
-    for it in edits_of(crate):
+def faults(crate, names):
+    """Yields a line for each of these edits of a crate that doesn't fit its source file."""
+    for it in edits_of(crate, names):
         source = pathlib.Path(ROOT, "crates", crate, it.file)
         text = source.read_text(encoding="utf-8") if source.exists() else ""
-        found = fault(text, it.pairs, [it.function.rpartition("::")[2], *it.also])
+        found = fault(text, it.pairs, [it.function.rpartition("::")[2], *it.also]) if it.goal else "names no goal"
         if found:
             yield f"{crate}/{it.name}: BAD EDIT of {it.file}: {found}"
 
 
-def try_refused(wanted, known):
+def try_refused(wanted, names, known):
     """Tries the edits of crates that a contract must refuse; yields whether each passed, and a line that says so."""
     needed = set().union(*(below(it, known) - {it} for it in wanted)) if wanted else set()
     with tempfile.TemporaryDirectory(prefix="wrong-bodies-") as room:
@@ -196,22 +205,25 @@ def try_refused(wanted, known):
         tasks = {(it, "proof"): ([(low, "proof") for low in known[it]], lambda given, it=it: prove(it, f"{room}/proved")) for it in known if it in needed}
         for crate in wanted:
             waits = [(it, "proof") for it in below(crate, known) if (it, "proof") in tasks]
-            tasks[crate, "edits"] = waits, lambda given, it=crate, waits=waits: try_crate(it, known, room, next(filter(None, map(given.get, waits)), ""))
+            tasks[crate, "edits"] = waits, lambda given, it=crate, waits=waits: try_crate(it, names, known, room, next(filter(None, map(given.get, waits)), ""))
         for (_, kind), results in in_lanes(tasks):
             yield from results if kind == "edits" else ()
 
 
 def main():
     known = crates()
-    named = [it for it in sys.argv[1:] if not it.startswith("--")]
-    wanted = [it for it in known if (not named or it in named) and edits_of(it)]
-    tested = tested_edits(named)
-    unfit = {"wrong-bodies": [line for it in wanted for line in faults(it)], "tested-bodies": misfits(tested)}
+    words = [it for it in sys.argv[1:] if not it.startswith("--")]
+    named, names = [it for it in words if it in known], [it for it in words if it not in known]
+    wanted = [it for it in known if (not named or it in named) and edits_of(it, names)]
+    tested = tested_edits(named, names)
+    if names and not (tested if "--tested" in sys.argv else wanted):
+        sys.exit(f"no crate and no edit is called {names[0]}")
+    unfit = {"wrong-bodies": [line for it in wanted for line in faults(it, names)], "tested-bodies": misfits(tested)}
     if any(unfit.values()) or "--texts" in sys.argv:
-        for kind, count in (("wrong-bodies", sum(len(edits_of(it)) for it in wanted)), ("tested-bodies", len(tested))):
+        for kind, count in (("wrong-bodies", sum(len(edits_of(it, names)) for it in wanted)), ("tested-bodies", len(tested))):
             print(*unfit[kind], f"{kind}: {count - len(unfit[kind])} fit, {len(unfit[kind])} failed", sep="\n")
         return 1 if any(unfit.values()) else 0
-    kind, results = ("tested-bodies", try_tested(tested)) if "--tested" in sys.argv else ("wrong-bodies", try_refused(wanted, known))
+    kind, results = ("tested-bodies", try_tested(tested)) if "--tested" in sys.argv else ("wrong-bodies", try_refused(wanted, names, known))
     passed = failed = 0
     for is_well, line in results:
         print(line, flush=True)
