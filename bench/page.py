@@ -5,7 +5,7 @@ workload's ratio on a logarithmic scale, by crate.
     bench/page.py [THEIRS OURS]     # two files of lines `name ns`, as bench.sh leaves them; without them only counts and picture are regenerated
     bench/page.py COUNTS            # a file of lines `name theirs ours`, as instructions.py prints them
 
-A workload that was measured replaces its row; a new one gets the crate of the workload before it. A workload whose time is a difference of
+A workload that was measured or counted replaces its row; a new one gets the crate of the workload measured before it, and must have one. A workload whose time is a difference of
 less than a quarter of a cycle is left out.
 """
 import math
@@ -24,6 +24,8 @@ def with_times(rows, theirs, ours):
     made, crate = {it[0]: it for it in rows}, rows[0][1]
     order = [it[0] for it in rows]
     for before, name in zip([None, *ours], ours):
+        if name not in made and before is None:
+            sys.exit(f"{name} is new: measure the workload before it too, which tells its crate")
         crate = made[name][1] if name in made else crate
         if min(ours[name], theirs[name]) < 0.1:
             made.pop(name, None)
@@ -40,8 +42,13 @@ def with_counts(rows, path):
         counts = {name: (float(theirs), float(ours)) for name, theirs, ours in map(str.split, lines)}
     made = []
     for row in rows:
-        theirs, ours = counts.get(row[0], (0, 0))
-        new = [f"{theirs:.4g}", f"{ours:.4g}", f"{ours / theirs:.2f}"] if min(theirs, ours) > 0 else (row[5:] or ["", "", ""])
+        if row[0] not in counts:
+            made.append(row)
+            continue
+        theirs, ours = counts[row[0]]
+        # More than twenty in a nanosecond is none of the operation: what came before it, or a block filled by one instruction that is counted for each byte.
+        is_count = min(theirs, ours) > 0 and theirs <= 20 * float(row[2]) and ours <= 20 * float(row[3])
+        new = [f"{theirs:.4g}", f"{ours:.4g}", f"{ours / theirs:.2f}"] if is_count else ["", "", ""]
         made.append(row[:5] + new)
     return made
 

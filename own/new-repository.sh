@@ -5,10 +5,11 @@
 # function that calls rsc_look and a test.
 set -euo pipefail
 here=$(cd "$(dirname "${BASH_SOURCE[0]}")/.." && pwd)
-if [ $# -lt 2 ] || [ -e "$1" ] || [ "${3:-engine}" != engine ]; then
-  echo "usage: own/new-repository.sh FOLDER CRATE [engine], where FOLDER is not there yet" >&2
+if [ $# -lt 2 ] || [ -e "$1" ] || [[ $2 == rsc_* ]] || [ "${3:-engine}" != engine ]; then
+  echo "usage: own/new-repository.sh FOLDER CRATE [engine], where FOLDER is not there yet, and CRATE doesn't begin with rsc_" >&2
   exit 2
 fi
+commit=$(git -C "$here" rev-parse HEAD)
 libraries=(rsc_primitives rsc_alphabet rsc_look rsc_search rsc_captures rsc_nfa ${3:+rsc_engine})
 
 mkdir -p "$1/crates/$2/src"
@@ -21,7 +22,7 @@ echo "$2: ${libraries[*]}" >> "$1/crates.txt"
 echo 'Handles allowed: none.' > "$1/HANDLES"
 echo 'out/' > "$1/.gitignore"
 cp "$here/LICENSE-MIT" "$here/NOTICE" "$1"
-git -C "$here" rev-parse HEAD > "$1/LIBRARIES"
+echo "$commit" > "$1/LIBRARIES"
 cp "$here/own/first.txt" "$1/crates/$2/src/lib.rt"
 echo "In $1/crates/$2: 'rt try --test' runs the test without a proof; 'rt check' proves the crate. The first check proves the libraries too, which"
 echo "takes some 10 minutes on an idle machine (with the engine more), so start it now and write meanwhile. Pages that the copies link to are in $here."

@@ -1,7 +1,7 @@
 //! The workloads of the benchmark: their inputs, and what a kernel does with them.
 //!
-//! Nothing here names a library. Each side has one function of the type `Kernel`; `README.md` of
-//! the crate rsc_kernels says what a kernel does in a repetition, and what it adds to the sum.
+//! Nothing here names a library. Each side has one function of the type `Kernel`; what a kernel does in
+//! a repetition, and what it adds to the sum, is said at its function in the crate rsc_kernels.
 
 use crate::engine_workloads;
 
