@@ -5,7 +5,7 @@
     gate/wrong-bodies.py --tested [CRATE ..]       # the edits of crates/CRATE/tested-bodies.edits, which no contract refuses: a test must fail over each
     gate/wrong-bodies.py --tested CRATE NAME ..    # those of them that have these names
     gate/wrong-bodies.py --texts [CRATE ..]        # tries nothing: says in a second which edits of either kind don't fit the sources
-    KEEP_OUT=1 gate/wrong-bodies.py [CRATE ..]     # uses what earlier checks kept in out/, while you write
+    gate/wrong-bodies.py --after-ci [CRATE ..]     # takes the libraries as the `rt ci` before it left them, instead of building them by `rt lib`
 
 gate/edits.py explains the format of an edit.
 
@@ -20,8 +20,8 @@ wrong-bodies/FILE.edits has the edits of src/FILE.rt. The fields of an edit are
 `rt ci` tries the edits of crates/CRATE/must-fail one by one, each for the price of a start of the checker, and takes any refusal. Here edits of
 different functions are applied together to a copy, and one check of those functions judges them all: it goes on after a refused function. An edit that
 isn't refused there is tried again alone. An edit passes only if its function is refused at a goal that begins as named (of a proof by hand, `by hand at `
-and the word that is refused); a goal that is refused because a proof file names what the edit took away does not count. The crates below are proved first;
-`rt ci` proves the crate itself as it is.
+and the word that is refused); a goal that is refused because a proof file names what the edit took away does not count. `rt ci` proves the crate itself as
+it is. Parts of a crate's edits are tried side by side, each in a copy of the crate, over the libraries that stand in out/.
 
 A contract says nothing of whether memory is there, of the texts that only tests show, and of what a program reads and writes. gate/tested.py explains
 how the edits of tested-bodies.edits are tried.
@@ -36,9 +36,10 @@ import subprocess
 import sys
 import tempfile
 
-from edits import ROOT, below, blocks, crates, fault, in_lanes, replaced
+from edits import ROOT, below, blocks, crates, fault, in_lanes, of_kit, replaced
 from tested import misfits, tested_edits, try_tested
 
+IN_ONE_PART = 50
 Edit = collections.namedtuple("Edit", "name file function goal pairs apart also")
 
 
@@ -120,12 +121,22 @@ def function_at_line(path, line):
     return names[-1] if names else ""
 
 
-def rt(folder, *words):
-    ran = subprocess.run(["rt", *words, "--jobs", "1"], cwd=folder, stdin=subprocess.DEVNULL, stdout=subprocess.PIPE, stderr=subprocess.STDOUT, errors="replace")
+def rattle_check(crate, known, folder, functions):
+    """Checks functions of a crate in a folder over the libraries in out/, as `rattle check --help` explains, which keeps there what it found of others."""
+    kit = os.path.dirname(subprocess.run(["rt", "doc"], stdout=subprocess.PIPE, encoding="utf-8", check=True).stdout.strip())
+    rlibs = {it: f"{kit}/rlibs/{it}.rlib" for it in ["std", *of_kit(crate)]} | {it: f"{ROOT}/crates/{it}/out/rlib/{it}.rlib" for it in known[crate]}
+    words = [word for name, rlib in rlibs.items() for word in ("--extern", f"{name}={rlib}")]
+    for path in sorted({f"{kit}/rlibs", *(f"{ROOT}/crates/{it}/out/rlib" for it in below(crate, known) - {crate})}):
+        words += ["-L", f"dependency={path}"]
+    words += ["--antt-project", f"{kit}/rattle/logic/antt-project.json", "--logic-built", f"{kit}/logic_built", "--incremental", "out/incremental"]
+    words += [word for it in functions for word in ("--only", it)]
+    root = "src/main.rt" if os.path.exists(f"{folder}/src/main.rt") else "src/lib.rt"
+    ran = subprocess.run([f"{kit}/bin/rattle", "check", "--crate-name", crate, *words, "--jobs", "1", root], cwd=folder, stdin=subprocess.DEVNULL,
+                         stdout=subprocess.PIPE, stderr=subprocess.STDOUT, encoding="utf-8", errors="replace")
     return ran.returncode, ran.stdout
 
 
-def judge(crate, folder, batch, texts, is_told):
+def judge(crate, known, folder, batch, texts, is_told):
     """Checks the crate with a batch of edits, and returns for each whether it passed, and a line that says so; before them what the check said, if that is
     told."""
     if texts is None:
@@ -136,7 +147,7 @@ def judge(crate, folder, batch, texts, is_told):
             kept[path] = file.read()
         with open(f"{folder}/{path}", "w", encoding="utf-8") as file:
             file.write(text)
-    status, said = rt(folder, "check", *(word for it in batch for word in ("--only", it.function)))
+    status, said = rattle_check(crate, known, folder, [it.function for it in batch])
     found, results = refusals(crate, folder, said), []
     if is_told:
         print(said)
@@ -154,32 +165,25 @@ def judge(crate, folder, batch, texts, is_told):
     return results
 
 
-def prove(crate, room):
-    """Proves a crate as it is, and builds it for those above; returns why it isn't proved, if so."""
-    status, said = rt(f"{room}/crates/{crate}", "lib")
-    return f"{crate}: NOT PROVED as it is: {said.strip().splitlines()[-1][:200]}" if status else ""
+def build(crate):
+    """Builds a library for the crates above it, over what earlier checks kept, and returns why it can't, if so."""
+    ran = subprocess.run(["rt", "lib"], cwd=f"{ROOT}/crates/{crate}", stdin=subprocess.DEVNULL, stdout=subprocess.PIPE, stderr=subprocess.STDOUT,
+                         encoding="utf-8", errors="replace")
+    return f"{crate}: NOT PROVED as it is: {ran.stdout.strip().splitlines()[-1][:200]}" if ran.returncode else ""
 
 
-def try_crate(crate, names, known, room, fault):
-    """Tries a crate's edits in a copy of its own, over what its proof kept; returns the results, each with its line."""
+def try_part(crate, known, edits, is_told, fault):
+    """Tries some edits of a crate in a copy of it; returns the results, each with its line."""
     if fault:
         return [(False, fault)]
-    own = f"{room}/{crate}"
-    for name in below(crate, known):
-        left_out = [] if name == crate else ["incremental"]
-        shutil.copytree(f"{room}/proved/crates/{name}", f"{own}/crates/{name}", ignore=shutil.ignore_patterns(*left_out))
-    shutil.copy(f"{room}/proved/HANDLES", own)
-    with open(f"{ROOT}/crates.txt", encoding="utf-8") as lines:
-        kept = [it for it in lines if it.partition(":")[0].partition(" ")[0] in below(crate, known)]
-    with open(f"{own}/crates.txt", "w", encoding="utf-8") as file:
-        file.writelines(kept)
-    results, folder = [], f"{own}/crates/{crate}"
-    for batch, texts in batches_of(edits_of(crate, names), folder):
-        for it, result in zip(batch, judge(crate, folder, batch, texts, bool(names))):
-            # What another edit leaves unproved may hide that this one is refused, so it is tried again alone.
-            alone = not result[0] and len(batch) > 1
-            results.append(judge(crate, folder, [it], apply(it, {}, folder), bool(names))[0] if alone else result)
-    shutil.rmtree(own)
+    results = []
+    with tempfile.TemporaryDirectory(prefix="wrong-bodies-") as folder:
+        shutil.copytree(f"{ROOT}/crates/{crate}", folder, ignore=shutil.ignore_patterns("out", "wrong-bodies"), dirs_exist_ok=True)
+        for batch, texts in batches_of(edits, folder):
+            for it, result in zip(batch, judge(crate, known, folder, batch, texts, is_told)):
+                # What another edit leaves unproved may hide that this one is refused, so it is tried again alone.
+                alone = not result[0] and len(batch) > 1
+                results.append(judge(crate, known, folder, [it], apply(it, {}, folder), is_told)[0] if alone else result)
     return results
 
 
@@ -195,19 +199,16 @@ def faults(crate, names):
 
 def try_refused(wanted, names, known):
     """Tries the edits of crates that a contract must refuse; yields whether each passed, and a line that says so."""
-    needed = set().union(*(below(it, known) - {it} for it in wanted)) if wanted else set()
-    with tempfile.TemporaryDirectory(prefix="wrong-bodies-") as room:
-        left_out = ["must-not-compile", "must-run", "wrong-bodies"] + ([] if os.environ.get("KEEP_OUT") else ["out"])
-        shutil.copytree(f"{ROOT}/crates", f"{room}/proved/crates", ignore=shutil.ignore_patterns(*left_out))
-        for name in ("crates.txt", "HANDLES"):
-            shutil.copy(f"{ROOT}/{name}", f"{room}/proved")
-        # Proofs come first, since other crates wait for them. A crate that no other waits for isn't proved: its edits are checked from nothing.
-        tasks = {(it, "proof"): ([(low, "proof") for low in known[it]], lambda given, it=it: prove(it, f"{room}/proved")) for it in known if it in needed}
-        for crate in wanted:
-            waits = [(it, "proof") for it in below(crate, known) if (it, "proof") in tasks]
-            tasks[crate, "edits"] = waits, lambda given, it=crate, waits=waits: try_crate(it, names, known, room, next(filter(None, map(given.get, waits)), ""))
-        for (_, kind), results in in_lanes(tasks):
-            yield from results if kind == "edits" else ()
+    needed = set() if "--after-ci" in sys.argv else set().union(*(below(it, known) - {it} for it in wanted))
+    tasks = {(it, "library"): ([(low, "library") for low in known[it]], lambda given, it=it: build(it)) for it in known if it in needed}
+    # Those of the crates that take longest begin first.
+    for crate in reversed(wanted):
+        edits, waits = edits_of(crate, names), [(it, "library") for it in below(crate, known) if (it, "library") in tasks]
+        for at in range(0, len(edits), IN_ONE_PART):
+            part = edits[at : at + IN_ONE_PART]
+            tasks[crate, at] = waits, lambda given, it=(crate, known, part, bool(names)), waits=waits: try_part(*it, next(filter(None, map(given.get, waits)), ""))
+    for (_, kind), results in in_lanes(tasks):
+        yield from results if kind != "library" else ()
 
 
 def main():

@@ -1,9 +1,9 @@
 -- The runs of a program that was built: from the state at which a pattern begins its matches are found, and no others.
-use Rattle.std.proofs.Common.{map, get_or, option_map, ◌≡◌, ℕ, zero, suc, ◌+◌, ◌-◌, ◌<◌, ◌≤◌, ◌⊎◌, inl, inr, ⊎_elim, List, [], ◌∷◌, length, slice_get, refl, sym, ap, ◌∙◌, subst, arith, Option, Some, None, MatchOption, ◌↔◌, Bool}
+use Rattle.std.proofs.Common.{map, get_or, option_map, ◌≡◌, ℕ, zero, suc, ◌+◌, ◌-◌, ◌<◌, ◌≤◌, ◌⊎◌, inl, inr, ⊎_elim, List, [], ◌∷◌, length, slice_get, refl, sym, ap, ◌∙◌, subst, arith, Option, Some, None, MatchOption, ◌↔◌, Bool, true, true≢false}
 use Rattle.std.proofs.lemmas.Bool.{cases_lt, cases_eq}
 use Rattle.std.proofs.lemmas.Option.{slice_get_within, slice_get_read, slice_get-map}
 use Rattle.rsc_nfa.specs.declared.state.State.{State}
-use Rattle.rsc_nfa.specs.declared.state.State.TheVariants.{Fork, Accept}
+use Rattle.rsc_nfa.specs.declared.state.State.TheVariants.{ByteRange, Assert, Fork, Capture, Accept}
 use Rattle.rsc_nfa.specs.Steps.{StepsTo, place, IsRun}
 use Rattle.rsc_engine.specs.Patterns.{Pattern, Goes, subject_of, IsMatchIn, HasRunOf, Recognizes}
 use Rattle.rsc_engine.specs.declared.builder.Part.{Part}
@@ -18,6 +18,8 @@ use Rattle.rsc_engine.specs.Searches.{Search, Compiled, search_in}
 use Rattle.rsc_engine.specs.Runs.{Leads, IsPlace, IsMatchRun, IsMatchOf, is_accepting, is_wanted}
 use Rattle.rsc_captures.specs.Captured.{Captured}
 use Rattle.rsc_engine.specs.Preferred.{IsFirstMatch, MayBegin, HasNone}
+use Rattle.rsc_engine.specs.NextMatches.{IsRepeated, IsSplitAt, IsPassed, IsNextMatch}
+use Rattle.rsc_engine.specs.Ends.{IsMatchEnd, IsEarliestEnd}
 use Rattle.rsc_engine.proofs.WalksLayoutLemmas.{leads-rises}
 
 -- ---- one pattern
@@ -285,3 +287,49 @@ pub none_at_all : (e : Search) (patterns : List Pattern) (other : Matched) → (
 none_at_all e patterns other both none begins m =
     let r = (both other).1 m in
     none other.span.start begins r.run r.is_match
+
+-- ---- the next match
+
+pub next_is_in : (e : Search) (patterns : List Pattern) (last : Option ℕ) (captures : Captured) (found : Matched)
+    → ((other : Matched) → HasRunOf e other ↔ IsMatchIn patterns e other) → IsNextMatch e last captures found → IsMatchIn patterns e found
+next_is_in e patterns last captures found both f = (both found).0 (record {
+  run = f.run;
+  is_match = subst (λ (i : ℕ). IsMatchRun e (e.first, i) f.run) (sym f.is_of.ends.start) f.is_next.preferred.is_match;
+  makes = f.is_of.ends;
+})
+
+pub why_passed : (e : Search) (patterns : List Pattern) (last : Option ℕ) (other : Matched)
+    → ((other : Matched) → HasRunOf e other ↔ IsMatchIn patterns e other) → IsPassed e last other.span.start → IsMatchIn patterns e other
+    → IsRepeated e last other.span.start ⊎ IsSplitAt e other.span.start
+why_passed e patterns last other both passed m =
+    let r = (both other).1 m in
+    ⊎_elim (λ none. absurd (none r.run r.is_match)) (λ why. why) passed
+
+-- ---- the first match to end
+
+-- a state that accepts does so for some pattern
+accepted : (wanted : Option ℕ) (o : Option State) → is_accepting wanted o ≡ true → (q : ℕ) × (o ≡ Some (Accept q))
+accepted wanted None h = absurd (true≢false (sym h))
+accepted wanted (Some (ByteRange a b next)) h = absurd (true≢false (sym h))
+accepted wanted (Some (Assert l next)) h = absurd (true≢false (sym h))
+accepted wanted (Some (Fork a b)) h = absurd (true≢false (sym h))
+accepted wanted (Some (Capture slot next)) h = absurd (true≢false (sym h))
+accepted wanted (Some (Accept q)) h = (q, refl)
+
+pub end_is_in : (e : Search) (patterns : List Pattern) (i : ℕ) → ((other : Matched) → HasRunOf e other ↔ IsMatchIn patterns e other)
+    → IsEarliestEnd e i → (found : Matched) × IsMatchIn patterns e found × MayBegin e found.span.start × (found.span.end ≡ i)
+end_is_in e patterns i both h =
+    let x = h.ends in
+    let q = accepted (pattern_of_mode e.mode) (slice_get e.states (place x.run (length x.run - 1)).0) x.is_match.ends in
+    let found : Matched = record { pattern = q.0; span = record { start = x.from; end = i } } in
+    (found, (both found).0 (record {
+      run = x.run;
+      is_match = x.is_match;
+      makes = record { pattern = q.1; start = sym (ap (λ (p : ℕ × ℕ). p.1) x.is_match.begins); end = sym x.ends };
+    }), x.begins, refl)
+
+pub none_ends_before : (e : Search) (patterns : List Pattern) (i : ℕ) (other : Matched) → ((other : Matched) → HasRunOf e other ↔ IsMatchIn patterns e other)
+    → IsEarliestEnd e i → MayBegin e other.span.start → other.span.end < i → IsMatchIn patterns e other → ⊥
+none_ends_before e patterns i other both h begins l m =
+    let r = (both other).1 m in
+    h.none_before other.span.end l (record { from = other.span.start; run = r.run; begins = begins; is_match = r.is_match; ends = sym r.makes.end })

@@ -60,7 +60,7 @@ Reaches-start w e i there low high a = record {
   position = refl;
 }
 
--- a match's run is one from the first state, and such a run that ends in a match is a match's
+-- a match's run is one from the start state, and such a run that ends in a match is a match's
 start_of : (e : Search) (i : ℕ) (x : IsMatchEnd e i) → IsStartRun e x.run
 start_of e i x = record {
   is_run = x.is_match.is_run;

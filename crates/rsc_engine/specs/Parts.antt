@@ -1,5 +1,6 @@
--- Which pattern a part is.
-use Rattle.std.specs.Prelude.{List, [], ◌∷◌, map}
+-- Which pattern a part is, and which groups it has.
+use Rattle.std.specs.Prelude.{List, [], ◌∷◌, map, None}
+use Rattle.rsc_captures.specs.Groups.{Groups, GroupLists, groups_in}
 use Rattle.rsc_engine.specs.Patterns.{Pattern, Empty, Never, Class, Literal, Assertion, Then, Either, Repeat, in_order}
 use Rattle.rsc_engine.specs.declared.builder.tree.Tree.{Tree}
 use Rattle.rsc_engine.specs.declared.builder.tree.Tree.TheOpen.{Tree-F}
@@ -32,3 +33,15 @@ pattern_of part = pattern_in part.tree
 -- the patterns that a builder has finished
 abbrev pub patterns_of : Builder → List Pattern
 patterns_of builder = map pattern_of builder.patterns.items
+
+-- the groups of a part, in the order in which they open
+abbrev pub groups_of_part : Part → Groups
+groups_of_part part = groups_in part.names.items
+
+-- the groups of a pattern: that of the whole match, which has no name, and those of its part
+abbrev pub groups_of_pattern : Part → Groups
+groups_of_pattern part = None ∷ groups_of_part part
+
+-- the groups of each pattern that a builder has finished
+abbrev pub lists_of : Builder → GroupLists
+lists_of builder = map groups_of_pattern builder.patterns.items

@@ -1,4 +1,4 @@
--- The rows of a DFA, and where a byte leads from one. These serve the proof of `dfa`; its contracts cite `Ends` alone.
+-- The rows of a DFA, and where a byte leads from one. These serve the proof of `dfa`, whose public contracts cite `Ends` and `Preferred` alone.
 use Rattle.std.specs.Prelude.{◌≡◌, ◌↔◌, ◌⊎◌, ℕ, ◌+◌, ◌-◌, ◌<◌, Bool, true, false, List, [], ◌∷◌, ◌++◌, length, slice_get, slice_index, slice_index_or, Option, Some, None, IfSome}
 use Rattle.std.specs.List.{All, Contains}
 use Rattle.rsc_look.specs.Keeping.{AgreesWithAscii}
@@ -115,7 +115,7 @@ abbrev pub AddsSome : List ℕ → Option ℕ → List ℕ → Type 0
 AddsSome old None new = new ≡ old
 AddsSome old (Some s) new = AddsOne old s new
 
--- a run from the first state that begins where a match may
+-- a run from the start state that begins where a match may
 pub record IsStartRun (e : Search) (run : List (ℕ × ℕ)) : Type 0 where
   pub is_run : IsRun e.states e.terminator e.words e.haystack e.start e.end run
   pub some : 0 < length run
@@ -147,7 +147,7 @@ Alike classes None None = Unit {0}
 Alike classes (Some a) (Some b) = (a < 256) × (b < 256) × (slice_index classes a ≡ slice_index classes b)
 Alike classes _ _ = ⊥
 
--- no byte leads to the first state
+-- no byte leads to the start state
 abbrev pub IsNeverEntered : Machine → Type 0
 IsNeverEntered m = (s a b next : ℕ) → slice_get m.states s ≡ Some (ByteRange a b next) → ¬ (next ≡ m.first)
 

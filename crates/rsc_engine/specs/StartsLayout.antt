@@ -16,7 +16,7 @@ IsOpened states bytes (Fork a b) = IsMarked states a × IsMarked states b
 IsOpened states bytes (Capture slot next) = IsMarked states next
 IsOpened states bytes (Accept p) = false ≡ true
 
--- each match begins with a marked byte: the first state is marked, and each marked state is opened
+-- each match begins with a marked byte: the start state is marked, and each marked state is opened
 pub record AreStarts (states : List State) (first : ℕ) (marks bytes : List Bool) : Type 0 where
   pub has_first : IsMarked marks first
   pub ranges : (s a b next x : ℕ) → slice_get states s ≡ Some (ByteRange a b next) → IsMarked marks s → a ≤ x → x ≤ b → IsMarked bytes x

@@ -1,8 +1,9 @@
 //! A builder: each call makes a part of a pattern, and larger parts are made of smaller ones.
-ghost use Rattle.std.specs.Prelude.{◌≡◌, ◌<◌, ◌++◌, [], ◌∷◌, None, Some, Err, map, length, IfOk, IfErr, OnOk, OnErr};
+ghost use Rattle.std.specs.Prelude.{◌≡◌, ◌<◌, ◌++◌, [], ◌∷◌, None, Some, Err, map, flat_map, length, IfOk, IfErr, OnOk, OnErr};
+ghost use Rattle.rsc_captures.specs.Groups.{groups_in};
 ghost use Rattle.rsc_engine.specs.declared.error.Error.TheVariants.{OutOfMemory, EmptyClass};
 ghost use Rattle.rsc_engine.specs.Patterns.{Empty, Never, Class, Literal, Assertion, Then, Either, in_order, Recognizes};
-ghost use Rattle.rsc_engine.specs.Parts.{pattern_of, patterns_of, pattern_in};
+ghost use Rattle.rsc_engine.specs.Parts.{pattern_of, patterns_of, pattern_in, groups_of_part, groups_of_pattern, lists_of};
 
 mod compile;
 mod loops;
@@ -38,7 +39,8 @@ pub struct Builder<'n> {
 impl<'n> Builder<'n> {
     /// A builder with no pattern.
     pub fn new(alloc: Global) -> Builder<'n>
-        ensures { patterns_of result ≡ [] }
+        ensures patterns { patterns_of result ≡ [] }
+        ensures groups { lists_of result ≡ [] }
     {
         Builder {
             alloc,
@@ -48,7 +50,8 @@ impl<'n> Builder<'n> {
 
     /// A byte from `start` to `end`. No program is built of a part with a range whose first byte is above its last.
     pub fn range(&self, start: u8, end: u8) -> Part<'n>
-        ensures { pattern_of result ≡ Class ((start, end) ∷ []) }
+        ensures part { pattern_of result ≡ Class ((start, end) ∷ []) }
+        ensures groups { groups_of_part result ≡ [] }
     {
         self.leaf(Tree::Range(start, end), false)
     }
@@ -60,6 +63,7 @@ impl<'n> Builder<'n> {
     /// `EmptyClass` without a range, else out of memory.
     pub fn class(&self, ranges: &[(u8, u8)]) -> Result<Part<'n>, Error>
         ensures part { IfOk result (λ part. pattern_of part ≡ Class ranges.now) }
+        ensures groups { IfOk result (λ part. groups_of_part part ≡ []) }
         ensures some { IfOk result (λ part. 0 < length ranges.now) }
         ensures empty { length ranges.now ≡ 0 → result ≡ Err EmptyClass }
         ensures refused { 0 < length ranges.now → IfErr result (λ e. e ≡ OutOfMemory) }
@@ -74,6 +78,7 @@ impl<'n> Builder<'n> {
     /// These bytes. A text's are `text.as_bytes()`.
     pub fn literal(&self, bytes: &[u8]) -> Result<Part<'n>, Error>
         ensures part { IfOk result (λ part. pattern_of part ≡ Literal bytes.now) }
+        ensures groups { IfOk result (λ part. groups_of_part part ≡ []) }
         ensures refused { IfErr result (λ e. e ≡ OutOfMemory) }
     {
         let may_be_empty = bytes.is_empty();
@@ -83,21 +88,24 @@ impl<'n> Builder<'n> {
 
     /// A position at which an assertion holds.
     pub fn look(&self, look: Look) -> Part<'n>
-        ensures { pattern_of result ≡ Assertion look }
+        ensures part { pattern_of result ≡ Assertion look }
+        ensures groups { groups_of_part result ≡ [] }
     {
         self.leaf(Tree::Assertion(look), true)
     }
 
     /// The empty string, which is at each position.
     pub fn empty(&self) -> Part<'n>
-        ensures { pattern_of result ≡ Empty }
+        ensures part { pattern_of result ≡ Empty }
+        ensures groups { groups_of_part result ≡ [] }
     {
         self.leaf(Tree::Empty, true)
     }
 
     /// What never matches, not even no byte.
     pub fn never(&self) -> Part<'n>
-        ensures { pattern_of result ≡ Never }
+        ensures part { pattern_of result ≡ Never }
+        ensures groups { groups_of_part result ≡ [] }
     {
         self.leaf(Tree::Never, false)
     }
@@ -105,6 +113,7 @@ impl<'n> Builder<'n> {
     /// One part after the other.
     pub fn then(&self, one: Part<'n>, other: Part<'n>) -> Result<Part<'n>, Error>
         ensures part { IfOk result (λ part. pattern_of part ≡ Then (pattern_of one.entry) (pattern_of other.entry)) }
+        ensures groups { IfOk result (λ part. groups_of_part part ≡ groups_of_part one.entry ++ groups_of_part other.entry) }
         ensures refused { IfErr result (λ e. e ≡ OutOfMemory) }
     {
         let may_be_empty = one.may_be_empty && other.may_be_empty;
@@ -123,6 +132,7 @@ impl<'n> Builder<'n> {
     /// All parts in their order.
     pub fn concat(&self, parts: Vec<Part<'n>>) -> Result<Part<'n>, Error>
         ensures part { IfOk result (λ part. pattern_of part ≡ in_order (map pattern_of parts.entry.items)) }
+        ensures groups { IfOk result (λ part. groups_of_part part ≡ flat_map groups_of_part parts.entry.items) }
         ensures refused { IfErr result (λ e. e ≡ OutOfMemory) }
     {
         let mut trees = Vec::new(self.alloc);
@@ -143,6 +153,7 @@ impl<'n> Builder<'n> {
     /// Either part; the first is preferred.
     pub fn either(&self, one: Part<'n>, other: Part<'n>) -> Result<Part<'n>, Error>
         ensures part { IfOk result (λ part. pattern_of part ≡ Either (pattern_of one.entry) (pattern_of other.entry)) }
+        ensures groups { IfOk result (λ part. groups_of_part part ≡ groups_of_part one.entry ++ groups_of_part other.entry) }
         ensures refused { IfErr result (λ e. e ≡ OutOfMemory) }
     {
         let may_be_empty = one.may_be_empty || other.may_be_empty;
@@ -162,6 +173,7 @@ impl<'n> Builder<'n> {
     /// a part before those of the next one.
     pub fn group(&self, name: Option<&'n str>, part: Part<'n>) -> Result<Part<'n>, Error>
         ensures part { IfOk result (λ group. pattern_of group ≡ pattern_of part.entry) }
+        ensures groups { IfOk result (λ group. groups_of_part group ≡ groups_in (name ∷ []) ++ groups_of_part part.entry) }
         ensures refused { IfErr result (λ e. e ≡ OutOfMemory) }
     {
         let groups = part.names.len();
@@ -180,8 +192,10 @@ impl<'n> Builder<'n> {
     /// Finishes a pattern. Of two that match from a position the earlier is preferred.
     pub fn pattern(&mut self, whole: Part<'n>) -> Result<(), Error>
         ensures added { OnOk result (patterns_of self.new ≡ patterns_of self.old ++ pattern_of whole.entry ∷ []) }
+        ensures groups { OnOk result (lists_of self.new ≡ lists_of self.old ++ groups_of_pattern whole.entry ∷ []) }
         ensures refused { IfErr result (λ e. e ≡ OutOfMemory) }
         ensures kept { OnErr result (patterns_of self.new ≡ patterns_of self.old) }
+        ensures groups_kept { OnErr result (lists_of self.new ≡ lists_of self.old) }
     {
         self.patterns.push(whole)?;
         Ok(())
@@ -201,6 +215,7 @@ impl<'n> Builder<'n> {
         last: Part<'n>,
     ) -> Result<Program<W>, Error>
         ensures matches { IfOk result (λ program. Recognizes W.word_chars program (patterns_of self.entry ++ pattern_of last.entry ∷ [])) }
+        ensures groups { IfOk result (λ program. program.automaton.groups ≡ lists_of self.entry ++ groups_of_pattern last.entry ∷ []) }
         ensures text { IfOk result (λ program. program.utf8 ≡ utf8) }
         ensures matcher { IfOk result (λ program. program.automaton.matcher ≡ (10, words)) }
     {
@@ -216,7 +231,8 @@ impl<'n> Builder<'n> {
 
     // A part with no smaller ones, and with no group.
     fn leaf(&self, tree: Tree, may_be_empty: bool) -> Part<'n>
-        ensures { pattern_of result ≡ pattern_in tree }
+        ensures part { pattern_of result ≡ pattern_in tree }
+        ensures groups { groups_of_part result ≡ [] }
     {
         Part {
             tree,
@@ -231,6 +247,7 @@ fn joined<'n>(
     mut names: Vec<Option<&'n str>>,
     mut more: Vec<Option<&'n str>>,
 ) -> Result<Vec<Option<&'n str>>, Error>
+    ensures joined { IfOk result (λ all. all.items ≡ names.entry.items ++ more.entry.items) }
     ensures refused { IfErr result (λ e. e ≡ OutOfMemory) }
 {
     names.append(&mut more)?;
@@ -238,7 +255,9 @@ fn joined<'n>(
 }
 
 // The groups of all patterns: of each that of the whole match, which has no name, and then its own.
-fn info_of(alloc: Global, patterns: &[Part<'_>]) -> Result<GroupInfo, Error> {
+fn info_of(alloc: Global, patterns: &[Part<'_>]) -> Result<GroupInfo, Error>
+    ensures { IfOk result (λ info. info ≡ map groups_of_pattern patterns.now) }
+{
     let mut all = Vec::new(alloc);
     for part in patterns {
         let mut names = Vec::new(alloc);

@@ -1,5 +1,8 @@
 //! A lazy DFA: a table of rows that searches fill as they go, and that answers without a run of the backtracker where it can.
-ghost use Rattle.std.specs.Prelude.{◌≡◌, ◌-◌, ◌<◌, IfOk, IfErr, IfSome, IfNone, true, false, length};
+//!
+//! A row is a set of states ([`successor`] makes it, from the one before and a byte); the [`table`] has the rows and, in its [`entries`], which row each
+//! class of bytes leads to; the [`plan`] has what stays the same. [`needed`] finds bytes that each match has, without which no row is looked at.
+ghost use Rattle.std.specs.Prelude.{◌≡◌, ◌-◌, ◌<◌, IfOk, IfErr, IfSome, IfNone, OnErr, true, false, length};
 ghost use Rattle.rsc_captures.specs.Captured.{no_offsets};
 ghost use Rattle.rsc_engine.specs.declared.error.Error.TheVariants.{OutOfMemory};
 ghost use Rattle.rsc_engine.specs.Searches.{search_in};
@@ -30,7 +33,7 @@ use std::alloc::Global;
 use std::marker::Model;
 use table::Table;
 
-// An input of fewer bytes is not looked through for what each match has.
+// A span of fewer bytes is not looked through for what each match has.
 const LONG: usize = 4096;
 
 /// Where the first match to end ends.
@@ -71,7 +74,7 @@ impl<'p, W: WordClass> Model for Dfa<'p, W> {
     ghost view = { λ d. d.plan.program.now };
 
     ghost invariant = { λ d. IsPlan (machine W.word_chars d.plan.program.now) d.plan.classes d.plan.width d.plan.unicode
-        × (d.plan.once ≡ true → IsNeverEntered (machine W.word_chars d.plan.program.now))
+        × (d.plan.is_start_left ≡ true → IsNeverEntered (machine W.word_chars d.plan.program.now))
         × IsExact (machine W.word_chars d.plan.program.now) d.plan.classes d.plan.width d.table.rows.items d.table.leads.items
         × IfSome d.needed (λ n. IsNeeded (machine W.word_chars d.plan.program.now) n.first n.second) };
 }
@@ -101,7 +104,7 @@ impl<'p, W: WordClass + AsciiWords> Dfa<'p, W> {
         }
     }
 
-    // Whether the input lacks what each match has. Only a long one is looked through, and none that is anchored, whose match may end soon.
+    // Whether the input lacks what each match has. Only a long span is looked through, and none of an anchored input, whose match may end soon.
     fn lacks_needed(&mut self, input: &Input<'_>) -> bool
         ensures program { self.new ≡ self.old }
         ensures none { result ≡ true → HasNone (search_in W.word_chars self.old input.now) }
@@ -187,6 +190,7 @@ impl<'p, W: WordClass + AsciiWords> Dfa<'p, W> {
         ensures groups { captures.new.groups ≡ captures.old.groups }
         ensures slots { length captures.new.offsets ≡ length captures.old.offsets }
         ensures unset { IfOk result (λ found. IfNone found (captures.new ≡ no_offsets captures.old.groups (length captures.old.offsets))) }
+        ensures failed { OnErr result (captures.new ≡ no_offsets captures.old.groups (length captures.old.offsets)) }
     {
         captures.clear();
         let Some(from) = self.begin(input)? else {
@@ -260,9 +264,9 @@ fn search<W: WordClass>(
     plan: &Plan<'_, W>,
     table: &mut Table,
     input: &Input<'_>,
-    is_wanted: bool,
+    wants_begin: bool,
 ) -> Result<(Answer, usize), Error>
-    requires once { plan.now.once ≡ true → IsNeverEntered (machine W.word_chars plan.now.program.now) }
+    requires never_entered { plan.now.is_start_left ≡ true → IsNeverEntered (machine W.word_chars plan.now.program.now) }
     requires plan { IsPlan (machine W.word_chars plan.now.program.now) plan.now.classes plan.now.width plan.now.unicode }
     requires exact { IsExact (machine W.word_chars plan.now.program.now) plan.now.classes plan.now.width table.old.rows.items table.old.leads.items }
     ensures exact { IsExact (machine W.word_chars plan.now.program.now) plan.now.classes plan.now.width table.new.rows.items table.new.leads.items }
@@ -289,7 +293,7 @@ fn search<W: WordClass>(
     let mut at = start;
     let mut begin = start;
     'rows: loop {
-        let (here, position, from) = table.follow(plan, input, row, at, begin, is_wanted);
+        let (here, position, from) = table.follow(plan, input, row, at, begin, wants_begin);
         let step = table.step(plan, here, after_of(haystack, position))?;
         match step {
             Step::Matches => return Ok((Answer::End(position), from)),

@@ -30,7 +30,7 @@ const MOST_ROWS: usize = 1000;
 const FAR: usize = 64;
 
 /// The leftmost-first match in an input's span: of the matches that begin first, the one that the forks prefer. Its groups are in
-/// the captures afterwards; without a match no slot is set.
+/// the captures afterwards; without a match, and after an error, no slot is set.
 ///
 /// An anchored input's match begins at the span's start, and with `Anchored::Pattern` only that pattern may match.
 ///
@@ -48,6 +48,7 @@ pub fn find<W: WordClass>(
     ensures groups { captures.new.groups ≡ captures.old.groups }
     ensures slots { length captures.new.offsets ≡ length captures.old.offsets }
     ensures unset { IfOk result (λ found. IfNone found (captures.new ≡ no_offsets captures.old.groups (length captures.old.offsets))) }
+    ensures failed { OnErr result (captures.new ≡ no_offsets captures.old.groups (length captures.old.offsets)) }
 {
     find_from(alloc, program, input, captures, input.start())
 }
@@ -66,6 +67,7 @@ pub(crate) fn find_from<W: WordClass>(
     ensures groups { captures.new.groups ≡ captures.old.groups }
     ensures slots { length captures.new.offsets ≡ length captures.old.offsets }
     ensures unset { IfOk result (λ found. IfNone found (captures.new ≡ no_offsets captures.old.groups (length captures.old.offsets))) }
+    ensures failed { OnErr result (captures.new ≡ no_offsets captures.old.groups (length captures.old.offsets)) }
 {
     captures.clear();
     match first_run(alloc, program, input, from)? {
@@ -121,9 +123,9 @@ impl<'p, 'h, W: WordClass + AsciiWords> Matches<'p, 'h, W> {
         })
     }
 
-    /// The next match, whose groups are in the captures afterwards; without one no slot is set. As in the original, a match is left
-    /// out that is empty and where the last one ended; and if the program's haystacks are text, one that is empty and within a
-    /// character. After the last one it is `None` for good.
+    /// The next match, whose groups are in the captures afterwards; without one, and after an error, no slot is set. As in the original,
+    /// a match is left out that is empty and where the last one ended; and if the program's haystacks are text, one that is empty and
+    /// within a character. After the last one it is `None` for good.
     ///
     /// # Errors
     ///
@@ -140,6 +142,7 @@ impl<'p, 'h, W: WordClass + AsciiWords> Matches<'p, 'h, W> {
         ensures groups { captures.new.groups ≡ captures.old.groups }
         ensures slots { length captures.new.offsets ≡ length captures.old.offsets }
         ensures unset { IfOk result (λ found. IfNone found (captures.new ≡ no_offsets captures.old.groups (length captures.old.offsets))) }
+        ensures failed { OnErr result (captures.new ≡ no_offsets captures.old.groups (length captures.old.offsets)) }
     {
         self.rest.next(captures)
     }
@@ -185,6 +188,7 @@ impl<'p, 'h, W: WordClass + AsciiWords> Rest<'p, 'h, W> {
         ensures groups { captures.new.groups ≡ captures.old.groups }
         ensures slots { length captures.new.offsets ≡ length captures.old.offsets }
         ensures unset { IfOk result (λ found. IfNone found (captures.new ≡ no_offsets captures.old.groups (length captures.old.offsets))) }
+        ensures failed { OnErr result (captures.new ≡ no_offsets captures.old.groups (length captures.old.offsets)) }
     {
         let start = self.input.start();
         'matches: loop {
@@ -233,6 +237,7 @@ impl<'p, 'h, W: WordClass + AsciiWords> Rest<'p, 'h, W> {
         ensures groups { captures.new.groups ≡ captures.old.groups }
         ensures slots { length captures.new.offsets ≡ length captures.old.offsets }
         ensures unset { IfOk result (λ found. IfNone found (captures.new ≡ no_offsets captures.old.groups (length captures.old.offsets))) }
+        ensures failed { OnErr result (captures.new ≡ no_offsets captures.old.groups (length captures.old.offsets)) }
     {
         captures.clear();
         let start = self.input.start();
@@ -265,7 +270,7 @@ impl<'p, 'h, W: WordClass + AsciiWords> Rest<'p, 'h, W> {
         found.is_empty() && self.last_end == Some(found.end())
     }
 
-    // Whether the haystack is text, and a match is empty and within a character.
+    // Whether the program is in UTF-8 mode, and a match is empty and within a character.
     fn splits(&self, found: &Match) -> bool
         ensures yes { result ≡ true → (self.now.program.now.utf8 ≡ true) × (found.now.span.start ≡ found.now.span.end)
             × (¬ (IsBoundary self.now.input.haystack found.now.span.end)) }
@@ -291,11 +296,11 @@ impl<'p, 'h, W: WordClass + AsciiWords> Rest<'p, 'h, W> {
     }
 }
 
-// A position before which no match begins; `None` only if none begins where one may. If it's wanted, the DFA tells; if that is out of
-// memory, the backtracker looks from the start on.
+// A position before which no match begins; `None` only if none begins where one may. If the last match was far, the DFA tells; if that is out
+// of memory, the backtracker looks from the start on.
 fn begin_of<W: WordClass + AsciiWords>(
     dfa: &mut Dfa<'_, W>,
-    is_wanted: bool,
+    is_far: bool,
     input: &Input<'_>,
 ) -> Option<usize>
     ensures program { dfa.new ≡ dfa.old }
@@ -303,7 +308,7 @@ fn begin_of<W: WordClass + AsciiWords>(
     ensures begin { IfSome result (BeginsFrom (search_in W.word_chars dfa.old input.now)) }
 {
     let start = input.start();
-    if !is_wanted {
+    if !is_far {
         return Some(start);
     }
     match dfa.begin(input) {

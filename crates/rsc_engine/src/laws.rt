@@ -1,12 +1,13 @@
 //! Laws of matches that a caller can cite: functions whose contracts are the laws.
-ghost use Rattle.std.specs.Prelude.{◌≡◌, ◌<◌, ℕ, List, Option};
+ghost use Rattle.std.specs.Prelude.{◌≡◌, ◌<◌, ◌⊎◌, ℕ, List, Option};
 ghost use Rattle.rsc_captures.specs.Captured.{Captured};
 ghost use Rattle.rsc_search.specs.Inputs.{InputParts};
 ghost use Rattle.rsc_search.specs.Matches.{Matched};
 ghost use Rattle.rsc_engine.specs.Searches.{Search, Compiled, search_in};
 ghost use Rattle.rsc_engine.specs.Patterns.{Pattern, IsMatchIn, Recognizes};
 ghost use Rattle.rsc_engine.specs.Preferred.{IsPreferred, IsLeftmostFirst, IsFirstMatch, MayBegin, HasNone};
-ghost use Rattle.rsc_engine.specs.NextMatches.{IsNext, IsOver};
+ghost use Rattle.rsc_engine.specs.NextMatches.{IsNext, IsOver, IsNextMatch, IsOpen, IsRepeated, IsSplitAt};
+ghost use Rattle.rsc_engine.specs.Ends.{IsEarliestEnd};
 
 use rsc_look::WordClass;
 
@@ -35,4 +36,33 @@ pub fn a_first_match_is_of_a_pattern<W: WordClass>()
     ensures none { (program : Compiled W) (patterns : List Pattern) (input : InputParts) (other : Matched) →
         Recognizes W.word_chars program patterns → HasNone (search_in W.word_chars program input) →
         MayBegin (search_in W.word_chars program input) other.span.start → ¬ (IsMatchIn patterns (search_in W.word_chars program input) other) }
+{}
+
+/// What the next match of a program of patterns is: a match of one of them. Where one of theirs begins earlier and might be the next, the preferred
+/// match from there is left out; so it is with each of theirs that is left when the iteration is over.
+pub fn a_next_match_is_of_a_pattern<W: WordClass>()
+    ensures some { (program : Compiled W) (patterns : List Pattern) (input : InputParts) (last : Option ℕ) (captures : Captured) (found : Matched) →
+        Recognizes W.word_chars program patterns → IsNextMatch (search_in W.word_chars program input) last captures found →
+        IsMatchIn patterns (search_in W.word_chars program input) found }
+    ensures earlier { (program : Compiled W) (patterns : List Pattern) (input : InputParts) (last : Option ℕ) (captures : Captured)
+        (found other : Matched) → Recognizes W.word_chars program patterns → IsNextMatch (search_in W.word_chars program input) last captures found →
+        other.span.start < found.span.start → IsOpen (search_in W.word_chars program input) last other.span.start →
+        IsMatchIn patterns (search_in W.word_chars program input) other →
+        IsRepeated (search_in W.word_chars program input) last other.span.start ⊎ IsSplitAt (search_in W.word_chars program input) other.span.start }
+    ensures over { (program : Compiled W) (patterns : List Pattern) (input : InputParts) (last : Option ℕ) (other : Matched) →
+        Recognizes W.word_chars program patterns → IsOver (search_in W.word_chars program input) last →
+        IsOpen (search_in W.word_chars program input) last other.span.start → IsMatchIn patterns (search_in W.word_chars program input) other →
+        IsRepeated (search_in W.word_chars program input) last other.span.start ⊎ IsSplitAt (search_in W.word_chars program input) other.span.start }
+{}
+
+/// What the earliest end of a program of patterns is: the end of a match of one of them, before which no match of theirs ends that begins where one may.
+pub fn an_earliest_end_is_of_a_pattern<W: WordClass>()
+    ensures some { (program : Compiled W) (patterns : List Pattern) (input : InputParts) (end : ℕ) →
+        Recognizes W.word_chars program patterns → IsEarliestEnd (search_in W.word_chars program input) end →
+        (found : Matched) × IsMatchIn patterns (search_in W.word_chars program input) found
+            × MayBegin (search_in W.word_chars program input) found.span.start × (found.span.end ≡ end) }
+    ensures earlier { (program : Compiled W) (patterns : List Pattern) (input : InputParts) (end : ℕ) (other : Matched) →
+        Recognizes W.word_chars program patterns → IsEarliestEnd (search_in W.word_chars program input) end →
+        MayBegin (search_in W.word_chars program input) other.span.start → other.span.end < end →
+        ¬ (IsMatchIn patterns (search_in W.word_chars program input) other) }
 {}

@@ -1,15 +1,15 @@
 //! Searches by an engine, and what its answers say of one another.
-ghost use Rattle.std.specs.Prelude.{◌≡◌, ◌<◌, ◌≤◌, ℕ, IfOk, IfSome, IfNone, length};
+ghost use Rattle.std.specs.Prelude.{◌≡◌, ◌<◌, ◌≤◌, ◌++◌, [], ◌∷◌, ℕ, List, None, IfOk, IfSome, IfNone, length};
 ghost use Rattle.rsc_search.specs.Matches.{Matched};
 ghost use Rattle.rsc_engine.specs.Searches.{search_in};
 ghost use Rattle.rsc_engine.specs.Preferred.{HasNone, IsFirstMatch};
-ghost use Rattle.rsc_engine.specs.Patterns.{Goes};
-ghost use Rattle.rsc_engine.specs.Parts.{pattern_of};
+ghost use Rattle.rsc_engine.specs.Patterns.{Pattern, Goes, IsMatchIn, Recognizes};
+ghost use Rattle.rsc_engine.specs.Parts.{pattern_of, groups_of_part};
 
 use rsc_captures::Captures;
-use rsc_engine::{AsciiWords, Builder, Dfa, Error, Matches, Part, Program, find, laws};
+use rsc_engine::{Answer, AsciiWords, Builder, Dfa, Error, Matches, Part, Program, find, laws};
 use rsc_look::WordClass;
-use rsc_search::{Input, Span};
+use rsc_search::{Input, Match, Span};
 use std::alloc::Global;
 
 /// Where a part goes first in a haystack, whose line terminator is `\n`: from where to where, or `None` if it goes nowhere.
@@ -105,4 +105,48 @@ pub fn next_two_ends<W: WordClass + AsciiWords>(
         return Ok(None);
     };
     Ok(Some((one.end(), other.end())))
+}
+
+/// The next match of a program of patterns: it is one of theirs.
+pub fn next_of_patterns<W: WordClass + AsciiWords>(
+    matches: &mut Matches<'_, '_, W>,
+    captures: &mut Captures,
+) -> Result<Option<Match>, Error>
+    ghost patterns: { List Pattern }
+    requires recognized { Recognizes W.word_chars matches.old.program patterns }
+    ensures { IfOk result (λ found. IfSome found (IsMatchIn patterns (search_in W.word_chars matches.old.program matches.old.input))) }
+{
+    laws::a_next_match_is_of_a_pattern::<W>();
+    matches.next(captures)
+}
+
+/// The least position at which a match of one of the patterns of a program ends, where the DFA finds it.
+pub fn earliest_end_of_patterns<W: WordClass + AsciiWords>(
+    dfa: &mut Dfa<'_, W>,
+    input: &Input<'_>,
+) -> Result<Option<usize>, Error>
+    ghost patterns: { List Pattern }
+    requires recognized { Recognizes W.word_chars dfa.old patterns }
+    ensures { IfOk result (λ found. IfSome found (λ end.
+        (one : Matched) × IsMatchIn patterns (search_in W.word_chars dfa.old input.now) one × (one.span.end ≡ end))) }
+{
+    laws::an_earliest_end_is_of_a_pattern::<W>();
+    match dfa.earliest_end(input)? {
+        Answer::End(end) => Ok(Some(end)),
+        Answer::NoMatch | Answer::Quit(_) => Ok(None),
+    }
+}
+
+/// The program of two parts, one after the other: the groups of the first come before those of the second.
+pub fn program_of_two<W: WordClass>(
+    alloc: Global,
+    words: W,
+    one: Part<'_>,
+    other: Part<'_>,
+) -> Result<Program<W>, Error>
+    ensures { IfOk result (λ program. program.automaton.groups ≡ (None ∷ groups_of_part one.entry ++ groups_of_part other.entry) ∷ []) }
+{
+    let builder = Builder::new(alloc);
+    let both = builder.then(one, other)?;
+    builder.build(words, true, both)
 }

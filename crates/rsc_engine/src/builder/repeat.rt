@@ -2,7 +2,7 @@
 ghost use Rattle.std.specs.Prelude.{◌≡◌, None, Some, IfOk, IfErr};
 ghost use Rattle.rsc_engine.specs.declared.error.Error.TheVariants.{OutOfMemory};
 ghost use Rattle.rsc_engine.specs.Patterns.{Repeat};
-ghost use Rattle.rsc_engine.specs.Parts.{pattern_of};
+ghost use Rattle.rsc_engine.specs.Parts.{pattern_of, groups_of_part};
 
 use super::tree::{Times, Tree};
 use super::{Builder, Part};
@@ -12,6 +12,7 @@ impl<'n> Builder<'n> {
     /// The part or nothing, preferably the part.
     pub fn optional(&self, part: Part<'n>) -> Result<Part<'n>, Error>
         ensures part { IfOk result (λ whole. pattern_of whole ≡ Repeat 0 (Some 1) (pattern_of part.entry)) }
+        ensures groups { IfOk result (λ whole. groups_of_part whole ≡ groups_of_part part.entry) }
         ensures refused { IfErr result (λ e. e ≡ OutOfMemory) }
     {
         self.times(part, 0, Some(1), true)
@@ -20,6 +21,7 @@ impl<'n> Builder<'n> {
     /// The part or nothing, preferably nothing.
     pub fn optional_lazy(&self, part: Part<'n>) -> Result<Part<'n>, Error>
         ensures part { IfOk result (λ whole. pattern_of whole ≡ Repeat 0 (Some 1) (pattern_of part.entry)) }
+        ensures groups { IfOk result (λ whole. groups_of_part whole ≡ groups_of_part part.entry) }
         ensures refused { IfErr result (λ e. e ≡ OutOfMemory) }
     {
         self.times(part, 0, Some(1), false)
@@ -28,6 +30,7 @@ impl<'n> Builder<'n> {
     /// The part any number of times, preferably often. Of a part that can match nothing it is `(part+)?`, as in the original.
     pub fn star(&self, part: Part<'n>) -> Result<Part<'n>, Error>
         ensures part { IfOk result (λ whole. pattern_of whole ≡ Repeat 0 None (pattern_of part.entry)) }
+        ensures groups { IfOk result (λ whole. groups_of_part whole ≡ groups_of_part part.entry) }
         ensures refused { IfErr result (λ e. e ≡ OutOfMemory) }
     {
         self.times(part, 0, None, true)
@@ -36,6 +39,7 @@ impl<'n> Builder<'n> {
     /// The part any number of times, preferably seldom.
     pub fn star_lazy(&self, part: Part<'n>) -> Result<Part<'n>, Error>
         ensures part { IfOk result (λ whole. pattern_of whole ≡ Repeat 0 None (pattern_of part.entry)) }
+        ensures groups { IfOk result (λ whole. groups_of_part whole ≡ groups_of_part part.entry) }
         ensures refused { IfErr result (λ e. e ≡ OutOfMemory) }
     {
         self.times(part, 0, None, false)
@@ -44,6 +48,7 @@ impl<'n> Builder<'n> {
     /// The part once or more, preferably often.
     pub fn plus(&self, part: Part<'n>) -> Result<Part<'n>, Error>
         ensures part { IfOk result (λ whole. pattern_of whole ≡ Repeat 1 None (pattern_of part.entry)) }
+        ensures groups { IfOk result (λ whole. groups_of_part whole ≡ groups_of_part part.entry) }
         ensures refused { IfErr result (λ e. e ≡ OutOfMemory) }
     {
         self.times(part, 1, None, true)
@@ -52,6 +57,7 @@ impl<'n> Builder<'n> {
     /// The part once or more, preferably seldom.
     pub fn plus_lazy(&self, part: Part<'n>) -> Result<Part<'n>, Error>
         ensures part { IfOk result (λ whole. pattern_of whole ≡ Repeat 1 None (pattern_of part.entry)) }
+        ensures groups { IfOk result (λ whole. groups_of_part whole ≡ groups_of_part part.entry) }
         ensures refused { IfErr result (λ e. e ≡ OutOfMemory) }
     {
         self.times(part, 1, None, false)
@@ -61,6 +67,7 @@ impl<'n> Builder<'n> {
     /// `max` below `min` it is `min` times.
     pub fn repeat(&self, part: Part<'n>, min: usize, max: Option<usize>) -> Result<Part<'n>, Error>
         ensures part { IfOk result (λ whole. pattern_of whole ≡ Repeat min max (pattern_of part.entry)) }
+        ensures groups { IfOk result (λ whole. groups_of_part whole ≡ groups_of_part part.entry) }
         ensures refused { IfErr result (λ e. e ≡ OutOfMemory) }
     {
         self.times(part, min, max, true)
@@ -74,6 +81,7 @@ impl<'n> Builder<'n> {
         max: Option<usize>,
     ) -> Result<Part<'n>, Error>
         ensures part { IfOk result (λ whole. pattern_of whole ≡ Repeat min max (pattern_of part.entry)) }
+        ensures groups { IfOk result (λ whole. groups_of_part whole ≡ groups_of_part part.entry) }
         ensures refused { IfErr result (λ e. e ≡ OutOfMemory) }
     {
         self.times(part, min, max, false)
@@ -87,6 +95,7 @@ impl<'n> Builder<'n> {
         is_greedy: bool,
     ) -> Result<Part<'n>, Error>
         ensures part { IfOk result (λ whole. pattern_of whole ≡ Repeat min max (pattern_of part.entry)) }
+        ensures groups { IfOk result (λ whole. groups_of_part whole ≡ groups_of_part part.entry) }
         ensures refused { IfErr result (λ e. e ≡ OutOfMemory) }
     {
         let times = Times {

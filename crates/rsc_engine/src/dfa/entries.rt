@@ -49,7 +49,7 @@ pub fn read(lead: Lead) -> Option<Step>
     }
 }
 
-/// The entry that says the step, or nothing. It may be one to a row with no state.
+/// The entry that says the step, or nothing. A row that is `is_last` has no state.
 pub fn written(step: Step, is_last: bool) -> Lead
     ensures { (step_of result ≡ None) ⊎ (step_of result ≡ Some step) }
 {

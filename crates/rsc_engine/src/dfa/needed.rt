@@ -2,7 +2,7 @@
 //! and to look for them takes less time than a table's steps, since 64 bytes are looked at at once.
 //!
 //! That each match has them is shown by marks. A state has two: one for runs whose last byte is of the first range, one for all other runs. The
-//! first state has both, and a marked state's steps mark the states that they lead to; but a step over a byte of the second range, directly after
+//! start state has both, and a marked state's steps mark the states that they lead to; but a step over a byte of the second range, directly after
 //! one of the first, marks nothing, since such a run has the two bytes. If no marked state accepts, each match has them.
 ghost use Rattle.std.specs.Prelude.{◌≡◌, ◌+◌, ◌-◌, ◌<◌, ◌≤◌, ℕ, IfSome, true, false, length, slice_get, slice_index, slice_index_or, Some};
 ghost use Rattle.rsc_engine.specs.Searches.{search_in};

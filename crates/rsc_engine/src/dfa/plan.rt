@@ -26,8 +26,8 @@ pub struct Plan<'p, W: WordClass> {
     pub width: usize,
     /// Whether an assertion looks at characters.
     pub unicode: bool,
-    /// Whether no byte leads to the first state, as far as is known.
-    pub once: bool,
+    /// Whether no byte leads to the start state, so that a search stands there only where a match may begin.
+    pub is_start_left: bool,
     /// How many rows are kept at most.
     pub most_rows: usize,
 }
@@ -37,7 +37,7 @@ impl<'p, W: WordClass + AsciiWords> Plan<'p, W> {
     pub fn new(program: &'p Program<W>, most_rows: usize) -> Plan<'p, W>
         ensures program { result.program.now ≡ program.now }
         ensures plan { IsPlan (machine W.word_chars program.now) result.classes result.width result.unicode }
-        ensures once { result.once ≡ true → IsNeverEntered (machine W.word_chars program.now) }
+        ensures never_entered { result.is_start_left ≡ true → IsNeverEntered (machine W.word_chars program.now) }
     {
         W::agrees_with_ascii();
         // For the prover: what these calls promise of the program.
@@ -52,7 +52,7 @@ impl<'p, W: WordClass + AsciiWords> Plan<'p, W> {
             classes,
             width,
             unicode,
-            once: is_never_entered(program),
+            is_start_left: is_never_entered(program),
             most_rows,
         }
     }
@@ -85,24 +85,24 @@ impl<'p, W: WordClass> Plan<'p, W> {
     }
 }
 
-// Whether no byte leads to the first state.
+// Whether no byte leads to the start state.
 fn is_never_entered<W: WordClass>(program: &Program<W>) -> bool
     ensures { result ≡ true → IsNeverEntered (machine W.word_chars program.now) }
 {
-    let mut once = true;
+    let mut is_never = true;
     'states: for index in 0..program.len() {
         let other = never_leads_to(program.nfa().states()[index], program.start());
-        once = once & other;
+        is_never = is_never & other;
     }
-    once
+    is_never
 }
 
 // Whether no byte leads from a state to another.
-fn never_leads_to(state: State, first: StateID) -> bool
-    ensures { result ≡ true → (a b next : ℕ) → state ≡ ByteRange a b next → ¬ (next ≡ first) }
+fn never_leads_to(state: State, other: StateID) -> bool
+    ensures { result ≡ true → (a b next : ℕ) → state ≡ ByteRange a b next → ¬ (next ≡ other) }
 {
     match state {
-        State::ByteRange { next, .. } => next != first,
+        State::ByteRange { next, .. } => next != other,
         State::Assert { .. } | State::Fork { .. } | State::Capture { .. } | State::Accept { .. } =>
             true,
     }

@@ -64,12 +64,12 @@ impl Table {
         row: usize,
         at: usize,
         begin: usize,
-        is_wanted: bool,
+        wants_begin: bool,
     ) -> (usize, usize, usize)
         requires plan { IsPlan (machine W.word_chars plan.now.program.now) plan.now.classes plan.now.width plan.now.unicode }
         requires exact { IsExact (machine W.word_chars plan.now.program.now) plan.now.classes plan.now.width self.now.rows.items self.now.leads.items }
         requires on { StandsAt (search_in W.word_chars plan.now.program.now input.now) plan.now.classes self.now.rows.items row at }
-        requires once { plan.now.once ≡ true → IsNeverEntered (machine W.word_chars plan.now.program.now) }
+        requires never_entered { plan.now.is_start_left ≡ true → IsNeverEntered (machine W.word_chars plan.now.program.now) }
         requires begin { BeginsFrom (search_in W.word_chars plan.now.program.now input.now) begin }
         requires start { input.now.span.start ≤ at }
         requires end { at ≤ input.now.span.end }
@@ -87,7 +87,7 @@ impl Table {
             match self.known_row(plan, here, byte_at(haystack, position)) {
                 Some(next) => {
                     here = next;
-                    from = self.begin_at(plan, input, next, position + 1, from, is_wanted);
+                    from = self.begin_at(plan, input, next, position + 1, from, wants_begin);
                 }
                 None => return (here, position, from),
             }
@@ -105,17 +105,17 @@ impl Table {
         row: usize,
         at: usize,
         begin: usize,
-        is_wanted: bool,
+        wants_begin: bool,
     ) -> usize
         requires on { StandsAt (search_in W.word_chars plan.now.program.now input.now) plan.now.classes self.now.rows.items row at }
-        requires once { plan.now.once ≡ true → IsNeverEntered (machine W.word_chars plan.now.program.now) }
+        requires never_entered { plan.now.is_start_left ≡ true → IsNeverEntered (machine W.word_chars plan.now.program.now) }
         requires begin { BeginsFrom (search_in W.word_chars plan.now.program.now input.now) begin }
         requires start { input.now.span.start ≤ at }
         ensures { BeginsFrom (search_in W.word_chars plan.now.program.now input.now) result }
     {
         steps_are_lawful();
-        if is_wanted
-            && plan.once
+        if wants_begin
+            && plan.is_start_left
             && !input.get_anchored().is_anchored()
             && self.has_start_alone(plan, row)
         {

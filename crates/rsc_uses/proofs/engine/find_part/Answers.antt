@@ -8,7 +8,7 @@ pub returns-in-None-clause-none : goal.returns-in-None-clause-none
 returns-in-None-clause-none g c = λ i j before within goes.
     let p = pattern_of c.args.part in
     let chars = g.W.WordClass.word_chars in
-    let matches = rw c.new.ensures at c.in_ok-program.ensures.matches in
+    let matches = rw c.new.ensures.patterns at c.in_ok-program.ensures.matches in
     let none = rw (c.in-None.is, c.new-input.ensures) at c.in_ok-find.ensures.none in
     c.a_first_match_is_of_a_pattern.ensures.none c.in_ok-program.program (p ∷ []) (whole c.args.haystack.now) _ matches none
     (may_begin chars c.in_ok-program.program c.args.haystack.now i before)
@@ -18,7 +18,7 @@ pub returns-clause-some : goal.returns-clause-some
 returns-clause-some g c =
     let p = pattern_of c.args.part in
     let chars = g.W.WordClass.word_chars in
-    let matches = rw c.new.ensures at c.in_ok-program.ensures.matches in
+    let matches = rw c.new.ensures.patterns at c.in_ok-program.ensures.matches in
     let found = rw (c.in-Some.is, c.new-input.ensures) at c.in_ok-find.ensures.found in
     rw (c.start.ensures.start, c.end.ensures.end)
     (goes_of chars c.in_ok-program.program c.args.words p c.args.haystack.now c.in-Some.found c.in_ok-program.ensures.matcher
@@ -28,7 +28,7 @@ pub returns-clause-first : goal.returns-clause-first
 returns-clause-first g c = λ i j before within goes.
     let p = pattern_of c.args.part in
     let chars = g.W.WordClass.word_chars in
-    let matches = rw c.new.ensures at c.in_ok-program.ensures.matches in
+    let matches = rw c.new.ensures.patterns at c.in_ok-program.ensures.matches in
     let found = rw (c.in-Some.is, c.new-input.ensures) at c.in_ok-find.ensures.found in
     c.a_first_match_is_of_a_pattern.ensures.earlier c.in_ok-program.program (p ∷ []) (whole c.args.haystack.now) _ c.in-Some.found _ matches found
     (rw c.start.ensures.start at before)

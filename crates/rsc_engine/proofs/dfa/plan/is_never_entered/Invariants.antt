@@ -3,5 +3,5 @@ use Rattle.rsc_nfa.specs.declared.state.State.TheVariants.{ByteRange}
 use Rattle.rsc_engine.proofs.dfa.plan.is_never_entered.Given as goal
 
 abbrev pub invariant-states : goal.invariant-states
-invariant-states g l = l.once ≡ true → (s a b next : ℕ) → s < l.index → slice_get l.program.automaton.states s ≡ Some (ByteRange a b next)
+invariant-states g l = l.is_never ≡ true → (s a b next : ℕ) → s < l.index → slice_get l.program.automaton.states s ≡ Some (ByteRange a b next)
     → ¬ (next ≡ l.program.start)
