@@ -173,7 +173,7 @@ impl<'n> Builder<'n> {
     /// a part before those of the next one.
     pub fn group(&self, name: Option<&'n str>, part: Part<'n>) -> Result<Part<'n>, Error>
         ensures part { IfOk result (λ group. pattern_of group ≡ pattern_of part.entry) }
-        ensures groups { IfOk result (λ group. groups_of_part group ≡ groups_in (name ∷ []) ++ groups_of_part part.entry) }
+        ensures groups { IfOk result (λ group. groups_of_part group ≡ groups_in (name.entry ∷ []) ++ groups_of_part part.entry) }
         ensures refused { IfErr result (λ e. e ≡ OutOfMemory) }
     {
         let groups = part.names.len();
