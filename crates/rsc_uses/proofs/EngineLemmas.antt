@@ -1,6 +1,6 @@
 -- Matches of one pattern in a whole haystack.
-use Rattle.std.proofs.Common.{◌≡◌, ℕ, zero, suc, ◌<◌, ◌≤◌, Bool, true, List, [], ◌∷◌, length, slice_get, refl, sym, subst, ap, ◌∙◌, arith, Option, Some, None}
-use Rattle.rsc_search.specs.Inputs.{InputParts, whole}
+use Rattle.std.proofs.Common.{◌≡◌, ℕ, zero, suc, ◌≤◌, Bool, List, [], ◌∷◌, length, slice_get, refl, sym, subst, arith, Some}
+use Rattle.rsc_search.specs.Inputs.{whole}
 use Rattle.rsc_search.specs.Matches.{Matched}
 use Rattle.rsc_engine.specs.Searches.{Compiled, search_in}
 use Rattle.rsc_engine.specs.Preferred.{MayBegin}

@@ -1,4 +1,4 @@
-use Rattle.std.proofs.Common.{◌≡◌, ◌++◌, [], ◌∷◌}
+use Rattle.std.proofs.Common.{[], ◌∷◌}
 use Rattle.rsc_search.specs.Inputs.{whole}
 use Rattle.rsc_engine.specs.Parts.{pattern_of}
 use Rattle.rsc_uses.proofs.EngineLemmas.{goes_of, match_of, may_begin}

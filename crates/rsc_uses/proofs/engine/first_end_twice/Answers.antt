@@ -1,4 +1,4 @@
-use Rattle.std.proofs.Common.{◌≡◌, ◌-◌, ◌∙◌, ℕ, List, length, Option, Some, None, IfSome, IfNone, refl, sym, ap, subst}
+use Rattle.std.proofs.Common.{◌≡◌, ◌-◌, ◌∙◌, ℕ, List, length, Option, Some, None, IfSome, IfNone, refl, sym, ap}
 use Rattle.rsc_nfa.specs.Steps.{place}
 use Rattle.rsc_engine.specs.Searches.{Search, search_in}
 use Rattle.rsc_engine.specs.Preferred.{IsLeftmostFirst, HasNone}
