@@ -1,15 +1,15 @@
 //! Searches by an engine, and what its answers say of one another.
-ghost use Rattle.std.specs.Prelude.{◌≡◌, ◌<◌, ◌≤◌, ◌++◌, [], ◌∷◌, ℕ, List, None, IfOk, IfSome, IfNone, length};
+ghost use Rattle.std.specs.Prelude.{◌≡◌, ◌<◌, ◌≤◌, ◌++◌, [], ◌∷◌, ℕ, None, IfOk, IfSome, IfNone, length};
 ghost use Rattle.rsc_search.specs.Matches.{Matched};
 ghost use Rattle.rsc_engine.specs.Searches.{search_in};
 ghost use Rattle.rsc_engine.specs.Preferred.{HasNone, IsFirstMatch};
-ghost use Rattle.rsc_engine.specs.Patterns.{Pattern, Goes, IsMatchIn, Recognizes};
+ghost use Rattle.rsc_engine.specs.Patterns.{Goes};
 ghost use Rattle.rsc_engine.specs.Parts.{pattern_of, groups_of_part};
 
 use rsc_captures::Captures;
 use rsc_engine::{Answer, AsciiWords, Builder, Dfa, Error, Matches, Part, Program, find, laws};
 use rsc_look::WordClass;
-use rsc_search::{Input, Match, Span};
+use rsc_search::{Input, Span};
 use std::alloc::Global;
 
 /// Where a part goes first in a haystack, whose line terminator is `\n`: from where to where, or `None` if it goes nowhere.
@@ -107,31 +107,42 @@ pub fn next_two_ends<W: WordClass + AsciiWords>(
     Ok(Some((one.end(), other.end())))
 }
 
-/// The next match of a program of patterns: it is one of theirs.
-pub fn next_of_patterns<W: WordClass + AsciiWords>(
-    matches: &mut Matches<'_, '_, W>,
-    captures: &mut Captures,
-) -> Result<Option<Match>, Error>
-    ghost patterns: { List Pattern }
-    requires recognized { Recognizes W.word_chars matches.old.program patterns }
-    ensures { IfOk result (λ found. IfSome found (IsMatchIn patterns (search_in W.word_chars matches.old.program matches.old.input))) }
+/// Where the first match of an iteration is: the part goes there.
+pub fn first_of_iteration<W: WordClass + AsciiWords>(
+    alloc: Global,
+    words: W,
+    part: Part<'_>,
+    haystack: &[u8],
+) -> Result<Option<(usize, usize)>, Error>
+    ensures { IfOk result (λ found. IfSome found (λ ends.
+        Goes (record { haystack = haystack.now; terminator = 10; words = W.word_chars words }) (pattern_of part.entry) ends.0 ends.1)) }
 {
     laws::a_next_match_is_of_a_pattern::<W>();
-    matches.next(captures)
+    let program = Builder::new(alloc).build(words, true, part)?;
+    let mut captures = Captures::all(alloc, program.nfa().group_info().clone()?)?;
+    let input = Input::new(haystack);
+    let mut matches = Matches::new(alloc, &program, input)?;
+    match matches.next(&mut captures)? {
+        None => Ok(None),
+        Some(found) => Ok(Some((found.start(), found.end()))),
+    }
 }
 
-/// The least position at which a match of one of the patterns of a program ends, where the DFA finds it.
-pub fn earliest_end_of_patterns<W: WordClass + AsciiWords>(
-    dfa: &mut Dfa<'_, W>,
-    input: &Input<'_>,
+/// The least position to which a part goes, where the DFA finds it.
+pub fn first_end_of_part<W: WordClass + AsciiWords>(
+    alloc: Global,
+    words: W,
+    part: Part<'_>,
+    haystack: &[u8],
 ) -> Result<Option<usize>, Error>
-    ghost patterns: { List Pattern }
-    requires recognized { Recognizes W.word_chars dfa.old patterns }
     ensures { IfOk result (λ found. IfSome found (λ end.
-        (one : Matched) × IsMatchIn patterns (search_in W.word_chars dfa.old input.now) one × (one.span.end ≡ end))) }
+        (i : ℕ) × Goes (record { haystack = haystack.now; terminator = 10; words = W.word_chars words }) (pattern_of part.entry) i end)) }
 {
     laws::an_earliest_end_is_of_a_pattern::<W>();
-    match dfa.earliest_end(input)? {
+    let program = Builder::new(alloc).build(words, true, part)?;
+    let input = Input::new(haystack);
+    let mut dfa = Dfa::new(alloc, &program, 100);
+    match dfa.earliest_end(&input)? {
         Answer::End(end) => Ok(Some(end)),
         Answer::NoMatch | Answer::Quit(_) => Ok(None),
     }

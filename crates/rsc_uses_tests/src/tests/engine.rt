@@ -2,6 +2,7 @@
 use rsc_captures::Captures;
 use rsc_engine::{Builder, Dfa, Matches};
 use rsc_look::AsciiWord;
+use rsc_primitives::PatternID;
 use rsc_search::Input;
 use rsc_uses::engine;
 use std::test::Fail;
@@ -37,5 +38,28 @@ fn ends_agree(rt: HostRuntime) -> Result<(), Fail> {
     let input = Input::new(b"-a b");
     let ends = engine::first_end_twice(rt.alloc(), &program, &mut dfa, &input, &mut captures)?;
     assert!(rt; ends == (Some(2), Some(2)));
+    Ok(())
+}
+
+#[test]
+fn answers_are_of_parts(rt: HostRuntime) -> Result<(), Fail> {
+    let builder = Builder::new(rt.alloc());
+    let whole = builder.range(b'a', b'z');
+    let first = engine::first_of_iteration(rt.alloc(), AsciiWord, whole, b"-a b")?;
+    assert!(rt; first == Some((1, 2)));
+    let whole = builder.range(b'a', b'z');
+    let end = engine::first_end_of_part(rt.alloc(), AsciiWord, whole, b"-a b")?;
+    assert!(rt; end == Some(2));
+    Ok(())
+}
+
+#[test]
+fn groups_of_both_parts(rt: HostRuntime) -> Result<(), Fail> {
+    let builder = Builder::new(rt.alloc());
+    let one = builder.group(Some("a"), builder.range(b'a', b'z'))?;
+    let other = builder.group(Some("b"), builder.empty())?;
+    let program = engine::program_of_two(rt.alloc(), AsciiWord, one, other)?;
+    let info = program.nfa().group_info();
+    assert!(rt; info.to_index(PatternID::ZERO, "b") == Some(2));
     Ok(())
 }
