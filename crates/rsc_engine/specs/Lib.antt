@@ -9,7 +9,7 @@ pub mod NextMatches  -- which match is next; `last` is where the last one ended,
 pub mod MovesLayout  -- what a state does at a position
 pub mod WalksLayout  -- what a backtracker has on hand
 pub mod Patterns  -- what a pattern matches, and which programs match it
-pub mod Parts  -- which pattern a part is
+pub mod Parts  -- which pattern a part is, and which groups it has
 pub mod LinksLayout  -- how the states of a part lead on
 pub mod BeginsLayout  -- at which state the matches of a pattern, or of several, begin
 pub mod Ends  -- where matches end, and what a DFA answers
