@@ -321,12 +321,16 @@ pub end_is_in : (e : Search) (patterns : List Pattern) (i : ℕ) → ((other : M
 end_is_in e patterns i both h =
     let x = h.ends in
     let q = accepted (pattern_of_mode e.mode) (slice_get e.states (place x.run (length x.run - 1)).0) x.is_match.ends in
-    let found : Matched = record { pattern = q.0; span = record { start = x.from; end = i } } in
-    (found, (both found).0 (record {
-      run = x.run;
-      is_match = x.is_match;
-      makes = record { pattern = q.1; start = sym (ap (λ (p : ℕ × ℕ). p.1) x.is_match.begins); end = sym x.ends };
-    }), x.begins, refl)
+    let found : Matched = record { pattern = q.0; span = record { start = x.from; end = i } } in (
+      found,
+      (both found).0 (record {
+        run = x.run;
+        is_match = x.is_match;
+        makes = record { pattern = q.1; start = sym (ap (λ (p : ℕ × ℕ). p.1) x.is_match.begins); end = sym x.ends };
+      }),
+      x.begins,
+      refl,
+    )
 
 pub none_ends_before : (e : Search) (patterns : List Pattern) (i : ℕ) (other : Matched) → ((other : Matched) → HasRunOf e other ↔ IsMatchIn patterns e other)
     → IsEarliestEnd e i → MayBegin e other.span.start → other.span.end < i → IsMatchIn patterns e other → ⊥

@@ -60,7 +60,7 @@ pub fn an_earliest_end_is_of_a_pattern<W: WordClass>()
     ensures some { (program : Compiled W) (patterns : List Pattern) (input : InputParts) (end : ℕ) →
         Recognizes W.word_chars program patterns → IsEarliestEnd (search_in W.word_chars program input) end →
         (found : Matched) × IsMatchIn patterns (search_in W.word_chars program input) found
-            × MayBegin (search_in W.word_chars program input) found.span.start × (found.span.end ≡ end) }
+        × MayBegin (search_in W.word_chars program input) found.span.start × (found.span.end ≡ end) }
     ensures earlier { (program : Compiled W) (patterns : List Pattern) (input : InputParts) (end : ℕ) (other : Matched) →
         Recognizes W.word_chars program patterns → IsEarliestEnd (search_in W.word_chars program input) end →
         MayBegin (search_in W.word_chars program input) other.span.start → other.span.end < end →

@@ -2,6 +2,7 @@
 ghost use Rattle.std.specs.Prelude.{◌≡◌, ◌↔◌, ◌<◌, ◌≤◌, IsTrue, IsOkAnd, IfOk, Ok, length};
 ghost use Rattle.std.specs.List.{range_with_len};
 
+use super::{is_debug, is_text};
 use rsc_primitives::{
     NonMaxUsize, PatternID, PatternIDError, PatternIDIter, SmallIndex, SmallIndexError, StateID,
     StateIDError,
@@ -86,48 +87,39 @@ fn refuses_exactly_the_numbers_above_the_greatest(rt: HostRuntime) {
         (4294967295, (None, 4294967295)),
         (18446744073709551615, (None, 18446744073709551615)),
     ] {
-        assert_eq!(rt;
+        let made = [
             small(SmallIndex::new(number as usize)),
-            want,
-            "new of {number}"
-        );
-        assert_eq!(rt;
             pattern(PatternID::new(number as usize)),
-            want,
-            "new of {number}"
-        );
-        assert_eq!(rt;
             state(StateID::new(number as usize)),
-            want,
-            "new of {number}"
-        );
-        assert_eq!(rt;
+        ];
+        let converted = [
             small(SmallIndex::try_from(number)),
-            want,
-            "try_from of {number}"
-        );
-        assert_eq!(rt;
             pattern(PatternID::try_from(number)),
-            want,
-            "try_from of {number}"
-        );
-        assert_eq!(rt;
             state(StateID::try_from(number)),
-            want,
-            "try_from of {number}"
-        );
+        ];
+        assert_eq!(rt; (made, converted), ([want; 3], [want; 3]));
     }
+}
+
+#[test]
+fn refuses_no_narrow_number_but_the_greatest(rt: HostRuntime) {
     for (number, want) in [
         (2147483646u32, (Some(2147483646u64), 0u64)),
         (2147483647, (None, 2147483647)),
     ] {
-        assert_eq!(rt; small(SmallIndex::try_from(number)), want, "{number}");
-        assert_eq!(rt; pattern(PatternID::try_from(number)), want, "{number}");
-        assert_eq!(rt; state(StateID::try_from(number)), want, "{number}");
+        let converted = [
+            small(SmallIndex::try_from(number)),
+            pattern(PatternID::try_from(number)),
+            state(StateID::try_from(number)),
+        ];
+        assert_eq!(rt; converted, [want; 3]);
     }
-    assert_eq!(rt; small(SmallIndex::try_from(65535u16)), (Some(65535), 0));
-    assert_eq!(rt; pattern(PatternID::try_from(65535u16)), (Some(65535), 0));
-    assert_eq!(rt; state(StateID::try_from(65535u16)), (Some(65535), 0));
+    let converted = [
+        small(SmallIndex::try_from(65535u16)),
+        pattern(PatternID::try_from(65535u16)),
+        state(StateID::try_from(65535u16)),
+    ];
+    assert_eq!(rt; converted, [(Some(65535), 0); 3]);
 }
 
 #[test]
@@ -138,23 +130,38 @@ fn reads_four_bytes_the_least_first(rt: HostRuntime) {
         ([0xFF, 0xFF, 0xFF, 0x7F], (None, 2147483647)),
         ([0xFF, 0xFF, 0xFF, 0xFF], (None, 4294967295)),
     ] {
-        assert_eq!(rt; small(SmallIndex::from_le_bytes(bytes)), want, "{bytes:?}");
-        assert_eq!(rt; pattern(PatternID::from_le_bytes(bytes)), want, "{bytes:?}");
-        assert_eq!(rt; state(StateID::from_le_bytes(bytes)), want, "{bytes:?}");
+        let read = [
+            small(SmallIndex::from_le_bytes(bytes)),
+            pattern(PatternID::from_le_bytes(bytes)),
+            state(StateID::from_le_bytes(bytes)),
+        ];
+        assert_eq!(rt; read, [want; 3]);
     }
-    assert_eq!(rt; SmallIndex::MAX.to_le_bytes(), [0xFE, 0xFF, 0xFF, 0x7F]);
-    assert_eq!(rt; PatternID::MAX.to_le_bytes(), [0xFE, 0xFF, 0xFF, 0x7F]);
-    assert_eq!(rt; StateID::MAX.to_le_bytes(), [0xFE, 0xFF, 0xFF, 0x7F]);
+    let greatest = [
+        SmallIndex::MAX.to_le_bytes(),
+        PatternID::MAX.to_le_bytes(),
+        StateID::MAX.to_le_bytes(),
+    ];
+    assert_eq!(rt; greatest, [[0xFE, 0xFF, 0xFF, 0x7F]; 3]);
     assert_eq!(rt; pattern(read_back(PatternID::must(513))), (Some(513), 0));
 }
 
 #[test]
 fn tells_the_number(rt: HostRuntime) {
-    assert_eq!(rt; SmallIndex::from(200u8).as_usize(), 200);
-    assert_eq!(rt; PatternID::MAX.one_more(), 2147483647);
-    assert_eq!(rt; PatternID::must(7).as_u32(), 7);
-    assert_eq!(rt; StateID::must(7).as_i32(), 7);
-    assert_eq!(rt; StateID::default(), StateID::ZERO);
+    let wide = (
+        SmallIndex::from(200u8).as_usize(),
+        PatternID::MAX.one_more(),
+    );
+    assert_eq!(rt; wide, (200, 2147483647));
+    let narrow = (PatternID::must(7).as_u32(), StateID::must(7).as_i32());
+    assert_eq!(rt; narrow, (7, 7));
+    assert!(rt; StateID::default() == StateID::ZERO);
+    assert!(rt; is_before(&StateID::ZERO, &StateID::MAX));
+    assert!(rt; at_state(StateID::must(1), b"ab") == b'b');
+}
+
+#[test]
+fn indices_have_four_bytes(rt: HostRuntime) {
     assert_eq!(rt;
         (SmallIndex::LIMIT, PatternID::LIMIT, StateID::LIMIT),
         (2147483647, 2147483647, 2147483647)
@@ -167,9 +174,7 @@ fn tells_the_number(rt: HostRuntime) {
         size_of::<SmallIndex>() + size_of::<PatternID>() + size_of::<StateID>(),
         12
     );
-    assert_eq!(rt; size_of::<Option<NonMaxUsize>>(), 9);
-    assert!(rt; is_before(&StateID::ZERO, &StateID::MAX));
-    assert_eq!(rt; at_state(StateID::must(1), b"ab"), b'b');
+    assert!(rt; size_of::<Option<NonMaxUsize>>() == 9);
 }
 
 #[test]
@@ -178,17 +183,19 @@ fn counts_from_zero_and_rests_at_the_end(rt: HostRuntime) -> Result<(), Fail> {
     for want in [Some(0), Some(1), Some(2), None, None] {
         assert_eq!(rt; ids.next().map(|id| id.as_usize()), want);
     }
-    assert_eq!(rt; SmallIndex::iter(0).next(), None);
+    assert!(rt; SmallIndex::iter(0).next() == None);
     let indices = all_below(rt.alloc(), 2)?;
-    assert_eq!(rt;
-        indices.as_slice(),
-        [SmallIndex::ZERO, SmallIndex::must(1)].as_slice()
-    );
+    assert!(rt; indices.as_slice() == [SmallIndex::ZERO, SmallIndex::must(1)].as_slice());
+    Ok(())
+}
+
+#[test]
+fn a_clone_goes_on_by_itself(rt: HostRuntime) -> Result<(), Fail> {
     let mut ids = PatternID::iter(2);
-    assert_eq!(rt; ids.next(), Some(PatternID::ZERO));
+    assert!(rt; ids.next() == Some(PatternID::ZERO));
     let mut again = copy_of(&ids)?;
-    assert_eq!(rt; again.next(), Some(PatternID::must(1)));
-    assert_eq!(rt; ids.next(), Some(PatternID::must(1)));
+    assert!(rt; again.next() == Some(PatternID::must(1)));
+    assert!(rt; ids.next() == Some(PatternID::must(1)));
     Ok(())
 }
 
@@ -203,42 +210,28 @@ fn numbers_as_many_patterns_as_there_can_be(rt: HostRuntime) {
 #[test]
 fn shows_the_refused_number(rt: HostRuntime) -> Result<(), Fail> {
     let error = SmallIndex::new(4294967295).err().ok_or("accepted")?;
-    assert_eq!(rt;
-        format!(in rt.alloc(); "{error}")?.as_str(),
-        "failed to create small index from 4294967295, which exceeds SmallIndex(2147483646)"
-    );
+    let want = "failed to create small index from 4294967295, which exceeds SmallIndex(2147483646)";
+    assert!(rt; is_text(format!(in rt.alloc(); "{error}"), want));
     let error = PatternID::new(2147483647).err().ok_or("accepted")?;
-    assert_eq!(rt;
-        format!(in rt.alloc(); "{error}")?.as_str(),
-        "failed to create PatternID from 2147483647, which exceeds PatternID(2147483646)"
-    );
+    let want = "failed to create PatternID from 2147483647, which exceeds PatternID(2147483646)";
+    assert!(rt; is_text(format!(in rt.alloc(); "{error}"), want));
     assert!(rt; error_again(&error)? == error);
     let error = StateID::try_from(18446744073709551615u64)
         .err()
         .ok_or("accepted")?;
-    assert_eq!(rt;
-        format!(in rt.alloc(); "{error}")?.as_str(),
-        "failed to create StateID from 18446744073709551615, which exceeds StateID(2147483646)"
-    );
+    let want =
+        "failed to create StateID from 18446744073709551615, which exceeds StateID(2147483646)";
+    assert!(rt; is_text(format!(in rt.alloc(); "{error}"), want));
     Ok(())
 }
 
 #[test]
 fn shows_what_they_are(rt: HostRuntime) -> Result<(), Fail> {
-    assert_eq!(rt;
-        format!(in rt.alloc(); "{:?}", SmallIndex::must(5))?.as_str(),
-        "SmallIndex(5)"
-    );
-    assert_eq!(rt;
-        format!(in rt.alloc(); "{:?}", PatternID::must(5))?.as_str(),
-        "PatternID(5)"
-    );
-    assert_eq!(rt;
-        format!(in rt.alloc(); "{:?}", StateID::must(5))?.as_str(),
-        "StateID(5)"
-    );
+    assert!(rt; is_debug(rt.alloc(), &SmallIndex::must(5), "SmallIndex(5)"));
+    assert!(rt; is_debug(rt.alloc(), &PatternID::must(5), "PatternID(5)"));
+    assert!(rt; is_debug(rt.alloc(), &StateID::must(5), "StateID(5)"));
     let offset = NonMaxUsize::new(5).ok_or("refused")?;
-    assert_eq!(rt; format!(in rt.alloc(); "{offset:?}")?.as_str(), "5");
+    assert!(rt; is_debug(rt.alloc(), &offset, "5"));
     Ok(())
 }
 

@@ -1,4 +1,5 @@
 //! Sizes of texts, shown values at the least and the greatest numbers, and the traits of each type.
+use super::{is_debug, is_text};
 use rsc_primitives::escape::{DebugByte, DebugHaystack, byte_text, haystack_text};
 use rsc_primitives::{
     NonMaxUsize, PatternID, PatternIDError, PatternIDIter, SmallIndex, SmallIndexError,
@@ -66,8 +67,7 @@ fn texts_past_ascii(rt: HostRuntime) -> Result<(), Fail> {
             haystack_text(rt.alloc(), haystack.as_bytes())?.as_str(),
             want
         );
-        let shown = format!(in rt.alloc(); "{:?}", DebugHaystack(haystack.as_bytes()))?;
-        assert_eq!(rt; shown.as_str(), want);
+        assert!(rt; is_debug(rt.alloc(), &DebugHaystack(haystack.as_bytes()), want));
     }
     Ok(())
 }
@@ -112,22 +112,12 @@ fn numbers_are_shown_in_full(rt: HostRuntime) -> Result<(), Fail> {
             "StateID(2147483646)",
         ),
     ] {
-        let small = SmallIndex::new(number)?;
-        assert_eq!(rt; format!(in alloc; "{small:?}")?.as_str(), index);
-        assert_eq!(rt;
-            format!(in alloc; "{:?}", PatternID::new(number)?)?.as_str(),
-            pattern
-        );
-        assert_eq!(rt;
-            format!(in alloc; "{:?}", StateID::new(number)?)?.as_str(),
-            state
-        );
+        assert!(rt; is_debug(alloc, &SmallIndex::new(number)?, index));
+        assert!(rt; is_debug(alloc, &PatternID::new(number)?, pattern));
+        assert!(rt; is_debug(alloc, &StateID::new(number)?, state));
     }
     let offset = NonMaxUsize::new(18446744073709551614).ok_or("refused")?;
-    assert_eq!(rt;
-        format!(in alloc; "{offset:?}")?.as_str(),
-        "18446744073709551614"
-    );
+    assert!(rt; is_debug(alloc, &offset, "18446744073709551614"));
     Ok(())
 }
 
@@ -136,20 +126,11 @@ fn numbers_are_shown_in_full(rt: HostRuntime) -> Result<(), Fail> {
 fn numbers_are_shown_in_lines_and_widths(rt: HostRuntime) -> Result<(), Fail> {
     let alloc = rt.alloc();
     let (index, pattern, state) = (SmallIndex::must(5), PatternID::must(6), StateID::must(7));
-    assert_eq!(rt;
-        format!(in alloc; "{index:#?}")?.as_str(),
-        "SmallIndex(\n    5,\n)"
-    );
-    assert_eq!(rt;
-        format!(in alloc; "{pattern:#?}")?.as_str(),
-        "PatternID(\n    6,\n)"
-    );
-    assert_eq!(rt;
-        format!(in alloc; "{state:#?}")?.as_str(),
-        "StateID(\n    7,\n)"
-    );
+    assert!(rt; is_text(format!(in alloc; "{index:#?}"), "SmallIndex(\n    5,\n)"));
+    assert!(rt; is_text(format!(in alloc; "{pattern:#?}"), "PatternID(\n    6,\n)"));
+    assert!(rt; is_text(format!(in alloc; "{state:#?}"), "StateID(\n    7,\n)"));
     let offset = NonMaxUsize::new(8).ok_or("refused")?;
-    assert_eq!(rt; format!(in alloc; "{offset:>3?}")?.as_str(), "  8");
+    assert!(rt; is_text(format!(in alloc; "{offset:>3?}"), "  8"));
     Ok(())
 }
 
@@ -157,19 +138,16 @@ fn numbers_are_shown_in_lines_and_widths(rt: HostRuntime) -> Result<(), Fail> {
 fn refusals_are_shown(rt: HostRuntime) -> Result<(), Fail> {
     let alloc = rt.alloc();
     let index = SmallIndex::new(2147483647).err().ok_or("accepted")?;
-    assert_eq!(rt;
-        format!(in alloc; "{index:?}")?.as_str(),
-        "SmallIndexError { attempted: 2147483647 }"
-    );
+    assert!(rt; is_debug(alloc, &index, "SmallIndexError { attempted: 2147483647 }"));
     let pattern = PatternID::new(4294967296).err().ok_or("accepted")?;
-    assert_eq!(rt;
-        format!(in alloc; "{pattern:?}")?.as_str(),
-        "PatternIDError { attempted: 4294967296 }"
-    );
+    assert!(rt; is_debug(alloc, &pattern, "PatternIDError { attempted: 4294967296 }"));
     let state = StateID::new(usize::MAX).err().ok_or("accepted")?;
-    assert_eq!(rt;
-        format!(in alloc; "{state:?}")?.as_str(),
-        "StateIDError { attempted: 18446744073709551615 }"
+    assert!(rt;
+        is_debug(
+            alloc,
+            &state,
+            "StateIDError { attempted: 18446744073709551615 }"
+        )
     );
     Ok(())
 }
@@ -223,8 +201,8 @@ fn refusals_are_displayed_at_each_length(rt: HostRuntime) -> Result<(), Fail> {
     }
     let error = PatternID::new(2147483647).err().ok_or("accepted")?;
     let want = "failed to create PatternID from 2147483647, which exceeds PatternID(2147483646)";
-    assert_eq!(rt; format!(in rt.alloc(); "{error:#}")?.as_str(), want);
-    assert_eq!(rt; format!(in rt.alloc(); "{error:>100}")?.as_str(), want);
+    assert!(rt; is_text(format!(in rt.alloc(); "{error:#}"), want));
+    assert!(rt; is_text(format!(in rt.alloc(); "{error:>100}"), want));
     Ok(())
 }
 

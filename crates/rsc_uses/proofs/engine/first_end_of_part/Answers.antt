@@ -11,6 +11,8 @@ returns-in-End g c =
     let chars = g.W.WordClass.word_chars in
     let matches = rw c.new.ensures.patterns at c.in_ok-program.ensures.matches in
     let ends = rw (c.in-End.is, c.new-input.ensures, c.new-dfa.ensures) at c.in_ok-end.ensures.answer in
-    let one = c.an_earliest_end_is_of_a_pattern.ensures.some c.in_ok-program.program (p ∷ []) (whole c.args.haystack.now) c.in-End.end matches ends in
-    (one.0.span.start, subst (λ end. Goes (text c.args.haystack.now (chars c.args.words)) p one.0.span.start end) one.3
-    (goes_of chars c.in_ok-program.program c.args.words p c.args.haystack.now one.0 c.in_ok-program.ensures.matcher one.1))
+    let one = c.an_earliest_end_is_of_a_pattern.ensures.some c.in_ok-program.program (p ∷ []) (whole c.args.haystack.now) c.in-End.end matches ends in (
+      one.0.span.start,
+      subst (λ end. Goes (text c.args.haystack.now (chars c.args.words)) p one.0.span.start end) one.3
+          (goes_of chars c.in_ok-program.program c.args.words p c.args.haystack.now one.0 c.in_ok-program.ensures.matcher one.1),
+    )
