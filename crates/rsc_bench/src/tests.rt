@@ -22,6 +22,17 @@ fn answer_to(alloc: Global, lines: &str) -> Result<String, Fail> {
     Ok(String::from_utf8_lossy(alloc, writer.as_slice())?)
 }
 
+// The first input that is answered otherwise.
+fn first_other<'a>(alloc: Global, rows: &[(&'a str, &str)]) -> Result<Option<&'a str>, Fail> {
+    for (input, want) in rows {
+        let answer = answer_to(alloc, input)?;
+        if answer.as_str() != *want {
+            return Ok(Some(*input));
+        }
+    }
+    Ok(None)
+}
+
 #[test]
 fn answers_ranges(rt: HostRuntime) -> Result<(), Fail> {
     let rows = [
@@ -48,10 +59,7 @@ fn answers_ranges(rt: HostRuntime) -> Result<(), Fail> {
             "alphabet 2: 00\nbad line\nalphabet 4: 00 61 7b\n",
         ),
     ];
-    for (input, want) in rows {
-        let answer = answer_to(rt.alloc(), input)?;
-        assert_eq!(rt; answer.as_str(), want, "at {input:?}");
-    }
+    assert_eq!(rt; first_other(rt.alloc(), &rows)?, None);
     Ok(())
 }
 
@@ -81,10 +89,7 @@ fn answers_classes_of_assertions(rt: HostRuntime) -> Result<(), Fail> {
         ("looks 0", "bad line\n"),
         ("looks 0a ", "bad line\n"),
     ];
-    for (input, want) in rows {
-        let answer = answer_to(rt.alloc(), input)?;
-        assert_eq!(rt; answer.as_str(), want, "at {input:?}");
-    }
+    assert_eq!(rt; first_other(rt.alloc(), &rows)?, None);
     Ok(())
 }
 
@@ -111,10 +116,7 @@ fn answers_assertions_at_positions(rt: HostRuntime) -> Result<(), Fail> {
         ("look End 0a 61", "bad line\n"),
         ("look End 0a 61 0 0", "bad line\n"),
     ];
-    for (input, want) in rows {
-        let answer = answer_to(rt.alloc(), input)?;
-        assert_eq!(rt; answer.as_str(), want, "at {input:?}");
-    }
+    assert_eq!(rt; first_other(rt.alloc(), &rows)?, None);
     Ok(())
 }
 
@@ -139,10 +141,7 @@ fn answers_groups(rt: HostRuntime) -> Result<(), Fail> {
         ("groups -,a$", "bad line\n"),
         ("groups - -", "bad line\n"),
     ];
-    for (input, want) in rows {
-        let answer = answer_to(rt.alloc(), input)?;
-        assert_eq!(rt; answer.as_str(), want, "at {input:?}");
-    }
+    assert_eq!(rt; first_other(rt.alloc(), &rows)?, None);
     Ok(())
 }
 
@@ -174,10 +173,7 @@ fn answers_limited_groups(rt: HostRuntime) -> Result<(), Fail> {
         ("limited 4 -,", "bad line\n"),
         ("limited 4 - -", "bad line\n"),
     ];
-    for (input, want) in rows {
-        let answer = answer_to(rt.alloc(), input)?;
-        assert_eq!(rt; answer.as_str(), want, "at {input:?}");
-    }
+    assert_eq!(rt; first_other(rt.alloc(), &rows)?, None);
     Ok(())
 }
 
