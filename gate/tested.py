@@ -31,7 +31,7 @@ import threading
 from edits import ROOT, blocks, in_lanes, replaced
 
 FIELDS = ("file", "tests", "modules", "snippet", "seconds", "runs", "also")
-IN_ONE = 16
+IN_ONE = 20
 # What the unchanged programs answer in single runs, by crate and run.
 UNCHANGED, IS_ASKED = {}, threading.Lock()
 
