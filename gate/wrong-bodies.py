@@ -39,7 +39,7 @@ import tempfile
 from edits import ROOT, below, blocks, crates, fault, in_lanes, of_kit, replaced
 from tested import misfits, tested_edits, try_tested
 
-IN_ONE_PART = 50
+IN_ONE_PART = 60
 Edit = collections.namedtuple("Edit", "name file function goal pairs apart also")
 
 
