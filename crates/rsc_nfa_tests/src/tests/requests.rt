@@ -99,39 +99,34 @@ fn calls_on_an_automaton_ask_for_no_memory(rt: HostRuntime) -> Result<(), Fail> 
     Ok(())
 }
 
+// Notes two records of runs, and returns the span of the match after each.
+fn record<'a>(
+    watch: &mut Watch<'_>,
+    nfa: &Nfa<UnicodeWord, &'a Bump>,
+    captures: &mut Captures<&'a Bump>,
+) -> [Option<Span>; 2] {
+    captures.set_pattern(Some(PatternID::ZERO));
+    watch.restart();
+    let end = StateID::must(5);
+    nfa.record(
+        &[(StateID::ZERO, 0), (end, 1), (StateID::must(6), 1)],
+        captures,
+    );
+    watch.note("record");
+    let first = captures.get_group(0);
+    nfa.record(&[], captures);
+    watch.note("record of the empty run");
+    [first, captures.get_group(0)]
+}
+
 #[test]
 fn records_ask_for_no_memory(rt: HostRuntime) -> Result<(), Fail> {
     let arena = Bump::new(rt.alloc());
     let nfa = built(&arena)?;
     let mut captures = Captures::all(&arena, nfa.group_info().clone()?)?;
-    captures.set_pattern(Some(PatternID::ZERO));
     let mut watch = Watch::new(rt.alloc(), &arena);
-    let end = StateID::must(5);
-    let run = [(StateID::ZERO, 0), (end, 1), (StateID::must(6), 1)];
-    nfa.record(&run, &mut captures);
-    watch.note("record");
-    assert!(rt; captures.get_group(0) == Some(Span { start: 0, end: 1 }));
-    nfa.record(&[], &mut captures);
-    watch.note("record of the empty run");
-    assert!(rt; captures.get_group(0) == None && captures.is_match());
-    assert_eq!(rt; watch.asking(), "");
-    Ok(())
-}
-
-#[test]
-fn calls_on_an_automaton_of_no_states_ask_for_no_memory(rt: HostRuntime) -> Result<(), Fail> {
-    let arena = Bump::new(rt.alloc());
-    let info = GroupInfo::new(&arena, &[&[None]])?;
-    let mut watch = Watch::new(rt.alloc(), &arena);
-    let nfa = Nfa::new(&arena, info, LookMatcher::new(UnicodeWord), &[])?;
-    watch.note("new of no states");
-    let is_none = nfa.states().is_empty() && nfa.looks().is_empty();
-    watch.note("states, looks of no states");
-    let is_run = nfa.check_run(&Input::new(b"a"), &run());
-    watch.note("check_run past the states");
-    let is_empty_run = nfa.check_run(&Input::new(b"a"), &[]);
-    watch.note("check_run of the empty run");
-    assert!(rt; is_none && !is_run && is_empty_run);
+    let spans = record(&mut watch, &nfa, &mut captures);
+    assert!(rt; spans == [Some(Span { start: 0, end: 1 }), None] && captures.is_match());
     assert_eq!(rt; watch.asking(), "");
     Ok(())
 }
@@ -141,13 +136,32 @@ fn records_into_no_slots_ask_for_no_memory(rt: HostRuntime) -> Result<(), Fail> 
     let arena = Bump::new(rt.alloc());
     let nfa = built(&arena)?;
     let mut captures = Captures::empty(&arena, nfa.group_info().clone()?)?;
-    captures.set_pattern(Some(PatternID::ZERO));
     let mut watch = Watch::new(rt.alloc(), &arena);
-    let end = StateID::must(5);
-    let run = [(StateID::ZERO, 0), (end, 1), (StateID::must(6), 1)];
-    nfa.record(&run, &mut captures);
-    watch.note("record into no slots");
-    assert!(rt; captures.get_group(0) == None && captures.is_match());
+    let spans = record(&mut watch, &nfa, &mut captures);
+    assert!(rt; spans == [None, None] && captures.is_match());
+    assert_eq!(rt; watch.asking(), "");
+    Ok(())
+}
+
+// Notes each call that reads an automaton of no states. Whether each answered as it should.
+fn read_none(watch: &mut Watch<'_>, nfa: &Nfa<UnicodeWord, &Bump>) -> bool {
+    let is_none = nfa.states().is_empty() && nfa.looks().is_empty();
+    watch.note("states, looks of no states");
+    let is_run = nfa.check_run(&Input::new(b"a"), &run());
+    watch.note("check_run past the states");
+    let is_empty_run = nfa.check_run(&Input::new(b"a"), &[]);
+    watch.note("check_run of the empty run");
+    is_none && !is_run && is_empty_run
+}
+
+#[test]
+fn calls_on_an_automaton_of_no_states_ask_for_no_memory(rt: HostRuntime) -> Result<(), Fail> {
+    let arena = Bump::new(rt.alloc());
+    let info = GroupInfo::new(&arena, &[&[None]])?;
+    let mut watch = Watch::new(rt.alloc(), &arena);
+    let nfa = Nfa::new(&arena, info, LookMatcher::new(UnicodeWord), &[])?;
+    watch.note("new of no states");
+    assert!(rt; read_none(&mut watch, &nfa));
     assert_eq!(rt; watch.asking(), "");
     Ok(())
 }
