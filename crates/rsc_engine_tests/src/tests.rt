@@ -3,4 +3,5 @@ mod dfa;
 mod made;
 mod matches;
 mod model;
+mod programs;
 mod rows;

@@ -12,6 +12,7 @@
 //! ( )            nothing; the last part as a group, which begins at the `(`
 //! ```
 
+use crate::patterns::captures_of;
 use rsc_captures::Captures;
 use rsc_engine::{Builder, Error, Matches, Part, Program};
 use rsc_look::AsciiWord;
@@ -68,30 +69,47 @@ fn matches_of(alloc: Global, line: &[u8]) -> Result<Option<String>, Error> {
 }
 
 fn all_matches(alloc: Global, program: &Program<AsciiWord>, text: &[u8]) -> Result<String, Error> {
-    let mut captures = Captures::all(alloc, program.nfa().group_info().clone()?)?;
-    let mut matches = Matches::new(alloc, program, Input::new(text))?;
+    let mut captures = captures_of(alloc, program)?;
     let mut found = String::new(alloc);
-    for _ in 0..=text.len() {
-        if matches.next(&mut captures)?.is_none() {
-            break;
-        }
-        for span in captures.iter() {
-            push_span(&mut found, span)?;
-        }
-        found.push(';')?;
-    }
+    let mut matches = Matches::new(alloc, program, Input::new(text))?;
+    push_matches(&mut found, &mut matches, &mut captures, text.len())?;
     if found.is_empty() {
         found.push_str("no match")?;
     }
     Ok(found)
 }
 
-fn push_span(text: &mut String, span: Option<Span>) -> Result<(), Error> {
-    match span {
-        Some(span) => write!(text, "{} {} ", span.start, span.end)?,
-        None => write!(text, "- - ")?,
+// The matches in a text of that many bytes, each with the spans of its groups.
+fn push_matches(
+    found: &mut String,
+    matches: &mut Matches<'_, '_, AsciiWord>,
+    captures: &mut Captures,
+    len: usize,
+) -> Result<(), Error> {
+    for _ in 0..=len {
+        if matches.next(captures)?.is_none() {
+            break;
+        }
+        push_spans(found, captures)?;
     }
     Ok(())
+}
+
+fn push_spans(found: &mut String, captures: &Captures) -> Result<(), Error> {
+    for span in captures.iter() {
+        match span {
+            Some(span) => {
+                push_offset(found, span.start)?;
+                push_offset(found, span.end)?;
+            }
+            None => found.push_str("- - ")?,
+        }
+    }
+    Ok(found.push(';')?)
+}
+
+fn push_offset(found: &mut String, offset: usize) -> Result<(), Error> {
+    Ok(write!(found, "{offset} ")?)
 }
 
 // The program of calls, or `None` if they can't be read.

@@ -1,10 +1,9 @@
 //! What the builder makes.
-use super::made::{all, first};
-use rsc_captures::Captures;
-use rsc_engine::{Builder, Error, Part, Program, find};
+use super::made::{captures_of, finds, first, first_of_patterns, first_span, span};
+use rsc_engine::{Builder, Error, Part, Program};
 use rsc_look::{AsciiWord, Look};
 use rsc_primitives::PatternID;
-use rsc_search::{Anchored, Input, Span};
+use rsc_search::{Anchored, Input};
 use std::alloc::Global;
 use std::test::Fail;
 
@@ -24,11 +23,10 @@ fn groups(alloc: Global) -> Result<Program<AsciiWord>, Error> {
 #[test]
 fn groups_of_the_last_round_count(rt: HostRuntime) -> Result<(), Fail> {
     let program = groups(rt.alloc())?;
-    let mut captures = Captures::all(rt.alloc(), program.nfa().group_info().clone()?)?;
-    let found = find(rt.alloc(), &program, &Input::new(b"-aba"), &mut captures)?;
-    assert!(rt; found.map(|m| m.span()) == Some(Span { start: 1, end: 4 }));
-    assert!(rt; captures.get_group_by_name("both") == Some(Span { start: 3, end: 4 }));
-    assert!(rt; captures.get_group(2) == Some(Span { start: 2, end: 3 }));
+    let mut captures = captures_of(rt.alloc(), &program)?;
+    let found = first_span(rt.alloc(), &program, b"-aba", &mut captures)?;
+    let groups = [captures.get_group_by_name("both"), captures.get_group(2)];
+    assert!(rt; found == span(1, 4) && groups == [span(3, 4), span(2, 3)]);
     Ok(())
 }
 
@@ -45,8 +43,8 @@ fn class(alloc: Global) -> Result<Program<AsciiWord>, Error> {
 #[test]
 fn classes_take_one_byte(rt: HostRuntime) -> Result<(), Fail> {
     let program = class(rt.alloc())?;
-    let found = all(rt.alloc(), &program, Input::new(b"bdca"))?;
-    assert!(rt; found.as_slice() == [(0, 1), (2, 3), (3, 4)].as_slice());
+    let ends = [(0, 1), (2, 3), (3, 4)];
+    assert!(rt; finds(rt.alloc(), &program, Input::new(b"bdca"), &ends)?);
     assert!(rt; first(rt.alloc(), &program, &Input::new(b"d"))? == None);
     Ok(())
 }
@@ -79,27 +77,35 @@ fn refuses_a_name_twice(rt: HostRuntime) -> Result<(), Fail> {
 // `(a){0}(?:(b)|(c)){2}(d)`
 fn repeated_groups(alloc: Global) -> Result<Program<AsciiWord>, Error> {
     let builder = Builder::new(alloc);
-    let a = builder.group(None, builder.literal(b"a")?)?;
+    let a = group_of(&builder, b"a")?;
     let a = builder.repeat(a, 0, Some(0))?;
-    let b = builder.group(None, builder.literal(b"b")?)?;
-    let c = builder.group(None, builder.literal(b"c")?)?;
-    let either = builder.either(b, c)?;
-    let twice = builder.repeat(either, 2, Some(2))?;
-    let d = builder.group(None, builder.literal(b"d")?)?;
+    let twice = two_of_two(&builder)?;
+    let d = group_of(&builder, b"d")?;
     let whole = builder.concat(vec![in alloc; a, twice, d]?)?;
     builder.build(AsciiWord, true, whole)
+}
+
+fn group_of(builder: &Builder<'static>, text: &[u8]) -> Result<Part<'static>, Error> {
+    let part = builder.literal(text)?;
+    builder.group(None, part)
+}
+
+// `(?:(b)|(c)){2}`
+fn two_of_two(builder: &Builder<'static>) -> Result<Part<'static>, Error> {
+    let b = group_of(builder, b"b")?;
+    let c = group_of(builder, b"c")?;
+    let either = builder.either(b, c)?;
+    builder.repeat(either, 2, Some(2))
 }
 
 #[test]
 fn a_repeated_part_has_its_groups_once(rt: HostRuntime) -> Result<(), Fail> {
     let program = repeated_groups(rt.alloc())?;
-    let mut captures = Captures::all(rt.alloc(), program.nfa().group_info().clone()?)?;
-    let found = find(rt.alloc(), &program, &Input::new(b"bcd"), &mut captures)?;
-    assert!(rt; found.map(|m| m.span()) == Some(Span { start: 0, end: 3 }));
-    assert!(rt; captures.get_group(1) == None);
-    assert!(rt; captures.get_group(2) == Some(Span { start: 0, end: 1 }));
-    assert!(rt; captures.get_group(3) == Some(Span { start: 1, end: 2 }));
-    assert!(rt; captures.get_group(4) == Some(Span { start: 2, end: 3 }));
+    let mut captures = captures_of(rt.alloc(), &program)?;
+    let found = first_span(rt.alloc(), &program, b"bcd", &mut captures)?;
+    let (a, b) = (captures.get_group(1), captures.get_group(2));
+    let (c, d) = (captures.get_group(3), captures.get_group(4));
+    assert!(rt; [found, a, b, c, d] == [span(0, 3), None, span(0, 1), span(1, 2), span(2, 3)]);
     Ok(())
 }
 
@@ -116,9 +122,8 @@ fn repeated_nothing(alloc: Global) -> Result<Program<AsciiWord>, Error> {
 #[test]
 fn a_star_of_what_can_be_empty_is_a_plus_or_nothing(rt: HostRuntime) -> Result<(), Fail> {
     let program = repeated_nothing(rt.alloc())?;
-    let found = all(rt.alloc(), &program, Input::new(b"a\naaa\n"))?;
-    let want = [(0, 0), (1, 1), (2, 2), (3, 5), (6, 6)];
-    assert!(rt; found.as_slice() == want.as_slice(), "{found:?}");
+    let ends = [(0, 0), (1, 1), (2, 2), (3, 5), (6, 6)];
+    assert!(rt; finds(rt.alloc(), &program, Input::new(b"a\naaa\n"), &ends)?);
     Ok(())
 }
 
@@ -140,6 +145,15 @@ fn repetition<'n>(builder: &Builder<'n>, number: usize, part: Part<'n>) -> Resul
     }
 }
 
+// The ends of the first match of a repetition in four `a`.
+fn first_repeated(alloc: Global, number: usize) -> Result<Option<(usize, usize)>, Fail> {
+    let builder = Builder::new(alloc);
+    let part = builder.literal(b"a")?;
+    let whole = repetition(&builder, number, part)?;
+    let program = builder.build(AsciiWord, true, whole)?;
+    first(alloc, &program, &Input::new(b"aaaa"))
+}
+
 #[test]
 fn repeats_as_often_as_is_asked(rt: HostRuntime) -> Result<(), Fail> {
     for (number, end) in [
@@ -156,12 +170,10 @@ fn repeats_as_often_as_is_asked(rt: HostRuntime) -> Result<(), Fail> {
         (10, 3),
         (11, 0),
     ] {
-        let builder = Builder::new(rt.alloc());
-        let part = builder.literal(b"a")?;
-        let whole = repetition(&builder, number, part)?;
-        let program = builder.build(AsciiWord, true, whole)?;
-        let found = first(rt.alloc(), &program, &Input::new(b"aaaa"))?;
-        assert!(rt; found == Some((0, end)), "{number}: {found:?}");
+        assert!(rt;
+            first_repeated(rt.alloc(), number)? == Some((0, end)),
+            "{number}"
+        );
     }
     Ok(())
 }
@@ -172,9 +184,8 @@ fn nested(alloc: Global) -> Result<Program<AsciiWord>, Error> {
     let a = builder.literal(b"a")?;
     let a = builder.group(Some("inner"), a)?;
     let last = builder.literal(b"\xFF")?;
-    let never = builder.never();
     let either = builder.either(a, last)?;
-    let either = builder.either(either, never)?;
+    let either = builder.either(either, builder.never())?;
     let whole = builder.group(Some("outer"), either)?;
     builder.build(AsciiWord, false, whole)
 }
@@ -183,12 +194,16 @@ fn nested(alloc: Global) -> Result<Program<AsciiWord>, Error> {
 fn groups_are_numbered_where_they_open(rt: HostRuntime) -> Result<(), Fail> {
     let program = nested(rt.alloc())?;
     let info = program.nfa().group_info();
-    assert!(rt; info.to_index(PatternID::ZERO, "outer") == Some(1));
-    assert!(rt; info.to_index(PatternID::ZERO, "inner") == Some(2));
-    let found = all(rt.alloc(), &program, Input::new(b"a\xFFb"))?;
+    let outer = info.to_index(PatternID::ZERO, "outer");
+    let inner = info.to_index(PatternID::ZERO, "inner");
+    assert!(rt; [outer, inner] == [Some(1), Some(2)]);
     assert!(rt;
-        found.as_slice() == [(0, 1), (1, 2)].as_slice(),
-        "{found:?}"
+        finds(
+            rt.alloc(),
+            &program,
+            Input::new(b"a\xFFb"),
+            &[(0, 1), (1, 2)]
+        )?
     );
     Ok(())
 }
@@ -207,19 +222,15 @@ fn patterns(alloc: Global) -> Result<Program<AsciiWord>, Error> {
 #[test]
 fn builds_several_patterns(rt: HostRuntime) -> Result<(), Fail> {
     let program = patterns(rt.alloc())?;
-    let mut captures = Captures::all(rt.alloc(), program.nfa().group_info().clone()?)?;
+    let mut captures = captures_of(rt.alloc(), &program)?;
     for (mode, pattern, end) in [
         (Anchored::No, 0, 2),
         (Anchored::Pattern(PatternID::must(1)), 1, 1),
     ] {
-        let input = Input::new(b"ab").anchored(mode);
-        let found = find(rt.alloc(), &program, &input, &mut captures)?;
+        let found = first_of_patterns(rt.alloc(), &program, mode, &mut captures)?;
+        let group = captures.get_group_by_name("x");
         assert!(rt;
-            found.map(|m| (m.pattern().as_usize(), m.end())) == Some((pattern, end)),
-            "{mode:?}"
-        );
-        assert!(rt;
-            captures.get_group_by_name("x") == Some(Span { start: 0, end }),
+            found == Some((pattern, 0, end)) && group == span(0, end),
             "{mode:?}"
         );
     }

@@ -1,4 +1,6 @@
 //! The DFA beside the backtracker, for 22 programs over all texts of up to three of six bytes.
+use super::made::captures_of;
+use super::programs::program_of;
 use rsc_captures::Captures;
 use rsc_engine::{Answer, Builder, Dfa, Error, Program, find};
 use rsc_look::{AsciiWord, Look, UnicodeWord, WordClass};
@@ -11,76 +13,6 @@ use std::test::Fail;
 const TEXTS: usize = 1 + 6 + 36 + 216;
 
 const BYTES: [u8; 6] = [b'a', b'b', b'\n', b' ', 0xC3, 0xA9];
-
-// An assertion, by its number.
-fn look(number: usize) -> Look {
-    match number {
-        0 => Look::Start,
-        1 => Look::End,
-        2 => Look::StartLF,
-        3 => Look::EndLF,
-        4 => Look::StartCRLF,
-        5 => Look::EndCRLF,
-        6 => Look::WordAscii,
-        7 => Look::WordAsciiNegate,
-        8 => Look::WordUnicode,
-        9 => Look::WordUnicodeNegate,
-        10 => Look::WordStartAscii,
-        11 => Look::WordEndAscii,
-        12 => Look::WordStartUnicode,
-        13 => Look::WordEndUnicode,
-        14 => Look::WordStartHalfAscii,
-        15 => Look::WordEndHalfAscii,
-        16 => Look::WordStartHalfUnicode,
-        _ => Look::WordEndHalfUnicode,
-    }
-}
-
-// For each assertion L, `Lb|aLa|(?:b\n)L`; and then lines, words and no assertion.
-fn made(alloc: Global, number: usize) -> Result<Program<UnicodeWord>, Error> {
-    let builder = Builder::new(alloc);
-    let whole = match number {
-        18 => {
-            let start = builder.look(Look::StartLF);
-            let letters = builder.range(b'a', b'z');
-            let letters = builder.plus(letters)?;
-            let end = builder.look(Look::EndLF);
-            builder.concat(vec![in alloc; start, letters, end]?)?
-        }
-        19 => {
-            let start = builder.look(Look::WordUnicode);
-            let letter = builder.literal(b"\xC3\xA9")?;
-            let end = builder.look(Look::WordUnicode);
-            builder.concat(vec![in alloc; start, letter, end]?)?
-        }
-        20 => {
-            let letters = builder.literal(b"a")?;
-            let letters = builder.star(letters)?;
-            let last = builder.literal(b" b")?;
-            builder.then(letters, last)?
-        }
-        21 => {
-            let last = builder.literal(b"b")?;
-            let end = builder.look(Look::End);
-            builder.then(last, end)?
-        }
-        _ => {
-            let here = builder.look(look(number));
-            let last = builder.literal(b"b")?;
-            let one = builder.then(here, last)?;
-            let first = builder.literal(b"a")?;
-            let here = builder.look(look(number));
-            let last = builder.literal(b"a")?;
-            let two = builder.concat(vec![in alloc; first, here, last]?)?;
-            let first = builder.literal(b"b\n")?;
-            let here = builder.look(look(number));
-            let three = builder.then(first, here)?;
-            let two = builder.either(two, three)?;
-            builder.either(one, two)?
-        }
-    };
-    builder.build(UnicodeWord, false, whole)
-}
 
 // The bytes of a text, and how many of them it has.
 fn text_of(number: usize) -> ([u8; 4], usize) {
@@ -141,7 +73,40 @@ fn agrees<W: WordClass>(
     }
 }
 
-// The first program, from one number up to another, and the first text on which the DFA and the backtracker differ; with at most that many rows.
+// Whether the DFA and the backtracker agree in all that they answer.
+fn same(
+    alloc: Global,
+    dfa: &mut Dfa<'_, UnicodeWord>,
+    program: &Program<UnicodeWord>,
+    input: &Input<'_>,
+    captures: &mut Captures,
+) -> Result<bool, Error> {
+    let answer = dfa.earliest_end(input)?;
+    let found = find(alloc, program, input, captures)?;
+    Ok(
+        agrees(alloc, program, input, answer, captures)?
+            && dfa.is_match(input)? == found.is_some()
+            && dfa.find(input, captures)? == found
+            && dfa.leftmost_end(input)? == found.map(|m| m.end()),
+    )
+}
+
+// The first text on which the DFA of a program and the backtracker differ; with at most that many rows.
+fn differing_text(alloc: Global, number: usize, rows: usize) -> Result<Option<usize>, Fail> {
+    let program = program_of(alloc, number)?;
+    let mut captures = captures_of(alloc, &program)?;
+    let mut dfa = Dfa::new(alloc, &program, rows);
+    for text in 0..TEXTS {
+        let (bytes, len) = text_of(text);
+        let input = Input::new(&bytes[..len.min(4)]);
+        if !same(alloc, &mut dfa, &program, &input, &mut captures)? {
+            return Ok(Some(text));
+        }
+    }
+    Ok(None)
+}
+
+// The first program, from one number up to another, and its first text on which the DFA and the backtracker differ.
 fn difference(
     alloc: Global,
     first: usize,
@@ -149,21 +114,8 @@ fn difference(
     rows: usize,
 ) -> Result<Option<(usize, usize)>, Fail> {
     for number in first..last {
-        let program = made(alloc, number)?;
-        let mut captures = Captures::all(alloc, program.nfa().group_info().clone()?)?;
-        let mut dfa = Dfa::new(alloc, &program, rows);
-        for text in 0..TEXTS {
-            let (bytes, len) = text_of(text);
-            let input = Input::new(&bytes[..len.min(4)]);
-            let answer = dfa.earliest_end(&input)?;
-            let found = find(alloc, &program, &input, &mut captures)?;
-            let agree = agrees(alloc, &program, &input, answer, &mut captures)?
-                && dfa.is_match(&input)? == found.is_some()
-                && dfa.find(&input, &mut captures)? == found
-                && dfa.leftmost_end(&input)? == found.map(|m| m.end());
-            if !agree {
-                return Ok(Some((number, text)));
-            }
+        if let Some(text) = differing_text(alloc, number, rows)? {
+            return Ok(Some((number, text)));
         }
     }
     Ok(None)
@@ -171,42 +123,34 @@ fn difference(
 
 #[test]
 fn agrees_on_places(rt: HostRuntime) -> Result<(), Fail> {
-    let difference = difference(rt.alloc(), 0, 6, 1000)?;
-    assert!(rt; difference == None, "{difference:?}");
+    assert_eq!(rt; difference(rt.alloc(), 0, 6, 1000)?, None);
     Ok(())
 }
 
 #[test]
 fn agrees_on_words(rt: HostRuntime) -> Result<(), Fail> {
-    let difference = difference(rt.alloc(), 6, 12, 1000)?;
-    assert!(rt; difference == None, "{difference:?}");
+    assert_eq!(rt; difference(rt.alloc(), 6, 12, 1000)?, None);
     Ok(())
 }
 
 #[test]
 fn agrees_on_words_and_halves(rt: HostRuntime) -> Result<(), Fail> {
-    let difference = difference(rt.alloc(), 12, 18, 1000)?;
-    assert!(rt; difference == None, "{difference:?}");
+    assert_eq!(rt; difference(rt.alloc(), 12, 18, 1000)?, None);
     Ok(())
 }
 
 #[test]
 fn agrees_on_lines(rt: HostRuntime) -> Result<(), Fail> {
-    let difference = difference(rt.alloc(), 18, 22, 1000)?;
-    assert!(rt; difference == None, "{difference:?}");
+    assert_eq!(rt; difference(rt.alloc(), 18, 22, 1000)?, None);
     Ok(())
 }
 
 #[test]
 fn goes_on_with_one_row(rt: HostRuntime) -> Result<(), Fail> {
-    let alloc = rt.alloc();
-    let lines = difference(alloc, 2, 3, 1)?;
-    let words = difference(alloc, 8, 9, 1)?;
-    let letters = difference(alloc, 20, 21, 0)?;
-    assert!(rt;
-        lines == None && words == None && letters == None,
-        "{lines:?} {words:?} {letters:?}"
-    );
+    let lines = difference(rt.alloc(), 2, 3, 1)?;
+    let words = difference(rt.alloc(), 8, 9, 1)?;
+    let letters = difference(rt.alloc(), 20, 21, 0)?;
+    assert_eq!(rt; [lines, words, letters], [None; 3]);
     Ok(())
 }
 
@@ -222,45 +166,60 @@ fn two(alloc: Global) -> Result<Program<AsciiWord>, Error> {
     builder.build(AsciiWord, true, other)
 }
 
+// The first span of `ab ab` in which the DFA and the backtracker differ.
+fn differing_span(
+    alloc: Global,
+    dfa: &mut Dfa<'_, AsciiWord>,
+    program: &Program<AsciiWord>,
+    mode: Anchored,
+    captures: &mut Captures,
+) -> Result<Option<Span>, Error> {
+    for start in 0..6 {
+        for end in 0..6 {
+            if start <= end + 1 {
+                let mut input = Input::new(b"ab ab").anchored(mode);
+                input.set_span(Span { start, end });
+                let answer = dfa.earliest_end(&input)?;
+                if !agrees(alloc, program, &input, answer, captures)? {
+                    return Ok(Some(Span { start, end }));
+                }
+            }
+        }
+    }
+    Ok(None)
+}
+
 #[test]
 fn agrees_in_each_span_and_mode(rt: HostRuntime) -> Result<(), Fail> {
-    let alloc = rt.alloc();
-    let program = two(alloc)?;
-    let mut captures = Captures::all(alloc, program.nfa().group_info().clone()?)?;
-    let mut dfa = Dfa::new(alloc, &program, 1000);
+    let program = two(rt.alloc())?;
+    let mut captures = captures_of(rt.alloc(), &program)?;
+    let mut dfa = Dfa::new(rt.alloc(), &program, 1000);
     for mode in [
         Anchored::No,
         Anchored::Yes,
         Anchored::Pattern(PatternID::must(0)),
         Anchored::Pattern(PatternID::must(1)),
     ] {
-        for start in 0..6 {
-            for end in 0..6 {
-                if start <= end + 1 {
-                    let mut input = Input::new(b"ab ab").anchored(mode);
-                    input.set_span(Span { start, end });
-                    let answer = dfa.earliest_end(&input)?;
-                    assert!(rt;
-                        agrees(alloc, &program, &input, answer, &mut captures)?,
-                        "{mode:?} {start} {end} {answer:?}"
-                    );
-                }
-            }
-        }
+        let span = differing_span(rt.alloc(), &mut dfa, &program, mode, &mut captures)?;
+        assert!(rt; span == None, "{mode:?} {span:?}");
     }
     Ok(())
 }
 
+// The answers of one DFA: where `a` is followed by `b` after the span, where by `-`, and where by `b` within it.
+fn answers_for_letter(dfa: &mut Dfa<'_, AsciiWord>) -> Result<[Answer; 3], Error> {
+    let input = Input::new(b"-ab").span(Span { start: 0, end: 2 });
+    let before = dfa.earliest_end(&input)?;
+    let alone = dfa.earliest_end(&Input::new(b"-a-"))?;
+    let within = dfa.earliest_end(&Input::new(b"-ab"))?;
+    Ok([before, alone, within])
+}
+
 #[test]
 fn sees_the_byte_after_the_span(rt: HostRuntime) -> Result<(), Fail> {
-    let alloc = rt.alloc();
-    let program = two(alloc)?;
-    let mut dfa = Dfa::new(alloc, &program, 1000);
-    let mut input = Input::new(b"-ab");
-    input.set_span(Span { start: 0, end: 2 });
-    assert!(rt; dfa.earliest_end(&input)? == Answer::NoMatch);
-    assert!(rt; dfa.earliest_end(&Input::new(b"-a-"))? == Answer::End(2));
-    assert!(rt; dfa.earliest_end(&Input::new(b"-ab"))? == Answer::End(3));
+    let program = two(rt.alloc())?;
+    let answers = answers_for_letter(&mut Dfa::new(rt.alloc(), &program, 1000))?;
+    assert!(rt; answers == [Answer::NoMatch, Answer::End(2), Answer::End(3)]);
     Ok(())
 }
 
@@ -268,7 +227,7 @@ fn sees_the_byte_after_the_span(rt: HostRuntime) -> Result<(), Fail> {
 #[test]
 fn quits_at_the_first_byte_that_is_not_ascii(rt: HostRuntime) -> Result<(), Fail> {
     let alloc = rt.alloc();
-    let program = made(alloc, 19)?;
+    let program = program_of(alloc, 19)?;
     let mut dfa = Dfa::new(alloc, &program, 1000);
     for (start, end, want) in [
         (0, 5, Answer::Quit(2)),
@@ -296,33 +255,45 @@ fn letters_and_digit(alloc: Global) -> Result<Program<AsciiWord>, Error> {
     builder.build(AsciiWord, true, whole)
 }
 
-// A text of blanks but for a letter, and a digit after it: a long text is first looked through for such a pair.
-#[test]
-fn finds_a_pair_of_bytes_in_a_long_text(rt: HostRuntime) -> Result<(), Fail> {
-    let alloc = rt.alloc();
-    let program = letters_and_digit(alloc)?;
-    let mut dfa = Dfa::new(alloc, &program, 1000);
-    for at in [1usize, 2, 63, 64, 65, 66, 128, 129, 4095, 4096, 4999] {
-        let mut text: Vec<u8> = vec![in alloc; b' '; 5000]?;
-        let end = text.len();
-        if 0 < at && at < end {
-            text[at - 1] = b'x';
-            text[at] = b'7';
-            let mut input = Input::new(&text);
-            assert!(rt; dfa.earliest_end(&input)? == Answer::End(at + 1), "{at}");
-            // Of the pair the span has the digit alone.
-            input.set_span(Span { start: at, end });
-            assert!(rt; dfa.earliest_end(&input)? == Answer::NoMatch, "{at}");
-        }
-    }
-    let letters: Vec<u8> = vec![in alloc; b'x'; 5000]?;
-    assert!(rt; dfa.earliest_end(&Input::new(&letters))? == Answer::NoMatch);
-    Ok(())
-}
-
 // That many blanks.
 fn blanks(alloc: Global, count: usize) -> Result<Vec<u8>, Error> {
     Ok(vec![in alloc; b' '; count]?)
+}
+
+// The answers for 5,000 bytes, all of them blanks but for a letter and a digit at a position after it, and for the span from the digit on.
+fn answers_for_pair(
+    alloc: Global,
+    dfa: &mut Dfa<'_, AsciiWord>,
+    at: usize,
+) -> Result<Option<[Answer; 2]>, Error> {
+    let mut text = blanks(alloc, 5000)?;
+    let end = text.len();
+    if at == 0 || at >= end {
+        return Ok(None);
+    }
+    text[at - 1] = b'x';
+    text[at] = b'7';
+    let mut input = Input::new(&text);
+    let whole = dfa.earliest_end(&input)?;
+    input.set_span(Span { start: at, end });
+    Ok(Some([whole, dfa.earliest_end(&input)?]))
+}
+
+// A long text is first looked through for a letter and a digit after it.
+#[test]
+fn finds_a_pair_of_bytes_in_a_long_text(rt: HostRuntime) -> Result<(), Fail> {
+    let program = letters_and_digit(rt.alloc())?;
+    let mut dfa = Dfa::new(rt.alloc(), &program, 1000);
+    for at in [1usize, 2, 63, 64, 65, 66, 128, 129, 4095, 4096, 4999] {
+        let answers = answers_for_pair(rt.alloc(), &mut dfa, at)?;
+        assert!(rt;
+            answers == Some([Answer::End(at + 1), Answer::NoMatch]),
+            "{at}"
+        );
+    }
+    let letters: Vec<u8> = vec![in rt.alloc(); b'x'; 5000]?;
+    assert!(rt; dfa.earliest_end(&Input::new(&letters))? == Answer::NoMatch);
+    Ok(())
 }
 
 // Anchored searches from many positions of blanks on. Each ends at once, since no state is left: one that read on to the end would take minutes.

@@ -1,7 +1,8 @@
 //! Examples of `find`.
-use super::made::{accept, assertion, byte, capture, first, fork, program};
-use rsc_captures::Captures;
-use rsc_engine::{Program, find};
+use super::made::{
+    accept, assertion, byte, capture, captures_of, first, first_of_patterns, fork, program, span,
+};
+use rsc_engine::Program;
 use rsc_look::{AsciiWord, Look};
 use rsc_nfa::State;
 use rsc_primitives::{PatternID, StateID};
@@ -39,6 +40,16 @@ fn alternatives(number: usize) -> [State; 6] {
     }
 }
 
+// The ends of the first match of that pattern.
+fn first_alternative(
+    alloc: Global,
+    number: usize,
+    text: &str,
+) -> Result<Option<(usize, usize)>, Fail> {
+    let program = program(alloc, &alternatives(number), true)?;
+    first(alloc, &program, &Input::new(text.as_bytes()))
+}
+
 #[test]
 fn prefers_the_first_way_of_the_leftmost(rt: HostRuntime) -> Result<(), Fail> {
     for (number, text, expected) in [
@@ -47,9 +58,8 @@ fn prefers_the_first_way_of_the_leftmost(rt: HostRuntime) -> Result<(), Fail> {
         (2, "xab", Some((1, 3))),
         (2, "xa", None),
     ] {
-        let program = program(rt.alloc(), &alternatives(number), true)?;
-        let found = first(rt.alloc(), &program, &Input::new(text.as_bytes()))?;
-        assert!(rt; found == expected, "{number}: {found:?}");
+        let found = first_alternative(rt.alloc(), number, text)?;
+        assert!(rt; found == expected, "{number}");
     }
     Ok(())
 }
@@ -68,7 +78,7 @@ fn searches_the_span_and_looks_beyond_it(rt: HostRuntime) -> Result<(), Fail> {
     ] {
         let input = Input::new(b"ab b").span(Span { start, end }).anchored(mode);
         let found = first(rt.alloc(), &program, &input)?;
-        assert!(rt; found == expected, "{start}..{end}: {found:?}");
+        assert!(rt; found == expected, "{start}..{end}");
     }
     Ok(())
 }
@@ -93,25 +103,17 @@ fn two_patterns(alloc: Global) -> Result<Program<AsciiWord>, Fail> {
 #[test]
 fn finds_one_pattern_of_several(rt: HostRuntime) -> Result<(), Fail> {
     let program = two_patterns(rt.alloc())?;
-    let mut captures = Captures::all(rt.alloc(), program.nfa().group_info().clone()?)?;
+    let mut captures = captures_of(rt.alloc(), &program)?;
     for (mode, pattern, end) in [
         (Anchored::No, 0, 2),
         (Anchored::Yes, 0, 2),
         (Anchored::Pattern(PatternID::ZERO), 0, 2),
         (Anchored::Pattern(PatternID::must(1)), 1, 1),
     ] {
-        let found = find(
-            rt.alloc(),
-            &program,
-            &Input::new(b"ab").anchored(mode),
-            &mut captures,
-        )?;
+        let found = first_of_patterns(rt.alloc(), &program, mode, &mut captures)?;
+        let whole = captures.get_group(0);
         assert!(rt;
-            found.map(|m| (m.pattern().as_usize(), m.start(), m.end())) == Some((pattern, 0, end)),
-            "{mode:?}"
-        );
-        assert!(rt;
-            captures.get_group(0) == Some(Span { start: 0, end }),
+            found == Some((pattern, 0, end)) && whole == span(0, end),
             "{mode:?}"
         );
     }
@@ -121,10 +123,10 @@ fn finds_one_pattern_of_several(rt: HostRuntime) -> Result<(), Fail> {
 #[test]
 fn clears_the_captures_without_a_match(rt: HostRuntime) -> Result<(), Fail> {
     let program = two_patterns(rt.alloc())?;
-    let mut captures = Captures::all(rt.alloc(), program.nfa().group_info().clone()?)?;
+    let mut captures = captures_of(rt.alloc(), &program)?;
     captures.set_pattern(Some(PatternID::ZERO));
-    let input = Input::new(b"ab").anchored(Anchored::Pattern(PatternID::must(2)));
-    let found = find(rt.alloc(), &program, &input, &mut captures)?;
+    let mode = Anchored::Pattern(PatternID::must(2));
+    let found = first_of_patterns(rt.alloc(), &program, mode, &mut captures)?;
     assert!(rt; found == None && !captures.is_match());
     Ok(())
 }
