@@ -5,8 +5,8 @@ use rsc_search::{Match, Span};
 use std::alloc::Global;
 use std::test::Fail;
 
-// Captures over these groups, with that pattern, and with these offsets in their first slots.
-fn filled(
+/// Captures over these groups, with that pattern, and with these offsets in their first slots.
+pub(super) fn filled(
     alloc: Global,
     lists: &[&[Option<&str>]],
     pid: usize,
@@ -83,18 +83,14 @@ fn spans_of_more_patterns_go_by_the_pattern(rt: HostRuntime) -> Result<(), Fail>
 fn iterates_over_the_groups(rt: HostRuntime) -> Result<(), Fail> {
     let info = GroupInfo::new(rt.alloc(), &[&[None, Some("x")], &[None]])?;
     let mut captures = Captures::matches(rt.alloc(), info)?;
-    assert_eq!(rt; captures.slots().len(), 4);
     captures.set_pattern(Some(PatternID::ZERO));
-    let slots = captures.slots_mut();
-    if slots.len() == 4 {
-        slots[0] = NonMaxUsize::new(0);
-        slots[1] = NonMaxUsize::new(3);
-    }
+    let is_set = captures.set_group(0, span(0, 3));
+    assert!(rt; is_set && captures.slots().len() == 4);
     let mut spans = captures.iter();
     assert!(rt; spans.size_hint() == (2, Some(2)) && spans.len() == 2);
-    assert!(rt; spans.next() == Some(span(0, 3)));
-    assert!(rt; spans.next() == Some(None));
-    assert!(rt; spans.next() == None && spans.next() == None);
+    for want in [Some(span(0, 3)), Some(None), None, None] {
+        assert!(rt; spans.next() == want);
+    }
     assert_eq!(rt; captures.group_info().pattern_len(), 2);
     Ok(())
 }
@@ -103,11 +99,11 @@ fn iterates_over_the_groups(rt: HostRuntime) -> Result<(), Fail> {
 fn captures_without_slots_know_the_pattern(rt: HostRuntime) -> Result<(), Fail> {
     let info = GroupInfo::new(rt.alloc(), &[&[None]])?;
     let mut captures = Captures::empty(rt.alloc(), info)?;
-    assert!(rt; !captures.is_match());
+    let was_match = captures.is_match();
     captures.set_pattern(Some(PatternID::ZERO));
-    assert!(rt; captures.is_match() && captures.pattern() == Some(PatternID::ZERO));
+    let is_match = captures.is_match() && captures.pattern() == Some(PatternID::ZERO);
+    assert!(rt; !was_match && is_match && captures.group_len() == 1);
     assert!(rt; captures.get_group(0) == None && match_in_order(&captures) == None);
-    assert_eq!(rt; captures.group_len(), 1);
     Ok(())
 }
 
@@ -115,11 +111,11 @@ fn captures_without_slots_know_the_pattern(rt: HostRuntime) -> Result<(), Fail> 
 fn a_clone_keeps_what_its_source_loses(rt: HostRuntime) -> Result<(), Fail> {
     let groups: [&[Option<&str>]; 1] = [&[None, Some("x")]];
     let mut captures = filled(rt.alloc(), &groups, 0, &[Some(0), Some(3), None, None])?;
-    assert!(rt; captures.get_group_by_name("x") == None);
+    let named = captures.get_group_by_name("x");
     let copy = captures.clone()?;
     captures.clear();
     assert!(rt; !captures.is_match() && captures.slots().len() == 4);
-    assert!(rt; copy.get_group(0) == span(0, 3));
+    assert!(rt; named == None && copy.get_group(0) == span(0, 3));
     Ok(())
 }
 
@@ -132,27 +128,43 @@ fn three_groups(alloc: Global, start: Option<usize>, end: Option<usize>) -> Resu
 #[test]
 fn extracts_the_groups_that_take_part(rt: HostRuntime) -> Result<(), Fail> {
     let captures = three_groups(rt.alloc(), None, None)?;
-    assert!(rt; captures.extract_from::<&str, 0>("abc") == Some(("abc", [])));
-    assert!(rt; captures.extract_from::<&str, 1>("abc") == Some(("abc", ["b"])));
-    assert!(rt; captures.extract_from::<&str, 2>("abc") == None);
-    assert!(rt; captures.extract_from::<&str, 1>("é") == None);
-    let reversed = filled(rt.alloc(), &[&[None]], 0, &[Some(5), Some(3)])?;
-    assert!(rt; reversed.extract_from::<&str, 0>("abcdef") == None);
+    let none = captures.extract_from::<&str, 0>("abc") == Some(("abc", []));
+    let one = captures.extract_from::<&str, 1>("abc") == Some(("abc", ["b"]));
+    let two = captures.extract_from::<&str, 2>("abc") == None;
+    assert!(rt; none && one && two);
     Ok(())
 }
 
 #[test]
-fn extracts_by_count(rt: HostRuntime) -> Result<(), Fail> {
+fn extracts_no_span_that_is_out_of_order_or_cuts_a_character(rt: HostRuntime) -> Result<(), Fail> {
+    let captures = three_groups(rt.alloc(), None, None)?;
+    let is_cut = captures.extract_from::<&str, 1>("é") == None;
+    let reversed = filled(rt.alloc(), &[&[None]], 0, &[Some(5), Some(3)])?;
+    let is_reversed = reversed.extract_from::<&str, 0>("abcdef") == None;
+    assert!(rt; is_cut && is_reversed);
+    Ok(())
+}
+
+#[test]
+fn extracts_texts_by_count(rt: HostRuntime) -> Result<(), Fail> {
     let captures = three_groups(rt.alloc(), Some(0), Some(1))?;
-    assert!(rt; captures.extract_from::<&str, 0>("abc") == Some(("abc", [])));
-    assert!(rt; captures.extract_from::<&str, 1>("abc") == Some(("abc", ["a"])));
-    assert!(rt; captures.extract_from::<&str, 2>("abc") == Some(("abc", ["a", "b"])));
-    assert!(rt; captures.extract_from::<&str, 3>("abc") == None);
+    let none = captures.extract_from::<&str, 0>("abc") == Some(("abc", []));
+    let one = captures.extract_from::<&str, 1>("abc") == Some(("abc", ["a"]));
+    let two = captures.extract_from::<&str, 2>("abc") == Some(("abc", ["a", "b"]));
+    let three = captures.extract_from::<&str, 3>("abc") == None;
+    assert!(rt; none && one && two && three);
+    Ok(())
+}
+
+#[test]
+fn extracts_bytes_by_count(rt: HostRuntime) -> Result<(), Fail> {
+    let captures = three_groups(rt.alloc(), Some(0), Some(1))?;
     let (abc, a, b): (&[u8], &[u8], &[u8]) = (b"abc", b"a", b"b");
-    assert!(rt; captures.extract_from::<&[u8], 0>(abc) == Some((abc, [])));
-    assert!(rt; captures.extract_from::<&[u8], 1>(abc) == Some((abc, [a])));
-    assert!(rt; captures.extract_from::<&[u8], 2>(abc) == Some((abc, [a, b])));
-    assert!(rt; captures.extract_from::<&[u8], 3>(abc) == None);
+    let none = captures.extract_from::<&[u8], 0>(abc) == Some((abc, []));
+    let one = captures.extract_from::<&[u8], 1>(abc) == Some((abc, [a]));
+    let two = captures.extract_from::<&[u8], 2>(abc) == Some((abc, [a, b]));
+    let three = captures.extract_from::<&[u8], 3>(abc) == None;
+    assert!(rt; none && one && two && three);
     Ok(())
 }
 
@@ -169,14 +181,16 @@ fn match_in_order(captures: &Captures) -> Option<Match> {
 #[test]
 fn matches_need_the_pattern_and_both_slots(rt: HostRuntime) -> Result<(), Fail> {
     let alloc = rt.alloc();
-    let offsets = [None, None, Some(3), Some(5)];
-    let of_the_second = filled(alloc, &[&[None], &[None]], 1, &offsets)?;
-    let wanted = Some(Match::must(1, Span { start: 3, end: 5 }));
-    assert!(rt; match_in_order(&of_the_second) == wanted);
+    let two: [&[Option<&str>]; 2] = [&[None], &[None]];
+    let of_the_second = filled(alloc, &two, 1, &[None, None, Some(3), Some(5)])?;
     let with_one_slot = filled(alloc, &[&[None]], 0, &[Some(5), None])?;
-    assert!(rt; match_in_order(&with_one_slot) == None);
-    let of_an_unknown_pattern = filled(alloc, &[&[None], &[None]], 7, &[Some(3), Some(5)])?;
-    assert!(rt; match_in_order(&of_an_unknown_pattern) == None);
+    let of_an_unknown_pattern = filled(alloc, &two, 7, &[Some(3), Some(5)])?;
+    let found = [
+        match_in_order(&of_the_second),
+        match_in_order(&with_one_slot),
+        match_in_order(&of_an_unknown_pattern),
+    ];
+    assert!(rt; found == [Some(Match::must(1, Span { start: 3, end: 5 })), None, None]);
     Ok(())
 }
 
@@ -193,22 +207,36 @@ fn parts_outlive_the_captures(rt: HostRuntime) -> Result<(), Fail> {
     Ok(())
 }
 
+// Captures of two patterns of two groups, with the second pattern and the span of its first group.
+fn second_of_two(alloc: Global) -> Result<Captures, Fail> {
+    let groups: [&[Option<&str>]; 2] = [&[None, None], &[None, None]];
+    filled(alloc, &groups, 1, &[Some(1), Some(2), Some(3), Some(4)])
+}
+
 #[test]
 fn sets_the_span_of_one_group(rt: HostRuntime) -> Result<(), Fail> {
-    let groups: [&[Option<&str>]; 2] = [&[None, None], &[None, None]];
-    let mut captures = filled(
-        rt.alloc(),
-        &groups,
-        1,
-        &[Some(1), Some(2), Some(3), Some(4)],
-    )?;
-    assert!(rt; captures.set_group(1, span(5, 9)));
-    assert!(rt; captures.get_group(1) == span(5, 9) && captures.get_group(0) == span(3, 4));
+    let mut captures = second_of_two(rt.alloc())?;
+    let is_set = captures.set_group(1, span(5, 9));
+    let spans = [captures.get_group(1), captures.get_group(0)];
+    assert!(rt; is_set && spans == [span(5, 9), span(3, 4)]);
     assert!(rt; captures.set_group(0, None) && captures.get_group(0) == None);
+    Ok(())
+}
+
+#[test]
+fn refuses_a_span_that_no_group_holds(rt: HostRuntime) -> Result<(), Fail> {
+    let mut captures = second_of_two(rt.alloc())?;
+    let is_set = captures.set_group(1, span(5, 9));
     // No group 2, and no slot for the greatest offset.
-    assert!(rt; !captures.set_group(2, span(5, 9)));
-    assert!(rt; !captures.set_group(1, span(0, usize::MAX)) && captures.get_group(1) == span(5, 9));
+    let is_past = captures.set_group(2, span(5, 9));
+    let is_greatest = captures.set_group(1, span(0, usize::MAX));
+    let kept = captures.get_group(1);
     captures.set_pattern(None);
-    assert!(rt; !captures.set_group(1, span(5, 9)));
+    let without = captures.set_group(1, span(5, 9));
+    assert_eq!(rt;
+        [is_set, is_past, is_greatest, without],
+        [true, false, false, false]
+    );
+    assert!(rt; kept == span(5, 9));
     Ok(())
 }

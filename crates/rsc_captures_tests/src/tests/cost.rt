@@ -1,6 +1,7 @@
 //! Runs so long that a call whose time grows with the groups, the names or the patterns doesn't end within the time that a test has.
-use super::group_info::groups_of;
-use super::requests::names_of;
+ghost use Rattle.std.specs.Prelude.{◌≤◌};
+
+use super::group_info::{groups_of, names_of};
 use rsc_captures::{Captures, GroupInfo};
 use rsc_primitives::PatternID;
 use rsc_search::Span;
@@ -60,6 +61,21 @@ fn captures_of(alloc: Global, are_patterns: bool) -> Result<Captures, Fail> {
     Ok(Captures::all(alloc, info)?)
 }
 
+// Whether each call on a group of the one pattern answers as it should.
+fn is_group(info: &GroupInfo, g: usize) -> bool
+    requires { g ≤ 200000 }
+{
+    let slots = info.slots(PatternID::ZERO, g);
+    let counts = [
+        info.group_len(PatternID::ZERO),
+        info.slot_len(),
+        info.explicit_slot_len(),
+    ];
+    slots == Some((2 * g, 2 * g + 1))
+        && counts == [GROUPS, 2 * GROUPS, 2 * GROUPS - 2]
+        && info.to_name(PatternID::ZERO, g) == None
+}
+
 #[test]
 fn each_group_takes_the_same_time_in_any_pattern(rt: HostRuntime) -> Result<(), Fail> {
     let mut captures = captures_of(rt.alloc(), false)?;
@@ -67,19 +83,31 @@ fn each_group_takes_the_same_time_in_any_pattern(rt: HostRuntime) -> Result<(), 
     for g in 0..GROUPS {
         let span = Some(Span { start: g, end: g });
         let is_set = captures.set_group(g, span) && captures.get_group(g) == span;
-        let info = captures.group_info();
-        let is_there = info.slots(PatternID::ZERO, g) == Some((2 * g, 2 * g + 1))
-            && info.group_len(PatternID::ZERO) == GROUPS
-            && info.slot_len() == 2 * GROUPS
-            && info.explicit_slot_len() == 2 * GROUPS - 2
-            && info.to_name(PatternID::ZERO, g) == None;
-        let is_counted = captures.group_len() == GROUPS && captures.slots().len() == 2 * GROUPS;
+        let is_there = is_group(captures.group_info(), g);
+        let counts = [captures.group_len(), captures.slots().len()];
         let is_lent = captures.slots_mut().len() == 2 * GROUPS;
-        assert!(rt; is_set && is_there && is_counted && is_lent, "{g}");
+        assert!(rt;
+            is_set && is_there && counts == [GROUPS, 2 * GROUPS] && is_lent,
+            "{g}"
+        );
     }
     captures.clear();
     assert!(rt; !captures.is_match());
     Ok(())
+}
+
+// Whether each call on a pattern, of so many of two groups, answers as it should.
+fn is_pattern(info: &GroupInfo, pid: PatternID) -> bool {
+    let mut names = info.pattern_names(pid);
+    let walked = [names.next(), names.next()];
+    let counts = [
+        info.pattern_len(),
+        info.implicit_slot_len(),
+        info.all_group_len(),
+    ];
+    walked == [Some(None), Some(Some("x"))]
+        && counts == [GROUPS / 2, GROUPS, GROUPS]
+        && info.all_names().next().is_some()
 }
 
 #[test]
@@ -91,15 +119,12 @@ fn each_pattern_takes_the_same_time_among_any(rt: HostRuntime) -> Result<(), Fai
         let span = Some(Span { start: p, end: p });
         let is_set = captures.set_group(1, span) && captures.get_group_by_name("x") == span;
         let mut spans = captures.iter();
-        let is_walked = spans.next() == Some(None) && spans.next() == Some(span);
-        let info = captures.group_info();
-        let mut names = info.pattern_names(pid);
-        let is_named = names.next() == Some(None) && names.next() == Some(Some("x"));
-        let is_counted = info.pattern_len() == GROUPS / 2
-            && info.implicit_slot_len() == GROUPS
-            && info.all_group_len() == GROUPS
-            && info.all_names().next().is_some();
-        assert!(rt; is_set && is_walked && is_named && is_counted, "{p}");
+        let walked = [spans.next(), spans.next()];
+        let is_there = is_pattern(captures.group_info(), pid);
+        assert!(rt;
+            is_set && walked == [Some(None), Some(span)] && is_there,
+            "{p}"
+        );
     }
     Ok(())
 }

@@ -17,31 +17,39 @@ fn is_kind(alloc: Global, kind: &GroupInfoErrorKind, made: Result<String, AllocE
     }
 }
 
+// Whether each kind of that number, and of the pattern closest to it, is displayed in each form.
+fn are_kinds(alloc: Global, number: usize) -> bool {
+    let pattern = PatternID::must(number.min(2147483646));
+    let p = pattern.as_usize();
+    let kind = GroupInfoErrorKind::TooManyGroups {
+        pattern,
+        minimum: number,
+    };
+    let want = format!(in alloc;
+        "too many capture groups (at least {number}) were found for pattern {p}"
+    );
+    let is_too_many = is_kind(alloc, &kind, want);
+    let want = format!(in alloc;
+        "no capturing groups found for pattern {p} (either all patterns have zero groups or all patterns have at least one group)"
+    );
+    let is_missing = is_kind(alloc, &GroupInfoErrorKind::MissingGroups { pattern }, want);
+    let want = format!(in alloc;
+        "first capture group (at index 0) for pattern {p} has a name (it must be unnamed)"
+    );
+    let is_named = is_kind(
+        alloc,
+        &GroupInfoErrorKind::FirstMustBeUnnamed { pattern },
+        want,
+    );
+    is_too_many && is_missing && is_named
+}
+
 #[test]
 fn kinds_of_many_numbers_are_displayed_in_each_form(rt: HostRuntime) {
     let alloc = rt.alloc();
     let mut number: usize = 1;
     for _ in 0..65 {
-        let pattern = PatternID::must(number.min(2147483646));
-        let p = pattern.as_usize();
-        let kind = GroupInfoErrorKind::TooManyGroups {
-            pattern,
-            minimum: number,
-        };
-        let want = format!(in alloc;
-            "too many capture groups (at least {number}) were found for pattern {p}"
-        );
-        assert!(rt; is_kind(alloc, &kind, want), "{number}");
-        let kind = GroupInfoErrorKind::MissingGroups { pattern };
-        let want = format!(in alloc;
-            "no capturing groups found for pattern {p} (either all patterns have zero groups or all patterns have at least one group)"
-        );
-        assert!(rt; is_kind(alloc, &kind, want), "{number}");
-        let kind = GroupInfoErrorKind::FirstMustBeUnnamed { pattern };
-        let want = format!(in alloc;
-            "first capture group (at index 0) for pattern {p} has a name (it must be unnamed)"
-        );
-        assert!(rt; is_kind(alloc, &kind, want), "{number}");
+        assert!(rt; are_kinds(alloc, number), "{number}");
         number = number.saturating_mul(2);
     }
     assert_eq!(rt; number, usize::MAX);

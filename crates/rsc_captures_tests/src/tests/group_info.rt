@@ -6,21 +6,58 @@ use rsc_primitives::PatternID;
 use std::alloc::Global;
 use std::test::Fail;
 
+/// Twelve groups, of which ten have names.
+pub(super) const NAMES: [Option<&str>; 12] = [
+    None,
+    Some("b"),
+    Some("c"),
+    None,
+    Some("e"),
+    Some("f"),
+    Some("g"),
+    Some("h"),
+    Some("i"),
+    Some("j"),
+    Some("k"),
+    Some("l"),
+];
+
 fn pattern(p: usize) -> PatternID
     requires { p ≤ 2147483646 }
 {
     PatternID::must(p)
 }
 
+// Two patterns of two and three groups, of which the last is named in each.
+fn two_patterns(alloc: Global) -> Result<GroupInfo, Fail> {
+    Ok(GroupInfo::new(alloc, &[&[None, Some("x")], &[None, None, Some("x")]])?)
+}
+
 #[test]
-fn numbers_groups_and_slots(rt: HostRuntime) -> Result<(), Fail> {
-    let info = GroupInfo::new(rt.alloc(), &[&[None, Some("x")], &[None, None, Some("x")]])?;
+fn counts_patterns_groups_and_slots(rt: HostRuntime) -> Result<(), Fail> {
+    let info = two_patterns(rt.alloc())?;
+    let of_each = [
+        info.group_len(pattern(0)),
+        info.group_len(pattern(1)),
+        info.group_len(pattern(2)),
+    ];
+    let of_all = [
+        info.pattern_len(),
+        info.all_group_len(),
+        info.slot_len(),
+        info.implicit_slot_len(),
+        info.explicit_slot_len(),
+    ];
+    assert_eq!(rt; (of_each, of_all), ([2, 3, 0], [2, 5, 10, 4, 6]));
+    laws::one_first_fault();
+    Ok(())
+}
+
+#[test]
+fn numbers_slots(rt: HostRuntime) -> Result<(), Fail> {
+    let info = two_patterns(rt.alloc())?;
     let (first, second, unknown) = (pattern(0), pattern(1), pattern(2));
-    assert_eq!(rt; info.pattern_len(), 2);
-    for (pid, want) in [(first, 2), (second, 3), (unknown, 0)] {
-        assert_eq!(rt; info.group_len(pid), want, "of {pid:?}");
-    }
-    let rows = [
+    for (pid, group, want) in [
         (first, 0, Some(0)),
         (first, 1, Some(4)),
         (first, 2, None),
@@ -29,16 +66,10 @@ fn numbers_groups_and_slots(rt: HostRuntime) -> Result<(), Fail> {
         (second, 2, Some(8)),
         (unknown, 0, None),
         (first, 18446744073709551615, None),
-    ];
-    for (pid, group, want) in rows {
-        assert_eq!(rt; info.slot(pid, group), want, "group {group} of {pid:?}");
+    ] {
+        assert!(rt; info.slot(pid, group) == want, "group {group} of {pid:?}");
     }
     assert!(rt; info.slots(second, 2) == Some((8, 9)));
-    assert_eq!(rt; info.slot_len(), 10);
-    assert_eq!(rt; info.implicit_slot_len(), 4);
-    assert_eq!(rt; info.explicit_slot_len(), 6);
-    assert_eq!(rt; info.all_group_len(), 5);
-    laws::one_first_fault();
     Ok(())
 }
 
@@ -52,7 +83,7 @@ fn no_group_has_the_greatest_index(rt: HostRuntime) -> Result<(), Fail> {
 
 #[test]
 fn names_are_local_to_their_pattern(rt: HostRuntime) -> Result<(), Fail> {
-    let info = GroupInfo::new(rt.alloc(), &[&[None, Some("x")], &[None, None, Some("x")]])?;
+    let info = two_patterns(rt.alloc())?;
     let (first, second, unknown) = (pattern(0), pattern(1), pattern(2));
     for (pid, name, want) in [
         (first, "x", Some(1)),
@@ -60,25 +91,31 @@ fn names_are_local_to_their_pattern(rt: HostRuntime) -> Result<(), Fail> {
         (unknown, "x", None),
         (first, "", None),
     ] {
-        assert_eq!(rt; info.to_index(pid, name), want, "{name} in {pid:?}");
+        assert!(rt; info.to_index(pid, name) == want, "{name} in {pid:?}");
     }
-    assert!(rt; info.to_name(second, 2) == Some("x"));
-    assert!(rt; info.to_name(second, 1) == None);
-    assert!(rt; info.to_name(second, 18446744073709551615) == None);
+    for (group, want) in [(2, Some("x")), (1, None), (18446744073709551615, None)] {
+        assert!(rt; info.to_name(second, group) == want, "{group}");
+    }
     assert!(rt; info.pattern_names(unknown).next() == None);
     Ok(())
 }
 
 #[test]
-fn iterates_over_names(rt: HostRuntime) -> Result<(), Fail> {
-    let info = GroupInfo::new(rt.alloc(), &[&[None, Some("x")], &[None, None, Some("x")]])?;
-    let (first, second) = (pattern(0), pattern(1));
-    let mut names = info.pattern_names(second);
+fn iterates_over_the_names_of_a_pattern(rt: HostRuntime) -> Result<(), Fail> {
+    let info = two_patterns(rt.alloc())?;
+    let mut names = info.pattern_names(pattern(1));
     assert!(rt; names.size_hint() == (3, Some(3)) && names.len() == 3);
     for want in [Some(None), Some(None), Some(Some("x")), None, None] {
         assert!(rt; names.next() == want);
     }
     assert_eq!(rt; names.len(), 0);
+    Ok(())
+}
+
+#[test]
+fn iterates_over_all_names(rt: HostRuntime) -> Result<(), Fail> {
+    let info = two_patterns(rt.alloc())?;
+    let (first, second) = (pattern(0), pattern(1));
     let mut all = info.all_names();
     for (pid, group, name) in [
         (first, 0, None),
@@ -105,21 +142,39 @@ pub(super) fn groups_of<'a>(alloc: Global, names: &'a str) -> Result<Vec<Option<
     Ok(groups)
 }
 
+/// A dash and that many different names of eight bytes, parted by commas.
+pub(super) fn names_of(alloc: Global, count: usize) -> Result<String, Fail> {
+    let mut names = String::from_str(alloc, "-")?;
+    for i in 0..count {
+        names.push_str(format!(in alloc; ",n{i:07}")?.as_str())?;
+    }
+    Ok(names)
+}
+
+// Whether each group of pattern 0 has its name, and is found by it.
+fn are_found(info: &GroupInfo, groups: &[Option<&str>]) -> bool {
+    for (group, name) in groups.iter().enumerate() {
+        if let Some(name) = name {
+            if info.to_index(pattern(0), name) != Some(group) {
+                return false;
+            }
+        }
+        if info.to_name(pattern(0), group) != *name {
+            return false;
+        }
+    }
+    true
+}
+
 #[test]
 fn finds_each_of_many_names(rt: HostRuntime) -> Result<(), Fail> {
     let names =
         "-,year,month,day,-,hour,minute,second,fraction,zone,offset_hours,offset_minutes,,größe,-,日";
     let groups = groups_of(rt.alloc(), names)?;
     let info = GroupInfo::new(rt.alloc(), &[&groups])?;
-    assert_eq!(rt; info.group_len(pattern(0)), 16);
-    for (group, name) in groups.iter().enumerate() {
-        if let Some(name) = name {
-            assert_eq!(rt; info.to_index(pattern(0), name), Some(group), "{name}");
-        }
-        assert_eq!(rt; info.to_name(pattern(0), group), *name);
-    }
+    assert!(rt; info.group_len(pattern(0)) == 16 && are_found(&info, &groups));
     for name in "years,yea,Year,offset_hour,0,fractions of a second,gr,größ,日本".split(',') {
-        assert_eq!(rt; info.to_index(pattern(0), name), None, "{name}");
+        assert!(rt; info.to_index(pattern(0), name) == None, "{name}");
     }
     Ok(())
 }
@@ -133,7 +188,7 @@ fn refused_as(alloc: Global, lists: &[&[Option<&str>]], want: &str) -> Result<bo
 }
 
 #[test]
-fn refuses_the_first_fault(rt: HostRuntime) -> Result<(), Fail> {
+fn refuses_missing_groups_and_named_first_groups(rt: HostRuntime) -> Result<(), Fail> {
     let alloc = rt.alloc();
     let missing =
         "no capturing groups found for pattern 1 (either all patterns have zero groups or all patterns have at least one group)";
@@ -142,17 +197,31 @@ fn refuses_the_first_fault(rt: HostRuntime) -> Result<(), Fail> {
         "no capturing groups found for pattern 0 (either all patterns have zero groups or all patterns have at least one group)";
     assert!(rt; refused_as(alloc, &[&[], &[None, Some("x"), Some("x")]], missing)?);
     let named = "first capture group (at index 0) for pattern 0 has a name (it must be unnamed)";
-    assert!(rt; refused_as(alloc, &[&[Some("x")]], named)?);
-    assert!(rt; refused_as(alloc, &[&[Some("x")], &[]], named)?);
+    let of_one = refused_as(alloc, &[&[Some("x")]], named)?;
+    let of_two = refused_as(alloc, &[&[Some("x")], &[]], named)?;
+    assert!(rt; of_one && of_two);
+    Ok(())
+}
+
+#[test]
+fn refuses_the_first_repeated_name(rt: HostRuntime) -> Result<(), Fail> {
+    let alloc = rt.alloc();
     let duplicate = "duplicate capture group name 'x' found for pattern 0";
-    assert!(rt; refused_as(alloc, &[&[None, Some("x"), Some("x")], &[None]], duplicate)?);
-    assert!(rt; refused_as(alloc, &[&[None, Some("x"), Some("x")], &[]], duplicate)?);
-    let duplicate = "duplicate capture group name 'y' found for pattern 1";
-    let second: [&[Option<&str>]; 2] = [&[None, Some("x")], &[None, Some("y"), None, Some("y")]];
-    assert!(rt; refused_as(alloc, &second, duplicate)?);
+    let before_groups = refused_as(alloc, &[&[None, Some("x"), Some("x")], &[None]], duplicate)?;
+    let before_none = refused_as(alloc, &[&[None, Some("x"), Some("x")], &[]], duplicate)?;
+    assert!(rt; before_groups && before_none);
     let duplicate = "duplicate capture group name 'b' found for pattern 0";
     let groups = groups_of(alloc, "-,f,b,d,e,a,c,b,i,h,g,a")?;
     assert!(rt; refused_as(alloc, &[&groups], duplicate)?);
+    Ok(())
+}
+
+#[test]
+fn refuses_a_repeated_name_of_a_later_pattern(rt: HostRuntime) -> Result<(), Fail> {
+    let alloc = rt.alloc();
+    let duplicate = "duplicate capture group name 'y' found for pattern 1";
+    let second: [&[Option<&str>]; 2] = [&[None, Some("x")], &[None, Some("y"), None, Some("y")]];
+    assert!(rt; refused_as(alloc, &second, duplicate)?);
     let duplicate = "duplicate capture group name '' found for pattern 1";
     let second: [&[Option<&str>]; 2] = [&[None, Some("")], &[None, Some(""), Some("")]];
     assert!(rt; refused_as(alloc, &second, duplicate)?);

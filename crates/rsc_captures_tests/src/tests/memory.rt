@@ -1,7 +1,8 @@
 //! Refused memory: budgets that grow by 8 bytes refuse the first, the second and each further request, until one suffices.
 use linked_list_allocator::LocalHeap;
 use rsc_captures::{Captures, GroupInfo, GroupInfoError, GroupInfoErrorKind};
-use rsc_primitives::{NonMaxUsize, PatternID};
+use rsc_primitives::PatternID;
+use rsc_search::Span;
 use std::alloc::Global;
 use std::test::Fail;
 
@@ -54,10 +55,15 @@ fn group_info_within(heap: &LocalHeap, with_limit: bool) -> Outcome {
     }
 }
 
+// Whether the group info has no patterns, and a clone.
+fn is_empty(info: &GroupInfo<&LocalHeap>) -> bool {
+    info.pattern_len() == 0 && info.clone().is_ok()
+}
+
 // The group info of no patterns.
 fn empty_within(heap: &LocalHeap) -> Outcome {
     match GroupInfo::empty(heap) {
-        Ok(info) if info.pattern_len() == 0 && info.clone().is_ok() => Outcome::Answered,
+        Ok(info) if is_empty(&info) => Outcome::Answered,
         Err(error) if is_out_of_memory(&error) => Outcome::Refused,
         _ => Outcome::Wrong,
     }
@@ -72,29 +78,17 @@ fn is_repeated(kind: &GroupInfoErrorKind<&LocalHeap>, wanted: &str) -> bool {
     }
 }
 
-// Whether a repeated name of 70 bytes is found, and given whole, or memory runs out.
-fn repeated_name_within(heap: &LocalHeap) -> Outcome {
-    let Err(error) = GroupInfo::new(heap, &[&[None, Some(LONG), Some(LONG)]]) else {
+// Whether a repeated name is found, and given whole, or memory runs out.
+fn repeated_within<'a>(heap: &'a LocalHeap, name: &'a str) -> Outcome {
+    let Err(error) = GroupInfo::new(heap, &[&[None, Some(name), Some(name)]]) else {
         return Outcome::Wrong;
     };
-    match error.kind() {
-        GroupInfoErrorKind::Duplicate { pattern, name }
-            if *pattern == PatternID::ZERO && name.as_str() == LONG => Outcome::Answered,
-        GroupInfoErrorKind::OutOfMemory => Outcome::Refused,
-        _ => Outcome::Wrong,
-    }
-}
-
-// The same of a name of one byte.
-fn repeated_letter_within(heap: &LocalHeap) -> Outcome {
-    let Err(error) = GroupInfo::new(heap, &[&[None, Some("x"), Some("x")]]) else {
-        return Outcome::Wrong;
-    };
-    match error.kind() {
-        GroupInfoErrorKind::Duplicate { pattern, name }
-            if *pattern == PatternID::ZERO && name.as_str() == "x" => Outcome::Answered,
-        GroupInfoErrorKind::OutOfMemory => Outcome::Refused,
-        _ => Outcome::Wrong,
+    if is_repeated(error.kind(), name) {
+        Outcome::Answered
+    } else if is_out_of_memory(&error) {
+        Outcome::Refused
+    } else {
+        Outcome::Wrong
     }
 }
 
@@ -129,6 +123,20 @@ fn clone_of_error_within(heap: &LocalHeap, of_kind: bool) -> Outcome {
     }
 }
 
+// How many slots captures of the group info have, all or those of the first groups; `None` where they are refused.
+fn slots_of<'a>(
+    heap: &'a LocalHeap,
+    info: GroupInfo<&'a LocalHeap>,
+    with_all: bool,
+) -> Option<usize> {
+    let made = if with_all {
+        Captures::all(heap, info)
+    } else {
+        Captures::matches(heap, info)
+    };
+    Some(made.ok()?.slots().len())
+}
+
 // Captures with all slots, or with those of the first groups. Where they are refused, the clone that was kept still answers,
 // and the heap is as full as before.
 fn captures_within(heap: &LocalHeap, with_all: bool) -> Outcome {
@@ -139,41 +147,47 @@ fn captures_within(heap: &LocalHeap, with_all: bool) -> Outcome {
         return Outcome::Wrong;
     };
     let used = heap.used();
-    let made = if with_all {
-        Captures::all(heap, info)
-    } else {
-        Captures::matches(heap, info)
-    };
-    let still_answers = kept.slot_len() == 6 && kept.to_index(PatternID::ZERO, "x") == Some(1);
     let slot_len: usize = if with_all { 6 } else { 4 };
+    let made = slots_of(heap, info, with_all);
+    if kept.slot_len() != 6 || kept.to_index(PatternID::ZERO, "x") != Some(1) {
+        return Outcome::Wrong;
+    }
     match made {
-        Ok(captures) if still_answers && captures.slots().len() == slot_len => Outcome::Answered,
-        Err(_) if still_answers && heap.used() == used => Outcome::Refused,
+        Some(count) if count == slot_len => Outcome::Answered,
+        None if heap.used() == used => Outcome::Refused,
         _ => Outcome::Wrong,
     }
 }
 
+// Captures of the first of two patterns, with a span for its first group; `None` where they are refused.
+fn marked_captures(heap: &LocalHeap) -> Option<Captures<&LocalHeap>> {
+    let info = GroupInfo::new(heap, &[&[None, Some("x")], &[None]]).ok()?;
+    let mut captures = Captures::all(heap, info).ok()?;
+    captures.set_pattern(Some(PatternID::ZERO));
+    captures.set_group(0, Some(Span { start: 0, end: 3 }));
+    Some(captures)
+}
+
+// The first group's span in a clone; `None` where that is refused.
+fn group_of_clone(captures: &Captures<&LocalHeap>) -> Option<Option<Span>> {
+    Some(captures.clone().ok()?.get_group(0))
+}
+
 // A clone of captures. Whether it is refused or not, its source answers as before.
 fn clone_within(heap: &LocalHeap) -> Outcome {
-    let Ok(info) = GroupInfo::new(heap, &[&[None, Some("x")], &[None]]) else {
+    let Some(captures) = marked_captures(heap) else {
         return Outcome::NotReached;
     };
-    let Ok(mut captures) = Captures::all(heap, info) else {
-        return Outcome::NotReached;
-    };
-    captures.set_pattern(Some(PatternID::ZERO));
-    let slots = captures.slots_mut();
-    if slots.len() == 6 {
-        slots[0] = NonMaxUsize::new(0);
-        slots[1] = NonMaxUsize::new(3);
-    }
     let used = heap.used();
-    let group = captures.get_group(0);
-    let cloned = captures.clone();
-    let as_before = group.is_some() && captures.get_group(0) == group && captures.group_len() == 2;
-    match cloned {
-        Ok(copy) if as_before && copy.get_group(0) == group => Outcome::Answered,
-        Err(_) if as_before && heap.used() == used => Outcome::Refused,
+    let group = Some(Span { start: 0, end: 3 });
+    let before = captures.get_group(0);
+    let copied = group_of_clone(&captures);
+    if before != group || captures.get_group(0) != group || captures.group_len() != 2 {
+        return Outcome::Wrong;
+    }
+    match copied {
+        Some(copy) if copy == group => Outcome::Answered,
+        None if heap.used() == used => Outcome::Refused,
         _ => Outcome::Wrong,
     }
 }
@@ -197,18 +211,33 @@ fn is_refused_at_first<F: Fn(&LocalHeap) -> Outcome>(alloc: Global, call: F) -> 
 }
 
 #[test]
-fn each_call_is_refused_until_there_is_enough(rt: HostRuntime) -> Result<(), Fail> {
+fn group_infos_are_refused_until_there_is_enough(rt: HostRuntime) -> Result<(), Fail> {
     let alloc = rt.alloc();
-    assert!(rt; is_refused_at_first(alloc, |heap| group_info_within(heap, false))?);
-    assert!(rt; is_refused_at_first(alloc, |heap| group_info_within(heap, true))?);
-    assert!(rt; is_refused_at_first(alloc, repeated_letter_within)?);
-    assert!(rt; is_refused_at_first(alloc, repeated_name_within)?);
-    assert!(rt; is_refused_at_first(alloc, |heap| clone_of_error_within(heap, false))?);
-    assert!(rt; is_refused_at_first(alloc, |heap| clone_of_error_within(heap, true))?);
-    assert!(rt; is_refused_at_first(alloc, empty_within)?);
-    assert!(rt; is_refused_at_first(alloc, |heap| captures_within(heap, true))?);
-    assert!(rt; is_refused_at_first(alloc, |heap| captures_within(heap, false))?);
-    assert!(rt; is_refused_at_first(alloc, clone_within)?);
+    let new = is_refused_at_first(alloc, |heap| group_info_within(heap, false))?;
+    let limited = is_refused_at_first(alloc, |heap| group_info_within(heap, true))?;
+    let empty = is_refused_at_first(alloc, empty_within)?;
+    assert_eq!(rt; [new, limited, empty], [true; 3]);
+    Ok(())
+}
+
+#[test]
+fn errors_are_refused_until_there_is_enough(rt: HostRuntime) -> Result<(), Fail> {
+    let alloc = rt.alloc();
+    let letter = is_refused_at_first(alloc, |heap| repeated_within(heap, "x"))?;
+    let name = is_refused_at_first(alloc, |heap| repeated_within(heap, LONG))?;
+    let error = is_refused_at_first(alloc, |heap| clone_of_error_within(heap, false))?;
+    let kind = is_refused_at_first(alloc, |heap| clone_of_error_within(heap, true))?;
+    assert_eq!(rt; [letter, name, error, kind], [true; 4]);
+    Ok(())
+}
+
+#[test]
+fn captures_are_refused_until_there_is_enough(rt: HostRuntime) -> Result<(), Fail> {
+    let alloc = rt.alloc();
+    let all = is_refused_at_first(alloc, |heap| captures_within(heap, true))?;
+    let matches = is_refused_at_first(alloc, |heap| captures_within(heap, false))?;
+    let copy = is_refused_at_first(alloc, clone_within)?;
+    assert_eq!(rt; [all, matches, copy], [true; 3]);
     Ok(())
 }
 
@@ -233,19 +262,22 @@ fn faults_come_before_any_request(rt: HostRuntime) -> Result<(), Fail> {
     Ok(())
 }
 
+// Whether the list is refused, and its error and the kind of that are cloned.
+fn is_cloned(heap: &LocalHeap, list: &[&[Option<&str>]]) -> bool {
+    match GroupInfo::new(heap, list) {
+        Err(error) => error.clone().is_ok() && error.kind().clone().is_ok(),
+        Ok(_) => false,
+    }
+}
+
 // A clone of an error without a name, and of its kind, is made where there is no memory at all.
 #[test]
 fn clones_of_other_errors_take_no_memory(rt: HostRuntime) -> Result<(), Fail> {
     let heap = LocalHeap::new(rt.alloc(), 0)?;
-    let lists: [&[&[Option<&str>]]; 3] = [&[&[]], &[&[Some("x")]], &[&[None]]];
-    for list in lists {
-        match GroupInfo::new(&heap, list) {
-            Ok(_) => assert!(rt; false),
-            Err(error) => {
-                assert!(rt; error.clone().is_ok() && error.kind().clone().is_ok());
-            }
-        }
-    }
+    let missing = is_cloned(&heap, &[&[]]);
+    let named = is_cloned(&heap, &[&[Some("x")]]);
+    let memory = is_cloned(&heap, &[&[None]]);
+    assert!(rt; missing && named && memory);
     Ok(())
 }
 

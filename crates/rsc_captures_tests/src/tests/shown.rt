@@ -1,9 +1,10 @@
 //! Shown texts, and the traits of each type.
+use super::captures::filled;
 use rsc_captures::{
     Captures, CapturesPatternIter, GroupInfo, GroupInfoAllNames, GroupInfoError,
     GroupInfoErrorKind, GroupInfoPatternNames,
 };
-use rsc_primitives::{NonMaxUsize, PatternID, PatternIDError};
+use rsc_primitives::{PatternID, PatternIDError};
 use rsc_search::Span;
 use std::alloc::Global;
 use std::error::Error;
@@ -11,14 +12,14 @@ use std::fmt;
 use std::fmt::Write;
 use std::test::Fail;
 
-/// Counts the bytes that are written.
+// Counts the bytes that are written.
 #[derive(Drop)]
-pub(super) struct Counter {
-    pub(super) count: u64,
+struct Counter {
+    count: u64,
 }
 
 impl Counter {
-    pub(super) fn new() -> Counter {
+    fn new() -> Counter {
         Counter { count: 0 }
     }
 }
@@ -30,47 +31,47 @@ impl fmt::Write for Counter {
     }
 }
 
+/// The bytes that a value displays; none where it can't be.
+pub(super) fn bytes_displayed<T: fmt::Display>(value: &T) -> u64 {
+    let mut counter = Counter::new();
+    let is_ok = write!(counter, "{value}").is_ok();
+    if is_ok { counter.count } else { 0 }
+}
+
+/// The bytes that a value shows; none where it can't be.
+pub(super) fn bytes_shown<T: fmt::Debug>(value: &T) -> u64 {
+    let mut counter = Counter::new();
+    let is_ok = write!(counter, "{value:?}").is_ok();
+    if is_ok { counter.count } else { 0 }
+}
+
+// Whether a value is shown by this text.
+fn is_shown<T: fmt::Debug>(alloc: Global, value: &T, want: &str) -> Result<bool, Fail> {
+    Ok(format!(in alloc; "{value:?}")?.as_str() == want)
+}
+
 #[test]
 fn captures_are_shown(rt: HostRuntime) -> Result<(), Fail> {
     let alloc = rt.alloc();
-    let info = GroupInfo::new(alloc, &[&[None], &[None, Some("a\"\n\u{e9}"), None]])?;
-    let mut captures = Captures::all(alloc, info)?;
-    assert_eq!(rt;
-        format!(in alloc; "{captures:?}")?.as_str(),
-        "Captures { pid: None }"
-    );
-    captures.set_pattern(Some(PatternID::must(1)));
-    for (slot, offset) in [(2, 3), (3, 123456), (4, 0), (5, 7), (6, 9)] {
-        if slot < captures.slots().len() {
-            captures.slots_mut()[slot] = NonMaxUsize::new(offset);
-        }
-    }
-    assert_eq!(rt;
-        format!(in alloc; "{captures:?}")?.as_str(),
-        "Captures { pid: Some(PatternID(1)), spans: {0: 3..123456, 1/\"a\\\"\\né\": 0..7, 2: None} }"
-    );
+    let lists: [&[Option<&str>]; 2] = [&[None], &[None, Some("a\"\n\u{e9}"), None]];
+    let captures = Captures::all(alloc, GroupInfo::new(alloc, &lists)?)?;
+    assert!(rt; is_shown(alloc, &captures, "Captures { pid: None }")?);
+    let offsets = [None, None, Some(3), Some(123456), Some(0), Some(7), Some(9)];
+    let captures = filled(alloc, &lists, 1, &offsets)?;
+    let want =
+        "Captures { pid: Some(PatternID(1)), spans: {0: 3..123456, 1/\"a\\\"\\né\": 0..7, 2: None} }";
+    assert!(rt; is_shown(alloc, &captures, want)?);
     Ok(())
 }
 
 #[test]
 fn captures_with_a_named_group_are_shown(rt: HostRuntime) -> Result<(), Fail> {
     let alloc = rt.alloc();
-    let mut captures = Captures::all(alloc, GroupInfo::new(alloc, &[&[None, Some("x")]])?)?;
-    captures.set_pattern(Some(PatternID::ZERO));
-    for (slot, offset) in [(0, 0), (1, 3)] {
-        if slot < captures.slots().len() {
-            captures.slots_mut()[slot] = NonMaxUsize::new(offset);
-        }
-    }
-    assert_eq!(rt;
-        format!(in alloc; "{captures:?}")?.as_str(),
-        "Captures { pid: Some(PatternID(0)), spans: {0: 0..3, 1/\"x\": None} }"
-    );
+    let mut captures = filled(alloc, &[&[None, Some("x")]], 0, &[Some(0), Some(3)])?;
+    let want = "Captures { pid: Some(PatternID(0)), spans: {0: 0..3, 1/\"x\": None} }";
+    assert!(rt; is_shown(alloc, &captures, want)?);
     captures.clear();
-    assert_eq!(rt;
-        format!(in alloc; "{captures:?}")?.as_str(),
-        "Captures { pid: None }"
-    );
+    assert!(rt; is_shown(alloc, &captures, "Captures { pid: None }")?);
     Ok(())
 }
 
@@ -79,43 +80,34 @@ fn captures_with_a_named_group_are_shown(rt: HostRuntime) -> Result<(), Fail> {
 fn each_group_is_shown(rt: HostRuntime) -> Result<(), Fail> {
     let alloc = rt.alloc();
     let groups: [Option<&str>; 12] = [None; 12];
-    let mut captures = Captures::all(alloc, GroupInfo::new(alloc, &[&groups])?)?;
-    captures.set_pattern(Some(PatternID::ZERO));
-    assert!(rt; captures.set_group(11, Some(Span { start: 7, end: 9 })));
-    assert_eq!(rt;
-        format!(in alloc; "{captures:?}")?.as_str(),
-        "Captures { pid: Some(PatternID(0)), spans: {0: None, 1: None, 2: None, 3: None, 4: None, 5: None, 6: None, 7: None, 8: None, 9: None, 10: None, 11: 7..9} }"
-    );
+    let mut captures = filled(alloc, &[&groups], 0, &[])?;
+    let is_set = captures.set_group(11, Some(Span { start: 7, end: 9 }));
+    let want =
+        "Captures { pid: Some(PatternID(0)), spans: {0: None, 1: None, 2: None, 3: None, 4: None, 5: None, 6: None, 7: None, 8: None, 9: None, 10: None, 11: 7..9} }";
+    assert!(rt; is_set && is_shown(alloc, &captures, want)?);
     let mut spans = captures.iter();
-    assert_eq!(rt;
-        format!(in alloc; "{spans:?}")?.as_str(),
-        "CapturesPatternIter(12)"
-    );
-    assert!(rt; spans.next() == Some(None));
-    assert_eq!(rt;
-        format!(in alloc; "{spans:?}")?.as_str(),
-        "CapturesPatternIter(11)"
-    );
+    let is_whole = is_shown(alloc, &spans, "CapturesPatternIter(12)")?;
+    let is_next = spans.next() == Some(None);
+    let is_less = is_shown(alloc, &spans, "CapturesPatternIter(11)")?;
+    assert!(rt; is_whole && is_next && is_less);
     Ok(())
+}
+
+// Whether lists are refused by an error that is shown by this text.
+fn is_refusal_shown(alloc: Global, lists: &[&[Option<&str>]], want: &str) -> Result<bool, Fail> {
+    match GroupInfo::new(alloc, lists) {
+        Err(error) => is_shown(alloc, &error, want),
+        Ok(_) => Ok(false),
+    }
 }
 
 #[test]
 fn errors_are_shown(rt: HostRuntime) -> Result<(), Fail> {
     let alloc = rt.alloc();
-    match GroupInfo::new(alloc, &[&[None], &[]]) {
-        Err(error) => assert_eq!(rt;
-            format!(in alloc; "{error:?}")?.as_str(),
-            "GroupInfoError { kind: MissingGroups { pattern: PatternID(1) } }"
-        ),
-        Ok(_) => assert!(rt; false),
-    }
-    match GroupInfo::new(alloc, &[&[None, Some("ß"), Some("ß")]]) {
-        Err(error) => assert_eq!(rt;
-            format!(in alloc; "{error:?}")?.as_str(),
-            "GroupInfoError { kind: Duplicate { pattern: PatternID(0), name: \"ß\" } }"
-        ),
-        Ok(_) => assert!(rt; false),
-    }
+    let want = "GroupInfoError { kind: MissingGroups { pattern: PatternID(1) } }";
+    assert!(rt; is_refusal_shown(alloc, &[&[None], &[]], want)?);
+    let want = "GroupInfoError { kind: Duplicate { pattern: PatternID(0), name: \"ß\" } }";
+    assert!(rt; is_refusal_shown(alloc, &[&[None, Some("ß"), Some("ß")]], want)?);
     Ok(())
 }
 
@@ -145,9 +137,19 @@ fn kinds(alloc: Global, err: PatternIDError) -> Result<[GroupInfoErrorKind; 7], 
     ])
 }
 
+// Whether a kind is displayed by this text in each of three forms, and as many bytes are written.
+fn is_displayed_by(alloc: Global, kind: &GroupInfoErrorKind, want: &str) -> Result<bool, Fail> {
+    let plain = format!(in alloc; "{kind}")?;
+    let other = format!(in alloc; "{kind:#}")?;
+    let padded = format!(in alloc; "{kind:>8}")?;
+    Ok(
+        [plain.as_str(), other.as_str(), padded.as_str()] == [want; 3]
+            && bytes_displayed(kind) == want.len() as u64,
+    )
+}
+
 #[test]
 fn each_kind_is_displayed(rt: HostRuntime) -> Result<(), Fail> {
-    let alloc = rt.alloc();
     let wanted = [
         "too many patterns to build capture info: failed to create PatternID from 18446744073709551615, which exceeds PatternID(2147483646)",
         "too many capture groups (at least 0) were found for pattern 0",
@@ -157,17 +159,10 @@ fn each_kind_is_displayed(rt: HostRuntime) -> Result<(), Fail> {
         "duplicate capture group name 'größe' found for pattern 2147483646",
         "out of memory while building capture info",
     ];
-    let Err(err) = PatternID::new(usize::MAX) else {
-        assert!(rt; false);
-        return Ok(());
-    };
-    let kinds = kinds(alloc, err)?;
+    let err = PatternID::new(usize::MAX).err().ok_or("accepted")?;
+    let kinds = kinds(rt.alloc(), err)?;
     for (kind, want) in kinds.iter().zip(wanted.iter()) {
-        let mut counter = Counter::new();
-        assert!(rt; write!(counter, "{kind}").is_ok() && counter.count == want.len() as u64);
-        assert_eq!(rt; format!(in alloc; "{kind}")?.as_str(), *want);
-        assert_eq!(rt; format!(in alloc; "{kind:#}")?.as_str(), *want);
-        assert_eq!(rt; format!(in alloc; "{kind:>8}")?.as_str(), *want);
+        assert!(rt; is_displayed_by(rt.alloc(), kind, want)?, "{want}");
     }
     Ok(())
 }
@@ -191,22 +186,23 @@ fn traits_of_each_type(_rt: HostRuntime) {
     is_error::<GroupInfoError>();
 }
 
+// Whether lists are refused, and the error is displayed as its clone is.
+fn is_copied(alloc: Global, lists: &[&[Option<&str>]]) -> Result<bool, Fail> {
+    match GroupInfo::new(alloc, lists) {
+        Err(error) => {
+            let copy = error.clone()?;
+            Ok(format!(in alloc; "{copy}")?.as_str() == format!(in alloc; "{error}")?.as_str())
+        }
+        Ok(_) => Ok(false),
+    }
+}
+
 #[test]
 fn a_clone_of_an_error_is_displayed_as_its_source(rt: HostRuntime) -> Result<(), Fail> {
     let alloc = rt.alloc();
-    let lists: [&[&[Option<&str>]]; 3] = [
-        &[&[]],
-        &[&[Some("x")]],
-        &[&[None, Some("y"), Some("y")]],
-    ];
-    for list in lists {
-        let Err(error) = GroupInfo::new(alloc, list) else {
-            assert!(rt; false);
-            return Ok(());
-        };
-        let copy = error.clone()?;
-        let text = format!(in alloc; "{error}")?;
-        assert_eq!(rt; format!(in alloc; "{copy}")?.as_str(), text.as_str());
-    }
+    let missing = is_copied(alloc, &[&[]])?;
+    let named = is_copied(alloc, &[&[Some("x")]])?;
+    let repeated = is_copied(alloc, &[&[None, Some("y"), Some("y")]])?;
+    assert!(rt; missing && named && repeated);
     Ok(())
 }

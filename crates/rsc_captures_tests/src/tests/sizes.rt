@@ -2,17 +2,22 @@
 use linked_list_allocator::LocalHeap;
 use rsc_captures::{Captures, GroupInfo, GroupInfoError, GroupInfoErrorKind};
 use rsc_primitives::{NonMaxUsize, PatternID};
-use std::alloc::Global;
+use std::alloc::{AllocError, Global};
 use std::test::Fail;
 
 const SIZES: [usize; 10] = [0, 1, 2, 31, 63, 64, 65, 1_000, 2_000, 100_000];
 
+// The slots of a clone.
+fn slots_of_clone(captures: &Captures) -> Result<usize, Fail> {
+    let copy = captures.clone()?;
+    Ok(copy.slots().len())
+}
+
 // Whether captures and their clones are answered, with that many slots.
 fn are_answered(alloc: Global, info: GroupInfo, all: usize, matches: usize) -> Result<bool, Fail> {
-    let first = Captures::all(alloc, info.clone()?)?;
-    let second = Captures::matches(alloc, info)?;
-    let copies = (first.clone()?, second.clone()?);
-    Ok(copies.0.slots().len() == all && copies.1.slots().len() == matches)
+    let first = slots_of_clone(&Captures::all(alloc, info.clone()?)?)?;
+    let second = slots_of_clone(&Captures::matches(alloc, info)?)?;
+    Ok(first == all && second == matches)
 }
 
 #[test]
@@ -49,19 +54,35 @@ fn repeats(error: &GroupInfoError, name: &str) -> bool {
     }
 }
 
+// Whether a list with this name twice is refused for it.
+fn is_refused(alloc: Global, name: &str) -> bool {
+    match GroupInfo::new(alloc, &[&[None, Some(name), Some(name)]]) {
+        Err(error) => repeats(&error, name),
+        Ok(_) => false,
+    }
+}
+
 #[test]
 fn names_of_any_length_are_answered(rt: HostRuntime) -> Result<(), Fail> {
     let alloc = rt.alloc();
     for length in SIZES {
         let name = "n".repeat(alloc, length)?;
         let info = GroupInfo::new(alloc, &[&[None, Some(name.as_str())]])?;
-        assert_eq!(rt; info.to_index(PatternID::ZERO, &name), Some(1), "{length}");
-        match GroupInfo::new(alloc, &[&[None, Some(name.as_str()), Some(name.as_str())]]) {
-            Ok(_) => assert!(rt; false),
-            Err(error) => assert!(rt; repeats(&error, &name), "{length}"),
-        }
+        let index = info.to_index(PatternID::ZERO, &name);
+        assert!(rt; index == Some(1) && is_refused(alloc, &name), "{length}");
     }
     Ok(())
+}
+
+// Whether captures of pattern 0, whose group 1 has a span, answer each call that reads them.
+fn are_read(captures: &Captures<&LocalHeap>) -> bool {
+    let by_name = captures.get_group_by_name("x");
+    captures.is_match()
+        && captures.pattern() == Some(PatternID::ZERO)
+        && by_name.is_some()
+        && captures.get_group(1) == by_name
+        && captures.iter().next() == Some(None)
+        && captures.group_info().all_names().next() == Some((PatternID::ZERO, 0, None))
 }
 
 // Whether each call on captures that takes no memory answers as it should and leaves what is used of the heap as it was.
@@ -73,13 +94,9 @@ fn take_none(heap: &LocalHeap, captures: &mut Captures<&LocalHeap>) -> bool {
         slots[4] = NonMaxUsize::new(1);
         slots[5] = NonMaxUsize::new(2);
     }
-    let is_set = captures.is_match() && captures.pattern() == Some(PatternID::ZERO);
-    let by_name = captures.get_group_by_name("x");
-    let is_found = by_name.is_some() && captures.get_group(1) == by_name;
-    let is_walked = captures.iter().next() == Some(None)
-        && captures.group_info().all_names().next() == Some((PatternID::ZERO, 0, None));
+    let are_read = are_read(captures);
     captures.clear();
-    is_set && is_found && is_walked && !captures.is_match() && heap.used() == used
+    are_read && !captures.is_match() && heap.used() == used
 }
 
 // Whether captures are made over a heap of that size; then the calls on them take none of it.
@@ -120,29 +137,32 @@ fn captures_without_slots_take_no_memory(rt: HostRuntime) -> Result<(), Fail> {
     Ok(())
 }
 
+// Captures with all slots, or with those of the first groups.
+fn captures_of<'a>(
+    heap: &'a LocalHeap,
+    info: GroupInfo<&'a LocalHeap>,
+    with_all: bool,
+) -> Result<Captures<&'a LocalHeap>, AllocError> {
+    if with_all {
+        Captures::all(heap, info)
+    } else {
+        Captures::matches(heap, info)
+    }
+}
+
 // Slots are in the memory that the call is handed, not in that of the group info.
 #[test]
 fn slots_are_in_the_memory_that_is_handed_in(rt: HostRuntime) -> Result<(), Fail> {
-    for with_all in [false, true] {
-        for size in [0usize, 4096] {
-            let (of_info, of_slots) = (
-                LocalHeap::new(rt.alloc(), 4096)?,
-                LocalHeap::new(rt.alloc(), size)?,
-            );
-            let info = GroupInfo::new(&of_info, &[&[None, Some("x")]])?;
-            let used = of_info.used();
-            let made = if with_all {
-                Captures::all(&of_slots, info)
-            } else {
-                Captures::matches(&of_slots, info)
-            };
-            match made {
-                Ok(_captures) => {
-                    assert!(rt; size > 0 && of_info.used() == used && of_slots.used() > 0);
-                }
-                Err(_) => assert!(rt; size == 0 && of_info.used() == 0),
-            }
-        }
+    for (with_all, size) in [(false, 0usize), (false, 4096), (true, 0), (true, 4096)] {
+        let of_info = LocalHeap::new(rt.alloc(), 4096)?;
+        let of_slots = LocalHeap::new(rt.alloc(), size)?;
+        let info = GroupInfo::new(&of_info, &[&[None, Some("x")]])?;
+        let used = of_info.used();
+        let is_right = match captures_of(&of_slots, info, with_all) {
+            Ok(_captures) => size > 0 && of_info.used() == used && of_slots.used() > 0,
+            Err(_) => size == 0 && of_info.used() == 0,
+        };
+        assert!(rt; is_right, "{with_all}, {size}");
     }
     Ok(())
 }
@@ -155,11 +175,7 @@ fn used_by_a_clone(
     with_all: bool,
 ) -> Result<Option<[usize; 4]>, Fail> {
     let info = GroupInfo::new(of_info, &[&[None, Some("x")], &[None]])?;
-    let captures = if with_all {
-        Captures::all(of_slots, info)?
-    } else {
-        Captures::matches(of_slots, info)?
-    };
+    let captures = captures_of(of_slots, info, with_all)?;
     let (info_before, slots_before) = (of_info.used(), of_slots.used());
     match captures.clone() {
         Ok(_copy) => Ok(Some([info_before, of_info.used(), slots_before, of_slots.used()])),
@@ -179,14 +195,16 @@ fn a_clone_is_in_the_memory_of_its_source(rt: HostRuntime) -> Result<(), Fail> {
             used[0] == used[1] && used[2] > 0 && used[3] / 2 == used[2],
             "{used:?}"
         );
-        assert!(rt; of_info.used() == 0 && ample.used() == 0);
+        let left = [of_info.used(), ample.used()];
         // There is room for one, and none for its clone.
         let scarce = LocalHeap::new(rt.alloc(), used[2].saturating_add(8))?;
-        assert!(rt; used_by_a_clone(&of_info, &scarce, with_all)?.is_none());
+        let of_scarce = used_by_a_clone(&of_info, &scarce, with_all)?;
         // The group info's memory has no room: the clone takes none of it.
         let exact = LocalHeap::new(rt.alloc(), used[0])?;
-        assert!(rt; used_by_a_clone(&exact, &ample, with_all)?.is_some());
-        assert!(rt; exact.used() == 0 && scarce.used() == 0 && ample.used() == 0);
+        let of_exact = used_by_a_clone(&exact, &ample, with_all)?;
+        assert!(rt; of_scarce.is_none() && of_exact.is_some());
+        let left_later = [exact.used(), scarce.used(), ample.used()];
+        assert_eq!(rt; (left, left_later), ([0; 2], [0; 3]));
     }
     Ok(())
 }
