@@ -93,7 +93,15 @@ def word_at(path, line, column):
 
 
 def refusals(crate, folder, said):
-    """Returns the goals at which each function is refused, from what the checker said; of a proof by hand the word that is refused."""
+    """Returns the goals at which each function is refused, from what the checker said; of a proof by hand the word that is refused.
+
+    >>> said = '''fn low::span::Span::len: no proof: expected answers in a file; `search` did not prove `returns-clause-len`, `returns-clause-room`
+    ... fn low::span::Span::get: proved
+    ... ./proofs/span/Span/get/Answers.antt:3:9: error: `returns-clause-some`: expected another type
+    ... ./proofs/span/Span/cut/Answers.antt:3:9: error: `returns`: `c.gone` is not in scope'''
+    >>> {function: sorted(goals) for function, goals in refusals("low", "", said).items()}
+    {'span::Span::len': ['returns-clause-len', 'returns-clause-room'], 'span::Span::get': ['returns-clause-some']}
+    """
     found = collections.defaultdict(set)
     for line in said.splitlines():
         at_function = re.match(rf"fn {crate}::(\S+): (?:no proof|not proved)(.*)", line)
@@ -148,28 +156,52 @@ def judge(crate, known, folder, batch, texts, is_told):
         with open(f"{folder}/{path}", "w", encoding="utf-8") as file:
             file.write(text)
     status, said = rattle_check(crate, known, folder, [it.function for it in batch])
-    found, results = refusals(crate, folder, said), []
+    found = refusals(crate, folder, said)
     if is_told:
         print(said)
     for path, text in kept.items():
         with open(f"{folder}/{path}", "w", encoding="utf-8") as file:
             file.write(text)
-    for it in batch:
-        goals = sorted({*found.get(it.function, ()), *found.get((it.file, it.function.rpartition("::")[2]), ())})
-        if status == 1 and all(any(goal.startswith(wanted) for goal in goals) for wanted in it.goal.split(" and ")):
-            results.append((True, f"{crate}/{it.name}: refused by {it.function}, {', '.join(goals)[:120]}"))
-        elif not found:
-            results.append((False, f"{crate}/{it.name}: NOT JUDGED, the check stopped before the proofs: {said.strip().splitlines()[-1][:200]}"))
-        else:
-            results.append((False, f"{crate}/{it.name}: NOT REFUSED by {it.function} at {it.goal}; what that function leaves unproved: {', '.join(goals) or 'nothing'}"))
-    return results
+    return [verdict(crate, it, status, said, found) for it in batch]
+
+
+def verdict(crate, edit, status, said, found):
+    """Returns whether an edit passed, and a line that says so, from the checker's status, what it said, and the refusals in that.
+
+    >>> edit = Edit("half", "src/span.rt", "span::Span::len", "returns-clause-len", [], [], [])
+    >>> verdict("low", edit, 1, "", {"span::Span::len": {"returns-clause-len"}})
+    (True, 'low/half: refused by span::Span::len, returns-clause-len')
+    >>> verdict("low", edit, 1, "", {"span::Span::len": {"returns-clause-room"}})
+    (False, 'low/half: NOT REFUSED by span::Span::len at returns-clause-len; what that function leaves unproved: returns-clause-room')
+    >>> verdict("low", edit, 0, "only=1 proved=1", {})
+    (False, 'low/half: NOT REFUSED by span::Span::len at returns-clause-len; what that function leaves unproved: nothing')
+    >>> verdict("low", edit, 1, "src/span.rt:3:1: error: expected a type", {})
+    (False, 'low/half: NOT JUDGED, the check stopped before the proofs: src/span.rt:3:1: error: expected a type')
+    """
+    goals = sorted({*found.get(edit.function, ()), *found.get((edit.file, edit.function.rpartition("::")[2]), ())})
+    if status == 1 and all(any(goal.startswith(wanted) for goal in goals) for wanted in edit.goal.split(" and ")):
+        return True, f"{crate}/{edit.name}: refused by {edit.function}, {', '.join(goals)[:120]}"
+    if status and not found:
+        return False, f"{crate}/{edit.name}: NOT JUDGED, the check stopped before the proofs: {last_line(said)}"
+    unproved = ", ".join(goals) or "nothing"
+    return False, f"{crate}/{edit.name}: NOT REFUSED by {edit.function} at {edit.goal}; what that function leaves unproved: {unproved}"
+
+
+def last_line(said):
+    return (said.strip().splitlines() or ["no output"])[-1][:200]
 
 
 def build(crate):
     """Builds a library for the crates above it, over what earlier checks kept, and returns why it can't, if so."""
     ran = subprocess.run(["rt", "lib"], cwd=f"{ROOT}/crates/{crate}", stdin=subprocess.DEVNULL, stdout=subprocess.PIPE, stderr=subprocess.STDOUT,
                          encoding="utf-8", errors="replace")
-    return f"{crate}: NOT PROVED as it is: {ran.stdout.strip().splitlines()[-1][:200]}" if ran.returncode else ""
+    return f"{crate}: NOT PROVED as it is: {last_line(ran.stdout)}" if ran.returncode else ""
+
+
+def is_of_ci(crate):
+    """Says whether the library in out/ is one that `rt ci` built: those of `rt lib` have a stamp."""
+    out = f"{ROOT}/crates/{crate}/out/rlib"
+    return os.path.isdir(f"{out}/{crate}.rlib") and not os.path.exists(f"{out}/stamp")
 
 
 def try_part(crate, known, edits, is_told, fault):
@@ -199,7 +231,9 @@ def faults(crate, names):
 
 def try_refused(wanted, names, known):
     """Tries the edits of crates that a contract must refuse; yields whether each passed, and a line that says so."""
-    needed = set() if "--after-ci" in sys.argv else set().union(*(below(it, known) - {it} for it in wanted))
+    needed = set().union(*(below(it, known) - {it} for it in wanted))
+    if "--after-ci" in sys.argv and all(is_of_ci(it) for it in needed):
+        needed = set()
     tasks = {(it, "library"): ([(low, "library") for low in known[it]], lambda given, it=it: build(it)) for it in known if it in needed}
     # Those of the crates that take longest begin first.
     for crate in reversed(wanted):
