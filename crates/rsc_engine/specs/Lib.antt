@@ -1,4 +1,4 @@
-pub mod Searches  -- a program, and what a search is over
+pub mod Searches  -- a program, what a search is over, and why it has no answer
 pub mod Refusals  -- why there is no automaton
 pub mod Runs  -- runs that are matches
 pub mod GroupsLayout  -- the match that a run makes

@@ -4,7 +4,7 @@ use Rattle.rsc_nfa.specs.declared.state.State.TheVariants.{Fork}
 use Rattle.rsc_nfa.specs.Steps.{place}
 use Rattle.rsc_search.specs.declared.anchored.Anchored.TheVariants.{No}
 use Rattle.rsc_search.specs.Matches.{Matched}
-use Rattle.rsc_captures.specs.Captured.{Captured}
+use Rattle.rsc_captures.specs.Captured.{Captured, no_offsets}
 use Rattle.rsc_engine.specs.Searches.{Search}
 use Rattle.rsc_engine.specs.Runs.{IsMatchRun, HasNoMatch, IsMatchOf, AreRecords}
 
@@ -57,3 +57,7 @@ pub record IsFirstMatch (e : Search) (captures : Captured) (found : Matched) : T
   pub run : List (ℕ × ℕ)
   pub is_first : IsLeftmostFirst e run
   pub is_of : IsOf e run found captures
+
+-- no slot is set in the captures, and there is no match; their groups and how many slots they have are as before
+abbrev pub IsCleared : Captured → Captured → Type 0
+IsCleared before after = after ≡ no_offsets before.groups (length before.offsets)

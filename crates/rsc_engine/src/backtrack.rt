@@ -4,7 +4,7 @@ ghost use Rattle.rsc_nfa.specs.Steps.{place};
 ghost use Rattle.rsc_search.specs.declared.anchored.Anchored.TheVariants.{No};
 ghost use Rattle.rsc_engine.specs.declared.error.Error.TheVariants.{OutOfMemory};
 ghost use Rattle.rsc_engine.specs.declared.moves.Move.TheVariants.{Accepts};
-ghost use Rattle.rsc_engine.specs.Searches.{Search, search_in};
+ghost use Rattle.rsc_engine.specs.Searches.{Search, search_in, FailsFor};
 ghost use Rattle.rsc_engine.specs.Runs.{HasNoMatch};
 ghost use Rattle.rsc_engine.specs.Ends.{BeginsFrom};
 ghost use Rattle.rsc_engine.specs.StartsLayout.{AreStarts};
@@ -299,6 +299,7 @@ pub fn first_run<W: WordClass>(
     requires { BeginsFrom (search_in W.word_chars program.now input.now) from }
     ensures found { IfOk result (λ found. IfSome found (λ walk. IsLeftmostFirst (search_in W.word_chars program.now input.now) walk.run.items)) }
     ensures none { IfOk result (λ found. IfNone found (HasNone (search_in W.word_chars program.now input.now))) }
+    ensures refused { IfErr result (FailsFor (search_in W.word_chars program.now input.now)) }
 {
     let starts = Starts::new(alloc, program)?;
     let mut walk = Walk::new(alloc, program.start());
@@ -315,7 +316,8 @@ pub fn first_run<W: WordClass>(
 ///
 /// `TooLarge` where the span has too many positions for the number of states.
 pub fn place_count<W: WordClass>(program: &Program<W>, input: &Input<'_>) -> Result<usize, Error>
-    ensures { IfOk result (AreEnough (search_in W.word_chars program.now input.now)) }
+    ensures enough { IfOk result (AreEnough (search_in W.word_chars program.now input.now)) }
+    ensures refused { IfErr result (FailsFor (search_in W.word_chars program.now input.now)) }
 {
     let positions = input.end() + 1 - input.start();
     match positions.checked_mul(program.len()) {

@@ -3,10 +3,9 @@
 //! A row is a set of states ([`successor`] makes it, from the one before and a byte); the [`table`] has the rows and, in its [`entries`], which row each
 //! class of bytes leads to; the [`plan`] has what stays the same. [`needed`] finds bytes that each match has, without which no row is looked at.
 ghost use Rattle.std.specs.Prelude.{◌≡◌, ◌-◌, ◌<◌, IfOk, IfErr, IfSome, IfNone, OnErr, true, false, length};
-ghost use Rattle.rsc_captures.specs.Captured.{no_offsets};
 ghost use Rattle.rsc_engine.specs.declared.error.Error.TheVariants.{OutOfMemory};
-ghost use Rattle.rsc_engine.specs.Searches.{search_in};
-ghost use Rattle.rsc_engine.specs.Preferred.{HasNone, IsFirstMatch};
+ghost use Rattle.rsc_engine.specs.Searches.{search_in, FailsFor};
+ghost use Rattle.rsc_engine.specs.Preferred.{HasNone, IsFirstMatch, IsCleared};
 ghost use Rattle.rsc_nfa.specs.Steps.{place};
 ghost use Rattle.rsc_engine.specs.Ends.{IsAnswer, IsLeftmostEnd, BeginsFrom};
 ghost use Rattle.rsc_engine.specs.RowsLayout.{machine, IsPlan, IsNeverEntered};
@@ -74,7 +73,7 @@ impl<'p, W: WordClass> Model for Dfa<'p, W> {
     ghost view = { λ d. d.plan.program.now };
 
     ghost invariant = { λ d. IsPlan (machine W.word_chars d.plan.program.now) d.plan.classes d.plan.width d.plan.unicode
-        × (d.plan.is_start_left ≡ true → IsNeverEntered (machine W.word_chars d.plan.program.now))
+        × (d.plan.is_start_never_entered ≡ true → IsNeverEntered (machine W.word_chars d.plan.program.now))
         × IsExact (machine W.word_chars d.plan.program.now) d.plan.classes d.plan.width d.table.rows.items d.table.leads.items
         × IfSome d.needed (λ n. IsNeeded (machine W.word_chars d.plan.program.now) n.first n.second) };
 }
@@ -145,6 +144,7 @@ impl<'p, W: WordClass + AsciiWords> Dfa<'p, W> {
         ensures program { self.new ≡ self.old }
         ensures none { IfOk result (λ found. IfNone found (HasNone (search_in W.word_chars self.old input.now))) }
         ensures begin { IfOk result (λ found. IfSome found (BeginsFrom (search_in W.word_chars self.old input.now))) }
+        ensures memory { IfErr result (λ e. e ≡ OutOfMemory) }
     {
         if self.lacks_needed(input) {
             return Ok(None);
@@ -165,6 +165,7 @@ impl<'p, W: WordClass + AsciiWords> Dfa<'p, W> {
         ensures program { self.new ≡ self.old }
         ensures some { IfOk result (λ found. found ≡ true → ¬ (HasNone (search_in W.word_chars self.old input.now))) }
         ensures none { IfOk result (λ found. found ≡ false → HasNone (search_in W.word_chars self.old input.now)) }
+        ensures refused { IfErr result (FailsFor (search_in W.word_chars self.old input.now)) }
     {
         match self.earliest_end(input)? {
             Answer::End(_) => Ok(true),
@@ -189,8 +190,9 @@ impl<'p, W: WordClass + AsciiWords> Dfa<'p, W> {
         ensures none { IfOk result (λ found. IfNone found (HasNone (search_in W.word_chars self.old input.now))) }
         ensures groups { captures.new.groups ≡ captures.old.groups }
         ensures slots { length captures.new.offsets ≡ length captures.old.offsets }
-        ensures unset { IfOk result (λ found. IfNone found (captures.new ≡ no_offsets captures.old.groups (length captures.old.offsets))) }
-        ensures failed { OnErr result (captures.new ≡ no_offsets captures.old.groups (length captures.old.offsets)) }
+        ensures unset { IfOk result (λ found. IfNone found (IsCleared captures.old captures.new)) }
+        ensures failed { OnErr result (IsCleared captures.old captures.new) }
+        ensures refused { IfErr result (FailsFor (search_in W.word_chars self.old input.now)) }
     {
         captures.clear();
         let Some(from) = self.begin(input)? else {
@@ -209,6 +211,7 @@ impl<'p, W: WordClass + AsciiWords> Dfa<'p, W> {
         ensures program { self.new ≡ self.old }
         ensures found { IfOk result (λ found. IfSome found (IsLeftmostEnd (search_in W.word_chars self.old input.now))) }
         ensures none { IfOk result (λ found. IfNone found (HasNone (search_in W.word_chars self.old input.now))) }
+        ensures refused { IfErr result (FailsFor (search_in W.word_chars self.old input.now)) }
     {
         let Some(from) = self.begin(input)? else {
             return Ok(None);
@@ -227,6 +230,7 @@ fn end_from<W: WordClass>(
     requires { BeginsFrom (search_in W.word_chars program.now input.now) from }
     ensures found { IfOk result (λ found. IfSome found (IsLeftmostEnd (search_in W.word_chars program.now input.now))) }
     ensures none { IfOk result (λ found. IfNone found (HasNone (search_in W.word_chars program.now input.now))) }
+    ensures refused { IfErr result (FailsFor (search_in W.word_chars program.now input.now)) }
 {
     match first_run(alloc, program, input, from)? {
         None => Ok(None),
@@ -250,6 +254,7 @@ fn is_match_by_walk<W: WordClass>(
 ) -> Result<bool, Error>
     ensures some { IfOk result (λ found. found ≡ true → ¬ (HasNone (search_in W.word_chars program.now input.now))) }
     ensures none { IfOk result (λ found. found ≡ false → HasNone (search_in W.word_chars program.now input.now)) }
+    ensures refused { IfErr result (FailsFor (search_in W.word_chars program.now input.now)) }
 {
     crate::laws::there_is_one_first_match();
     let Some(_) = first_run(alloc, program, input, input.start())? else {
@@ -266,7 +271,7 @@ fn search<W: WordClass>(
     input: &Input<'_>,
     wants_begin: bool,
 ) -> Result<(Answer, usize), Error>
-    requires never_entered { plan.now.is_start_left ≡ true → IsNeverEntered (machine W.word_chars plan.now.program.now) }
+    requires never_entered { plan.now.is_start_never_entered ≡ true → IsNeverEntered (machine W.word_chars plan.now.program.now) }
     requires plan { IsPlan (machine W.word_chars plan.now.program.now) plan.now.classes plan.now.width plan.now.unicode }
     requires exact { IsExact (machine W.word_chars plan.now.program.now) plan.now.classes plan.now.width table.old.rows.items table.old.leads.items }
     ensures exact { IsExact (machine W.word_chars plan.now.program.now) plan.now.classes plan.now.width table.new.rows.items table.new.leads.items }

@@ -18,7 +18,7 @@ pub enum Error {
     Names,
     /// A state that no automaton may have, as one with a range whose first byte is above its last.
     Faulty,
-    /// More states, or states times positions, than there are numbers for.
+    /// More states, patterns or groups, or states times positions, than there are numbers for.
     TooLarge,
 }
 
@@ -58,7 +58,10 @@ impl From<BuildError> for Error {
     fn from(fault: BuildError) -> Error {
         match fault {
             BuildError::OutOfMemory => Error::OutOfMemory,
-            _ => Error::Faulty,
+            BuildError::EmptyRange { .. }
+            | BuildError::UnknownState { .. }
+            | BuildError::UnknownSlot { .. }
+            | BuildError::UnknownPattern { .. } => Error::Faulty,
         }
     }
 }

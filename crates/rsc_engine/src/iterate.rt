@@ -1,13 +1,12 @@
 //! The first match, and all matches one after the other.
 ghost use Rattle.std.specs.Prelude.{◌≡◌, ◌+◌, ◌*◌, ◌^◌, ◌<◌, ◌≤◌, ◌⊎◌, ℕ, IfOk, IfErr, IfSome, IfNone, OnErr, MatchOption, None, Some, false, true, length, slice_index_or};
 ghost use Rattle.std.specs.Option.{ForSome};
-ghost use Rattle.rsc_captures.specs.Captured.{no_offsets};
 ghost use Rattle.rsc_search.specs.declared.anchored.Anchored.TheVariants.{No};
 ghost use Rattle.rsc_primitives.specs.Decoding.{IsBoundary};
 ghost use Rattle.rsc_engine.specs.declared.error.Error.TheVariants.{OutOfMemory, TooLarge};
-ghost use Rattle.rsc_engine.specs.Searches.{search_in};
+ghost use Rattle.rsc_engine.specs.Searches.{search_in, FailsFor};
 ghost use Rattle.rsc_engine.specs.GroupsLayout.{IsInSpan};
-ghost use Rattle.rsc_engine.specs.Preferred.{IsLeftmostFirst, IsFirstMatch, IsOf, HasNone};
+ghost use Rattle.rsc_engine.specs.Preferred.{IsLeftmostFirst, IsFirstMatch, IsOf, HasNone, IsCleared};
 ghost use Rattle.rsc_engine.specs.NextMatches.{IsNext, IsOver, IsNextMatch, from_start};
 ghost use Rattle.rsc_engine.specs.Ends.{BeginsFrom};
 ghost use Rattle.rsc_engine.specs.StartsLayout.{AreStarts};
@@ -47,8 +46,9 @@ pub fn find<W: WordClass>(
     ensures none { IfOk result (λ found. IfNone found (HasNone (search_in W.word_chars program.now input.now))) }
     ensures groups { captures.new.groups ≡ captures.old.groups }
     ensures slots { length captures.new.offsets ≡ length captures.old.offsets }
-    ensures unset { IfOk result (λ found. IfNone found (captures.new ≡ no_offsets captures.old.groups (length captures.old.offsets))) }
-    ensures failed { OnErr result (captures.new ≡ no_offsets captures.old.groups (length captures.old.offsets)) }
+    ensures unset { IfOk result (λ found. IfNone found (IsCleared captures.old captures.new)) }
+    ensures failed { OnErr result (IsCleared captures.old captures.new) }
+    ensures refused { IfErr result (FailsFor (search_in W.word_chars program.now input.now)) }
 {
     find_from(alloc, program, input, captures, input.start())
 }
@@ -66,8 +66,9 @@ pub(crate) fn find_from<W: WordClass>(
     ensures none { IfOk result (λ found. IfNone found (HasNone (search_in W.word_chars program.now input.now))) }
     ensures groups { captures.new.groups ≡ captures.old.groups }
     ensures slots { length captures.new.offsets ≡ length captures.old.offsets }
-    ensures unset { IfOk result (λ found. IfNone found (captures.new ≡ no_offsets captures.old.groups (length captures.old.offsets))) }
-    ensures failed { OnErr result (captures.new ≡ no_offsets captures.old.groups (length captures.old.offsets)) }
+    ensures unset { IfOk result (λ found. IfNone found (IsCleared captures.old captures.new)) }
+    ensures failed { OnErr result (IsCleared captures.old captures.new) }
+    ensures refused { IfErr result (FailsFor (search_in W.word_chars program.now input.now)) }
 {
     captures.clear();
     match first_run(alloc, program, input, from)? {
@@ -103,7 +104,8 @@ impl<'p, 'h, W: WordClass + AsciiWords> Matches<'p, 'h, W> {
         program: &'p Program<W>,
         input: Input<'h>,
     ) -> Result<Matches<'p, 'h, W>, Error>
-        ensures { IfOk result (λ m. m ≡ record { program = program.now; input = input.entry; last = None }) }
+        ensures made { IfOk result (λ m. m ≡ record { program = program.now; input = input.entry; last = None }) }
+        ensures refused { IfErr result (FailsFor (search_in W.word_chars program.now input.entry)) }
     {
         let starts = Starts::new(alloc, program)?;
         let places = place_count(program, &input)?;
@@ -125,7 +127,7 @@ impl<'p, 'h, W: WordClass + AsciiWords> Matches<'p, 'h, W> {
 
     /// The next match, whose groups are in the captures afterwards; without one, and after an error, no slot is set. As in the original,
     /// a match is left out that is empty and where the last one ended; and if the program's haystacks are text, one that is empty and
-    /// within a character. After the last one it is `None` for good.
+    /// within a character. After the last one it is `None` for good, but for an error.
     ///
     /// # Errors
     ///
@@ -141,8 +143,8 @@ impl<'p, 'h, W: WordClass + AsciiWords> Matches<'p, 'h, W> {
         ensures later { IfOk result (λ found. IfSome found (λ m. ForSome self.old.last (λ end. end < m.span.end))) }
         ensures groups { captures.new.groups ≡ captures.old.groups }
         ensures slots { length captures.new.offsets ≡ length captures.old.offsets }
-        ensures unset { IfOk result (λ found. IfNone found (captures.new ≡ no_offsets captures.old.groups (length captures.old.offsets))) }
-        ensures failed { OnErr result (captures.new ≡ no_offsets captures.old.groups (length captures.old.offsets)) }
+        ensures unset { IfOk result (λ found. IfNone found (IsCleared captures.old captures.new)) }
+        ensures failed { OnErr result (IsCleared captures.old captures.new) }
     {
         self.rest.next(captures)
     }
@@ -187,8 +189,8 @@ impl<'p, 'h, W: WordClass + AsciiWords> Rest<'p, 'h, W> {
         ensures last_kept { OnErr result (self.new.last_end ≡ self.old.last_end) }
         ensures groups { captures.new.groups ≡ captures.old.groups }
         ensures slots { length captures.new.offsets ≡ length captures.old.offsets }
-        ensures unset { IfOk result (λ found. IfNone found (captures.new ≡ no_offsets captures.old.groups (length captures.old.offsets))) }
-        ensures failed { OnErr result (captures.new ≡ no_offsets captures.old.groups (length captures.old.offsets)) }
+        ensures unset { IfOk result (λ found. IfNone found (IsCleared captures.old captures.new)) }
+        ensures failed { OnErr result (IsCleared captures.old captures.new) }
     {
         let start = self.input.start();
         'matches: loop {
@@ -236,8 +238,8 @@ impl<'p, 'h, W: WordClass + AsciiWords> Rest<'p, 'h, W> {
         ensures last { self.new.last_end ≡ self.old.last_end }
         ensures groups { captures.new.groups ≡ captures.old.groups }
         ensures slots { length captures.new.offsets ≡ length captures.old.offsets }
-        ensures unset { IfOk result (λ found. IfNone found (captures.new ≡ no_offsets captures.old.groups (length captures.old.offsets))) }
-        ensures failed { OnErr result (captures.new ≡ no_offsets captures.old.groups (length captures.old.offsets)) }
+        ensures unset { IfOk result (λ found. IfNone found (IsCleared captures.old captures.new)) }
+        ensures failed { OnErr result (IsCleared captures.old captures.new) }
     {
         captures.clear();
         let start = self.input.start();

@@ -26,8 +26,8 @@ pub struct Plan<'p, W: WordClass> {
     pub width: usize,
     /// Whether an assertion looks at characters.
     pub unicode: bool,
-    /// Whether no byte leads to the start state, so that a search stands there only where a match may begin.
-    pub is_start_left: bool,
+    /// Whether no byte leads to the start state, so that a search is there only where a match may begin.
+    pub is_start_never_entered: bool,
     /// How many rows are kept at most.
     pub most_rows: usize,
 }
@@ -37,7 +37,7 @@ impl<'p, W: WordClass + AsciiWords> Plan<'p, W> {
     pub fn new(program: &'p Program<W>, most_rows: usize) -> Plan<'p, W>
         ensures program { result.program.now ≡ program.now }
         ensures plan { IsPlan (machine W.word_chars program.now) result.classes result.width result.unicode }
-        ensures never_entered { result.is_start_left ≡ true → IsNeverEntered (machine W.word_chars program.now) }
+        ensures never_entered { result.is_start_never_entered ≡ true → IsNeverEntered (machine W.word_chars program.now) }
     {
         W::agrees_with_ascii();
         // For the prover: what these calls promise of the program.
@@ -52,7 +52,7 @@ impl<'p, W: WordClass + AsciiWords> Plan<'p, W> {
             classes,
             width,
             unicode,
-            is_start_left: is_never_entered(program),
+            is_start_never_entered: is_never_entered(program),
             most_rows,
         }
     }

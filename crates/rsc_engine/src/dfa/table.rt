@@ -69,7 +69,7 @@ impl Table {
         requires plan { IsPlan (machine W.word_chars plan.now.program.now) plan.now.classes plan.now.width plan.now.unicode }
         requires exact { IsExact (machine W.word_chars plan.now.program.now) plan.now.classes plan.now.width self.now.rows.items self.now.leads.items }
         requires on { StandsAt (search_in W.word_chars plan.now.program.now input.now) plan.now.classes self.now.rows.items row at }
-        requires never_entered { plan.now.is_start_left ≡ true → IsNeverEntered (machine W.word_chars plan.now.program.now) }
+        requires never_entered { plan.now.is_start_never_entered ≡ true → IsNeverEntered (machine W.word_chars plan.now.program.now) }
         requires begin { BeginsFrom (search_in W.word_chars plan.now.program.now input.now) begin }
         requires start { input.now.span.start ≤ at }
         requires end { at ≤ input.now.span.end }
@@ -108,14 +108,14 @@ impl Table {
         wants_begin: bool,
     ) -> usize
         requires on { StandsAt (search_in W.word_chars plan.now.program.now input.now) plan.now.classes self.now.rows.items row at }
-        requires never_entered { plan.now.is_start_left ≡ true → IsNeverEntered (machine W.word_chars plan.now.program.now) }
+        requires never_entered { plan.now.is_start_never_entered ≡ true → IsNeverEntered (machine W.word_chars plan.now.program.now) }
         requires begin { BeginsFrom (search_in W.word_chars plan.now.program.now input.now) begin }
         requires start { input.now.span.start ≤ at }
         ensures { BeginsFrom (search_in W.word_chars plan.now.program.now input.now) result }
     {
         steps_are_lawful();
         if wants_begin
-            && plan.is_start_left
+            && plan.is_start_never_entered
             && !input.get_anchored().is_anchored()
             && self.has_start_alone(plan, row)
         {
