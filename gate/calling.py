@@ -38,12 +38,17 @@ def functions(text):
 
 # The ghost items of a trait's impl that say what its methods promise.
 PROMISES = "next_gives next_back_gives remaining eq cmp partial_cmp hash_input is_default output debug_output word_chars from_gives try_from_gives".split()
+# The others: what is seen of a value, what the bytes and the cut of a haystack are, and proofs.
+NO_PROMISES = "Value view invariant bytes cut_of laws inverse inverse_ok coded total matches_eq matches_partial_cmp respects_eq".split()
 
 
 def promises(text):
     """Yields each impl of a trait in a file, with the ghost items that say what its methods promise."""
     for head, body in re.findall(r"^impl(?:<[^\n]*?>)? ?(\S[^\n{]* for [^\n{]*?)(?: \{(?!\})|\n)(.*?)^\}", text, flags=re.M | re.S):
         items = re.findall(r"^    ghost (\w+) = (\{.*?\});$", body, flags=re.M | re.S)
+        unknown = {name for name, _ in items} - {*PROMISES, *NO_PROMISES}
+        if unknown:
+            raise ValueError(f"impl {head}: is `{unknown.pop()}` a promise? PROMISES or NO_PROMISES of gate/calling.py has to say it")
         kept = [f"{name} = {promise}" for name, promise in items if name in PROMISES]
         of = re.match(r"\w*", head.rpartition(" for ")[2])[0]
         if kept and not re.search(rf"pub\(crate\) (?:struct|enum) {of}\b", text):

@@ -115,22 +115,28 @@ def statement(is_quoted):
             yield file, it
 
 
-# What rsc_engine promises of a search: the clauses of these functions, each with the names of all that is promised.
-ENGINE = (("find", "iterate.rt"), ("next", "iterate.rt"), ("build", "builder.rt"), ("earliest_end", "dfa.rt"))
+# What rsc_engine promises of a search, and by what its groups are read: the clauses of these functions.
+ENGINE = (("rsc_engine", "iterate.rt", ("find", "new", "next")), ("rsc_engine", "builder.rt", ("build",)),
+          ("rsc_engine", "dfa.rt", ("earliest_end", "is_match", "find", "leftmost_end")), ("rsc_captures", "captures.rt", ("get_group",)))
 
 
 ENGINE_MEANT = (("rsc_look/src/word.rt", r"ghost word_chars = .*?;"), ("rsc_engine/src/iterate.rt", r"impl<[^{]*Model for Matches.*?^\}"))
 ENGINE_SEEN = (("rsc_engine", "program.rt", "Program"), ("rsc_engine", "dfa.rt", "Dfa"), ("rsc_engine", "iterate.rt", "Matches"), ("rsc_nfa", "nfa.rt", "Nfa"),
-               ("rsc_search", "input.rt", "Input"), ("rsc_search", "matches.rt", "Match"), ("rsc_captures", "captures.rt", "Captures"))
+               ("rsc_look", "matcher.rt", "LookMatcher"), ("rsc_search", "input.rt", "Input"), ("rsc_search", "matches.rt", "Match"),
+               ("rsc_captures", "captures.rt", "Captures"), ("rsc_captures", "group_info.rt", "GroupInfo"), ("rsc_captures", "layout.rt", "SharedLists"),
+               *(("rsc_primitives", f"primitives/{it}.rt", name) for it, name in
+                 (("small_index", "SmallIndex"), ("pattern_id", "PatternID"), ("state_id", "StateID"), ("non_max", "NonMaxUsize"))))
 
 
 def engine_statement():
     """Yields each clause of the functions of ENGINE with its file, and what they mean besides."""
     for file, pattern in ENGINE_MEANT:
         yield from ((file, it) for it in re.findall(pattern, (ROOT / "crates" / file).read_text(encoding="utf-8"), flags=re.M | re.S))
-    for name, file in ENGINE:
-        signature = re.search(rf"pub fn {name}\b.*?(?=\n *\{{\n)", (ROOT / "crates/rsc_engine/src" / file).read_text(encoding="utf-8"), flags=re.S)[0]
-        yield from ((f"rsc_engine/src/{file}", it) for it in re.split(r"\n +(?=ensures|requires)", signature)[1:])
+    for crate, file, names in ENGINE:
+        text = (ROOT / "crates" / crate / "src" / file).read_text(encoding="utf-8")
+        for name in names:
+            signature = re.search(rf"pub fn {name}\b.*?(?=\n *\{{\n)", text, flags=re.S)[0]
+            yield from ((f"{crate}/src/{file}", it) for it in re.split(r"\n +(?=ensures|requires)", signature)[1:])
 
 
 def reached(parts):
@@ -201,12 +207,13 @@ def engine_trusted():
     """Returns the lines of docs/TRUSTED.md on what the answers of rsc_engine rest on."""
     own, outside = reached(engine_statement())
     count, all_lines = sizes(own)
-    lines = [f"The clauses of `find`, `Matches::next`, `Builder::build` and `Dfa::earliest_end` reach {count} definitions, {all_lines} lines:", "",
+    calls = "`find`, `Matches::new`, `Matches::next`, `Builder::build`, the four searches of `Dfa`, and `Captures::get_group`, which reads a match's groups,"
+    lines = [f"The clauses of {calls}", f"reach {count} definitions, {all_lines} lines:", "",
              "| File | Lines | Definitions |", "|---|---|---|"]
     for (crate, module), names in sorted(own.items(), key=lambda it: (LIBRARIES.index(it[0][0]), it[0][1])):
         found = definitions((ROOT / "crates" / crate / "specs" / f"{module}.antt").read_text(encoding="utf-8"))
         lines.append(f"| `{crate}/specs/{module}.antt` | {sizes({(crate, module): names})[1]} | {', '.join(f'`{it}`' for it in found if it in names)} |")
-    lines += ["", "What is seen of a value:", "", *views(ENGINE_SEEN), "", "They use types of the libraries, and names of the toolchain:", "", "| Module | Names |", "|---|---|"]
+    lines += ["", "What is seen of a value; of a `Builder` and a `Part` clauses see the fields:", "", *views(ENGINE_SEEN), "", "They use types of the libraries, and names of the toolchain:", "", "| Module | Names |", "|---|---|"]
     return lines + [f"| `{module}` | {', '.join(f'`{it}`' for it in sorted(names))} |" for module, names in sorted(outside.items())]
 
 
