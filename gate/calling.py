@@ -363,7 +363,7 @@ ALIKE = ((r"(PatternID|SmallIndex|StateID)::as_\w+", r"\1::as_.+"), (r"(?:Try)?F
          ("MatchError::kind", "MatchError::new"), ("HalfMatch::pattern", "HalfMatch::offset"), ("Match::pattern", "Match::span"),
          ("PatternSetInsertError::attempted", "PatternSetInsertError::capacity"), ("Captures::pattern", "Captures::is_match"),
          ("Captures::group_info", "Captures::group_len"), ("GroupInfoError::kind", "GroupInfoError::clone"), ("Nfa::(?:group_info|matcher)", "Nfa::states"),
-         ("From<.*> for Error", "ErrorFromBuildError::from"), ("Program::(?:nfa|is_utf8|len|state)", "Program::start"))
+         ("From<.*> for Error", "ErrorFromBuildError::from"), ("Program::nfa", "Program::start"))
 EXEMPT = ("GroupInfo::all_names", "Dfa::new")
 
 
@@ -391,5 +391,9 @@ def calls(crates):
     """Returns docs/CALLS.md."""
     lines, callers = [HEAD], callers_by_crate()
     for crate in crates:
-        lines += [f"## `{crate}`", "", "| Call | Clauses | Test | Wrong body |", "|---|---|---|---|", *rows(crate, callers), ""]
+        found = [*rows(crate, callers)]
+        laws = sum("`laws::" in it for it in found)
+        untested = sum(it.split(" | ")[2].strip() == "" and "`laws::" not in it for it in found)
+        lines += [f"## `{crate}`", "", f"{len(found)} rows, {laws} of them laws; for {untested} of the others no test was found.", ""]
+        lines += ["| Call | Clauses | Test | Wrong body |", "|---|---|---|---|", *found, ""]
     return "\n".join(lines)
