@@ -13,7 +13,7 @@ use Rattle.rsc_engine.specs.Searches.{Search}
 use Rattle.rsc_engine.specs.Runs.{Leads, IsPlace, accepts, IsMatchRun, HasNoMatch}
 use Rattle.rsc_engine.specs.Preferred.{IsOnce, IsPreferredTo, IsPreferred, IsLeftmostFirst, HasNone}
 use Rattle.rsc_engine.specs.MovesLayout.{IsMove, other_of}
-use Rattle.rsc_engine.specs.WalksLayout.{IsTrail, IsOnward, IsOn, IsDone, IsClosed, IsClosedFrom, IsBarred, IsFirstWay, IsExplored, StandsAfter, IsLess, AreEnough, HasFlags, is_flagged, number_in, left_to_do}
+use Rattle.rsc_engine.specs.WalksLayout.{IsTrail, IsOnward, IsOn, IsFutile, IsSettled, IsDone, IsClosed, IsClosedFrom, IsBarred, IsFirstWay, IsExplored, StandsAfter, IsLess, AreEnough, HasFlags, is_flagged, number_in, left_to_do}
 use Rattle.rsc_engine.specs.declared.moves.Move.{Move}
 use Rattle.rsc_engine.specs.declared.moves.Move.TheVariants.{Fails, Goes, Forks, Accepts}
 use Rattle.rsc_engine.proofs.WalksLayoutLemmas.{IsTrail-more, IsOnward-more, IsMatchRun-more, place-before, place-after, leads-rises}
@@ -26,13 +26,50 @@ fork_leads e p a b fork = rw fork (inl refl, refl)
 fork_steps : (e : Search) (p q : ℕ × ℕ) (a b : ℕ) → slice_get e.states p.0 ≡ Some (Fork a b) → Leads e p q → q.1 ≡ p.1
 fork_steps e p q a b fork leads = (rw fork at leads).1
 
+pub pair_is : (q : ℕ × ℕ) (a i : ℕ) → q.0 ≡ a → q.1 ≡ i → (a, i) ≡ q
+pair_is q a i e f = rw (← e, ← f) refl
+
 none_is_number : (b : ℕ) → None ≡ Some b → ⊥
 none_is_number b e = absurd (cc)
 
 same_number : (a b : ℕ) → Some a ≡ Some b → a ≡ b
 same_number a b e = cc
 
+-- ---- places that are settled
+
+pub settled_seen : (e : Search) (seen : ℕ × ℕ → Bool) (p : ℕ × ℕ) → seen p ≡ true → IsSettled e seen p
+settled_seen e seen p s none = absurd (true≢false (sym s ∙ none))
+
+settled_cases : (e : Search) (seen : ℕ × ℕ → Bool) (p : ℕ × ℕ) → IsSettled e seen p → (seen p ≡ true) ⊎ IsFutile e p
+settled_cases e seen p settled = go (seen p) refl
+  where
+    go : (b : Bool) → seen p ≡ b → (seen p ≡ true) ⊎ IsFutile e p
+    go true is = inl is
+    go false is = inr (settled is)
+
+-- a place that is settled stays so
+kept_settled : (e : Search) (seen after : ℕ × ℕ → Bool) (p : ℕ × ℕ) → (seen p ≡ true → after p ≡ true) → IsSettled e seen p → IsSettled e after p
+kept_settled e seen after p kept settled = ⊎_elim
+    (λ (s : seen p ≡ true). settled_seen e after p (kept s))
+    (λ (futile : IsFutile e p). λ _. futile)
+    (settled_cases e seen p settled)
+
 -- ---- runs that come to no place of the trail
+
+-- what is left of the run of a match is one
+match_drop : (e : Search) (from : ℕ × ℕ) (run : List (ℕ × ℕ)) (n : ℕ) → IsMatchRun e from run → n < length run → IsMatchRun e (place run n) (drop n run)
+match_drop e from run n m l = record {
+  is_run = record {
+    places = λ k h. rw (get_or-drop n run k (0, 0)) (m.is_run.places (n + k) (omega (arith, h, length-drop n run)));
+    steps = λ k h.
+        let same : n + (k + 1) ≡ n + k + 1 = omega arith in
+        rw (get_or-drop n run k (0, 0), get_or-drop n run (k + 1) (0, 0), same) (m.is_run.steps (n + k) (omega (arith, h, length-drop n run)));
+  };
+  some = omega (arith, l, length-drop n run);
+  begins = let same : n + 0 ≡ n = omega arith in get_or-drop n run 0 (0, 0) ∙ ap (λ (i : ℕ). place run i) same;
+  ends = let same : n + (length (drop n run) - 1) ≡ length run - 1 = omega (arith, l, length-drop n run) in
+      rw (get_or-drop n run (length (drop n run) - 1) (0, 0), same) m.ends;
+}
 
 -- of a run from a place that was seen, each place was, and is done
 pub barred : (e : Search) (seen : ℕ × ℕ → Bool) (run : List (ℕ × ℕ)) (p : ℕ × ℕ)
@@ -49,12 +86,37 @@ barred e seen run p off begins other m apart =
     all (suc k) l =
         let same : suc k ≡ k + 1 = omega arith in
         let h : k + 1 < length other = omega (arith, l) in
-        rw same ((done k (omega (arith, h)) (all k (omega (arith, h)))).steps (place other (k + 1)) (m.is_run.places (k + 1) h) (m.is_run.steps k h))
+        rw same (⊎_elim
+        (λ (s : seen (place other (k + 1)) ≡ true). s)
+        (λ (futile : IsFutile e (place other (k + 1))). absurd (futile (drop (k + 1) other) (match_drop e p other (k + 1) m h)))
+        (settled_cases e seen (place other (k + 1))
+        ((done k (omega (arith, h)) (all k (omega (arith, h)))).steps (place other (k + 1)) (m.is_run.places (k + 1) h) (m.is_run.steps k h))))
 
--- from a place that was seen no run leads to a match, once all such places are done
-pub closed_none : (e : Search) (seen : ℕ × ℕ → Bool) (p : ℕ × ℕ) → IsClosed e seen → seen p ≡ true → (run : List (ℕ × ℕ)) → ¬ (IsMatchRun e p run)
-closed_none e seen p closed s run m =
-    barred e seen [] p (λ q there t. inr (closed q there t)) s run m (λ j k none l. absurd (omega (arith, none)))
+-- from a place that is settled no run leads to a match, once all places that were seen are done
+pub closed_none : (e : Search) (seen : ℕ × ℕ → Bool) (p : ℕ × ℕ) → IsClosed e seen → IsSettled e seen p → IsFutile e p
+closed_none e seen p closed settled run m = ⊎_elim
+    (λ (s : seen p ≡ true). barred e seen [] p (λ q there t. inr (closed q there t)) s run m (λ j k none l. absurd (omega (arith, none))))
+    (λ (futile : IsFutile e p). futile run m)
+    (settled_cases e seen p settled)
+
+-- no run leads to a match from a place that is none, and whose steps lead to no place from which one does
+pub futile_steps : (e : Search) (p : ℕ × ℕ) → accepts e p ≡ false → ((q : ℕ × ℕ) → Leads e p q → IsFutile e q) → IsFutile e p
+futile_steps e p rejected steps run m = ⊎_elim
+    (λ (more : 1 < length run).
+    steps (place run 1) (subst (λ (r : ℕ × ℕ). Leads e r (place run 1)) m.begins (m.is_run.steps 0 more)) (drop 1 run) (match_drop e p run 1 m more))
+    (λ (one : length run ≤ 1).
+    let last : length run - 1 ≡ 0 = omega (arith, one) in
+    true≢false (sym (rw (last, m.begins) at m.ends) ∙ rejected))
+    (cases_lt 1 (length run))
+
+-- nor from a fork, if none does from its ways
+pub futile_fork : (e : Search) (s a b i : ℕ) → slice_get e.states s ≡ Some (Fork a b) → IsFutile e (a, i) → IsFutile e (b, i) → IsFutile e (s, i)
+futile_fork e s a b i is one other = futile_steps e (s, i) (rw is refl) (λ q step.
+    let here = rw is at step in
+    ⊎_elim
+    (λ (h : q.0 ≡ a). subst (λ (r : ℕ × ℕ). IsFutile e r) (pair_is q a i h here.1) one)
+    (λ (h : q.0 ≡ b). subst (λ (r : ℕ × ℕ). IsFutile e r) (pair_is q b i h here.1) other)
+    here.0)
 
 -- ---- the beginning and the end of a walk
 
@@ -67,25 +129,25 @@ none_is_none : (q : ℕ × ℕ) → None ≡ Some q → ⊥
 none_is_none q e = absurd (cc)
 
 pub explored-begun : (e : Search) (from : ℕ × ℕ) (seen : ℕ × ℕ → Bool) (run : List (ℕ × ℕ)) (others : List (Option ℕ)) → IsExplored e from seen run others None
-    → seen from ≡ true
+    → IsSettled e seen from
 explored-begun e from seen run others x =
-    ⊎_elim (λ (h : seen from ≡ true). h) (λ (h : None ≡ Some from). absurd (none_is_none from h)) x.begun
+    ⊎_elim (λ (h : IsSettled e seen from). h) (λ (h : None ≡ Some from). absurd (none_is_none from h)) x.begun
 
--- ---- a visit to a place that was seen
+-- ---- a visit to a place that is settled
 
 some_same : (p q : ℕ × ℕ) → Some p ≡ Some q → p ≡ q
 some_same p q e = cc
 
 pub explored-same : (e : Search) (from : ℕ × ℕ) (seen : ℕ × ℕ → Bool) (run : List (ℕ × ℕ)) (others : List (Option ℕ)) (p : ℕ × ℕ)
-    → IsExplored e from seen run others (Some p) → seen p ≡ true → IsExplored e from seen run others None
+    → IsExplored e from seen run others (Some p) → IsSettled e seen p → IsExplored e from seen run others None
 explored-same e from seen run others p x s = record {
   there = x.there;
-  begun = inl (⊎_elim (λ (h : seen from ≡ true). h) (λ (h : Some p ≡ Some from). rw (← some_same p from h) s) x.begun);
+  begun = inl (⊎_elim (λ (h : IsSettled e seen from). h) (λ (h : Some p ≡ Some from). rw (← some_same p from h) s) x.begun);
   on = x.on;
   off = x.off;
   no_match = x.no_match;
   ways = λ k q l there leads. ⊎_elim
-      (λ (h : seen q ≡ true). inl h)
+      (λ (h : IsSettled e seen q). inl h)
       (λ (h : ((get_or others k None ≡ Some q.0) × (q.1 ≡ (place run k).1)) ⊎ (Some p ≡ Some q)). ⊎_elim
       (λ (way : (get_or others k None ≡ Some q.0) × (q.1 ≡ (place run k).1)). inr (inl way))
       (λ (here : Some p ≡ Some q). inl (rw (← some_same p q here) s))
@@ -99,7 +161,7 @@ explored-same e from seen run others p x s = record {
 -- ---- back to a place
 
 pub explored-less : (e : Search) (from : ℕ × ℕ) (seen : ℕ × ℕ → Bool) (run : List (ℕ × ℕ)) (others : List (Option ℕ)) (n m : ℕ)
-    → IsExplored e from seen run others None → n + 1 ≡ length run → n ≡ m → get_or others n None ≡ None
+    → IsExplored e from seen run others None → n ≤ length run → n ≡ m → ((k : ℕ) → n ≤ k → get_or others k None ≡ None)
     → IsExplored e from seen (take n run) (take m others) None
 explored-less e from seen run others n m x last same none = record {
   there = x.there;
@@ -108,7 +170,7 @@ explored-less e from seen run others n m x last same none = record {
   off = λ p there s. ⊎_elim
       (λ (on : IsOn run p). ⊎_elim
       (λ (h : on.0 < n). inl (on.0, omega (arith, h, long), get_or-take n run on.0 (0, 0) h ∙ on.2))
-      (λ (h : n ≤ on.0). let at : on.0 ≡ n = omega (arith, h, on.1, last) in inr (rw (sym on.2 ∙ ap (λ (i : ℕ). place run i) at) done))
+      (λ (h : n ≤ on.0). inr (rw (sym on.2) (done on.0 h on.1)))
       (cases_lt on.0 n))
       (λ (d : IsDone e seen p). inr d)
       (x.off p there s);
@@ -134,19 +196,19 @@ explored-less e from seen run others n m x last same none = record {
     takes : (k : ℕ) → k + 1 < n → take (k + 1) (take n run) ≡ take (k + 1) run
     takes k l = take-take (k + 1) n run (omega (arith, l))
 
-    way_is_none : (q : ℕ × ℕ) → get_or others n None ≡ Some q.0 → ⊥
-    way_is_none q h = absurd (cc)
+    way_is_none : (k : ℕ) (q : ℕ × ℕ) → n ≤ k → get_or others k None ≡ Some q.0 → ⊥
+    way_is_none k q past h = none_is_number q.0 (sym (none k past) ∙ h)
 
-    done : IsDone e seen (place run n)
-    done = record {
-      no_match = x.no_match n (omega (arith, last));
+    done : (k : ℕ) → n ≤ k → k < length run → IsDone e seen (place run k)
+    done k past l = record {
+      no_match = x.no_match k l;
       steps = λ q there leads. ⊎_elim
-          (λ (h : seen q ≡ true). h)
-          (λ (h : ((get_or others n None ≡ Some q.0) × (q.1 ≡ (place run n).1)) ⊎ (None ≡ Some q)). ⊎_elim
-          (λ (way : (get_or others n None ≡ Some q.0) × (q.1 ≡ (place run n).1)). absurd (way_is_none q way.0))
+          (λ (h : IsSettled e seen q). h)
+          (λ (h : ((get_or others k None ≡ Some q.0) × (q.1 ≡ (place run k).1)) ⊎ (None ≡ Some q)). ⊎_elim
+          (λ (way : (get_or others k None ≡ Some q.0) × (q.1 ≡ (place run k).1)). absurd (way_is_none k q past way.0))
           (λ (here : None ≡ Some q). absurd (none_is_none q here))
           h)
-          (x.ways n q (omega (arith, last)) there leads);
+          (x.ways k q l there leads);
     }
 
 two_ways : (k b : ℕ) (q : ℕ × ℕ) (others : List (Option ℕ)) → get_or others k None ≡ Some b → get_or others k None ≡ Some q.0 → q.0 ≡ b
@@ -154,9 +216,6 @@ two_ways k b q others e f = some_number b q.0 (sym e ∙ f)
   where
     some_number : (a c : ℕ) → Some a ≡ Some c → c ≡ a
     some_number a c h = cc
-
-pair_is : (q : ℕ × ℕ) (a i : ℕ) → q.0 ≡ a → q.1 ≡ i → (a, i) ≡ q
-pair_is q a i e f = rw (← e, ← f) refl
 
 pub explored-back : (e : Search) (from : ℕ × ℕ) (seen : ℕ × ℕ → Bool) (run : List (ℕ × ℕ)) (others : List (Option ℕ)) (k b : ℕ)
     → IsExplored e from seen run others None → k + 1 ≡ length run → get_or others k None ≡ Some b
@@ -168,7 +227,7 @@ explored-back e from seen run others k b x end at = record {
   off = x.off;
   no_match = x.no_match;
   ways = λ j q l there leads. ⊎_elim
-      (λ (h : seen q ≡ true). inl h)
+      (λ (h : IsSettled e seen q). inl h)
       (λ (h : ((get_or others j None ≡ Some q.0) × (q.1 ≡ (place run j).1)) ⊎ (None ≡ Some q)). ⊎_elim
       (λ (way : (get_or others j None ≡ Some q.0) × (q.1 ≡ (place run j).1)). inr (other_way j q way.0 way.1))
       (λ (here : None ≡ Some q). absurd (none_is_none q here))
@@ -194,7 +253,10 @@ explored-back e from seen run others k b x end at = record {
         (λ (differ : (b ≡ a) → ⊥). inr (λ other m apart.
         let there : IsPlace e (a, (place run k).1) = subst (λ (r : ℕ × ℕ). IsPlace e r) m.begins (m.is_run.places 0 m.some) in
         ⊎_elim
-        (λ (s : seen (a, (place run k).1) ≡ true). barred e seen run (a, (place run k).1) x.off s other m apart)
+        (λ (s : IsSettled e seen (a, (place run k).1)). ⊎_elim
+        (λ (seen_first : seen (a, (place run k).1) ≡ true). barred e seen run (a, (place run k).1) x.off seen_first other m apart)
+        (λ (futile : IsFutile e (a, (place run k).1)). futile other m)
+        (settled_cases e seen (a, (place run k).1) s))
         (λ (h : ((get_or others k None ≡ Some a) × ((place run k).1 ≡ (place run k).1)) ⊎ (None ≡ Some (a, (place run k).1))). ⊎_elim
         (λ (way : (get_or others k None ≡ Some a) × ((place run k).1 ≡ (place run k).1)).
         absurd (differ (sym (two_ways k b (a, (place run k).1) others at way.0))))
@@ -243,12 +305,15 @@ firsts_more e from seen run others p x k l = ⊎_elim
 
 pub explored-more : (e : Search) (from : ℕ × ℕ) (seen after : ℕ × ℕ → Bool) (run : List (ℕ × ℕ)) (others : List (Option ℕ)) (p : ℕ × ℕ) (other : Option ℕ)
     (next : Option (ℕ × ℕ)) → IsTrail e from run others → IsExplored e from seen run others (Some p) → IsSeenMore e seen p after → accepts e p ≡ false
-    → ((q : ℕ × ℕ) → Leads e p q → ((other ≡ Some q.0) × (q.1 ≡ p.1)) ⊎ (next ≡ Some q))
-    → ((q : ℕ × ℕ) → next ≡ Some q → (a b : ℕ) → slice_get e.states p.0 ≡ Some (Fork a b) → q.0 ≡ a)
+    → ((q : ℕ × ℕ) → Leads e p q → IsFutile e q ⊎ (((other ≡ Some q.0) × (q.1 ≡ p.1)) ⊎ (next ≡ Some q)))
+    → ((q : ℕ × ℕ) → next ≡ Some q → (a b : ℕ) → slice_get e.states p.0 ≡ Some (Fork a b) → (q.0 ≡ a) ⊎ IsFutile e (a, p.1))
     → IsExplored e from after (run ++ p ∷ []) (others ++ other ∷ []) next
 explored-more e from seen after run others p other next t x g rejected leads first = record {
   there = x.there;
-  begun = inl (⊎_elim (λ (h : seen from ≡ true). g.kept from x.there h) (λ (h : Some p ≡ Some from). rw (← some_same p from h) g.new) x.begun);
+  begun = inl (⊎_elim
+      (λ (h : IsSettled e seen from). kept_settled e seen after from (g.kept from x.there) h)
+      (λ (h : Some p ≡ Some from). settled_seen e after from (rw (← some_same p from h) g.new))
+      x.begun);
   on = λ k l. ⊎_elim
       (λ (lt : k < length run). rw (place-before run p k lt) (g.kept (place run k) (t.is_run.places k lt) (x.on k lt)))
       (λ (le : length run ≤ k). rw (place-after run p k (end k l le)) g.new)
@@ -257,7 +322,10 @@ explored-more e from seen after run others p other next t x g rejected leads fir
       (λ (same : q ≡ p). inl (length run, omega (arith, length-append run (p ∷ [])), place-after run p (length run) refl ∙ sym same))
       (λ (h : seen q ≡ true). ⊎_elim
       (λ (on : IsOn run q). inl (on.0, omega (arith, on.1, length-append run (p ∷ [])), place-before run p on.0 on.1 ∙ on.2))
-      (λ (d : IsDone e seen q). inr (record { no_match = d.no_match; steps = λ r here l. g.kept r here (d.steps r here l) }))
+      (λ (d : IsDone e seen q). inr (record {
+        no_match = d.no_match;
+        steps = λ r here l. kept_settled e seen after r (g.kept r here) (d.steps r here l);
+      }))
       (x.off q there h))
       (g.only q there s);
   no_match = λ k l. ⊎_elim
@@ -267,11 +335,14 @@ explored-more e from seen after run others p other next t x g rejected leads fir
   ways = λ k q l there. ⊎_elim
       (λ (lt : k < length run). rw (place-before run p k lt, get_or_append_left others (other ∷ []) None k (omega (arith, lt, t.as_many)))
       (λ step. old k q lt there step))
-      (λ (le : length run ≤ k). rw (place-after run p k (end k l le), other_at k (end k l le)) (λ step. inr (leads q step)))
+      (λ (le : length run ≤ k). rw (place-after run p k (end k l le), other_at k (end k l le)) (λ step. new_way q step))
       (cases_lt k (length run));
   once = once_more e from seen run others p x g.fresh;
   firsts = firsts_more e from seen run others p x;
-  last = λ q is some. rw (place-after run p (length (run ++ p ∷ []) - 1) (omega (arith, length-append run (p ∷ [])))) (λ a b fork. inl (first q is a b fork));
+  last = λ q is some. rw (place-after run p (length (run ++ p ∷ []) - 1) (omega (arith, length-append run (p ∷ [])))) (λ a b fork. ⊎_elim
+      (λ (same : q.0 ≡ a). inl same)
+      (λ (futile : IsFutile e (a, p.1)). inr (λ other_run m apart. futile other_run m))
+      (first q is a b fork));
 }
   where
     end : (k : ℕ) → k < length (run ++ p ∷ []) → length run ≤ k → k ≡ length run
@@ -282,32 +353,23 @@ explored-more e from seen after run others p other next t x g rejected leads fir
         let none : k - length others ≡ 0 = omega (arith, same, t.as_many) in
         get_or-append_right others (other ∷ []) (length others) k None refl (omega (arith, same, t.as_many)) ∙ ap (λ (i : ℕ). get_or (other ∷ []) i None) none
 
+    new_way : (q : ℕ × ℕ) → Leads e p q → IsSettled e after q ⊎ (((other ≡ Some q.0) × (q.1 ≡ p.1)) ⊎ (next ≡ Some q))
+    new_way q step = ⊎_elim
+        (λ (futile : IsFutile e q). inl (λ _. futile))
+        (λ (h : ((other ≡ Some q.0) × (q.1 ≡ p.1)) ⊎ (next ≡ Some q)). inr h)
+        (leads q step)
+
     old : (k : ℕ) (q : ℕ × ℕ) → k < length run → IsPlace e q → Leads e (place run k) q
-        → (after q ≡ true) ⊎ (((get_or others k None ≡ Some q.0) × (q.1 ≡ (place run k).1)) ⊎ (next ≡ Some q))
+        → IsSettled e after q ⊎ (((get_or others k None ≡ Some q.0) × (q.1 ≡ (place run k).1)) ⊎ (next ≡ Some q))
     old k q lt there step = ⊎_elim
-        (λ (h : seen q ≡ true). inl (g.kept q there h))
+        (λ (h : IsSettled e seen q). inl (kept_settled e seen after q (g.kept q there) h))
         (λ (h : ((get_or others k None ≡ Some q.0) × (q.1 ≡ (place run k).1)) ⊎ (Some p ≡ Some q)). ⊎_elim
         (λ (way : (get_or others k None ≡ Some q.0) × (q.1 ≡ (place run k).1)). inr (inl way))
-        (λ (here : Some p ≡ Some q). inl (rw (← some_same p q here) g.new))
+        (λ (here : Some p ≡ Some q). inl (settled_seen e after q (rw (← some_same p q here) g.new)))
         h)
         (x.ways k q lt there step)
 
 -- ---- the run of a match
-
--- what is left of the run of a match is one
-match_drop : (e : Search) (from : ℕ × ℕ) (run : List (ℕ × ℕ)) (n : ℕ) → IsMatchRun e from run → n < length run → IsMatchRun e (place run n) (drop n run)
-match_drop e from run n m l = record {
-  is_run = record {
-    places = λ k h. rw (get_or-drop n run k (0, 0)) (m.is_run.places (n + k) (omega (arith, h, length-drop n run)));
-    steps = λ k h.
-        let same : n + (k + 1) ≡ n + k + 1 = omega arith in
-        rw (get_or-drop n run k (0, 0), get_or-drop n run (k + 1) (0, 0), same) (m.is_run.steps (n + k) (omega (arith, h, length-drop n run)));
-  };
-  some = omega (arith, l, length-drop n run);
-  begins = let same : n + 0 ≡ n = omega arith in get_or-drop n run 0 (0, 0) ∙ ap (λ (i : ℕ). place run i) same;
-  ends = let same : n + (length (drop n run) - 1) ≡ length run - 1 = omega (arith, l, length-drop n run) in
-      rw (get_or-drop n run (length (drop n run) - 1) (0, 0), same) m.ends;
-}
 
 pub preferred-more : (e : Search) (from : ℕ × ℕ) (seen : ℕ × ℕ → Bool) (run : List (ℕ × ℕ)) (others : List (Option ℕ)) (p : ℕ × ℕ)
     → IsTrail e from run others → IsOnward e from run p → IsExplored e from seen run others (Some p) → seen p ≡ false → accepts e p ≡ true
@@ -342,32 +404,35 @@ preferred-more e from seen run others p t n x fresh accepted = record {
 some_fork : (a b c d : ℕ) → Some (Fork a b) ≡ Some (Fork c d) → a ≡ c
 some_fork a b c d h = cc
 
-no_way : (q : ℕ × ℕ) → None ≡ Some q → (a : ℕ) → q.0 ≡ a
-no_way q h a = absurd (none_is_none q h)
-
 pub StandsAfter-more : (e : Search) (from : ℕ × ℕ) (seen after : ℕ × ℕ → Bool) (run : List (ℕ × ℕ)) (others : List (Option ℕ)) (p : ℕ × ℕ) (step : Move)
     → IsTrail e from run others → IsOnward e from run p → IsExplored e from seen run others (Some p) → IsSeenMore e seen p after → IsMove e p step
     → StandsAfter e from p after (run ++ p ∷ []) (others ++ other_of step ∷ []) step
 StandsAfter-more e from seen after run others p Fails t n x g m = (
   IsTrail-more e from run others p None t n (λ b h. absurd (none_is_number b h)),
-  explored-more e from seen after run others p None None t x g m.0 (λ q l. absurd (m.1 q l)) (λ q h a b fork. no_way q h a),
+  explored-more e from seen after run others p None None t x g m.0 (λ q l. inl (m.1 q l)) (λ q h a b fork. absurd (none_is_none q h)),
 )
 StandsAfter-more e from seen after run others p (Goes s i) t n x g m = (
   IsTrail-more e from run others p None t n (λ b h. absurd (none_is_number b h)),
   IsOnward-more e from run p (s, i) (m.1, omega (arith, n.there.1, m.4), m.2) m.3,
   explored-more e from seen after run others p None (Some (s, i)) t x g m.0
-      (λ q l. inr (ap (λ (r : ℕ × ℕ). Some r) (pair_is q s i (m.5 q l).0 (m.5 q l).1)))
-      (λ q h a b fork. ap (λ (r : ℕ × ℕ). r.0) (sym (some_same (s, i) q h)) ∙ sym (m.5 (a, p.1) (fork_leads e p a b fork)).0),
+      (λ q l. ⊎_elim
+      (λ (same : (q.0 ≡ s) × (q.1 ≡ i)). inr (inr (ap (λ (r : ℕ × ℕ). Some r) (pair_is q s i same.0 same.1))))
+      (λ (futile : IsFutile e q). inl futile)
+      (m.5 q l))
+      (λ q h a b fork. ⊎_elim
+      (λ (same : s ≡ a). inl (ap (λ (r : ℕ × ℕ). r.0) (sym (some_same (s, i) q h)) ∙ same))
+      (λ (futile : IsFutile e (a, p.1)). inr futile)
+      (m.6 a b fork)),
 )
 StandsAfter-more e from seen after run others p (Forks a b) t n x g m = (
   IsTrail-more e from run others p (Some b) t n (λ c h. (rw (← same_number b c h) m.2, rw (← same_number b c h) m.4)),
   IsOnward-more e from run p (a, p.1) (m.1, n.there.1, n.there.2) m.3,
   explored-more e from seen after run others p (Some b) (Some (a, p.1)) t x g m.0
       (λ q l. ⊎_elim
-      (λ (first : q.0 ≡ a). inr (ap (λ (r : ℕ × ℕ). Some r) (pair_is q a p.1 first (m.5 q l).1)))
-      (λ (second : q.0 ≡ b). inl (ap (λ (c : ℕ). Some c) (sym second), (m.5 q l).1))
+      (λ (first : q.0 ≡ a). inr (inr (ap (λ (r : ℕ × ℕ). Some r) (pair_is q a p.1 first (m.5 q l).1))))
+      (λ (second : q.0 ≡ b). inr (inl (ap (λ (c : ℕ). Some c) (sym second), (m.5 q l).1)))
       (m.5 q l).0)
-      (λ q h c d fork. ap (λ (r : ℕ × ℕ). r.0) (sym (some_same (a, p.1) q h)) ∙ some_fork a b c d (sym m.6 ∙ fork)),
+      (λ q h c d fork. inl (ap (λ (r : ℕ × ℕ). r.0) (sym (some_same (a, p.1) q h)) ∙ some_fork a b c d (sym m.6 ∙ fork))),
 )
 StandsAfter-more e from seen after run others p Accepts t n x g m = preferred-more e from seen run others p t n x g.fresh m
 
@@ -469,6 +534,12 @@ IsLess-flags v n others other step l none = go step
     go (Forks a b) = less
     go Accepts = less
 
+pub IsLess-before : (after before first : ℕ) (step : Move) → after ≤ before → IsLess before first step → IsLess after first step
+IsLess-before after before first Fails le l = omega (arith, le, l)
+IsLess-before after before first (Goes s i) le l = omega (arith, le, l)
+IsLess-before after before first (Forks a b) le l = omega (arith, le, l)
+IsLess-before after before first Accepts le l = omega (arith, le, l)
+
 -- what was seen after the place that is next is done: the trail comes to no later position
 pub beyond : (e : Search) (from : ℕ × ℕ) (seen after : ℕ × ℕ → Bool) (run : List (ℕ × ℕ)) (others : List (Option ℕ)) (p : ℕ × ℕ)
     → IsTrail e from run others → IsOnward e from run p → IsExplored e from seen run others (Some p) → IsSeenMore e seen p after
@@ -477,7 +548,7 @@ beyond e from seen after run others p t n x g q there later s = ⊎_elim
     (λ (same : q ≡ p). absurd (omega (arith, later, ap (λ (r : ℕ × ℕ). r.1) same)))
     (λ (h : seen q ≡ true). ⊎_elim
     (λ (on : IsOn run q). absurd (omega (arith, later, ap (λ (r : ℕ × ℕ). r.1) on.2, rises on.0 on.1)))
-    (λ (d : IsDone e seen q). record { no_match = d.no_match; steps = λ r here l. g.kept r here (d.steps r here l) })
+    (λ (d : IsDone e seen q). record { no_match = d.no_match; steps = λ r here l. kept_settled e seen after r (g.kept r here) (d.steps r here l) })
     (x.off q there h))
     (g.only q there s)
   where
@@ -506,7 +577,8 @@ closed_from e i old new first states end is count beyond out kept p there from s
     let d : IsDone e (is_flagged e old) p = beyond p there later (sym (kept (number_in e p) (below p there later)) ∙ s) in
     record {
       no_match = d.no_match;
-      steps = λ q here l. kept (number_in e q) (below q here (omega (arith, later, leads-rises e p q l))) ∙ d.steps q here l;
+      steps = λ q here l. kept_settled e (is_flagged e old) (is_flagged e new) q
+          (λ was. kept (number_in e q) (below q here (omega (arith, later, leads-rises e p q l))) ∙ was) (d.steps q here l);
     })
     (cases_eq p.1 i)
   where
@@ -526,7 +598,21 @@ ends_there run p = place-after run p (length (run ++ p ∷ []) - 1) (omega (arit
 pub later_start : (e : Search) (i : ℕ) (seen : ℕ × ℕ → Bool) → e.start ≤ i → IsClosedFrom e i seen → IsClosed (record e { start = i }) seen
 later_start e i seen up closed p there s =
     let d : IsDone e seen p = closed p (there.0, omega (arith, up, there.1), there.2) there.1 s in
-    record { no_match = d.no_match; steps = λ q here leads. d.steps q (here.0, omega (arith, up, here.1), here.2) leads }
+    record {
+      no_match = d.no_match;
+      steps = λ q here leads none run m. d.steps q (here.0, omega (arith, up, here.1), here.2) leads none run (earlier q run m);
+    }
+  where
+    earlier : (q : ℕ × ℕ) (run : List (ℕ × ℕ)) → IsMatchRun (record e { start = i }) q run → IsMatchRun e q run
+    earlier q run m = record {
+      is_run = record {
+        places = λ k l. let here = m.is_run.places k l in (here.0, omega (arith, up, here.1), here.2);
+        steps = m.is_run.steps;
+      };
+      some = m.some;
+      begins = m.begins;
+      ends = m.ends;
+    }
 
 pub even_later : (e : Search) (i : ℕ) (seen : ℕ × ℕ → Bool) → e.start ≤ i → IsClosed e seen → IsClosed (record e { start = i }) seen
 even_later e i seen up closed = later_start e i seen up (λ p there from s. closed p there s)

@@ -5,7 +5,7 @@ use Rattle.std.proofs.Math.Seq.{drop-length}
 use Rattle.rsc_look.specs.declared.assertion.Look.{Look}
 use Rattle.rsc_nfa.specs.declared.state.State.{State}
 use Rattle.rsc_nfa.specs.declared.state.State.TheVariants.{ByteRange, Assert, Fork, Capture}
-use Rattle.rsc_engine.specs.Patterns.{Pattern, Empty, Never, Class, Literal, Assertion, Then, Either, Repeat, Subject, Goes}
+use Rattle.rsc_engine.specs.Patterns.{Pattern, Empty, Never, Class, Literal, Assertion, Then, Either, Repeat, one_of, Subject, Goes}
 use Rattle.rsc_engine.specs.LinksLayout.{Adds, Builds, IsAdded, IsChoice, Realizes, copies, up_to}
 use Rattle.rsc_engine.proofs.LinksLayoutLemmas.{Realizes-never, Realizes-range, Realizes-assert, Realizes-capture, Realizes-is, Realizes-then, Realizes-either, Realizes-choice, Realizes-star, Realizes-plus}
 use Rattle.rsc_engine.proofs.PatternsLemmas.{class-is, class-back, literal-is, literal-back, star-is, star-back, limited-is, limited-back, unlimited-is, unlimited-back}
@@ -131,6 +131,14 @@ Builds-either old middle last new one other id next p q x y a =
     (λ (all : List State). Realizes all other next q × Realizes all one next p) x y (λ all b c. (b, c)))
     (Adds-one last new (Fork one other) id a) (λ all b is. Realizes-either all id one other next p q is b.1 b.0)
 
+-- a part before others
+pub Builds-one_of : (old middle last new : List State) (one other id next : ℕ) (p : Pattern) (rest : List Pattern) → 0 < length rest
+    → Builds old middle other next (one_of rest) → Builds middle last one next p → IsAdded last new (Fork one other) id
+    → Builds old new id next (one_of (p ∷ rest))
+Builds-one_of old middle last new one other id next p [] some x y a = absurd (omega (arith, some))
+Builds-one_of old middle last new one other id next p (q ∷ rest) some x y a =
+    Builds-either old middle last new one other id next p (one_of (q ∷ rest)) x y a
+
 -- a range before others, in a class
 pub Builds-class : (old middle last new : List State) (x y one other id next : ℕ) (rest : List (ℕ × ℕ)) → Builds old middle other next (Class rest)
     → IsAdded middle last (ByteRange x y next) one → IsAdded last new (Fork one other) id → Builds old new id next (Class ((x, y) ∷ rest))
@@ -230,6 +238,12 @@ drop-last xs i d some l =
 
 pub drop-one : {A : Type 0} (xs : List A) (d : A) → 0 < length xs → drop (length xs - 1) xs ≡ get_or xs (length xs - 1) d ∷ []
 drop-one {A = A} xs d some = drop-last xs (length xs) d some (omega arith) ∙ ap (λ (ys : List A). get_or xs (length xs - 1) d ∷ ys) (drop-length xs)
+
+-- without a part there is no match
+pub Builds-nothing : (old new : List State) (first next : ℕ) (parts : List Pattern) → length parts ≡ 0 → Builds old new first next Never
+    → Builds old new first next (one_of parts)
+Builds-nothing old new first next [] none x = x
+Builds-nothing old new first next (p ∷ rest) none x = absurd (omega (arith, none))
 
 -- a class without a range has no byte
 pub Builds-none : (old new : List State) (first next : ℕ) (ranges : List (ℕ × ℕ)) → length ranges ≡ 0 → Builds old new first next Never

@@ -4,7 +4,7 @@ use Rattle.std.specs.Int.{bit_at}
 use Rattle.std.proofs.lemmas.Bool.{cases_lt, cases_eq}
 use Rattle.std.proofs.lemmas.Nat.Bits.{bit_at-zero}
 use Rattle.std.proofs.lemmas.Grind.{get_or-set_at}
-use Rattle.std.proofs.lemmas.List.{get_or-replicate, length-replicate, get_or_past, get_or-set_other, length-set, ext_get_or}
+use Rattle.std.proofs.lemmas.List.{get_or-replicate, length-replicate, get_or_past, get_or-set_other, length-set, set-set, ext_get_or}
 use Rattle.std.proofs.lemmas.List.FromFn.{get_or-map-range_with_len, length-map-range_with_len}
 use Rattle.rsc_engine.specs.FlagsLayout.{flag_in, flags_of}
 
@@ -73,6 +73,55 @@ set_flag count blocks n b l room here kept =
         (λ (apart : (k ≡ n) → ⊥). flag_other blocks n b k within (λ j _. kept j) apart ∙ sym (flag_is count blocks k h)
         ∙ sym (get_or-set_other (flags_of count blocks) n k true false apart))
         (cases_eq k n)
+
+-- a bit that isn't set is a flag that isn't
+pub flag_out : (v : List Bool) (count : ℕ) (blocks : List ℕ) (n i block : ℕ) → flags_of count blocks ≡ v → n < length v → n / 64 ≡ i
+    → block ≡ get_or blocks i 0 → (bit_at block (n % 64) == 1) ≡ false → get_or v n false ≡ false
+flag_out v count blocks n i block view l same read out =
+    ap (λ (x : List Bool). get_or x n false) (sym view)
+    ∙ flag_is count blocks n (omega (arith, l, length_is v count blocks view))
+    ∙ ap (λ (k : ℕ). bit_at (get_or blocks k 0) (n % 64) == 1) same
+    ∙ ap (λ (x : ℕ). bit_at x (n % 64) == 1) (sym read)
+    ∙ out
+
+-- to set three bits of one block is to set three flags
+pub set_flags : (count : ℕ) (blocks : List ℕ) (a b c one two three : ℕ) → a < count → b < count → c < count → count ≤ 64 * length blocks
+    → b / 64 ≡ a / 64 → c / 64 ≡ a / 64
+    → bit_at one (a % 64) ≡ 1 → ((j : ℕ) → j ≢ a % 64 → bit_at one j ≡ bit_at (get_or blocks (a / 64) 0) j)
+    → bit_at two (b % 64) ≡ 1 → ((j : ℕ) → j ≢ b % 64 → bit_at two j ≡ bit_at one j)
+    → bit_at three (c % 64) ≡ 1 → ((j : ℕ) → j ≢ c % 64 → bit_at three j ≡ bit_at two j)
+    → flags_of count (set blocks (a / 64) three) ≡ set (set (set (flags_of count blocks) a true) b true) c true
+set_flags count blocks a b c one two three la lb lc room with_b with_c here kept here_b kept_b here_c kept_c =
+    ap (λ (x : List ℕ). flags_of count x) (sym whole)
+    ∙ set_flag count second c three lc (rw (length-set first (b / 64) two) room_first) here_c
+    (λ j h. kept_c j h ∙ ap (λ (x : ℕ). bit_at x j) (sym read_c))
+    ∙ ap (λ (v : List Bool). set v c true) (set_flag count first b two lb room_first here_b
+    (λ j h. kept_b j h ∙ ap (λ (x : ℕ). bit_at x j) (sym read_b))
+    ∙ ap (λ (v : List Bool). set v b true) (set_flag count blocks a one la room here kept))
+  where
+    first : List ℕ
+    first = set blocks (a / 64) one
+
+    second : List ℕ
+    second = set first (b / 64) two
+
+    within : a / 64 < length blocks
+    within = omega (arith, la, room)
+
+    room_first : count ≤ 64 * length first
+    room_first = rw (length-set blocks (a / 64) one) room
+
+    read_b : get_or first (b / 64) 0 ≡ one
+    read_b = get_or-set_at blocks (a / 64) (b / 64) one 0 with_b (omega (arith, within, with_b))
+
+    read_c : get_or second (c / 64) 0 ≡ two
+    read_c = get_or-set_at first (b / 64) (c / 64) two 0 (with_c ∙ sym with_b) (omega (arith, within, with_c, length-set blocks (a / 64) one))
+
+    whole : set second (c / 64) three ≡ set blocks (a / 64) three
+    whole = ap (λ (i : ℕ). set (set first i two) (c / 64) three) with_b
+        ∙ ap (λ (i : ℕ). set (set first (a / 64) two) i three) with_c
+        ∙ set-set first (a / 64) two three
+        ∙ set-set blocks (a / 64) one three
 
 -- where a bit is kept, so is its flag
 pub kept_all : (count now : ℕ) (blocks new : List ℕ) (n : ℕ) → now ≡ count → flag_in new n ≡ flag_in blocks n

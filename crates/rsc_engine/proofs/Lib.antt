@@ -1,8 +1,11 @@
-pub mod GroupsLayoutLemmas  -- what a run records, from its end on
+pub mod GroupsLayoutLemmas  -- what a trail's run records, from its end on
 pub mod FlagsLayoutLemmas  -- flags, by the bits of their blocks
 pub mod WalksLayoutLemmas  -- a trail grows by a place and goes back to one
 pub mod StartsLayoutLemmas  -- no match begins with a byte that isn't marked
 pub mod BacktrackLemmas  -- what is known of the places that were seen, from visit to visit
+pub mod RunsLemmas  -- what a run records is between its first position and its last
+pub mod TrailsLayoutLemmas  -- the stops of a trail, as it grows and goes back
+pub mod TurnsLemmas  -- turns of a loop, one after the other
 pub mod NextMatchesLemmas  -- which match is next, as the search's start moves on
 pub mod RowsLayoutLemmas  -- a row at a position is exact, and so is the next one
 pub mod NeededLayoutLemmas  -- no match is where no byte of the one range is directly after one of the other

@@ -86,8 +86,8 @@ IsMatchRun-more e from run others p t n accepted = record {
 
 -- ---- back to a place
 
--- the last place is dropped
-pub IsTrail-less : (e : Search) (from : ℕ × ℕ) (run : List (ℕ × ℕ)) (others : List (Option ℕ)) (n m : ℕ) → IsTrail e from run others → n < length run → n ≡ m
+-- the last places are dropped
+pub IsTrail-less : (e : Search) (from : ℕ × ℕ) (run : List (ℕ × ℕ)) (others : List (Option ℕ)) (n m : ℕ) → IsTrail e from run others → n ≤ length run → n ≡ m
     → IsTrail e from (take n run) (take m others)
 IsTrail-less e from run others n m t l same = record {
   as_many = omega (arith, length-take-le n run (omega arith), length-take-le m others (omega (arith, t.as_many)));
@@ -96,7 +96,7 @@ IsTrail-less e from run others n m t l same = record {
     steps = λ k h. rw (get_or-take n run k (0, 0) (omega (arith, at_most (k + 1) h)), get_or-take n run (k + 1) (0, 0) (at_most (k + 1) h))
         (t.is_run.steps k (omega (arith, at_most (k + 1) h)));
   };
-  begins = λ some. get_or-take n run 0 (0, 0) (at_most 0 some) ∙ t.begins (omega arith);
+  begins = λ some. get_or-take n run 0 (0, 0) (at_most 0 some) ∙ t.begins (omega (arith, at_most 0 some, l));
   ways = λ k b h at.
       let below : k < m = omega (arith, h, length-take-le m others (omega (arith, t.as_many))) in
       rw (get_or-take n run k (0, 0) (omega (arith, below)))

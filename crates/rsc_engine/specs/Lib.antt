@@ -8,6 +8,7 @@ pub mod Preferred  -- which match is first
 pub mod NextMatches  -- which match is next; `last` is where the last one ended, if there was one
 pub mod MovesLayout  -- what a state does at a position
 pub mod WalksLayout  -- what a backtracker has on hand
+pub mod TrailsLayout  -- a trail: which places each of its visits stands for, and which other ways are left to try there
 pub mod Patterns  -- what a pattern matches, and which programs match it
 pub mod Parts  -- which pattern a part is, and which groups it has
 pub mod LinksLayout  -- how the states of a part lead on

@@ -1,12 +1,12 @@
 -- Which match is next; `last` is where the last one ended, if there was one.
-use Rattle.std.specs.Prelude.{◌≡◌, ℕ, ◌-◌, ◌<◌, ◌≤◌, ◌⊎◌, true, List, length, Option, Some}
+use Rattle.std.specs.Prelude.{◌≡◌, ℕ, ◌-◌, ◌<◌, ◌≤◌, ◌⊎◌, Bool, true, List, [], ◌∷◌, length, Option, Some}
 use Rattle.rsc_nfa.specs.Steps.{place}
 use Rattle.rsc_primitives.specs.Decoding.{IsBoundary}
 use Rattle.rsc_search.specs.declared.anchored.Anchored.TheVariants.{No}
 use Rattle.rsc_search.specs.Inputs.{InputParts}
 use Rattle.rsc_search.specs.Matches.{Matched}
 use Rattle.rsc_captures.specs.Captured.{Captured}
-use Rattle.rsc_engine.specs.Searches.{Search, Compiled}
+use Rattle.rsc_engine.specs.Searches.{Search, Compiled, search_in}
 use Rattle.rsc_engine.specs.Runs.{HasNoMatch}
 use Rattle.rsc_engine.specs.Preferred.{IsPreferred, IsOf}
 
@@ -74,3 +74,16 @@ pub record Left (W : Type 0) : Type 0 where
 -- the input from another start on
 abbrev pub from_start : InputParts → ℕ → InputParts
 from_start input at = record input { span = record { start = at; end = input.span.end } }
+
+-- what is left after a match
+abbrev pub after : {W : Type 0} → Left W → Matched → Left W
+after left found = record { program = left.program; input = from_start left.input found.span.end; last = Some found.span.end }
+
+-- of what is left the match is the next one, in some captures
+abbrev pub IsNextOf : {W : Type 0} → (W → ℕ → Bool) → Left W → Matched → Type 0
+IsNextOf chars left found = (captures : Captured) × IsNextMatch (search_in chars left.program left.input) left.last captures found
+
+-- these are all matches of what is left, in order: each is the next one after those before it, and after the last there is none
+abbrev pub AreAll : {W : Type 0} → (W → ℕ → Bool) → Left W → List Matched → Type 0
+AreAll chars left [] = IsOver (search_in chars left.program left.input) left.last
+AreAll chars left (found ∷ rest) = IsNextOf chars left found × AreAll chars (after left found) rest

@@ -1,7 +1,7 @@
 -- Which pattern a part is, and which groups it has.
 use Rattle.std.specs.Prelude.{List, [], ◌∷◌, map, None}
 use Rattle.rsc_captures.specs.Groups.{Groups, GroupLists, groups_in}
-use Rattle.rsc_engine.specs.Patterns.{Pattern, Empty, Never, Class, Literal, Assertion, Then, Either, Repeat, in_order}
+use Rattle.rsc_engine.specs.Patterns.{Pattern, Empty, Never, Class, Literal, Assertion, Then, Either, Repeat, in_order, one_of}
 use Rattle.rsc_engine.specs.declared.builder.tree.Tree.{Tree}
 use Rattle.rsc_engine.specs.declared.builder.tree.Tree.TheOpen.{Tree-F}
 use Rattle.rsc_engine.specs.declared.builder.tree.Tree.TheFolds.{fold-Tree}
@@ -19,6 +19,7 @@ pattern_of_node (Tree-F.Assertion look) = Assertion look
 pattern_of_node (Tree-F.Then one other) = Then one.value other.value
 pattern_of_node (Tree-F.Concat parts) = in_order parts.items
 pattern_of_node (Tree-F.Either one other) = Either one.value other.value
+pattern_of_node (Tree-F.OneOf parts) = one_of parts.items
 pattern_of_node (Tree-F.Repeat times part) = Repeat times.min times.max part.value
 pattern_of_node (Tree-F.Group groups part) = part.value
 

@@ -33,6 +33,12 @@ abbrev pub in_order : List Pattern → Pattern
 in_order [] = Empty
 in_order (p ∷ rest) = Then p (in_order rest)
 
+-- one of these
+abbrev pub one_of : List Pattern → Pattern
+one_of [] = Never
+one_of (p ∷ []) = p
+one_of (p ∷ (q ∷ rest)) = Either p (one_of (q ∷ rest))
+
 -- a haystack, and what assertions ask besides: the line terminator and the word characters
 pub record Subject : Type 0 where
   pub haystack : List ℕ

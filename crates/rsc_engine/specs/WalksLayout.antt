@@ -25,10 +25,18 @@ pub record IsOnward (e : Search) (from : ℕ × ℕ) (run : List (ℕ × ℕ)) (
 abbrev pub IsOn : List (ℕ × ℕ) → ℕ × ℕ → Type 0
 IsOn run p = (k : ℕ) × (k < length run) × (place run k ≡ p)
 
--- the place is no match, and each step from it leads to a place that was seen
+-- no run leads from the place to a match
+abbrev pub IsFutile : Search → ℕ × ℕ → Type 0
+IsFutile e p = (run : List (ℕ × ℕ)) → ¬ (IsMatchRun e p run)
+
+-- the place was seen, or no match is reached from it
+abbrev pub IsSettled : Search → (ℕ × ℕ → Bool) → ℕ × ℕ → Type 0
+IsSettled e seen p = seen p ≡ false → IsFutile e p
+
+-- the place is no match, and each step from it leads to a place that is settled
 pub record IsDone (e : Search) (seen : ℕ × ℕ → Bool) (p : ℕ × ℕ) : Type 0 where
   pub no_match : accepts e p ≡ false
-  pub steps : (q : ℕ × ℕ) → IsPlace e q → Leads e p q → seen q ≡ true
+  pub steps : (q : ℕ × ℕ) → IsPlace e q → Leads e p q → IsSettled e seen q
 
 -- each place that was seen is done
 abbrev pub IsClosed : Search → (ℕ × ℕ → Bool) → Type 0
@@ -49,12 +57,12 @@ IsFirstWay e run p q = (a b : ℕ) → slice_get e.states p.0 ≡ Some (Fork a b
 -- what is known of the places that were seen, while a run, the other ways at its places, and maybe the place that is next, are left to try
 pub record IsExplored (e : Search) (from : ℕ × ℕ) (seen : ℕ × ℕ → Bool) (run : List (ℕ × ℕ)) (others : List (Option ℕ)) (next : Option (ℕ × ℕ)) : Type 0 where
   pub there : IsPlace e from
-  pub begun : (seen from ≡ true) ⊎ (next ≡ Some from)
+  pub begun : IsSettled e seen from ⊎ (next ≡ Some from)
   pub on : (k : ℕ) → k < length run → seen (place run k) ≡ true
   pub off : (p : ℕ × ℕ) → IsPlace e p → seen p ≡ true → IsOn run p ⊎ IsDone e seen p
   pub no_match : (k : ℕ) → k < length run → accepts e (place run k) ≡ false
   pub ways : (k : ℕ) (q : ℕ × ℕ) → k < length run → IsPlace e q → Leads e (place run k) q
-      → (seen q ≡ true) ⊎ (((slice_index_or others k None ≡ Some q.0) × (q.1 ≡ (place run k).1)) ⊎ (next ≡ Some q))
+      → IsSettled e seen q ⊎ (((slice_index_or others k None ≡ Some q.0) × (q.1 ≡ (place run k).1)) ⊎ (next ≡ Some q))
   pub once : IsOnce run
   pub firsts : (k : ℕ) → k + 1 < length run → IsFirstWay e (take (k + 1) run) (place run k) (place run (k + 1))
   pub last : (q : ℕ × ℕ) → next ≡ Some q → 0 < length run → IsFirstWay e run (place run (length run - 1)) q

@@ -9,11 +9,15 @@ ghost use Rattle.rsc_engine.specs.Runs.{HasNoMatch};
 ghost use Rattle.rsc_engine.specs.Ends.{BeginsFrom};
 ghost use Rattle.rsc_engine.specs.StartsLayout.{AreStarts};
 ghost use Rattle.rsc_engine.specs.Preferred.{IsPreferred, IsLeftmostFirst, HasNone};
-ghost use Rattle.rsc_engine.specs.WalksLayout.{AreEnough, HasFlags, IsTrail, IsOnward, IsClosed, IsClosedFrom, IsExplored, is_flagged, StandsAfter, IsLess, left_to_do};
+ghost use Rattle.rsc_engine.specs.WalksLayout.{AreEnough, HasFlags, IsClosed, IsClosedFrom, IsSettled, is_flagged, IsLess};
+ghost use Rattle.rsc_engine.specs.TrailsLayout.{run_of, others_of, ends_at, HasTrail, IsOnwardFrom, IsExploredBy, StandsWith, left_with};
 
 use crate::flags::Flags;
 use crate::moves::{Move, move_of, other_way};
+use crate::numbers::{first_after, number_of};
 use crate::starts::Starts;
+use crate::trail::{Visit, exit_of};
+use crate::turns::go_round;
 use crate::{Error, Program};
 use rsc_look::WordClass;
 use rsc_primitives::StateID;
@@ -25,10 +29,8 @@ use std::alloc::Global;
 pub struct Walk {
     // Where the run begins.
     from: (StateID, usize),
-    /// The run so far.
-    pub run: Vec<(StateID, usize)>,
-    // At each place of the run the other way that is left to try.
-    others: Vec<Option<StateID>>,
+    /// The run so far, and the other ways that are left to try at its places.
+    pub trail: Vec<Visit>,
     /// A flag for each state and position: no match was found from there, or it's on the run.
     pub visited: Flags,
 }
@@ -40,8 +42,7 @@ impl Walk {
     {
         Walk {
             from: (start, 0),
-            run: Vec::new(alloc),
-            others: Vec::new(alloc),
+            trail: Vec::new(alloc),
             visited: Flags::none(alloc),
         }
     }
@@ -53,12 +54,19 @@ impl Walk {
         ensures forgets { IfErr result (λ e. (n : ℕ) → slice_index_or self.new.visited n false ≡ false) }
         ensures memory { IfErr result (λ e. e ≡ OutOfMemory) }
     {
-        let len = self.visited.len();
-        if len != places {
-            self.visited.clear(0, len);
-            self.visited = Flags::new(alloc, places)?;
+        if self.visited.len() != places {
+            self.visited.renew(alloc, places)?;
         }
         Ok(())
+    }
+
+    /// Makes that many flags, none of them set.
+    pub fn reopen(&mut self, alloc: Global, places: usize) -> Result<(), Error>
+        ensures room { OnOk result (length self.new.visited ≡ places) }
+        ensures closed { (e : Search) → IsClosed e (is_flagged e self.new.visited) }
+        ensures memory { IfErr result (λ e. e ≡ OutOfMemory) }
+    {
+        self.visited.renew(alloc, places)
     }
 
     /// Whether a match begins in the input's span, in which none does before a position. If so, the walk has its run.
@@ -76,10 +84,11 @@ impl Walk {
         ensures room { HasFlags (search_in W.word_chars program.now input.now) self.new.visited }
         ensures size { length self.new.visited ≡ length self.old.visited }
         ensures memory { IfErr result (λ e. e ≡ OutOfMemory) }
-        ensures found { IfOk result (λ found. found ≡ true → IsLeftmostFirst (search_in W.word_chars program.now input.now) self.new.run.items) }
+        ensures found { IfOk result (λ found. found ≡ true →
+            IsLeftmostFirst (search_in W.word_chars program.now input.now) (run_of program.now.automaton.states self.new.trail.items)) }
         ensures none { IfOk result (λ found. found ≡ false → HasNone (search_in W.word_chars program.now input.now)) }
         ensures after { IfOk result (λ found. found ≡ true → IsClosedFrom (search_in W.word_chars program.now input.now)
-            (place self.new.run.items (length self.new.run.items - 1)).1 (is_flagged (search_in W.word_chars program.now input.now) self.new.visited)) }
+            (ends_at program.now.automaton.states self.new.trail.items) (is_flagged (search_in W.word_chars program.now input.now) self.new.visited)) }
         ensures closed { IfOk result (λ found. found ≡ false → IsClosed (search_in W.word_chars program.now input.now)
             (is_flagged (search_in W.word_chars program.now input.now) self.new.visited)) }
         ensures forgets { IfErr result (λ e. (n : ℕ) → slice_index_or self.new.visited n false ≡ false) }
@@ -120,9 +129,9 @@ impl Walk {
         ensures size { length self.new.visited ≡ length self.old.visited }
         ensures memory { IfErr result (λ e. e ≡ OutOfMemory) }
         ensures found { IfOk result (λ found. found ≡ true →
-            IsPreferred (search_in W.word_chars program.now input.now) (program.now.start, at) self.new.run.items) }
+            IsPreferred (search_in W.word_chars program.now input.now) (program.now.start, at) (run_of program.now.automaton.states self.new.trail.items)) }
         ensures after { IfOk result (λ found. found ≡ true → IsClosedFrom (search_in W.word_chars program.now input.now)
-            (place self.new.run.items (length self.new.run.items - 1)).1 (is_flagged (search_in W.word_chars program.now input.now) self.new.visited)) }
+            (ends_at program.now.automaton.states self.new.trail.items) (is_flagged (search_in W.word_chars program.now input.now) self.new.visited)) }
         ensures none { IfOk result (λ found. found ≡ false → HasNoMatch (search_in W.word_chars program.now input.now) at) }
         ensures closed { IfOk result (λ found. found ≡ false → IsClosed (search_in W.word_chars program.now input.now)
             (is_flagged (search_in W.word_chars program.now input.now) self.new.visited)) }
@@ -149,21 +158,20 @@ impl Walk {
         ensures size { length self.new.visited ≡ length self.old.visited }
         ensures memory { IfErr result (λ e. e ≡ OutOfMemory) }
         ensures found { IfOk result (λ found. found ≡ true →
-            IsPreferred (search_in W.word_chars program.now input.now) (program.now.start, at) self.new.run.items) }
+            IsPreferred (search_in W.word_chars program.now input.now) (program.now.start, at) (run_of program.now.automaton.states self.new.trail.items)) }
         ensures after { IfOk result (λ found. found ≡ true → IsClosedFrom (search_in W.word_chars program.now input.now)
-            (place self.new.run.items (length self.new.run.items - 1)).1 (is_flagged (search_in W.word_chars program.now input.now) self.new.visited)) }
+            (ends_at program.now.automaton.states self.new.trail.items) (is_flagged (search_in W.word_chars program.now input.now) self.new.visited)) }
         ensures none { IfOk result (λ found. found ≡ false → HasNoMatch (search_in W.word_chars program.now input.now) at) }
         ensures closed { IfOk result (λ found. found ≡ false → IsClosed (search_in W.word_chars program.now input.now)
             (is_flagged (search_in W.word_chars program.now input.now) self.new.visited)) }
     {
         let start = program.start();
         self.from = (start, at);
-        self.run.clear();
-        self.others.clear();
+        self.trail.clear();
         let mut sid = start;
         let mut position = at;
         'moves: loop {
-            let step = self.visit(program, input, (sid, position))?;
+            let (step, here) = self.visit(program, input, (sid, position))?;
             match step {
                 Move::Accepts => {
                     self.forget(program, input, position);
@@ -173,7 +181,10 @@ impl Walk {
                     sid = next;
                     position = after;
                 }
-                Move::Forks(first, _) => sid = first,
+                Move::Forks(first, _) => {
+                    sid = first;
+                    position = here;
+                }
                 Move::Fails => {
                     let Some((other, before)) = self.turn_back(program, input) else {
                         return Ok(false);
@@ -185,56 +196,50 @@ impl Walk {
         }
     }
 
-    // Puts a place at the end of the run, unless it was visited before.
+    // Puts a place at the end of the run, and from a loop's fork turns of the loop, unless no step leads on from there, or it was visited before.
+    // Answers the step, and at which position it's made.
     fn visit<W: WordClass>(
         &mut self,
         program: &Program<W>,
         input: &Input<'_>,
         next: (StateID, usize),
-    ) -> Result<Move, Error>
+    ) -> Result<(Move, usize), Error>
         requires room { HasFlags (search_in W.word_chars program.now input.now) self.old.visited }
-        requires trail { IsTrail (search_in W.word_chars program.now input.now) self.old.from self.old.run.items self.old.others.items }
-        requires next { IsOnward (search_in W.word_chars program.now input.now) self.old.from self.old.run.items next }
-        requires explored { IsExplored (search_in W.word_chars program.now input.now) self.old.from
-            (is_flagged (search_in W.word_chars program.now input.now) self.old.visited) self.old.run.items self.old.others.items (Some next) }
+        requires trail { HasTrail (search_in W.word_chars program.now input.now) self.old.from self.old.trail.items }
+        requires next { IsOnwardFrom (search_in W.word_chars program.now input.now) self.old.from self.old.trail.items next }
+        requires explored { IsExploredBy (search_in W.word_chars program.now input.now) self.old.from self.old.visited self.old.trail.items (Some next) }
         ensures from { self.new.from ≡ self.old.from }
         ensures room { HasFlags (search_in W.word_chars program.now input.now) self.new.visited }
         ensures size { length self.new.visited ≡ length self.old.visited }
         ensures memory { IfErr result (λ e. e ≡ OutOfMemory) }
-        ensures after { IfOk result (StandsAfter (search_in W.word_chars program.now input.now) self.old.from next
-            (is_flagged (search_in W.word_chars program.now input.now) self.new.visited) self.new.run.items self.new.others.items) }
-        ensures beyond { IfOk result (λ step. step ≡ Accepts → IsClosedFrom (search_in W.word_chars program.now input.now) (next.1 + 1)
+        ensures after { IfOk result (λ made. StandsWith (search_in W.word_chars program.now input.now) self.old.from (next.0, made.1)
+            self.new.visited self.new.trail.items made.0) }
+        ensures beyond { IfOk result (λ made. made.0 ≡ Accepts → IsClosedFrom (search_in W.word_chars program.now input.now) (next.1 + 1)
             (is_flagged (search_in W.word_chars program.now input.now) self.new.visited)) }
-        ensures last { IfOk result (λ step. step ≡ Accepts → self.new.run.items ≡ self.old.run.items ++ next ∷ []) }
-        ensures less { IfOk result (IsLess (left_to_do self.new.visited self.new.others.items) (left_to_do self.old.visited self.old.others.items)) }
+        ensures last { IfOk result (λ made. made.0 ≡ Accepts →
+            run_of program.now.automaton.states self.new.trail.items ≡ run_of program.now.automaton.states self.old.trail.items ++ next ∷ []) }
+        ensures less { IfOk result (λ made. IsLess (left_with program.now.automaton.states self.new.visited self.new.trail.items)
+            (left_with program.now.automaton.states self.old.visited self.old.trail.items) made.0) }
     {
-        let number = number_of(
-            next.0,
-            input.end() - next.1,
-            program.len(),
-            self.visited.len(),
-        );
+        let (sid, start) = next;
+        let step = move_of(program, input, sid, start);
+        if let Move::Fails = step {
+            return Ok((Move::Fails, start));
+        }
+        let number = number_of(sid, input.end() - start, program.len(), self.visited.len());
         if self.visited.get(number) {
-            return Ok(Move::Fails);
+            return Ok((Move::Fails, start));
         }
         self.visited.set(number);
-        let step = move_of(program, input, next.0, next.1);
+        let at = go_round(&mut self.visited, program, input, sid, start, &step);
         let other = other_way(&step);
-        self.push(next, other)?;
-        Ok(step)
-    }
-
-    // Puts a place at the end of the run.
-    fn push(&mut self, place: (StateID, usize), other: Option<StateID>) -> Result<(), Error>
-        ensures from { self.new.from ≡ self.old.from }
-        ensures visited { self.new.visited ≡ self.old.visited }
-        ensures memory { IfErr result (λ e. e ≡ OutOfMemory) }
-        ensures run { OnOk result (self.new.run.items ≡ self.old.run.items ++ place ∷ []) }
-        ensures others { OnOk result (self.new.others.items ≡ self.old.others.items ++ other ∷ []) }
-    {
-        self.run.push(place)?;
-        self.others.push(other)?;
-        Ok(())
+        self.trail.push(Visit {
+            sid,
+            start,
+            at,
+            other,
+        })?;
+        Ok((step, at))
     }
 
     // Takes the places at a position out of the visited ones.
@@ -246,7 +251,7 @@ impl Walk {
             (is_flagged (search_in W.word_chars program.now input.now) self.old.visited) }
         ensures room { HasFlags (search_in W.word_chars program.now input.now) self.new.visited }
         ensures size { length self.new.visited ≡ length self.old.visited }
-        ensures run { self.new.run ≡ self.old.run }
+        ensures trail { self.new.trail ≡ self.old.trail }
         ensures after { IsClosedFrom (search_in W.word_chars program.now input.now) position
             (is_flagged (search_in W.word_chars program.now input.now) self.new.visited) }
     {
@@ -261,28 +266,40 @@ impl Walk {
         program: &Program<W>,
         input: &Input<'_>,
     ) -> Option<(StateID, usize)>
-        requires trail { IsTrail (search_in W.word_chars program.now input.now) self.old.from self.old.run.items self.old.others.items }
-        requires explored { IsExplored (search_in W.word_chars program.now input.now) self.old.from
-            (is_flagged (search_in W.word_chars program.now input.now) self.old.visited) self.old.run.items self.old.others.items None }
+        requires trail { HasTrail (search_in W.word_chars program.now input.now) self.old.from self.old.trail.items }
+        requires explored { IsExploredBy (search_in W.word_chars program.now input.now) self.old.from self.old.visited self.old.trail.items None }
         ensures from { self.new.from ≡ self.old.from }
         ensures visited { self.new.visited ≡ self.old.visited }
-        ensures explored { IfSome result (λ p. IsExplored (search_in W.word_chars program.now input.now) self.new.from
-            (is_flagged (search_in W.word_chars program.now input.now) self.new.visited) self.new.run.items self.new.others.items (Some p)) }
+        ensures explored { IfSome result (λ p.
+            IsExploredBy (search_in W.word_chars program.now input.now) self.new.from self.new.visited self.new.trail.items (Some p)) }
         ensures closed { result ≡ None → IsClosed (search_in W.word_chars program.now input.now)
             (is_flagged (search_in W.word_chars program.now input.now) self.new.visited) }
-        ensures begun { result ≡ None → is_flagged (search_in W.word_chars program.now input.now) self.new.visited self.new.from ≡ true }
-        ensures trail { IsTrail (search_in W.word_chars program.now input.now) self.new.from self.new.run.items self.new.others.items }
-        ensures next { IfSome result (IsOnward (search_in W.word_chars program.now input.now) self.new.from self.new.run.items) }
-        ensures fewer { IfSome result (λ p. count_by is_some self.new.others.items < count_by is_some self.old.others.items) }
+        ensures begun { result ≡ None → IsSettled (search_in W.word_chars program.now input.now)
+            (is_flagged (search_in W.word_chars program.now input.now) self.new.visited) self.new.from }
+        ensures trail { HasTrail (search_in W.word_chars program.now input.now) self.new.from self.new.trail.items }
+        ensures next { IfSome result (IsOnwardFrom (search_in W.word_chars program.now input.now) self.new.from self.new.trail.items) }
+        ensures fewer { IfSome result (λ p. count_by is_some (others_of program.now.automaton.states self.new.trail.items)
+            < count_by is_some (others_of program.now.automaton.states self.old.trail.items)) }
     {
-        'places: while !self.others.is_empty() {
-            let last = self.others.len() - 1;
-            if let Some(other) = self.others[last] {
-                self.others[last] = None;
-                return Some((other, self.run[last].1));
+        'visits: while !self.trail.is_empty() {
+            let last = self.trail.len() - 1;
+            let visit = self.trail[last];
+            if let Some(other) = visit.other {
+                self.trail[last] = Visit {
+                    other: None,
+                    ..visit
+                };
+                return Some((other, visit.at));
             }
-            self.others.pop();
-            self.run.pop();
+            if let Some(exit) = exit_of(program, &visit) {
+                self.trail[last] = Visit {
+                    at: visit.at - 1,
+                    other: Some(exit),
+                    ..visit
+                };
+            } else {
+                self.trail.pop();
+            }
         }
         None
     }
@@ -297,7 +314,8 @@ pub fn first_run<W: WordClass>(
     from: usize,
 ) -> Result<Option<Walk>, Error>
     requires { BeginsFrom (search_in W.word_chars program.now input.now) from }
-    ensures found { IfOk result (λ found. IfSome found (λ walk. IsLeftmostFirst (search_in W.word_chars program.now input.now) walk.run.items)) }
+    ensures found { IfOk result (λ found. IfSome found (λ walk.
+        IsLeftmostFirst (search_in W.word_chars program.now input.now) (run_of program.now.automaton.states walk.trail.items))) }
     ensures none { IfOk result (λ found. IfNone found (HasNone (search_in W.word_chars program.now input.now))) }
     ensures refused { IfErr result (FailsFor (search_in W.word_chars program.now input.now)) }
 {
@@ -339,24 +357,4 @@ fn last_start(input: &Input<'_>) -> usize
     } else {
         input.end()
     }
-}
-
-// The number of a place, that many positions before the end.
-#[inline(always)]
-fn number_of(sid: StateID, before: usize, states: usize, len: usize) -> usize
-    requires sid { sid < states }
-    requires room { before * states + states ≤ len }
-    ensures value { result ≡ before * states + sid }
-    ensures within { result < len }
-{
-    before * states + sid.as_usize()
-}
-
-// The number of the first place, that many positions before the end.
-fn first_after(before: usize, states: usize, len: usize) -> usize
-    requires { before * states + states ≤ len }
-    ensures value { result ≡ before * states }
-    ensures within { result + states ≤ len }
-{
-    before * states
 }

@@ -2,7 +2,7 @@
 ghost use Rattle.std.specs.Prelude.{◌≡◌, ◌<◌, ◌++◌, [], ◌∷◌, None, Some, Err, map, flat_map, length, IfOk, IfErr, OnOk, OnErr};
 ghost use Rattle.rsc_captures.specs.Groups.{groups_in};
 ghost use Rattle.rsc_engine.specs.declared.error.Error.TheVariants.{OutOfMemory, EmptyClass};
-ghost use Rattle.rsc_engine.specs.Patterns.{Empty, Never, Class, Literal, Assertion, Then, Either, in_order, Recognizes};
+ghost use Rattle.rsc_engine.specs.Patterns.{Empty, Never, Class, Literal, Assertion, Then, Either, in_order, one_of, Recognizes};
 ghost use Rattle.rsc_engine.specs.Parts.{pattern_of, patterns_of, pattern_in, groups_of_part, groups_of_pattern, lists_of};
 
 mod compile;
@@ -135,16 +135,31 @@ impl<'n> Builder<'n> {
         ensures groups { IfOk result (λ part. groups_of_part part ≡ flat_map groups_of_part parts.entry.items) }
         ensures refused { IfErr result (λ e. e ≡ OutOfMemory) }
     {
-        let mut trees = Vec::new(self.alloc);
-        let mut names = Vec::new(self.alloc);
         let mut may_be_empty = true;
-        for part in parts {
+        for part in &parts {
             may_be_empty = may_be_empty && part.may_be_empty;
-            names = joined(names, part.names)?;
-            trees.push(part.tree)?;
         }
+        let (trees, names) = self.taken_apart(parts)?;
         Ok(Part {
             tree: Tree::Concat(trees),
+            names,
+            may_be_empty,
+        })
+    }
+
+    /// One of the parts; an earlier one is preferred. Without a part it never matches.
+    pub fn one_of(&self, parts: Vec<Part<'n>>) -> Result<Part<'n>, Error>
+        ensures part { IfOk result (λ part. pattern_of part ≡ one_of (map pattern_of parts.entry.items)) }
+        ensures groups { IfOk result (λ part. groups_of_part part ≡ flat_map groups_of_part parts.entry.items) }
+        ensures refused { IfErr result (λ e. e ≡ OutOfMemory) }
+    {
+        let mut may_be_empty = false;
+        for part in &parts {
+            may_be_empty = may_be_empty || part.may_be_empty;
+        }
+        let (trees, names) = self.taken_apart(parts)?;
+        Ok(Part {
+            tree: Tree::OneOf(trees),
             names,
             may_be_empty,
         })
@@ -209,7 +224,7 @@ impl<'n> Builder<'n> {
     /// `Faulty` if a range's first byte is above its last, `Names` if a pattern has a name twice, `TooLarge` for more states, patterns or groups
     /// than there are numbers for, else out of memory.
     pub fn build<W: WordClass>(
-        mut self,
+        self,
         words: W,
         utf8: bool,
         last: Part<'n>,
@@ -219,14 +234,48 @@ impl<'n> Builder<'n> {
         ensures text { IfOk result (λ program. program.utf8 ≡ utf8) }
         ensures matcher { IfOk result (λ program. program.automaton.matcher ≡ (10, words)) }
     {
+        self.build_with(LookMatcher::new(words), utf8, last)
+    }
+
+    /// The same with a matcher, which has a line terminator and a word predicate.
+    ///
+    /// # Errors
+    ///
+    /// As `build`.
+    pub fn build_with<W: WordClass>(
+        mut self,
+        matcher: LookMatcher<W>,
+        utf8: bool,
+        last: Part<'n>,
+    ) -> Result<Program<W>, Error>
+        ensures matches { IfOk result (λ program. Recognizes W.word_chars program (patterns_of self.entry ++ pattern_of last.entry ∷ [])) }
+        ensures groups { IfOk result (λ program. program.automaton.groups ≡ lists_of self.entry ++ groups_of_pattern last.entry ∷ []) }
+        ensures text { IfOk result (λ program. program.utf8 ≡ utf8) }
+        ensures matcher { IfOk result (λ program. program.automaton.matcher ≡ matcher) }
+    {
         self.pattern(last)?;
         let info = info_of(self.alloc, self.patterns.as_slice())?;
         let (states, first) = compile(self.alloc, &info, self.patterns.as_slice())?;
-        let nfa = Nfa::new(self.alloc, info, LookMatcher::new(words), &states)?;
+        let nfa = Nfa::new(self.alloc, info, matcher, &states)?;
         match Program::new(nfa, first, utf8) {
             None => Err(Error::TooLarge),
             Some(program) => Ok(program),
         }
+    }
+
+    // The trees of parts, and the names of their groups.
+    fn taken_apart(&self, parts: Vec<Part<'n>>) -> Result<(Vec<Tree>, Vec<Option<&'n str>>), Error>
+        ensures trees { IfOk result (λ both. map pattern_in both.0.items ≡ map pattern_of parts.entry.items) }
+        ensures names { IfOk result (λ both. groups_in both.1.items ≡ flat_map groups_of_part parts.entry.items) }
+        ensures refused { IfErr result (λ e. e ≡ OutOfMemory) }
+    {
+        let mut trees = Vec::new(self.alloc);
+        let mut names = Vec::new(self.alloc);
+        for part in parts {
+            names = joined(names, part.names)?;
+            trees.push(part.tree)?;
+        }
+        Ok((trees, names))
     }
 
     // A part with no smaller ones, and with no group.

@@ -2,7 +2,7 @@
 //!
 //! A row is a set of states ([`successor`] makes it, from the one before and a byte); the [`table`] has the rows and, in its [`entries`], which row each
 //! class of bytes leads to; the [`plan`] has what stays the same. [`needed`] finds bytes that each match has, without which no row is looked at.
-ghost use Rattle.std.specs.Prelude.{◌≡◌, ◌-◌, ◌<◌, IfOk, IfErr, IfSome, IfNone, OnErr, true, false, length};
+ghost use Rattle.std.specs.Prelude.{◌≡◌, ◌-◌, ◌<◌, ◌≤◌, IfOk, IfErr, IfSome, IfNone, OnErr, true, false, length};
 ghost use Rattle.rsc_engine.specs.declared.error.Error.TheVariants.{OutOfMemory};
 ghost use Rattle.rsc_engine.specs.Searches.{search_in, FailsFor};
 ghost use Rattle.rsc_engine.specs.Preferred.{HasNone, IsFirstMatch, IsCleared};
@@ -19,6 +19,7 @@ mod successor;
 mod table;
 
 use crate::backtrack::first_run;
+use crate::trail::last_place;
 use crate::{AsciiWords, Error, Program, iterate};
 use entries::Step;
 use lawful::steps_are_lawful;
@@ -192,6 +193,8 @@ impl<'p, W: WordClass + AsciiWords> Dfa<'p, W> {
         ensures slots { length captures.new.offsets ≡ length captures.old.offsets }
         ensures unset { IfOk result (λ found. IfNone found (IsCleared captures.old captures.new)) }
         ensures failed { OnErr result (IsCleared captures.old captures.new) }
+        ensures within { IfOk result (λ found. IfSome found (λ m.
+            (input.now.span.start ≤ m.span.start) × (m.span.start ≤ m.span.end) × (m.span.end ≤ input.now.span.end))) }
         ensures refused { IfErr result (FailsFor (search_in W.word_chars self.old input.now)) }
     {
         captures.clear();
@@ -234,16 +237,8 @@ fn end_from<W: WordClass>(
 {
     match first_run(alloc, program, input, from)? {
         None => Ok(None),
-        Some(walk) => Ok(Some(last_position(walk.run.as_slice()))),
+        Some(walk) => Ok(Some(last_place(walk.trail.as_slice()).1)),
     }
-}
-
-// The position of a run's last place.
-fn last_position(run: &[(StateID, usize)]) -> usize
-    requires { 0 < length run.now }
-    ensures { result ≡ (place run.now (length run.now - 1)).1 }
-{
-    run[run.len() - 1].1
 }
 
 // Whether a match begins where one may, as the backtracker answers it.

@@ -1,5 +1,5 @@
 //! A list of flags, 64 to a block.
-ghost use Rattle.std.specs.Prelude.{◌≡◌, ◌≢◌, ◌+◌, ◌<◌, ◌≤◌, ◌==◌, ℕ, [], IfOk, IfErr, false, true, length, replicate, slice_index_or, slice_set};
+ghost use Rattle.std.specs.Prelude.{◌≡◌, ◌≢◌, ◌+◌, ◌/◌, ◌<◌, ◌≤◌, ◌==◌, ℕ, [], IfOk, IfErr, OnOk, false, true, length, replicate, slice_index_or, slice_set};
 ghost use Rattle.std.specs.Int.{bit_at};
 ghost use Rattle.rsc_engine.specs.declared.error.Error.TheVariants.{OutOfMemory};
 
@@ -38,16 +38,16 @@ impl Flags {
         }
     }
 
-    /// That many flags, none of them set.
-    pub fn new(alloc: Global, count: usize) -> Result<Flags, Error>
-        ensures length { IfOk result (λ flags. length flags ≡ count) }
-        ensures none { IfOk result (λ flags. (n : ℕ) → slice_index_or flags n false ≡ false) }
+    /// Makes that many flags, none of them set, and takes memory only where there was never room for as many.
+    pub fn renew(&mut self, alloc: Global, count: usize) -> Result<(), Error>
+        ensures length { OnOk result (length self.new ≡ count) }
+        ensures none { (n : ℕ) → slice_index_or self.new n false ≡ false }
         ensures memory { IfErr result (λ e. e ≡ OutOfMemory) }
     {
-        Ok(Flags {
-            blocks: no_blocks(alloc, count.div_ceil(BITS))?,
-            count,
-        })
+        self.count = 0;
+        write_zeros(alloc, &mut self.blocks, count.div_ceil(BITS))?;
+        self.count = count;
+        Ok(())
     }
 
     /// How many flags there are.
@@ -77,6 +77,53 @@ impl Flags {
         self.blocks[at] = with_bit(self.blocks[at], n % BITS);
     }
 
+    /// Sets three flags, and answers that, if none of them is set.
+    #[inline(always)]
+    pub fn take(&mut self, a: usize, b: usize, c: usize) -> bool
+        requires a { a < length self.old }
+        requires b { b < length self.old }
+        requires c { c < length self.old }
+        ensures free { result ≡ true → (slice_index_or self.old a false ≡ false) × (slice_index_or self.old b false ≡ false)
+            × (slice_index_or self.old c false ≡ false) }
+        ensures taken { result ≡ true → self.new ≡ slice_set (slice_set (slice_set self.old a true) b true) c true }
+        ensures kept { result ≡ false → self.new ≡ self.old }
+    {
+        if b / BITS == a / BITS && c / BITS == a / BITS {
+            return self.take_in_block(a, b, c);
+        }
+        if self.get(a) || self.get(b) || self.get(c) {
+            return false;
+        }
+        self.set(a);
+        self.set(b);
+        self.set(c);
+        true
+    }
+
+    // The same for flags of one block, which is written once.
+    #[inline(always)]
+    fn take_in_block(&mut self, a: usize, b: usize, c: usize) -> bool
+        requires a { a < length self.old }
+        requires b { b < length self.old }
+        requires c { c < length self.old }
+        requires with_b { b / 64 ≡ a / 64 }
+        requires with_c { c / 64 ≡ a / 64 }
+        ensures free { result ≡ true → (slice_index_or self.old a false ≡ false) × (slice_index_or self.old b false ≡ false)
+            × (slice_index_or self.old c false ≡ false) }
+        ensures taken { result ≡ true → self.new ≡ slice_set (slice_set (slice_set self.old a true) b true) c true }
+        ensures kept { result ≡ false → self.new ≡ self.old }
+    {
+        let at = a / BITS;
+        let block = self.blocks[at];
+        if has_bit(block, a % BITS) || has_bit(block, b % BITS) || has_bit(block, c % BITS) {
+            return false;
+        }
+        let one = with_bit(block, a % BITS);
+        let two = with_bit(one, b % BITS);
+        self.blocks[at] = with_bit(two, c % BITS);
+        true
+    }
+
     /// Clears the flags from one number up to another.
     pub fn clear(&mut self, first: usize, end: usize)
         requires { end ≤ length self.old }
@@ -89,6 +136,20 @@ impl Flags {
             self.blocks[at] = without_bit(self.blocks[at], n % BITS);
         }
     }
+}
+
+// Makes the list one of that many blocks of zero, in its own memory if there is room.
+fn write_zeros(alloc: Global, blocks: &mut Vec<u64>, count: usize) -> Result<(), Error>
+    ensures blocks { OnOk result (blocks.new.items ≡ replicate count 0) }
+    ensures memory { IfErr result (λ e. e ≡ OutOfMemory) }
+{
+    blocks.clear();
+    if blocks.capacity() < count {
+        *blocks = no_blocks(alloc, count)?;
+    } else {
+        blocks.resize(count, 0)?;
+    }
+    Ok(())
 }
 
 // That many blocks of zero.

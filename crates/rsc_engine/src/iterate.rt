@@ -11,19 +11,17 @@ ghost use Rattle.rsc_engine.specs.NextMatches.{IsNext, IsOver, IsNextMatch, from
 ghost use Rattle.rsc_engine.specs.Ends.{BeginsFrom};
 ghost use Rattle.rsc_engine.specs.StartsLayout.{AreStarts};
 ghost use Rattle.rsc_engine.specs.WalksLayout.{AreEnough, IsClosed, is_flagged};
+ghost use Rattle.rsc_engine.specs.TrailsLayout.{run_of};
 
 use crate::backtrack::{Walk, first_run, place_count};
 use crate::groups::write_match;
 use crate::starts::Starts;
-use crate::{AsciiWords, Dfa, Error, Program};
+use crate::{AsciiWords, Cache, Dfa, Error, Program};
 use rsc_captures::Captures;
 use rsc_look::WordClass;
 use rsc_search::{Input, Match};
 use std::alloc::Global;
 use std::marker::Model;
-
-// How many rows the DFA of an iteration keeps.
-const MOST_ROWS: usize = 1000;
 
 // Where more bytes than these lie before a match, the DFA looks for the next one.
 const FAR: usize = 64;
@@ -48,6 +46,8 @@ pub fn find<W: WordClass>(
     ensures slots { length captures.new.offsets ≡ length captures.old.offsets }
     ensures unset { IfOk result (λ found. IfNone found (IsCleared captures.old captures.new)) }
     ensures failed { OnErr result (IsCleared captures.old captures.new) }
+    ensures within { IfOk result (λ found. IfSome found (λ m.
+        (input.now.span.start ≤ m.span.start) × (m.span.start ≤ m.span.end) × (m.span.end ≤ input.now.span.end))) }
     ensures refused { IfErr result (FailsFor (search_in W.word_chars program.now input.now)) }
 {
     find_from(alloc, program, input, captures, input.start())
@@ -68,12 +68,14 @@ pub(crate) fn find_from<W: WordClass>(
     ensures slots { length captures.new.offsets ≡ length captures.old.offsets }
     ensures unset { IfOk result (λ found. IfNone found (IsCleared captures.old captures.new)) }
     ensures failed { OnErr result (IsCleared captures.old captures.new) }
+    ensures within { IfOk result (λ found. IfSome found (λ m.
+        (input.now.span.start ≤ m.span.start) × (m.span.start ≤ m.span.end) × (m.span.end ≤ input.now.span.end))) }
     ensures refused { IfErr result (FailsFor (search_in W.word_chars program.now input.now)) }
 {
     captures.clear();
     match first_run(alloc, program, input, from)? {
         None => Ok(None),
-        Some(walk) => Ok(Some(write_match(program, input, walk.run.as_slice(), captures))),
+        Some(walk) => Ok(Some(write_match(program, input, walk.trail.as_slice(), captures))),
     }
 }
 
@@ -107,22 +109,49 @@ impl<'p, 'h, W: WordClass + AsciiWords> Matches<'p, 'h, W> {
         ensures made { IfOk result (λ m. m ≡ record { program = program.now; input = input.entry; last = None }) }
         ensures refused { IfErr result (FailsFor (search_in W.word_chars program.now input.entry)) }
     {
-        let starts = Starts::new(alloc, program)?;
-        let places = place_count(program, &input)?;
-        let walk = Walk::new(alloc, program.start());
+        Cache::new(alloc, program)?.matches(input)
+    }
+
+    // The same over a cache.
+    pub(crate) fn over(cache: Cache<'p, W>, input: Input<'h>) -> Result<Matches<'p, 'h, W>, Error>
+        ensures made { IfOk result (λ m. m ≡ record { program = cache.entry; input = input.entry; last = None }) }
+        ensures refused { IfErr result (FailsFor (search_in W.word_chars cache.entry input.entry)) }
+    {
+        let places = place_count(cache.program, &input)?;
+        let Cache {
+            alloc,
+            program,
+            starts,
+            dfa,
+            mut walk,
+        } = cache;
+        walk.reopen(alloc, 0)?;
         Ok(Matches {
             rest: Rest {
                 alloc,
                 program,
                 input,
                 starts,
-                dfa: Dfa::new(alloc, program, MOST_ROWS),
+                dfa,
                 is_far: true,
                 walk,
                 places,
                 last_end: None,
             },
         })
+    }
+
+    /// What the iteration has in memory, for the next one by the same program.
+    pub fn into_cache(self) -> Cache<'p, W>
+        ensures { result ≡ self.entry.program }
+    {
+        Cache {
+            alloc: self.rest.alloc,
+            program: self.rest.program,
+            starts: self.rest.starts,
+            dfa: self.rest.dfa,
+            walk: self.rest.walk,
+        }
     }
 
     /// The next match, whose groups are in the captures afterwards; without one, and after an error, no slot is set. As in the original,
@@ -145,6 +174,8 @@ impl<'p, 'h, W: WordClass + AsciiWords> Matches<'p, 'h, W> {
         ensures slots { length captures.new.offsets ≡ length captures.old.offsets }
         ensures unset { IfOk result (λ found. IfNone found (IsCleared captures.old captures.new)) }
         ensures failed { OnErr result (IsCleared captures.old captures.new) }
+        ensures within { IfOk result (λ found. IfSome found (λ m.
+            (self.old.input.span.start ≤ m.span.start) × (m.span.start ≤ m.span.end) × (m.span.end ≤ self.old.input.span.end))) }
     {
         self.rest.next(captures)
     }
@@ -175,9 +206,11 @@ impl<'p, 'h, W: WordClass + AsciiWords> Rest<'p, 'h, W> {
     // The next match.
     fn next(&mut self, captures: &mut Captures) -> Result<Option<Match>, Error>
         ensures next { IfOk result (λ found. IfSome found (λ m.
-            IsNext (search_in W.word_chars self.old.program.now self.old.input) self.old.last_end self.new.walk.run.items)) }
+            IsNext (search_in W.word_chars self.old.program.now self.old.input) self.old.last_end
+            (run_of self.old.program.now.automaton.states self.new.walk.trail.items))) }
         ensures is_of { IfOk result (λ found. IfSome found (λ m.
-            IsOf (search_in W.word_chars self.old.program.now self.old.input) self.new.walk.run.items m captures.new)) }
+            IsOf (search_in W.word_chars self.old.program.now self.old.input)
+            (run_of self.old.program.now.automaton.states self.new.walk.trail.items) m captures.new)) }
         ensures none { IfOk result (λ found. IfNone found (IsOver (search_in W.word_chars self.old.program.now self.old.input) self.old.last_end)) }
         ensures on { IfOk result (λ found. IfSome found (λ m. self.new.input ≡ from_start self.old.input m.span.end)) }
         ensures over { IfOk result (λ found. IfNone found (self.new.input ≡ from_start self.old.input (self.old.input.span.end + 1))) }
@@ -191,6 +224,8 @@ impl<'p, 'h, W: WordClass + AsciiWords> Rest<'p, 'h, W> {
         ensures slots { length captures.new.offsets ≡ length captures.old.offsets }
         ensures unset { IfOk result (λ found. IfNone found (IsCleared captures.old captures.new)) }
         ensures failed { OnErr result (IsCleared captures.old captures.new) }
+        ensures within { IfOk result (λ found. IfSome found (λ m.
+            (self.old.input.span.start ≤ m.span.start) × (m.span.start ≤ m.span.end) × (m.span.end ≤ self.old.input.span.end))) }
     {
         let start = self.input.start();
         'matches: loop {
@@ -223,9 +258,11 @@ impl<'p, 'h, W: WordClass + AsciiWords> Rest<'p, 'h, W> {
     // The leftmost-first match from the input's start on. The next one is looked for from its end on.
     fn advance(&mut self, captures: &mut Captures) -> Result<Option<Match>, Error>
         ensures first { IfOk result (λ found. IfSome found (λ m.
-            IsLeftmostFirst (search_in W.word_chars self.old.program.now self.old.input) self.new.walk.run.items)) }
+            IsLeftmostFirst (search_in W.word_chars self.old.program.now self.old.input)
+            (run_of self.old.program.now.automaton.states self.new.walk.trail.items))) }
         ensures is_of { IfOk result (λ found. IfSome found (λ m.
-            IsOf (search_in W.word_chars self.old.program.now self.old.input) self.new.walk.run.items m captures.new)) }
+            IsOf (search_in W.word_chars self.old.program.now self.old.input)
+            (run_of self.old.program.now.automaton.states self.new.walk.trail.items) m captures.new)) }
         ensures none { IfOk result (λ found. IfNone found (HasNone (search_in W.word_chars self.old.program.now self.old.input))) }
         ensures within { IfOk result (λ found. IfSome found (IsInSpan self.old.input)) }
         ensures on { IfOk result (λ found. IfSome found (λ m. self.new.input ≡ from_start self.old.input m.span.end)) }
@@ -256,7 +293,7 @@ impl<'p, 'h, W: WordClass + AsciiWords> Rest<'p, 'h, W> {
         let found = write_match(
             self.program,
             &self.input,
-            self.walk.run.as_slice(),
+            self.walk.trail.as_slice(),
             captures,
         );
         self.is_far = FAR < found.start().saturating_sub(start);

@@ -1,12 +1,12 @@
 //! Laws of matches that a caller can cite: functions whose contracts are the laws.
-ghost use Rattle.std.specs.Prelude.{◌≡◌, ◌<◌, ◌⊎◌, ℕ, List, Option};
+ghost use Rattle.std.specs.Prelude.{◌≡◌, ◌<◌, ◌≤◌, ◌⊎◌, ℕ, List, Option, Some, None, slice_index_or};
 ghost use Rattle.rsc_captures.specs.Captured.{Captured};
 ghost use Rattle.rsc_search.specs.Inputs.{InputParts};
 ghost use Rattle.rsc_search.specs.Matches.{Matched};
 ghost use Rattle.rsc_engine.specs.Searches.{Search, Compiled, search_in};
 ghost use Rattle.rsc_engine.specs.Patterns.{Pattern, IsMatchIn, Recognizes};
 ghost use Rattle.rsc_engine.specs.Preferred.{IsPreferred, IsLeftmostFirst, IsFirstMatch, MayBegin, HasNone};
-ghost use Rattle.rsc_engine.specs.NextMatches.{IsNext, IsOver, IsNextMatch, IsOpen, IsRepeated, IsSplitAt};
+ghost use Rattle.rsc_engine.specs.NextMatches.{IsNext, IsOver, IsNextMatch, IsOpen, IsRepeated, IsSplitAt, Left, AreAll};
 ghost use Rattle.rsc_engine.specs.Ends.{IsEarliestEnd};
 
 use rsc_look::WordClass;
@@ -23,6 +23,19 @@ pub fn there_is_one_first_match()
 pub fn there_is_one_next_match()
     ensures next { (e : Search) (last : Option ℕ) (one other : List (ℕ × ℕ)) → IsNext e last one → IsNext e last other → one ≡ other }
     ensures over { (e : Search) (last : Option ℕ) (run : List (ℕ × ℕ)) → IsOver e last → ¬ (IsNext e last run) }
+{}
+
+/// There is at most one list of all matches of what is left.
+pub fn there_is_one_list_of_all_matches<W: WordClass>()
+    ensures { (left : Left W) (one other : List Matched) → AreAll W.word_chars left one → AreAll W.word_chars left other → one ≡ other }
+{}
+
+/// Each offset that a match leaves in a slot is within its span.
+pub fn offsets_are_within_the_match()
+    ensures first { (e : Search) (captures : Captured) (found : Matched) (slot i : ℕ) → IsFirstMatch e captures found →
+        slice_index_or captures.offsets slot None ≡ Some i → (found.span.start ≤ i) × (i ≤ found.span.end) }
+    ensures next { (e : Search) (last : Option ℕ) (captures : Captured) (found : Matched) (slot i : ℕ) → IsNextMatch e last captures found →
+        slice_index_or captures.offsets slot None ≡ Some i → (found.span.start ≤ i) × (i ≤ found.span.end) }
 {}
 
 /// What the first match of a program of patterns is: a match of one of them, before which none begins. Without a first match they have none.

@@ -1,10 +1,15 @@
-//! A regex engine over the contracts of the libraries: a builder of automata, and a search for the leftmost-first match whose every answer is proved.
+//! A regex engine over the contracts of the libraries: a builder of automata, and a search for the leftmost-first match in it, whose every answer is proved.
 //!
 //! [`find`] returns the leftmost-first match of a [`Program`] in an input, and [`Matches`] all of them, one after the other.
+//!
+//! `builder` makes parts and compiles them to the automaton of a `program`. `iterate` and `cache` have the searches: `starts` and `dfa` tell where no match
+//! begins, `backtrack` follows runs by the `moves` of states and the `turns` of loops, over the `flags` of places and a `trail`, and `groups` writes the match
+//! that a run makes.
 #![tactic(auto)]
 
 mod backtrack;
 mod builder;
+mod cache;
 mod dfa;
 mod error;
 mod flags;
@@ -13,11 +18,15 @@ mod iterate;
 /// Laws that a caller can cite.
 pub mod laws;
 mod moves;
+mod numbers;
 mod program;
 mod starts;
+mod trail;
+mod turns;
 mod words;
 
 pub use builder::{Builder, Part};
+pub use cache::Cache;
 pub use dfa::{Answer, Dfa};
 pub use error::Error;
 pub use iterate::{Matches, find};

@@ -1,7 +1,9 @@
 //! What a state does at a position.
-ghost use Rattle.std.specs.Prelude.{◌≡◌, ◌<◌, ◌≤◌, length};
+ghost use Rattle.std.specs.Prelude.{◌≡◌, ◌<◌, ◌≤◌, IsTrue, true, false, length, slice_get};
+ghost use Rattle.rsc_nfa.specs.Steps.{is_between};
 ghost use Rattle.rsc_engine.specs.Searches.{search_in};
 ghost use Rattle.rsc_engine.specs.MovesLayout.{IsMove, other_of};
+ghost use Rattle.rsc_engine.specs.WalksLayout.{IsFutile};
 ghost use Rattle.rsc_engine.specs.Runs.{is_wanted};
 ghost use Rattle.rsc_search.specs.Modes.{pattern_of_mode};
 
@@ -10,6 +12,9 @@ use rsc_look::WordClass;
 use rsc_nfa::State;
 use rsc_primitives::{PatternID, StateID};
 use rsc_search::Input;
+
+/// More ranges of a class than these aren't looked through.
+pub const MOST_RANGES: usize = 16;
 
 /// What a state does at a position.
 #[derive(Clone, Copy)]
@@ -34,7 +39,8 @@ pub fn other_way(step: &Move) -> Option<StateID>
     }
 }
 
-/// What the program's state does at a position of the input.
+/// What the program's state does at a position of the input. A fork whose first way is a range without the byte there isn't
+/// one; if no other range of its class has it either, nothing leads on.
 pub fn move_of<W: WordClass>(
     program: &Program<W>,
     input: &Input<'_>,
@@ -45,28 +51,32 @@ pub fn move_of<W: WordClass>(
     requires at { at ≤ input.now.span.end }
     ensures { IsMove (search_in W.word_chars program.now input.now) (sid, at) result }
 {
-    let end = input.end();
-    let haystack = input.haystack();
+    // For the prover: positions before the input's end, plus one, fit.
+    let _end = input.end();
     match program.state(sid) {
-        State::ByteRange {
-            start,
-            end: last,
-            next,
-        } => {
-            if at < end && start <= haystack[at] && haystack[at] <= last {
+        State::ByteRange { start, end, next } => {
+            if has_byte(input, at, start, end) {
                 Move::Goes(next, at + 1)
             } else {
                 Move::Fails
             }
         }
         State::Assert { look, next } => {
-            if program.nfa().matcher().matches(look, haystack, at) {
+            if program.nfa().matcher().matches(look, input.haystack(), at) {
                 Move::Goes(next, at)
             } else {
                 Move::Fails
             }
         }
-        State::Fork { a, b } => Move::Forks(a, b),
+        State::Fork { a, b } => {
+            if !is_dead(program, input, a, at) {
+                Move::Forks(a, b)
+            } else if are_dead(program, input, b, at) {
+                Move::Fails
+            } else {
+                Move::Goes(b, at)
+            }
+        }
         State::Capture { next, .. } => Move::Goes(next, at),
         State::Accept { pattern } => {
             if is_wanted(input, pattern) {
@@ -76,6 +86,54 @@ pub fn move_of<W: WordClass>(
             }
         }
     }
+}
+
+// Whether the state is a range that hasn't the byte at the position, so that no match is reached from there.
+#[inline(always)]
+fn is_dead<W: WordClass>(program: &Program<W>, input: &Input<'_>, sid: StateID, at: usize) -> bool
+    requires { sid < length program.now.automaton.states }
+    ensures { result ≡ true → IsFutile (search_in W.word_chars program.now input.now) (sid, at) }
+{
+    match program.state(sid) {
+        State::ByteRange { start, end, .. } => !has_byte(input, at, start, end),
+        State::Assert { .. } | State::Fork { .. } | State::Capture { .. } | State::Accept { .. } =>
+            false,
+    }
+}
+
+// The same for a state that is several ranges, to which forks lead.
+#[inline(never)]
+fn are_dead<W: WordClass>(program: &Program<W>, input: &Input<'_>, sid: StateID, at: usize) -> bool
+    requires { sid < length program.now.automaton.states }
+    ensures { result ≡ true → IsFutile (search_in W.word_chars program.now input.now) (sid, at) }
+{
+    let mut rest = sid;
+    'chain: for _count in 0..MOST_RANGES {
+        match program.state(rest) {
+            State::Fork { a, b } => {
+                if !is_dead(program, input, a, at) {
+                    return false;
+                }
+                rest = b;
+            }
+            State::ByteRange { .. }
+            | State::Assert { .. }
+            | State::Capture { .. }
+            | State::Accept { .. } => return is_dead(program, input, rest, at),
+        }
+    }
+    false
+}
+
+// Whether there is a byte at the position in the span, and it's in the range.
+#[inline(always)]
+fn has_byte(input: &Input<'_>, at: usize, first: u8, last: u8) -> bool
+    ensures yes { result ≡ true → (at < input.now.span.end) × IsTrue (is_between first last (slice_get input.now.haystack at)) }
+    ensures no { result ≡ false → at < input.now.span.end → ¬ (IsTrue (is_between first last (slice_get input.now.haystack at))) }
+{
+    let end = input.end();
+    let haystack = input.haystack();
+    at < end && first <= haystack[at] && haystack[at] <= last
 }
 
 // Whether the pattern may match.

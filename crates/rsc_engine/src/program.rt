@@ -1,11 +1,17 @@
 //! A program: an automaton, and where a match begins in it.
-ghost use Rattle.std.specs.Prelude.{◌≡◌, ◌<◌, ◌≤◌, IfSome, IfNone, Some, length, slice_get};
+ghost use Rattle.std.specs.Prelude.{◌≡◌, ◌*◌, ◌<◌, ◌≤◌, IfOk, IfErr, IfSome, IfNone, Some, length, slice_get};
+ghost use Rattle.rsc_captures.specs.Captured.{no_offsets};
+ghost use Rattle.rsc_captures.specs.Groups.{all_groups};
 ghost use Rattle.rsc_nfa.specs.Automata.{Automaton};
+ghost use Rattle.rsc_engine.specs.declared.error.Error.TheVariants.{OutOfMemory};
 ghost use Rattle.rsc_engine.specs.Searches.{Compiled, IsStateOf};
 
+use crate::Error;
+use rsc_captures::Captures;
 use rsc_look::WordClass;
 use rsc_nfa::{Nfa, State};
 use rsc_primitives::StateID;
+use std::alloc::Global;
 use std::marker::Model;
 
 /// An automaton, the state at which each match begins, and whether haystacks are text.
@@ -44,6 +50,18 @@ impl<W: WordClass> Program<W> {
         ensures { result.now ≡ self.now.automaton }
     {
         &self.nfa
+    }
+
+    /// Captures for searches by this program, with room for all groups, and with no match yet.
+    ///
+    /// # Errors
+    ///
+    /// Out of memory.
+    pub fn captures(&self, alloc: Global) -> Result<Captures, Error>
+        ensures made { IfOk result (λ c. c ≡ no_offsets self.now.automaton.groups (2 * all_groups self.now.automaton.groups)) }
+        ensures refused { IfErr result (λ e. e ≡ OutOfMemory) }
+    {
+        Ok(Captures::all(alloc, self.nfa.group_info().clone()?)?)
     }
 
     /// The state at which each match begins.

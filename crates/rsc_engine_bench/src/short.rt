@@ -18,7 +18,7 @@ pub fn compare_all(alloc: Global, most: usize) -> Result<(usize, usize), Fail> {
     let mut differences = 0_usize;
     for look in LookSet::full().iter() {
         let program = made(alloc, look)?;
-        let mut captures = Captures::all(alloc, program.nfa().group_info().clone()?)?;
+        let mut captures = program.captures(alloc)?;
         let mut dfa = Dfa::new(alloc, &program, 1000);
         texts = 0_usize;
         for len in 0..=most.min(6) {

@@ -2,7 +2,6 @@
 
 use crate::patterns::{make, text_of};
 use regex::bytes::Regex;
-use rsc_captures::Captures;
 use rsc_engine::{Dfa, Matches, Program};
 use rsc_look::AsciiWord;
 use rsc_search::Input;
@@ -36,7 +35,7 @@ fn all_of_ours(
 }
 
 fn count(rt: &HostRuntime, program: &Program<AsciiWord>, text: &[u8]) -> Result<usize, Fail> {
-    let mut captures = Captures::all(rt.alloc(), program.nfa().group_info().clone()?)?;
+    let mut captures = program.captures(rt.alloc())?;
     let mut matches = Matches::new(rt.alloc(), program, Input::new(text))?;
     let mut count = 0_usize;
     for _ in 0..=text.len() {

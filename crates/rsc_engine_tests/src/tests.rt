@@ -1,7 +1,9 @@
 mod build;
+mod cache;
 mod dfa;
+mod first_matches;
+mod loops;
 mod made;
 mod matches;
 mod model;
 mod programs;
-mod rows;

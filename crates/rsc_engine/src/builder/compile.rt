@@ -1,7 +1,7 @@
 //! From parts to states. The walk goes from the end of a pattern to its start, so that what comes after a part has its state first.
 ghost use Rattle.std.specs.Prelude.{◌≡◌, ◌++◌, [], ◌∷◌, map, length, IfOk, OnOk};
 ghost use Rattle.rsc_nfa.specs.declared.state.State.TheVariants.{Fork};
-ghost use Rattle.rsc_engine.specs.Patterns.{Never, Class, Literal, in_order};
+ghost use Rattle.rsc_engine.specs.Patterns.{Never, Class, Literal, in_order, one_of};
 ghost use Rattle.rsc_engine.specs.Parts.{pattern_of, pattern_in};
 ghost use Rattle.rsc_engine.specs.LinksLayout.{Adds, Builds, IsAdded};
 ghost use Rattle.rsc_engine.specs.BeginsLayout.{Begins, IsOfOne, IsOfSome};
@@ -116,6 +116,7 @@ impl Compiler {
                 let first = self.part(one, next)?;
                 self.fork(first, second)
             }
+            Tree::OneOf(parts) => self.one_of(parts, next),
             Tree::Repeat(times, sub) => self.repeat(*times, sub, next),
             Tree::Group(groups, sub) => self.group(*groups, sub, next),
         }
@@ -167,6 +168,22 @@ impl Compiler {
         let mut first = next;
         for index in (0..parts.len()).rev() {
             first = self.part(&parts[index], first)?;
+        }
+        Ok(first)
+    }
+
+    #[cycle(part)]
+    fn one_of(&mut self, parts: &[Tree], next: StateID) -> Result<StateID, Error>
+        ensures { IfOk result (λ first. Builds self.old.states.items self.new.states.items first next (one_of (map pattern_in parts.now))) }
+    {
+        if parts.is_empty() {
+            return self.never(next);
+        }
+        let last = parts.len() - 1;
+        let mut first = self.part(&parts[last], next)?;
+        for index in (0..last).rev() {
+            let one = self.part(&parts[index], next)?;
+            first = self.fork(one, first)?;
         }
         Ok(first)
     }

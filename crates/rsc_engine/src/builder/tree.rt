@@ -23,6 +23,8 @@ pub enum Tree {
     Concat(Vec<Tree>),
     /// The one or the other; the first is preferred.
     Either(Box<Tree>, Box<Tree>),
+    /// One of them; an earlier one is preferred.
+    OneOf(Vec<Tree>),
     /// The part repeated.
     Repeat(Times, Box<Tree>),
     /// The part as a group, which has this many groups in it.

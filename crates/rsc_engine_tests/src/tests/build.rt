@@ -1,7 +1,7 @@
 //! What the builder makes.
 use super::made::{captures_of, finds, first, first_of_patterns, first_span, span};
 use rsc_engine::{Builder, Error, Part, Program};
-use rsc_look::{AsciiWord, Look};
+use rsc_look::{AsciiWord, Look, LookMatcher};
 use rsc_primitives::PatternID;
 use rsc_search::{Anchored, Input};
 use std::alloc::Global;
@@ -119,11 +119,22 @@ fn repeated_nothing(alloc: Global) -> Result<Program<AsciiWord>, Error> {
     builder.build(AsciiWord, true, whole)
 }
 
+// The same with a list of parts.
+fn repeated_list(alloc: Global) -> Result<Program<AsciiWord>, Error> {
+    let builder = Builder::new(alloc);
+    let start = builder.look(Look::StartLF);
+    let a = builder.literal(b"a")?;
+    let list = builder.one_of(vec![in alloc; start, a]?)?;
+    let whole = builder.star(list)?;
+    builder.build(AsciiWord, true, whole)
+}
+
 #[test]
 fn a_star_of_what_can_be_empty_is_a_plus_or_nothing(rt: HostRuntime) -> Result<(), Fail> {
-    let program = repeated_nothing(rt.alloc())?;
     let ends = [(0, 0), (1, 1), (2, 2), (3, 5), (6, 6)];
-    assert!(rt; finds(rt.alloc(), &program, Input::new(b"a\naaa\n"), &ends)?);
+    for program in [repeated_nothing(rt.alloc())?, repeated_list(rt.alloc())?] {
+        assert!(rt; finds(rt.alloc(), &program, Input::new(b"a\naaa\n"), &ends)?);
+    }
     Ok(())
 }
 
@@ -234,5 +245,58 @@ fn builds_several_patterns(rt: HostRuntime) -> Result<(), Fail> {
             "{mode:?}"
         );
     }
+    Ok(())
+}
+
+// `a|(ab)|(c)|` of a list
+fn one_of(alloc: Global) -> Result<Program<AsciiWord>, Error> {
+    let builder = Builder::new(alloc);
+    let a = builder.literal(b"a")?;
+    let ab = group_of(&builder, b"ab")?;
+    let c = group_of(&builder, b"c")?;
+    let whole = builder.one_of(vec![in alloc; a, ab, c, builder.empty()]?)?;
+    let whole = builder.star(whole)?;
+    builder.build(AsciiWord, true, whole)
+}
+
+#[test]
+fn prefers_the_first_of_a_list(rt: HostRuntime) -> Result<(), Fail> {
+    let program = one_of(rt.alloc())?;
+    let mut captures = captures_of(rt.alloc(), &program)?;
+    let found = first_span(rt.alloc(), &program, b"aacab", &mut captures)?;
+    let groups = [captures.get_group(1), captures.get_group(2)];
+    assert!(rt; found == span(0, 4) && groups == [None, span(2, 3)]);
+    Ok(())
+}
+
+#[test]
+fn none_of_no_parts_matches(rt: HostRuntime) -> Result<(), Fail> {
+    let builder = Builder::new(rt.alloc());
+    let whole = builder.one_of(Vec::new(rt.alloc()))?;
+    let program = builder.build(AsciiWord, true, whole)?;
+    assert!(rt; first(rt.alloc(), &program, &Input::new(b"a"))? == None);
+    Ok(())
+}
+
+#[test]
+fn lines_end_where_the_matcher_says(rt: HostRuntime) -> Result<(), Fail> {
+    let builder = Builder::new(rt.alloc());
+    let start = builder.look(Look::StartLF);
+    let a = builder.literal(b"a")?;
+    let whole = builder.then(start, a)?;
+    let mut matcher = LookMatcher::new(AsciiWord);
+    matcher.set_line_terminator(b'\0');
+    let program = builder.build_with(matcher, true, whole)?;
+    assert!(rt; first(rt.alloc(), &program, &Input::new(b"b\na\0a"))? == Some((4, 5)));
+    Ok(())
+}
+
+#[test]
+fn makes_captures_for_all_groups(rt: HostRuntime) -> Result<(), Fail> {
+    let program = groups(rt.alloc())?;
+    let mut captures = program.captures(rt.alloc())?;
+    assert!(rt; captures.slots().len() == 6 && !captures.is_match());
+    let found = first_span(rt.alloc(), &program, b"-a", &mut captures)?;
+    assert!(rt; found == span(1, 2) && captures.get_group(0) == span(1, 2));
     Ok(())
 }

@@ -122,7 +122,7 @@ fn difference(
 }
 
 #[test]
-fn agrees_on_places(rt: HostRuntime) -> Result<(), Fail> {
+fn agrees_on_starts_and_ends(rt: HostRuntime) -> Result<(), Fail> {
     assert_eq!(rt; difference(rt.alloc(), 0, 6, 1000)?, None);
     Ok(())
 }

@@ -16,6 +16,14 @@ pub fn byte(byte: u8, next: u8) -> State {
     }
 }
 
+pub fn range(start: u8, end: u8, next: u8) -> State {
+    State::ByteRange {
+        start,
+        end,
+        next: StateID::from(next),
+    }
+}
+
 pub fn fork(a: u8, b: u8) -> State {
     State::Fork {
         a: StateID::from(a),
@@ -55,8 +63,7 @@ pub fn program(alloc: Global, states: &[State], utf8: bool) -> Result<Program<As
 
 /// Captures for all groups of a program.
 pub fn captures_of<W: WordClass>(alloc: Global, program: &Program<W>) -> Result<Captures, Fail> {
-    let groups = program.nfa().group_info().clone()?;
-    Ok(Captures::all(alloc, groups)?)
+    Ok(program.captures(alloc)?)
 }
 
 /// Captures that tell of no group, but whether there is a match.

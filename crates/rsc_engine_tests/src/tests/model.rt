@@ -1,5 +1,5 @@
 //! A slow reader of the definition beside `find`, over all texts of up to four bytes of five.
-use super::made::{accept, assertion, byte, first, fork, program};
+use super::made::{accept, assertion, byte, first, fork, program, range};
 use rsc_engine::{Error, Program};
 use rsc_look::{AsciiWord, Look};
 use rsc_nfa::State;
@@ -77,6 +77,42 @@ fn states_of(number: usize) -> [State; 6] {
             byte(b'a', 3),
             byte(b'b', 5),
             byte(b'a', 5),
+            accept(0),
+        ],
+        // (?:[ab]|\xC3)*b, a loop over ranges that are apart
+        5 => [
+            fork(1, 4),
+            fork(2, 3),
+            range(b'a', b'b', 0),
+            byte(0xC3, 0),
+            byte(b'b', 5),
+            accept(0),
+        ],
+        // (?:[ab]|[b\xC3])*b, one over ranges that aren't
+        6 => [
+            fork(1, 4),
+            fork(2, 3),
+            range(b'a', b'b', 0),
+            range(b'b', 0xC3, 0),
+            byte(b'b', 5),
+            accept(0),
+        ],
+        // (?:[ab]*\n)*b, where a byte leads from the inner loop back to the outer one
+        7 => [
+            fork(1, 4),
+            fork(2, 3),
+            range(b'a', b'b', 1),
+            byte(b'\n', 0),
+            byte(b'b', 5),
+            accept(0),
+        ],
+        // (?:[ab]*)*b, where the inner loop's exit is the outer loop's fork
+        8 => [
+            fork(1, 3),
+            fork(2, 0),
+            range(b'a', b'b', 1),
+            byte(b'b', 4),
+            accept(0),
             accept(0),
         ],
         // \B(?:a|)
@@ -192,7 +228,7 @@ fn differing_text(alloc: Global, number: usize) -> Result<Option<usize>, Fail> {
 
 #[test]
 fn finds_what_the_definition_says(rt: HostRuntime) -> Result<(), Fail> {
-    for number in 0..6 {
+    for number in 0..10 {
         let text = differing_text(rt.alloc(), number)?;
         assert!(rt; text == None, "pattern {number}, text {text:?}");
     }

@@ -1,18 +1,22 @@
-use Rattle.std.proofs.Common.{◌<◌, ◌-◌, length, arith}
-use Rattle.std.proofs.lemmas.List.{get_or_read}
+use Rattle.std.proofs.Common.{◌<◌, ◌≤◌, ◌-◌, length, get_or, arith}
+use Rattle.std.proofs.lemmas.List.{get_or_default}
+use Rattle.rsc_nfa.specs.Steps.{place}
 use Rattle.rsc_engine.specs.Searches.{search_in}
+use Rattle.rsc_engine.specs.TrailsLayout.{run_of}
 use Rattle.rsc_engine.proofs.WalksLayoutLemmas.{run-rises}
+use Rattle.rsc_engine.proofs.TrailsLayoutLemmas.{trail-some, visit-there}
 use Rattle.rsc_engine.proofs.groups.match_of.Goals as goal
+
+pub first_position-start-requires-clause-state : goal.first_position-start-requires-clause-state
+first_position-start-requires-clause-state g c = λ d.
+    let e = search_in g.W.WordClass.word_chars c.args.program.now c.args.input.now in
+    let some = trail-some c.args.program.now.automaton.states c.args.trail.now c.requires.some in
+    let first = get_or c.args.trail.now 0 d in
+    (visit-there e c.args.trail.now 0 first c.requires.is_run some (get_or_default c.args.trail.now 0 d first some)).0
 
 pub new-requires : goal.new-requires
 new-requires g c =
-    let run = c.args.run.now in
-    let last : length run - 1 < length run = omega (arith, c.requires.some) in
-    rw (
-      ← c.index-run-0.is,
-      ← c.index-run-run-2.is,
-      get_or_read run 0 c.index-run-0.result c.requires.some c.index-run-0.is (0, 0),
-      get_or_read run
-          (length run - 1) c.index-run-run-2.result last c.index-run-run-2.is (0, 0),
-    )
-    (run-rises (search_in g.W.WordClass.word_chars c.args.program.now c.args.input.now) run (length run - 1) c.requires.is_run last)
+    let e = search_in g.W.WordClass.word_chars c.args.program.now c.args.input.now in
+    let run = run_of c.args.program.now.automaton.states c.args.trail.now in
+    let rises : (place run 0).1 ≤ (place run (length run - 1)).1 = run-rises e run (length run - 1) c.requires.is_run (omega (arith, c.requires.some)) in
+    rw (c.first_position-start.ensures, c.last_place-sid.ensures c.args.program.now.automaton.states) rises

@@ -1,6 +1,7 @@
 use Rattle.std.proofs.Common.{◌≡◌, ◌∙◌}
 use Rattle.rsc_engine.specs.Searches.{search_in}
 use Rattle.rsc_engine.specs.WalksLayout.{is_flagged}
+use Rattle.rsc_engine.specs.TrailsLayout.{run_of}
 use Rattle.rsc_engine.proofs.BacktrackLemmas.{closed_none, ends_there}
 use Rattle.rsc_engine.proofs.backtrack.Walk.follow.Goals as goal
 
@@ -13,5 +14,6 @@ returns-in_default-clause-none g c = λ _.
 
 pub returns-in-Accepts-clause-after : goal.returns-in-Accepts-clause-after
 returns-in-Accepts-clause-after g c = λ _.
-    rw (c.forget.ensures.run, c.in_ok-step.ensures.last c.in-Accepts.is, ends_there c.moves.self.run.items (c.moves.sid, c.moves.position))
+    let run = run_of c.args.program.now.automaton.states c.moves.self.trail.items in
+    rw (c.forget.ensures.trail, c.in_ok-step.ensures.last c.in-Accepts.is, ends_there run (c.moves.sid, c.moves.position))
     c.forget.ensures.after

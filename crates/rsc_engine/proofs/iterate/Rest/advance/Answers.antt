@@ -3,6 +3,7 @@ use Rattle.rsc_search.specs.Inputs.{InputParts}
 use Rattle.rsc_nfa.specs.Steps.{place}
 use Rattle.rsc_engine.specs.Searches.{search_in}
 use Rattle.rsc_engine.specs.WalksLayout.{IsClosedFrom, is_flagged}
+use Rattle.rsc_engine.specs.TrailsLayout.{run_of}
 use Rattle.rsc_engine.proofs.BacktrackLemmas.{later_start, fewer_flags}
 use Rattle.rsc_engine.proofs.iterate.Rest.advance.Goals as goal
 
@@ -18,7 +19,7 @@ pub invariant_of-self-2 : goal.invariant_of-self-2
 invariant_of-self-2 g c =
     let e = search_in g.W.WordClass.word_chars c.args.self.now.program.now c.args.self.now.input in
     let seen = is_flagged e c.search.new.self.visited in
-    let run = c.search.new.self.run.items in
+    let run = run_of c.args.self.now.program.now.automaton.states c.search.new.self.trail.items in
     let ends = c.end.ensures.end ∙ c.write_match-found.ensures.is_of.ends.end in
     let position : c.end.result ≡ (place run (length run - 1)).1 = rw (← c.as_slice.ensures.value) ends in
     let up : c.args.self.now.input.span.start ≤ c.end.result = omega (arith, c.end.ensures.end, c.write_match-found.ensures.within) in

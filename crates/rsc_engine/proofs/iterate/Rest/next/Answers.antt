@@ -3,6 +3,7 @@ use Rattle.rsc_search.specs.Inputs.{InputParts}
 use Rattle.rsc_engine.specs.Searches.{search_in}
 use Rattle.rsc_engine.specs.NextMatches.{from_start}
 use Rattle.rsc_engine.specs.WalksLayout.{is_flagged}
+use Rattle.rsc_engine.specs.TrailsLayout.{run_of}
 use Rattle.rsc_engine.proofs.BacktrackLemmas.{even_later, fewer_flags}
 use Rattle.rsc_engine.proofs.NextMatchesLemmas.{turn_none, turn_next, turn_repeat, turn_split}
 use Rattle.rsc_engine.proofs.iterate.Rest.next.Goals as goal
@@ -16,13 +17,14 @@ returns-in-Ok-None-clause-none g c =
 pub returns-else-splits-clause-next : goal.returns-else-splits-clause-next
 returns-else-splits-clause-next g c =
     let e = c.in-Ok-Some.ensures in
-    turn_next g.W.WordClass.word_chars c.args.self.now.program.now c.matches.self.program.now c.args.self.now.input c.matches.self.input
+    let next = turn_next g.W.WordClass.word_chars c.args.self.now.program.now c.matches.self.program.now c.args.self.now.input c.matches.self.input
     c.args.self.now.last_end c.matches.self.last_end c.matches.invariant.turn
-    c.advance.new.self.walk.run.items c.in-Ok-Some.found c.advance.new.captures
+    (run_of c.matches.self.program.now.automaton.states c.advance.new.self.walk.trail.items) c.in-Ok-Some.found c.advance.new.captures
     (rw c.in-Ok-Some.field-0-is at e.first) (rw c.in-Ok-Some.field-0-is at e.is_of)
     c.advance.new.self.input c.advance.new.self.program.now c.advance.new.self.last_end
     (rw c.in-Ok-Some.field-0-is at e.on) (ap (λ x. x.now) e.program) e.last
-    (c.repeats.ensures.no c.if-repeats.false) (c.splits.ensures.no c.if-splits.false)
+    (c.repeats.ensures.no c.if-repeats.false) (c.splits.ensures.no c.if-splits.false) in
+    rw c.matches.invariant.program at next
 
 pub matches-preserved-then-repeats : goal.matches-preserved-then-repeats
 matches-preserved-then-repeats g c =
@@ -31,7 +33,7 @@ matches-preserved-then-repeats g c =
     record {
       turn = turn_repeat g.W.WordClass.word_chars c.args.self.now.program.now c.matches.self.program.now c.args.self.now.input c.matches.self.input
           c.args.self.now.last_end c.matches.self.last_end c.matches.invariant.turn
-          c.advance.new.self.walk.run.items c.in-Ok-Some.found c.advance.new.captures
+          (run_of c.matches.self.program.now.automaton.states c.advance.new.self.walk.trail.items) c.in-Ok-Some.found c.advance.new.captures
           (rw c.in-Ok-Some.field-0-is at e.first) (rw c.in-Ok-Some.field-0-is at e.is_of)
           c.advance.new.self.input c.advance.new.self.program.now c.advance.new.self.last_end
           (rw c.in-Ok-Some.field-0-is at e.on) (ap (λ x. x.now) e.program) e.last
@@ -50,7 +52,7 @@ matches-preserved g c =
     record {
       turn = turn_split g.W.WordClass.word_chars c.args.self.now.program.now c.matches.self.program.now c.args.self.now.input c.matches.self.input
           c.args.self.now.last_end c.matches.self.last_end c.matches.invariant.turn
-          c.advance.new.self.walk.run.items c.in-Ok-Some.found c.advance.new.captures
+          (run_of c.matches.self.program.now.automaton.states c.advance.new.self.walk.trail.items) c.in-Ok-Some.found c.advance.new.captures
           (rw c.in-Ok-Some.field-0-is at e.first) (rw c.in-Ok-Some.field-0-is at e.is_of)
           c.advance.new.self.input c.advance.new.self.program.now c.advance.new.self.last_end
           on (ap (λ x. x.now) e.program) e.last
@@ -77,6 +79,24 @@ invariant_of-self-then-splits g c =
     record {
       enough = rw c.set_start-then-splits.ensures (fewer_flags e next c.advance.new.self.places up c.advance.new.self.enough);
       closed = rw c.set_start-then-splits.ensures (even_later e next seen up c.advance.new.self.closed);
+      table = c.advance.new.self.table;
+      begins = c.advance.new.self.begins;
+      order = λ x is. omega (arith, c.advance.new.self.order x is, up, start);
+    }
+
+pub invariant_of-self-then-repeats : goal.invariant_of-self-then-repeats
+invariant_of-self-then-repeats g c =
+    let e = search_in g.W.WordClass.word_chars c.advance.new.self.program.now c.advance.new.self.input in
+    let seen = is_flagged e c.advance.new.self.walk.visited in
+    let next = c.end-end-in-Ok-Some.result + 1 in
+    let on : c.advance.new.self.input ≡ from_start c.matches.self.input c.in-Ok-Some.found.span.end =
+    rw c.in-Ok-Some.field-0-is at c.in-Ok-Some.ensures.on in
+    let at : c.advance.new.self.input.span.start ≡ c.in-Ok-Some.found.span.end = ap (λ (x : InputParts). x.span.start) on in
+    let up : c.advance.new.self.input.span.start ≤ next = omega (arith, at, c.end-end-in-Ok-Some.ensures.end) in
+    let start : c.set_start-then-repeats.new.self.span.start ≡ next = ap (λ (x : InputParts). x.span.start) c.set_start-then-repeats.ensures in
+    record {
+      enough = rw c.set_start-then-repeats.ensures (fewer_flags e next c.advance.new.self.places up c.advance.new.self.enough);
+      closed = rw c.set_start-then-repeats.ensures (even_later e next seen up c.advance.new.self.closed);
       table = c.advance.new.self.table;
       begins = c.advance.new.self.begins;
       order = λ x is. omega (arith, c.advance.new.self.order x is, up, start);

@@ -1,7 +1,9 @@
-use Rattle.std.proofs.Common.{◌<◌, add-one, rules}
+use Rattle.std.proofs.Common.{◌≡◌, ◌∙◌, ◌<◌, ◌≤◌, ◌-◌, ◌+◌, add-one, arith, length, map, drop, length-drop, rules}
 use Rattle.std.proofs.lemmas.Result.{IfOk-weaker}
+use Rattle.std.proofs.lemmas.List.{length-map}
+use Rattle.rsc_engine.specs.Parts.{pattern_in}
 use Rattle.rsc_engine.proofs.PartsLemmas.{pattern-range, pattern-assertion, pattern-then, pattern-either}
-use Rattle.rsc_engine.proofs.BuilderLemmas.{Builds-range, Builds-assert, Builds-then, Builds-either, Builds-group, Builds-optional, Builds-star, Builds-again, Builds-plus, Builds-limited, Builds-unlimited, drop-last}
+use Rattle.rsc_engine.proofs.BuilderLemmas.{Builds-range, Builds-assert, Builds-then, Builds-either, Builds-group, Builds-optional, Builds-star, Builds-again, Builds-plus, Builds-limited, Builds-unlimited, Builds-one_of, Builds-nothing, drop-last, drop-one}
 use Rattle.rsc_engine.proofs.builder.compile.Compiler.+part.Goals as goal
 
 pub again-returns-clause-first : goal.again-returns-clause-first
@@ -16,6 +18,29 @@ pub concat-loop-index-preserved : goal.concat-loop-index-preserved
 concat-loop-index-preserved t c =
     rw (drop-last c.args.parts.now c.loop-index.index c.index-parts-index.result c.loop-index-test.true c.loop-index.auto.index, ← c.index-parts-index.is)
     (Builds-then _ _ _ _ _ _ _ _ c.loop-index.invariant c.in_ok-first.ensures)
+
+pub one_of-returns-then-is_empty : goal.one_of-returns-then-is_empty
+one_of-returns-then-is_empty t c =
+    let none : length c.args.parts.now ≡ 0 = search rules in
+    IfOk-weaker c.never.result _ _
+    (λ first x. Builds-nothing _ _ first c.args.next (map pattern_in c.args.parts.now) (length-map c.args.parts.now pattern_in ∙ none) x) c.never.ensures
+
+pub one_of-loop-index-init : goal.one_of-loop-index-init
+one_of-loop-index-init t c =
+    let some : 0 < length c.args.parts.now = search rules in
+    rw (drop-one c.args.parts.now c.index-parts-last.result some, ← c.index-parts-last.is) c.in_ok-first.ensures
+
+pub one_of-loop-index-preserved : goal.one_of-loop-index-preserved
+one_of-loop-index-preserved t c =
+    let last : c.loop-index.index ≤ length c.args.parts.now - 1 = c.loop-index.auto.index in
+    let some : 0 < length c.args.parts.now = search rules in
+    rw (drop-last c.args.parts.now c.loop-index.index c.index-parts-index.result c.loop-index-test.true (omega (arith, last)), ← c.index-parts-index.is)
+    (Builds-one_of _ _ _ _ _ _ _ _ _ (map pattern_in (drop c.loop-index.index c.args.parts.now))
+    (omega (arith, last, length-map (drop c.loop-index.index c.args.parts.now) pattern_in, length-drop c.loop-index.index c.args.parts.now, some))
+    c.loop-index.invariant c.in_ok-one.ensures c.in_ok-first-2.ensures)
+
+pub one_of-returns : goal.one_of-returns
+one_of-returns t c = let start : c.loop-index.index ≡ 0 = omega (arith, c.loop-index-test.false) in rw start at c.loop-index.invariant
 
 pub copies-loop-done-preserved : goal.copies-loop-done-preserved
 copies-loop-done-preserved t c = rw add-one (Builds-then _ _ _ _ _ _ _ _ c.loop-done.invariant c.in_ok-first.ensures)

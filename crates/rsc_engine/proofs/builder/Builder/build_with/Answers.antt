@@ -1,5 +1,5 @@
 use Rattle.rsc_engine.proofs.BeginsLayoutLemmas.{Recognizes-built}
-use Rattle.rsc_engine.proofs.builder.Builder.build.Goals as goal
+use Rattle.rsc_engine.proofs.builder.Builder.build_with.Goals as goal
 
 pub returns-clause-matches : goal.returns-clause-matches
 returns-clause-matches g c =

@@ -2,7 +2,7 @@ use Rattle.std.proofs.Common.{◌≡◌, ◌++◌, map, flat_map, length}
 use Rattle.rsc_captures.specs.Groups.{groups_in}
 use Rattle.std.specs.Vec.Iter.{into_iter_items, into_iter_len}
 use Rattle.rsc_engine.specs.Parts.{pattern_of, pattern_in, groups_of_part}
-use Rattle.rsc_engine.proofs.builder.Builder.concat.Given as goal
+use Rattle.rsc_engine.proofs.builder.Builder.taken_apart.Given as goal
 
 abbrev pub invariant-loop-part : goal.invariant-loop-part
 invariant-loop-part l =

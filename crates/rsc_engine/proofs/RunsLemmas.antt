@@ -1,0 +1,68 @@
+-- What a run records is between its first position and its last.
+use Rattle.std.proofs.Common.{◌≡◌, ℕ, zero, suc, ◌+◌, ◌-◌, ◌<◌, ◌≤◌, Bool, true, false, cond, List, [], ◌∷◌, length, get_or, refl, sym, ap, ◌∙◌, arith, slice_get, Option, Some, None, ⊎_elim}
+use Rattle.std.proofs.lemmas.Bool.{cases_lt}
+use Rattle.std.proofs.lemmas.List.{get_or_past}
+use Rattle.rsc_nfa.specs.declared.state.State.{State}
+use Rattle.rsc_nfa.specs.Steps.{place, IsRun, is_capture_of, or_earlier, recorded}
+use Rattle.rsc_captures.specs.Captured.{Captured}
+use Rattle.rsc_search.specs.Matches.{Matched}
+use Rattle.rsc_engine.specs.Searches.{Search}
+use Rattle.rsc_engine.specs.Runs.{IsMatchRun}
+use Rattle.rsc_engine.specs.Preferred.{IsOf}
+use Rattle.rsc_engine.proofs.WalksLayoutLemmas.{leads-rises}
+
+-- the positions of a run never fall
+rises : (e : Search) (run : List (ℕ × ℕ)) (k m : ℕ) → IsRun e.states e.terminator e.words e.haystack e.start e.end run → k + m < length run
+    → (place run k).1 ≤ (place run (k + m)).1
+rises e run k zero r l = let same : k + zero ≡ k = omega arith in rw same (omega arith)
+rises e run k (suc m) r l =
+    let same : k + suc m ≡ k + m + 1 = omega arith in
+    let step = r.steps (k + m) (omega (arith, l)) in
+    rw same (omega (arith, rises e run k m r (omega (arith, l)), leads-rises e (place run (k + m)) (place run (k + m + 1)) step))
+
+some_same : (i j : ℕ) → Some i ≡ Some j → i ≡ j
+some_same i j h = cc
+
+-- what is recorded is the position of a place of the run
+recorded-place : (states : List State) (run : List (ℕ × ℕ)) (slot i : ℕ) → recorded states run slot ≡ Some i
+    → (k : ℕ) × (k < length run) × ((place run k).1 ≡ i)
+recorded-place states [] slot i h = absurd (cc)
+recorded-place states (p ∷ []) slot i h = absurd (cc)
+recorded-place states (p ∷ (q ∷ rest)) slot i h =
+    go (recorded states (q ∷ rest) slot) (is_capture_of slot (slice_get states p.0)) (recorded-place states (q ∷ rest) slot i) h
+  where
+    go : (later : Option ℕ) (here : Bool) → (later ≡ Some i → (k : ℕ) × (k < length (q ∷ rest)) × ((place (q ∷ rest) k).1 ≡ i))
+        → or_earlier later (cond here (Some p.1) None) ≡ Some i → (k : ℕ) × (k < length (p ∷ (q ∷ rest))) × ((place (p ∷ (q ∷ rest)) k).1 ≡ i)
+    go (Some j) here found is = let f = found is in (suc f.0, omega (arith, f.1), f.2)
+    go None true found is = (0, omega arith, some_same p.1 i is)
+    go None false found is = absurd (cc)
+
+-- each offset of a match is within its span
+pub offset-within : (e : Search) (from : ℕ × ℕ) (run : List (ℕ × ℕ)) (found : Matched) (captures : Captured) (slot i : ℕ) → IsMatchRun e from run
+    → IsOf e run found captures → get_or captures.offsets slot None ≡ Some i → (found.span.start ≤ i) × (i ≤ found.span.end)
+offset-within e from run found captures slot i m o at = (
+  omega (arith, o.ends.start, from_first, at_place.2),
+  omega (arith, o.ends.end, to_last, at_place.2),
+)
+  where
+    there : slot < length captures.offsets
+    there = ⊎_elim
+        (λ (l : slot < length captures.offsets). l)
+        (λ (le : length captures.offsets ≤ slot). absurd (none_is_some (sym (get_or_past captures.offsets slot None le) ∙ at)))
+        (cases_lt slot (length captures.offsets))
+      where
+        none_is_some : None ≡ Some i → ⊥
+        none_is_some h = absurd (cc)
+
+    at_place : (k : ℕ) × (k < length run) × ((place run k).1 ≡ i)
+    at_place = recorded-place e.states run slot i (sym (o.records slot there) ∙ at)
+
+    from_first : (place run 0).1 ≤ (place run at_place.0).1
+    from_first =
+        let same : 0 + at_place.0 ≡ at_place.0 = omega arith in
+        rw same at (rises e run 0 at_place.0 m.is_run (omega (arith, at_place.1)))
+
+    to_last : (place run at_place.0).1 ≤ (place run (length run - 1)).1
+    to_last =
+        let same : at_place.0 + (length run - 1 - at_place.0) ≡ length run - 1 = omega (arith, at_place.1) in
+        rw same at (rises e run at_place.0 (length run - 1 - at_place.0) m.is_run (omega (arith, at_place.1)))

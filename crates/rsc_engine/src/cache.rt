@@ -1,0 +1,108 @@
+//! What searches by a program keep from one to the next.
+ghost use Rattle.std.specs.Prelude.{◌≡◌, ◌≤◌, IfOk, IfErr, IfSome, IfNone, OnErr, None, length};
+ghost use Rattle.rsc_engine.specs.declared.error.Error.TheVariants.{OutOfMemory};
+ghost use Rattle.rsc_engine.specs.Searches.{search_in, FailsFor};
+ghost use Rattle.rsc_engine.specs.Preferred.{HasNone, IsFirstMatch, IsCleared};
+
+use crate::backtrack::{Walk, place_count};
+use crate::groups::write_match;
+use crate::starts::Starts;
+use crate::{AsciiWords, Dfa, Error, Matches, Program};
+use rsc_captures::Captures;
+use rsc_look::WordClass;
+use rsc_search::{Input, Match};
+use std::alloc::Global;
+use std::marker::Model;
+
+// How many rows the DFA keeps.
+const MOST_ROWS: usize = 1000;
+
+/// What searches by a program keep from one to the next: the rows of a DFA, and the memory of a walk. It serves many short haystacks,
+/// as the lines of a file.
+#[derive(Drop)]
+pub struct Cache<'p, W: WordClass> {
+    pub(crate) alloc: Global,
+    pub(crate) program: &'p Program<W>,
+    pub(crate) starts: Starts,
+    pub(crate) dfa: Dfa<'p, W>,
+    pub(crate) walk: Walk,
+}
+
+impl<'p, W: WordClass> Model for Cache<'p, W> {
+    ghost use Rattle.std.specs.Prelude.{◌≡◌, true};
+    ghost use Rattle.rsc_engine.specs.Searches.{Compiled};
+    ghost use Rattle.rsc_engine.specs.StartsLayout.{AreStarts};
+
+    ghost Value = { Compiled W };
+
+    ghost view = { λ c. c.program.now };
+
+    ghost invariant = { λ c. (c.dfa ≡ c.program.now) × (c.starts.known ≡ true →
+        AreStarts c.program.now.automaton.states c.program.now.start c.starts.marks.items c.starts.bytes.items) };
+}
+
+impl<'p, W: WordClass + AsciiWords> Cache<'p, W> {
+    /// What searches by the program keep: nothing yet.
+    ///
+    /// # Errors
+    ///
+    /// Out of memory.
+    pub fn new(alloc: Global, program: &'p Program<W>) -> Result<Cache<'p, W>, Error>
+        ensures made { IfOk result (λ c. c ≡ program.now) }
+        ensures refused { IfErr result (λ e. e ≡ OutOfMemory) }
+    {
+        Ok(Cache {
+            alloc,
+            program,
+            starts: Starts::new(alloc, program)?,
+            dfa: Dfa::new(alloc, program, MOST_ROWS),
+            walk: Walk::new(alloc, program.start()),
+        })
+    }
+
+    /// The leftmost-first match in an input's span, as [`find`](crate::find) answers it.
+    ///
+    /// # Errors
+    ///
+    /// Out of memory, or `TooLarge` where the span has too many positions for the number of states. The next search is answered all the same.
+    pub fn find(
+        &mut self,
+        input: &Input<'_>,
+        captures: &mut Captures,
+    ) -> Result<Option<Match>, Error>
+        ensures program { self.new ≡ self.old }
+        ensures found { IfOk result (λ found. IfSome found (IsFirstMatch (search_in W.word_chars self.old input.now) captures.new)) }
+        ensures none { IfOk result (λ found. IfNone found (HasNone (search_in W.word_chars self.old input.now))) }
+        ensures groups { captures.new.groups ≡ captures.old.groups }
+        ensures slots { length captures.new.offsets ≡ length captures.old.offsets }
+        ensures unset { IfOk result (λ found. IfNone found (IsCleared captures.old captures.new)) }
+        ensures failed { OnErr result (IsCleared captures.old captures.new) }
+        ensures within { IfOk result (λ found. IfSome found (λ m.
+            (input.now.span.start ≤ m.span.start) × (m.span.start ≤ m.span.end) × (m.span.end ≤ input.now.span.end))) }
+        ensures refused { IfErr result (FailsFor (search_in W.word_chars self.old input.now)) }
+    {
+        captures.clear();
+        let Some(from) = self.dfa.begin(input)? else {
+            return Ok(None);
+        };
+        let places = place_count(self.program, input)?;
+        self.walk.reopen(self.alloc, places)?;
+        if !self.walk.search(self.program, input, &self.starts, from)? {
+            return Ok(None);
+        }
+        let trail = self.walk.trail.as_slice();
+        Ok(Some(write_match(self.program, input, trail, captures)))
+    }
+
+    /// All matches in an input's span, over what the cache has. [`Matches::into_cache`] gives it back.
+    ///
+    /// # Errors
+    ///
+    /// Out of memory, or `TooLarge` where the span has too many positions for the number of states. The cache is dropped then.
+    pub fn matches<'h>(self, input: Input<'h>) -> Result<Matches<'p, 'h, W>, Error>
+        ensures made { IfOk result (λ m. m ≡ record { program = self.entry; input = input.entry; last = None }) }
+        ensures refused { IfErr result (FailsFor (search_in W.word_chars self.entry input.entry)) }
+    {
+        Matches::over(self, input)
+    }
+}
