@@ -12,7 +12,6 @@
 //! ( )            nothing; the last part as a group, which begins at the `(`
 //! ```
 
-use crate::patterns::captures_of;
 use rsc_captures::Captures;
 use rsc_engine::{Builder, Error, Matches, Part, Program};
 use rsc_look::AsciiWord;
@@ -69,7 +68,7 @@ fn matches_of(alloc: Global, line: &[u8]) -> Result<Option<String>, Error> {
 }
 
 fn all_matches(alloc: Global, program: &Program<AsciiWord>, text: &[u8]) -> Result<String, Error> {
-    let mut captures = captures_of(alloc, program)?;
+    let mut captures = program.captures(alloc)?;
     let mut found = String::new(alloc);
     let mut matches = Matches::new(alloc, program, Input::new(text))?;
     push_matches(&mut found, &mut matches, &mut captures, text.len())?;

@@ -23,7 +23,7 @@ fn main(rt: HostRuntime) -> ExitCode {
         Ok(_) => {}
         Err(error) => return failure(&rt, &error),
     }
-    if let Err(error) = pairs(&rt, "größe=3, λόγος=слово; 漢字=字") {
+    if let Err(error) = pairs(&rt, "größe=3, λόγος=слово; 漢字=字 #été") {
         return failure(&rt, &error);
     }
     match texts::show_all(&rt) {

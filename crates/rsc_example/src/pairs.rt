@@ -1,6 +1,6 @@
-use rsc_captures::Captures;
 use rsc_engine::{Builder, Error, Matches, Part, Program};
 use rsc_look::UnicodeWord;
+use rsc_primitives::PatternID;
 use rsc_search::Input;
 use std::alloc::Global;
 
@@ -13,30 +13,36 @@ pub const WORD: [(u8, u8); 5] = [
     (0x80, 0xFF),
 ];
 
-/// Prints the values of all matches of `(\w+)=(?P<value>\w+)`, where `\w` takes every byte of `WORD`.
+/// Prints the values of all pairs and tags: the matches of `\w+=(?P<value>\w+)` and of `#(?P<value>\w+)`, where `\w` takes every byte of `WORD`.
 pub fn pairs(rt: &HostRuntime, text: &str) -> Result<(), Error> {
-    let program = pair(rt.alloc())?;
-    let mut captures = Captures::all(rt.alloc(), program.nfa().group_info().clone()?)?;
+    let program = pair_or_tag(rt.alloc())?;
+    let mut captures = program.captures(rt.alloc())?;
     let mut matches = Matches::new(rt.alloc(), &program, Input::new(text.as_bytes()))?;
-    // There is at most one match for each position, so the loop ends.
+    // Each match ends after the one before it, so there are at most that many.
     for _ in 0..=text.len() {
-        if matches.next(&mut captures)?.is_none() {
+        let Some(found) = matches.next(&mut captures)? else {
             break;
-        }
+        };
+        let is_pair = found.pattern() == PatternID::ZERO;
         if let Some(value) = captures.get_group_by_name("value") {
-            let _ = rt.println(value.get_str(text).unwrap_or("?"));
+            let value = value.get_str(text).unwrap_or("?");
+            let _ = println!(rt; "{} {value}", if is_pair { "pair" } else { "tag" });
         }
     }
     Ok(())
 }
 
-fn pair(alloc: Global) -> Result<Program<UnicodeWord>, Error> {
-    let builder = Builder::new(alloc);
+fn pair_or_tag(alloc: Global) -> Result<Program<UnicodeWord>, Error> {
+    let mut builder = Builder::new(alloc);
     let key = word(&builder, None)?;
     let equals = builder.literal(b"=")?;
     let value = word(&builder, Some("value"))?;
-    let whole = builder.concat(vec![in alloc; key, equals, value]?)?;
-    builder.build(UnicodeWord, true, whole)
+    let pair = builder.concat(vec![in alloc; key, equals, value]?)?;
+    builder.pattern(pair)?;
+    let hash = builder.literal(b"#")?;
+    let value = word(&builder, Some("value"))?;
+    let tag = builder.then(hash, value)?;
+    builder.build(UnicodeWord, true, tag)
 }
 
 /// `(\w+)`, a group of that name.

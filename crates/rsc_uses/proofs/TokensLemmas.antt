@@ -1,8 +1,8 @@
 -- Runs grow byte by byte, and a byte of another kind bounds them.
-use Rattle.std.proofs.Common.{◌≡◌, ◌<◌, ◌≤◌, ◌+◌, ◌*◌, ℕ, List, length, slice_index, true, false, arith, subst, sym, ◌∙◌, ⊎_elim, true≢false, zero, suc, [], ◌∷◌, ◌++◌, All}
+use Rattle.std.proofs.Common.{◌≡◌, ◌<◌, ◌≤◌, ◌+◌, ◌*◌, ℕ, List, length, slice_index, true, false, arith, subst, sym, ◌∙◌, ⊎_elim, true≢false, zero, suc, [], ◌∷◌, ◌++◌}
 use Rattle.std.proofs.lemmas.Bool.{cases_lt}
-use Rattle.std.proofs.lemmas.List.Elements.{All-append}
-use Rattle.rsc_uses.specs.Tokens.{kind_accepts, IsRunOf, IsBound}
+use Rattle.rsc_search.specs.Matches.{Matched}
+use Rattle.rsc_uses.specs.Tokens.{kind_accepts, IsRunOf, IsBound, IsToken, BeginNone, AreTokens}
 
 -- three rows in a table are each of its rows
 pub rows_whole : (s n : ℕ) → 3 * s ≤ n → (kind : ℕ) → kind < 3 → (kind + 1) * s ≤ n
@@ -40,10 +40,33 @@ pub bound_raised : (classes table : List ℕ) (kind : ℕ) (h : List ℕ) (from 
     → IsBound classes table kind h from more
 bound_raised classes table kind h from to more b l = record { none = λ e w r. let s = b.none e w r in omega (arith, s, l) }
 
-one : {X : Type 0} (P : X → Type 0) (x : X) → P x → All P (x ∷ [])
-one P x p zero d h = p
-one P x p (suc k) d h = absurd (omega (arith, h))
+-- ---- tokens, one after the other
 
--- what is true of each element, and of the next
-pub all_pushed : {X : Type 0} (P : X → Type 0) (xs ys : List X) (x : X) → ys ≡ xs ++ x ∷ [] → All P xs → P x → All P ys
-all_pushed P xs ys x e a p = subst (λ l. All P l) (sym e) (All-append P xs (x ∷ []) a (one P x p))
+pub tokens_none : (classes table h : List ℕ) (from : ℕ) → AreTokens classes table h from from []
+tokens_none classes table h from = record { order = omega arith; none = λ i k l m d. absurd (omega (arith, l, m)) }
+
+none_more : (classes table h : List ℕ) (from to : ℕ) → BeginNone classes table h from to → ((k : ℕ) → k < 3 → IsBound classes table k h to to)
+    → BeginNone classes table h from (to + 1)
+none_more classes table h from to b none = record {
+  order = omega (arith, b.order);
+  none = λ i k l m d. ⊎_elim (λ (p : i < to). b.none i k l p d)
+      (λ (p : to ≤ i). let e : to ≡ i = omega (arith, m, p) in subst (λ j. IsBound classes table k h j j) e (none k d))
+      (cases_lt i to);
+}
+
+-- a byte more at which none begins
+pub tokens_past : (classes table h : List ℕ) (from to : ℕ) (found : List Matched) → AreTokens classes table h from to found
+    → ((k : ℕ) → k < 3 → IsBound classes table k h to to) → AreTokens classes table h from (to + 1) found
+tokens_past classes table h from to [] b none = none_more classes table h from to b none
+tokens_past classes table h from to (m ∷ rest) b none = (b.0, b.1, tokens_past classes table h m.span.end to rest b.2 none)
+
+-- a token more
+pub tokens_more : (classes table h : List ℕ) (from to : ℕ) (found : List Matched) (token : Matched) → AreTokens classes table h from to found
+    → token.span.start ≡ to → IsToken classes table h to token.pattern token.span.end
+    → AreTokens classes table h from token.span.end (found ++ token ∷ [])
+tokens_more classes table h from to [] token b at is = (
+  subst (λ i. BeginNone classes table h from i) (sym at) b,
+  subst (λ i. IsToken classes table h i token.pattern token.span.end) (sym at) is,
+  tokens_none classes table h token.span.end,
+)
+tokens_more classes table h from to (m ∷ rest) token b at is = (b.0, b.1, tokens_more classes table h m.span.end to rest token b.2 at is)

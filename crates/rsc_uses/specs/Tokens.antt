@@ -1,5 +1,6 @@
 -- What a table over the classes of bytes accepts, and what a token is.
-use Rattle.std.specs.Prelude.{◌≡◌, ◌<◌, ◌≤◌, ◌+◌, ◌*◌, ◌^◌, ◌==◌, ℕ, Bool, List, length, slice_index, true}
+use Rattle.std.specs.Prelude.{◌≡◌, ◌<◌, ◌≤◌, ◌+◌, ◌*◌, ◌^◌, ◌==◌, ℕ, Bool, List, [], ◌∷◌, length, slice_index, true}
+use Rattle.rsc_search.specs.Matches.{Matched}
 use Rattle.rsc_alphabet.specs.Iterators.{stride2_of}
 
 -- the table's entry of the kind and the byte's class is 1
@@ -25,3 +26,16 @@ pub record IsToken (classes table haystack : List ℕ) (from kind to : ℕ) : Ty
   pub within : to ≤ length haystack
   pub run : IsRunOf classes table kind haystack from to
   pub longest : (k : ℕ) → k < 3 → IsBound classes table k haystack from to
+
+-- no token begins at a position from the one up to the other
+pub record BeginNone (classes table haystack : List ℕ) (from to : ℕ) : Type 0 where
+  pub order : from ≤ to
+  pub none : (i k : ℕ) → from ≤ i → i < to → k < 3 → IsBound classes table k haystack i i
+
+-- the tokens from the one position to the other: each is the longest one at its position, each begins after the one before it ended, and in between
+-- none begins
+abbrev pub AreTokens : List ℕ → List ℕ → List ℕ → ℕ → ℕ → List Matched → Type 0
+AreTokens classes table haystack from to [] = BeginNone classes table haystack from to
+AreTokens classes table haystack from to (m ∷ rest) =
+    BeginNone classes table haystack from m.span.start × IsToken classes table haystack m.span.start m.pattern m.span.end
+    × AreTokens classes table haystack m.span.end to rest

@@ -1,15 +1,18 @@
 //! Searches by an engine, and what its answers say of one another.
-ghost use Rattle.std.specs.Prelude.{◌≡◌, ◌<◌, ◌≤◌, ◌++◌, [], ◌∷◌, ℕ, None, IfOk, IfSome, IfNone, length};
+ghost use Rattle.std.specs.Prelude.{◌≡◌, ◌<◌, ◌≤◌, ◌⊎◌, ◌++◌, [], ◌∷◌, ℕ, None, false, IfOk, IfSome, IfNone, length};
 ghost use Rattle.rsc_search.specs.Matches.{Matched};
 ghost use Rattle.rsc_engine.specs.Searches.{search_in};
+ghost use Rattle.rsc_engine.specs.NextMatches.{AreAll};
 ghost use Rattle.rsc_engine.specs.Preferred.{HasNone, IsFirstMatch};
-ghost use Rattle.rsc_engine.specs.Patterns.{Goes};
+ghost use Rattle.rsc_engine.specs.Patterns.{Goes, Either, Literal};
 ghost use Rattle.rsc_engine.specs.Parts.{pattern_of, groups_of_part};
 
 use rsc_captures::Captures;
-use rsc_engine::{Answer, AsciiWords, Builder, Dfa, Error, Matches, Part, Program, find, laws};
+use rsc_engine::{
+    Answer, AsciiWords, Builder, Cache, Dfa, Error, Matches, Part, Program, find, laws,
+};
 use rsc_look::WordClass;
-use rsc_search::{Input, Span};
+use rsc_search::{Input, Match, Span};
 use std::alloc::Global;
 
 /// Where a part goes first in a haystack, whose line terminator is `\n`: from where to where, or `None` if it goes nowhere.
@@ -28,7 +31,7 @@ pub fn find_part<W: WordClass>(
 {
     laws::a_first_match_is_of_a_pattern::<W>();
     let program = Builder::new(alloc).build(words, true, part)?;
-    let mut captures = Captures::all(alloc, program.nfa().group_info().clone()?)?;
+    let mut captures = program.captures(alloc)?;
     let input = Input::new(haystack);
     match find(alloc, &program, &input, &mut captures)? {
         None => Ok(None),
@@ -107,6 +110,75 @@ pub fn next_two_ends<W: WordClass + AsciiWords>(
     Ok(Some((one.end(), other.end())))
 }
 
+/// All matches in an input. `all_over`'s loop ends, since each match ends after the one before it and within the span.
+pub fn all_matches<W: WordClass + AsciiWords>(
+    alloc: Global,
+    program: &Program<W>,
+    input: Input<'_>,
+) -> Result<Vec<Match>, Error>
+    ensures { IfOk result (λ all. AreAll W.word_chars (record { program = program.now; input = input.entry; last = None }) all.items) }
+{
+    let mut captures = program.captures(alloc)?;
+    let cache = Cache::new(alloc, program)?;
+    Ok(all_over(alloc, cache, &mut captures, input)?.0)
+}
+
+/// The same over a cache, which comes back.
+pub fn all_over<'p, 'h, W: WordClass + AsciiWords>(
+    alloc: Global,
+    cache: Cache<'p, W>,
+    captures: &mut Captures,
+    input: Input<'h>,
+) -> Result<(Vec<Match>, Cache<'p, W>), Error>
+    ensures all { IfOk result (λ both. AreAll W.word_chars (record { program = cache.entry; input = input.entry; last = None }) both.0.items) }
+    ensures cache { IfOk result (λ both. both.1 ≡ cache.entry) }
+{
+    let mut matches = cache.matches(input)?;
+    let mut all = Vec::new(alloc);
+    'matches: loop {
+        match matches.next(captures)? {
+            None => return Ok((all, matches.into_cache())),
+            Some(found) => all.push(found)?,
+        }
+    }
+}
+
+/// Whether two inputs have a match, over one cache.
+pub fn both_match<W: WordClass + AsciiWords>(
+    cache: &mut Cache<'_, W>,
+    captures: &mut Captures,
+    one: &Input<'_>,
+    other: &Input<'_>,
+) -> Result<bool, Error>
+    ensures program { cache.new ≡ cache.old }
+    ensures not { IfOk result (λ both. both ≡ false →
+        HasNone (search_in W.word_chars cache.old one.now) ⊎ HasNone (search_in W.word_chars cache.old other.now)) }
+{
+    match cache.find(one, captures)? {
+        None => return Ok(false),
+        Some(_) => {}
+    }
+    match cache.find(other, captures)? {
+        None => Ok(false),
+        Some(_) => Ok(true),
+    }
+}
+
+/// A part that is one of two texts, preferably the first.
+pub fn one_of_two<'n>(
+    alloc: Global,
+    builder: &Builder<'n>,
+    one: &[u8],
+    other: &[u8],
+) -> Result<Part<'n>, Error>
+    ensures { IfOk result (λ part. pattern_of part ≡ Either (Literal one.now) (Literal other.now)) }
+{
+    let mut parts = Vec::new(alloc);
+    parts.push(builder.literal(one)?)?;
+    parts.push(builder.literal(other)?)?;
+    builder.one_of(parts)
+}
+
 /// Where the first match of an iteration is: the part goes there.
 pub fn first_of_iteration<W: WordClass + AsciiWords>(
     alloc: Global,
@@ -119,7 +191,7 @@ pub fn first_of_iteration<W: WordClass + AsciiWords>(
 {
     laws::a_next_match_is_of_a_pattern::<W>();
     let program = Builder::new(alloc).build(words, true, part)?;
-    let mut captures = Captures::all(alloc, program.nfa().group_info().clone()?)?;
+    let mut captures = program.captures(alloc)?;
     let input = Input::new(haystack);
     let mut matches = Matches::new(alloc, &program, input)?;
     match matches.next(&mut captures)? {

@@ -2,7 +2,7 @@
 ghost use Rattle.std.specs.Prelude.{◌≡◌, ◌↔◌, ◌<◌, ◌≤◌, ℕ, All, IfOk, IfSome, IsTrue, IsNone, true, length, map};
 ghost use Rattle.rsc_alphabet.specs.Partitions.{LastClassIsGreatest};
 ghost use Rattle.rsc_search.specs.PatternSets.{has_member};
-ghost use Rattle.rsc_uses.specs.Tokens.{kind_accepts, HasRows, IsRunOf, IsBound, IsToken};
+ghost use Rattle.rsc_uses.specs.Tokens.{kind_accepts, HasRows, IsRunOf, IsBound, IsToken, AreTokens};
 
 use crate::alphabet::transition;
 use rsc_alphabet::ByteClasses;
@@ -94,7 +94,7 @@ pub fn tokens(
 ) -> Result<Vec<Match>, AllocError>
     requires rows { HasRows classes.now table.now }
     requires bounded { LastClassIsGreatest classes.now }
-    ensures { IfOk result (λ found. All (λ m. IsToken classes.now table.now haystack.now m.span.start m.pattern m.span.end) found.items) }
+    ensures { IfOk result (λ found. AreTokens classes.now table.now haystack.now 0 (length haystack.now) found.items) }
 {
     let mut found = Vec::new(alloc);
     let mut at = 0;

@@ -337,7 +337,7 @@ fn spans_of_groups(rt: HostRuntime) -> Result<(), Fail> {
 }
 
 #[test]
-fn one_step(rt: HostRuntime) -> Result<(), Fail> {
+fn a_step_past_a_byte_is_a_run(rt: HostRuntime) -> Result<(), Fail> {
     let (from, next) = (StateID::ZERO, StateID::must(1));
     let states = [
         State::ByteRange {

@@ -1,6 +1,5 @@
 //! The callers of the engine, run on values.
-use rsc_captures::Captures;
-use rsc_engine::{Builder, Dfa, Matches};
+use rsc_engine::{Builder, Cache, Dfa, Matches};
 use rsc_look::AsciiWord;
 use rsc_primitives::PatternID;
 use rsc_search::Input;
@@ -8,14 +7,14 @@ use rsc_uses::engine;
 use std::test::Fail;
 
 #[test]
-fn searches(rt: HostRuntime) -> Result<(), Fail> {
+fn callers_of_the_engine_find_matches(rt: HostRuntime) -> Result<(), Fail> {
     let builder = Builder::new(rt.alloc());
     let whole = builder.range(b'a', b'z');
     let found = engine::find_part(rt.alloc(), AsciiWord, whole, b"-a b")?;
     assert!(rt; found == Some((1, 2)));
     let whole = builder.range(b'a', b'z');
     let program = builder.build(AsciiWord, true, whole)?;
-    let mut captures = Captures::all(rt.alloc(), program.nfa().group_info().clone()?)?;
+    let mut captures = program.captures(rt.alloc())?;
     let input = Input::new(b"-a b");
     let first = engine::first_span(rt.alloc(), &program, &input, &mut captures)?;
     assert!(rt; first.is_some_and(|span| span.start == 1 && span.end == 2));
@@ -33,7 +32,7 @@ fn ends_agree(rt: HostRuntime) -> Result<(), Fail> {
     let builder = Builder::new(rt.alloc());
     let whole = builder.range(b'a', b'z');
     let program = builder.build(AsciiWord, true, whole)?;
-    let mut captures = Captures::all(rt.alloc(), program.nfa().group_info().clone()?)?;
+    let mut captures = program.captures(rt.alloc())?;
     let mut dfa = Dfa::new(rt.alloc(), &program, 4);
     let input = Input::new(b"-a b");
     let ends = engine::first_end_twice(rt.alloc(), &program, &mut dfa, &input, &mut captures)?;
@@ -61,5 +60,22 @@ fn groups_of_both_parts(rt: HostRuntime) -> Result<(), Fail> {
     let program = engine::program_of_two(rt.alloc(), AsciiWord, one, other)?;
     let info = program.nfa().group_info();
     assert!(rt; info.to_index(PatternID::ZERO, "b") == Some(2));
+    Ok(())
+}
+
+#[test]
+fn all_matches_come_over_one_cache(rt: HostRuntime) -> Result<(), Fail> {
+    let builder = Builder::new(rt.alloc());
+    let whole = engine::one_of_two(rt.alloc(), &builder, b"ab", b"a")?;
+    let program = builder.build(AsciiWord, true, whole)?;
+    let all = engine::all_matches(rt.alloc(), &program, Input::new(b"a-ab"))?;
+    assert!(rt; all.len() == 2 && all[0].end() == 1 && all[1].end() == 4);
+    let mut captures = program.captures(rt.alloc())?;
+    let cache = Cache::new(rt.alloc(), &program)?;
+    let (one, other) = (Input::new(b"-a"), Input::new(b"b"));
+    let (all, mut cache) = engine::all_over(rt.alloc(), cache, &mut captures, one.clone()?)?;
+    assert!(rt; all.len() == 1 && all[0].start() == 1);
+    assert!(rt; engine::both_match(&mut cache, &mut captures, &one, &one)?);
+    assert!(rt; !engine::both_match(&mut cache, &mut captures, &one, &other)?);
     Ok(())
 }
