@@ -27,7 +27,7 @@ impl Answer {
 
     /// Begins a list with its own separator as the next token; returns the separator around it, for [`Answer::close`].
     pub fn open(&mut self, separator: &'static str) -> &'static str {
-        self.word("");
+        self.token("");
         self.is_begun = false;
         std::mem::replace(&mut self.separator, separator)
     }
@@ -35,15 +35,15 @@ impl Answer {
     /// Ends a list, which is `.` if it has no token.
     pub fn close(&mut self, outer: &'static str) {
         if !self.is_begun {
-            self.word(".");
+            self.token(".");
         }
         self.separator = outer;
     }
 
     /// Adds a text.
-    pub fn word(&mut self, word: &str) {
+    pub fn token(&mut self, token: &str) {
         let separator = self.separate();
-        if self.text.push_str(separator).is_err() || self.text.push_str(word).is_err() {
+        if self.text.push_str(separator).is_err() || self.text.push_str(token).is_err() {
             self.lacks_memory = true;
         }
     }
@@ -74,13 +74,13 @@ impl Answer {
     pub fn optional(&mut self, number: Option<usize>) {
         match number {
             Some(number) => self.shown(number),
-            None => self.word("_"),
+            None => self.token("_"),
         }
     }
 
     /// Adds `T` or `F`.
     pub fn truth(&mut self, holds: bool) {
-        self.word(if holds { "T" } else { "F" });
+        self.token(if holds { "T" } else { "F" });
     }
 
     /// Adds a byte as two hexadecimal digits.
@@ -91,10 +91,10 @@ impl Answer {
         }
     }
 
-    /// Adds bytes as hexadecimal digits after a word, without gaps.
+    /// Adds bytes as hexadecimal digits after a token, without gaps.
     pub fn digits(&mut self, before: &str, bytes: &[u8]) {
         let outer = self.open("");
-        self.word(before);
+        self.token(before);
         for byte in bytes {
             self.byte(*byte);
         }
@@ -128,7 +128,7 @@ impl Answer {
     pub fn order<T: Ord>(&mut self, a: &T, b: &T) {
         let order = a.cmp(b);
         let agrees = (a == b) == (order == Ordering::Equal) && a.partial_cmp(b) == Some(order);
-        self.word(match order {
+        self.token(match order {
             _ if !agrees => "order and equality disagree",
             Ordering::Less => "lt",
             Ordering::Equal => "eq",
@@ -172,7 +172,7 @@ macro_rules! items {
         }
         for _ in 0..3 {
             if let Some($item) = iterator.next() {
-                $answer.word("again");
+                $answer.token("again");
                 $added;
             }
         }

@@ -18,7 +18,7 @@ pub(crate) fn answer(name: &[u8], line: &mut Line<'_>, answer: &mut Answer) -> b
 // Reads how captures are made and group lists.
 fn new_captures(line: &mut Line<'_>) -> Option<Captures> {
     line.expect(b" ");
-    let kind = line.word();
+    let kind = line.token();
     let info = match group_info(line, GREATEST_LIMIT) {
         Ok(info) => info,
         Err(refusal) => {
@@ -127,14 +127,14 @@ fn push_match(line: &mut Line<'_>, answer: &mut Answer, captures: &Captures) {
             push_ends(answer, Some(found.span()));
             answer.close(outer);
         }
-        None => answer.word("_"),
+        None => answer.token("_"),
     }
 }
 
 fn push_ends(answer: &mut Answer, span: Option<Span>) {
     match span {
         Some(span) => tokens! { answer, ".."; shown(span.start), shown(span.end) },
-        None => answer.word("_"),
+        None => answer.token("_"),
     }
 }
 
@@ -146,7 +146,7 @@ macro_rules! extract {
                 let found: Option<($kind, [$kind; $number])> = $captures.extract_from($haystack);
                 match &found {
                     Some(parts) => $push($answer, parts.0, parts.1.as_slice()),
-                    None => $answer.word("_"),
+                    None => $answer.token("_"),
                 }
             })*
             _ => $line.refuse(),

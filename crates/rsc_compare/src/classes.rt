@@ -50,9 +50,9 @@ fn unit(line: &mut Line<'_>) -> Unit {
 
 fn push_unit(answer: &mut Answer, unit: Unit) {
     match (unit.as_u8(), unit.as_eoi()) {
-        (Some(byte), None) => tokens! { answer, ""; word("b"), byte(byte) },
-        (None, Some(sentinel)) => tokens! { answer, ""; word("e"), shown(sentinel) },
-        _ => answer.word("neither"),
+        (Some(byte), None) => tokens! { answer, ""; token("b"), byte(byte) },
+        (None, Some(sentinel)) => tokens! { answer, ""; token("e"), shown(sentinel) },
+        _ => answer.token("neither"),
     }
 }
 

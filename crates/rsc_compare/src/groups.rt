@@ -73,7 +73,7 @@ fn describe(line: &mut Line<'_>, answer: &mut Answer, limit: usize)
 {
     match group_info(line, limit) {
         Ok(info) => {
-            answer.word("ok");
+            answer.token("ok");
             push_counts(answer, &info);
             push_first_slots(answer, &info);
         }
@@ -83,7 +83,7 @@ fn describe(line: &mut Line<'_>, answer: &mut Answer, limit: usize)
 
 fn push_refusal(line: &mut Line<'_>, answer: &mut Answer, refusal: GroupInfoError) {
     note_refusal(line, &refusal);
-    tokens! { answer; word("err"), shown(refusal) }
+    tokens! { answer; token("err"), shown(refusal) }
 }
 
 fn script_of(line: &mut Line<'_>, answer: &mut Answer) {
@@ -130,7 +130,7 @@ fn ask_of(line: &mut Line<'_>, answer: &mut Answer, info: &GroupInfo, letter: u8
 fn push_slots(answer: &mut Answer, slots: Option<(usize, usize)>) {
     match slots {
         Some((start, end)) => tokens! { answer, ":"; shown(start), shown(end) },
-        None => answer.word("_"),
+        None => answer.token("_"),
     }
 }
 

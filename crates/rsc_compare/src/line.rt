@@ -135,10 +135,10 @@ impl<'a> Line<'a> {
     }
 
     /// The digits, lower-case letters and `_` that come next, if any.
-    pub fn word(&mut self) -> &'a [u8] {
-        let (word, rest) = split_word(self.rest);
+    pub fn token(&mut self) -> &'a [u8] {
+        let (token, rest) = split_token(self.rest);
         self.rest = rest;
-        word
+        token
     }
 
     /// How many items the list has that comes after a mark; none, and both are read, if it is `empty`.
@@ -166,7 +166,7 @@ impl<'a> Line<'a> {
     /// The decimal number after a mark.
     pub fn number(&mut self, mark: u8) -> usize {
         self.mark(mark);
-        let number = parse_number(self.word());
+        let number = parse_number(self.token());
         self.found(number, 0)
     }
 
@@ -272,7 +272,7 @@ impl<'a> Line<'a> {
 }
 
 // The digits, lower-case letters and `_` that a text begins with, and what is after them.
-fn split_word(text: &[u8]) -> (&[u8], &[u8]) {
+fn split_token(text: &[u8]) -> (&[u8], &[u8]) {
     for at in 0..text.len() {
         if !matches!(text[at], b'0'..=b'9' | b'a'..=b'z' | b'_') {
             return text.split_at(at);

@@ -20,7 +20,7 @@ pub(crate) fn answer(name: &[u8], line: &mut Line<'_>, answer: &mut Answer) -> b
 
 /// Adds `ok` or `refused`.
 pub fn push_availability(answer: &mut Answer, is_ok: bool) {
-    answer.word(if is_ok { "ok" } else { "refused" });
+    answer.token(if is_ok { "ok" } else { "refused" });
 }
 
 /// Reads the sum of the numbers of a set's assertions.
@@ -32,7 +32,7 @@ pub fn look_set(line: &mut Line<'_>) -> LookSet {
 fn from_bits(line: &mut Line<'_>, answer: &mut Answer) {
     match LookSet::from_bits(line.number_u32(b' ')) {
         Some(set) => answer.shown(set.bits()),
-        None => answer.word("_"),
+        None => answer.token("_"),
     }
 }
 
@@ -76,7 +76,7 @@ fn operate(line: &mut Line<'_>, answer: &mut Answer) {
 
 fn combine(line: &mut Line<'_>, answer: &mut Answer) {
     line.expect(b" ");
-    let operation = line.word();
+    let operation = line.token();
     let (mut set, other) = (look_set(line), look_set(line));
     if operation == b"union".as_slice() {
         answer.shown(set.union(other).bits());

@@ -1,6 +1,6 @@
 //! The commands of assertions and the matcher.
 ghost use Rattle.std.specs.Prelude.{◌≡◌, ◌≤◌, length};
-ghost use Rattle.rsc_compare.specs.Words.{is_in_ranges};
+ghost use Rattle.rsc_compare.specs.CharRanges.{is_in_ranges};
 
 use crate::answer::Answer;
 use crate::line::Line;
@@ -49,7 +49,7 @@ fn matcher_of<W: WordClass>(terminator: u8, words: W) -> LookMatcher<W> {
 
 fn describe(line: &mut Line<'_>, answer: &mut Answer) {
     match Look::from_repr(line.number_u32(b' ')) {
-        None => answer.word("_"),
+        None => answer.token("_"),
         Some(look) =>
             tokens! { answer; shown(look.as_repr()), shown(look.reversed().as_repr()), shown(look.as_char() as u32) },
     }
@@ -185,7 +185,7 @@ fn words(line: &mut Line<'_>) -> RangeWord {
 }
 
 impl WordClass for RangeWord {
-    ghost use Rattle.rsc_compare.specs.Words.{is_in_ranges};
+    ghost use Rattle.rsc_compare.specs.CharRanges.{is_in_ranges};
 
     ghost word_chars = { λ words c. is_in_ranges c words.ranges.items };
 

@@ -72,7 +72,7 @@ fn failed_write(error: io::Error) -> &'static str {
 fn answer_line(alloc: Global, line: &[u8]) -> Result<String, AllocError> {
     let mut line = Line::new(alloc, line.strip_suffix(b"\n").unwrap_or(line));
     let mut answer = Answer::new(alloc);
-    let name = line.word();
+    let name = line.token();
     let is_known = answer_command(plain_name(name), &mut line, &mut answer);
     let mut text = if line.is_read()? && is_known {
         answer.finish()?

@@ -61,7 +61,7 @@ fn insert(line: &mut Line<'_>, answer: &mut Answer, set: &mut PatternSet) {
 fn try_insert(line: &mut Line<'_>, answer: &mut Answer, set: &mut PatternSet) {
     match set.try_insert(line.pattern(NONE)) {
         Ok(is_new) => answer.truth(is_new),
-        Err(_) => answer.word("!"),
+        Err(_) => answer.token("!"),
     }
 }
 
@@ -71,7 +71,7 @@ fn push_sizes(answer: &mut Answer, set: &PatternSet) {
 
 fn push_steps(line: &mut Line<'_>, answer: &mut Answer, mut members: PatternSetIter<'_>) {
     let outer = answer.open(",");
-    for letter in line.word() {
+    for letter in line.token() {
         match *letter {
             b'f' => answer.optional(members.next().map(|pid| pid.as_usize())),
             b'b' => answer.optional(members.next_back().map(|pid| pid.as_usize())),

@@ -41,7 +41,7 @@ fn answer_indices(name: &[u8], line: &mut Line<'_>, answer: &mut Answer) -> bool
 fn non_max(line: &mut Line<'_>, answer: &mut Answer) {
     match NonMaxUsize::new(line.number(b' ')) {
         Some(value) => tokens! { answer; shown(value.get()), debug(&value) },
-        None => answer.word("_"),
+        None => answer.token("_"),
     }
 }
 
@@ -57,9 +57,9 @@ fn non_max_cmp(line: &mut Line<'_>, answer: &mut Answer) {
 
 fn push_decoded(answer: &mut Answer, decoded: Option<Result<char, u8>>) {
     match decoded {
-        None => answer.word("_"),
-        Some(Ok(c)) => tokens! { answer; word("ok"), shown(c as u32) },
-        Some(Err(byte)) => tokens! { answer; word("err"), byte(byte) },
+        None => answer.token("_"),
+        Some(Ok(c)) => tokens! { answer; token("ok"), shown(c as u32) },
+        Some(Err(byte)) => tokens! { answer; token("err"), byte(byte) },
     }
 }
 
@@ -137,11 +137,11 @@ macro_rules! ask {
 }
 
 fn accepted(answer: &mut Answer, number: usize) {
-    tokens! { answer; word("ok"), shown(number) }
+    tokens! { answer; token("ok"), shown(number) }
 }
 
 fn refused<E: fmt::Display + Drop>(answer: &mut Answer, attempted: u64, error: E) {
-    tokens! { answer; word("err"), shown(attempted), shown(error) }
+    tokens! { answer; token("err"), shown(attempted), shown(error) }
 }
 
 fn constants(line: &mut Line<'_>, answer: &mut Answer) {

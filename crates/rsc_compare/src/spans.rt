@@ -78,7 +78,7 @@ fn get_mut(line: &mut Line<'_>, answer: &mut Answer) {
 fn push_cut(answer: &mut Answer, cut: Option<&[u8]>) {
     match cut {
         Some(bytes) => answer.bytes(bytes),
-        None => answer.word("_"),
+        None => answer.token("_"),
     }
 }
 
@@ -148,9 +148,9 @@ pub fn mode(line: &mut Line<'_>, mark: u8) -> Anchored {
 /// Adds a mode as it is read.
 pub fn push_mode(answer: &mut Answer, mode: Anchored) {
     match mode {
-        Anchored::No => answer.word("no"),
-        Anchored::Yes => answer.word("yes"),
-        Anchored::Pattern(pattern) => tokens! { answer, ""; word("p"), shown(pattern.as_usize()) },
+        Anchored::No => answer.token("no"),
+        Anchored::Yes => answer.token("yes"),
+        Anchored::Pattern(pattern) => tokens! { answer, ""; token("p"), shown(pattern.as_usize()) },
     }
 }
 
@@ -168,7 +168,7 @@ fn describe_kind(line: &mut Line<'_>, answer: &mut Answer) {
         MatchKind::default()
     };
     answer.truth(kind.continue_past_first_match());
-    answer.word(match kind {
+    answer.token(match kind {
         MatchKind::All => "all",
         MatchKind::LeftmostFirst => "leftmost",
     });

@@ -106,8 +106,8 @@ fn slots_of(alloc: Global, info: &GroupInfo, groups: usize) -> Result<Vec<usize>
 }
 
 fn write_slot(captures: &mut Captures, slot: usize, offset: usize) {
-    if let Some(place) = captures.slots_mut().get_mut(slot) {
-        *place = NonMaxUsize::new(offset);
+    if let Some(content) = captures.slots_mut().get_mut(slot) {
+        *content = NonMaxUsize::new(offset);
     }
 }
 

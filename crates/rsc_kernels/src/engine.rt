@@ -15,7 +15,7 @@ use rsc_primitives::{NonMaxUsize, PatternID};
 use rsc_search::PatternSet;
 use std::alloc::{AllocError, Global};
 
-// What the place of a transition is multiplied by to choose a state.
+// What the index of a transition is multiplied by to choose a state.
 const SPREAD: u64 = 0x9E37_79B9_7F4A_7C15;
 
 // How many states an automaton may have at most.
@@ -80,8 +80,8 @@ fn transitions(alloc: Global, states: u64, classes: &ByteClasses) -> Result<Vec<
 {
     let stride2 = classes.stride2();
     let mut table = Vec::new(alloc);
-    for place in 0..states << stride2 {
-        let state = (place.wrapping_mul(SPREAD) >> 32) % states;
+    for index in 0..states << stride2 {
+        let state = (index.wrapping_mul(SPREAD) >> 32) % states;
         table.push(((state << stride2) % (1 << 32)) as u32)?;
     }
     Ok(table)

@@ -61,12 +61,12 @@ pub fn run(
             repeat(reps, |sum| indices(info, &names, sum))
         }
         GI_TO_NAME => {
-            let places = places_of(alloc, lists)?;
-            repeat(reps, |sum| names_at(info, &places, sum))
+            let groups = all_groups(alloc, lists)?;
+            repeat(reps, |sum| names_at(info, &groups, sum))
         }
         GI_SLOT => {
-            let places = places_of(alloc, lists)?;
-            repeat(reps, |sum| slots(info, &places, sum))
+            let groups = all_groups(alloc, lists)?;
+            repeat(reps, |sum| slots(info, &groups, sum))
         }
         GI_CLONE => repeat(reps, |sum| patterns_of_clone(info, sum)),
         GI_ALL_NAMES => repeat(reps, |sum| all_names(info, sum)),
@@ -76,19 +76,19 @@ pub fn run(
 }
 
 // Each group by its pattern and its index.
-fn places_of(
+fn all_groups(
     alloc: Global,
     lists: &[&[Option<&str>]],
 ) -> Result<Vec<(PatternID, usize)>, AllocError> {
-    let mut places = Vec::new(alloc);
+    let mut all = Vec::new(alloc);
     for (p, groups) in lists.iter().enumerate() {
         if let Ok(pattern) = PatternID::new(p) {
             for g in 0..groups.len() {
-                places.push((pattern, g))?;
+                all.push((pattern, g))?;
             }
         }
     }
-    Ok(places)
+    Ok(all)
 }
 
 // The name of each group that has one, with its pattern.
@@ -145,9 +145,9 @@ fn indices(info: &GroupInfo, names: &[(PatternID, &str)], sum: u64) -> u64 {
 
 // The lengths of the groups' names.
 #[inline(never)]
-fn names_at(info: &GroupInfo, places: &[(PatternID, usize)], sum: u64) -> u64 {
+fn names_at(info: &GroupInfo, groups: &[(PatternID, usize)], sum: u64) -> u64 {
     let mut sum = sum;
-    for &(pattern, g) in places {
+    for &(pattern, g) in groups {
         sum = sum.wrapping_add(length_of(info.to_name(pattern, g)));
     }
     sum
@@ -155,9 +155,9 @@ fn names_at(info: &GroupInfo, places: &[(PatternID, usize)], sum: u64) -> u64 {
 
 // The groups' first slots.
 #[inline(never)]
-fn slots(info: &GroupInfo, places: &[(PatternID, usize)], sum: u64) -> u64 {
+fn slots(info: &GroupInfo, groups: &[(PatternID, usize)], sum: u64) -> u64 {
     let mut sum = sum;
-    for &(pattern, g) in places {
+    for &(pattern, g) in groups {
         if let Some(slot) = info.slot(pattern, g) {
             sum = sum.wrapping_add(slot as u64);
         }

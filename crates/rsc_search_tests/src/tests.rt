@@ -1,4 +1,4 @@
-//! What no contract says: values from outside, and shown texts.
+//! Values of each call, and shown texts.
 mod cost;
 mod forms;
 mod memory;
@@ -22,7 +22,7 @@ fn span(start: usize, end: usize) -> Span
 }
 
 #[test]
-fn spans(rt: HostRuntime) -> Result<(), Fail> {
+fn spans_contain_all_but_their_end(rt: HostRuntime) -> Result<(), Fail> {
     let ordered = span(2, 4);
     assert_eq!(rt; ordered.len(), 2);
     assert!(rt; ordered.offset(3) == span(5, 7));
@@ -48,7 +48,7 @@ fn spans_and_ranges(rt: HostRuntime) {
 }
 
 #[test]
-fn slices(rt: HostRuntime) {
+fn cuts_text_between_characters_alone(rt: HostRuntime) {
     let accent = "é";
     for (s, want) in [
         (span(1, 3), None),
@@ -135,7 +135,7 @@ fn character_boundaries(rt: HostRuntime) {
 }
 
 #[test]
-fn matches(rt: HostRuntime) {
+fn matches_tell_their_pattern_and_span(rt: HostRuntime) {
     let half = HalfMatch::must(3, 7);
     assert!(rt; half == HalfMatch::new(PatternID::must(3), 7));
     assert!(rt; half.pattern() == PatternID::must(3) && half.offset() == 7);
@@ -148,7 +148,7 @@ fn matches(rt: HostRuntime) {
 }
 
 #[test]
-fn modes(rt: HostRuntime) {
+fn modes_tell_whether_they_anchor(rt: HostRuntime) {
     let four = PatternID::must(4);
     for (mode, anchored, pattern) in [
         (Anchored::No, false, None),
@@ -163,7 +163,7 @@ fn modes(rt: HostRuntime) {
 }
 
 #[test]
-fn errors(rt: HostRuntime) -> Result<(), Fail> {
+fn errors_tell_byte_and_offset(rt: HostRuntime) -> Result<(), Fail> {
     let quit = MatchError::quit(0xFF, 3);
     assert!(rt;
         *quit.kind()

@@ -170,7 +170,7 @@ fn every_member_has_to_hold(rt: HostRuntime) {
 }
 
 #[test]
-fn mirrors(rt: HostRuntime) {
+fn no_line_starts_or_ends_within_a_crlf_pair(rt: HostRuntime) {
     let matcher = LookMatcher::default();
     assert!(rt; !matcher.matches(Look::StartCRLF, b"\r\na", 1));
     assert!(rt; !matcher.matches(Look::EndCRLF, b"a\r\n", 2));
