@@ -1,8 +1,8 @@
 #!/usr/bin/env bash
 # Proves and tests the repository, and says what it does as it goes.
 #
-#   ./test.sh          proves, from nothing, each crate that hasn't passed on this machine in this state; runs all tests and programs; compares the
-#                      documents with the sources
+#   ./test.sh          proves each crate from nothing (on rattle-kit-13f each that hasn't passed on this machine in this state); runs all tests and
+#                      programs; compares the documents with the sources
 #   ./test.sh all      tries the wrong bodies too; this is the gate
 #   ./test.sh quick    proves nothing: compares the documents, and runs all tests and programs, in three minutes on four processors
 set -eu
@@ -22,7 +22,7 @@ step() {
 case ${1:-} in
   '' | all)
     step "sources and documents: layers, lengths of lines, quotations, unused lemmas, the texts of wrong bodies"
-    python3 -m doctest gate/edits.py gate/wrong-bodies.py
+    python3 -m doctest gate/edits.py gate/calling.py gate/wrong-bodies.py
     gate/pages.py
     gate/unused-lemmas.py
     gate/wrong-bodies.py --texts

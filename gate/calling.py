@@ -12,10 +12,20 @@ ROOT = pathlib.Path(__file__).resolve().parent.parent
 
 def functions(text):
     """Yields each function of a file: its type or trait, whether the call is public, its signature with its clauses, and the head of its `impl`, if
-    that is one of a type and has bounds."""
+    that is one of a type and has bounds.
+
+    >>> text = "impl<W: Words> Half<W> {\\n    pub fn one(&self) -> usize\\n        ensures { result ≡ 1 }\\n    {\\n        1\\n    }\\n}\\n\\nfn two() -> usize {\\n    2\\n}\\n"
+    >>> [*functions(text)]
+    [('Half<W>', True, '    pub fn one(&self) -> usize\\n        ensures { result ≡ 1 }', 'impl<W: Words> Half<W>'), ('', False, 'fn two() -> usize {', '')]
+    >>> [*functions("impl Half\\n{\\n    pub fn one() {}\\n}\\n")]
+    Traceback (most recent call last):
+    ValueError: impl Half: a head of more than one line, which isn't read
+    """
     owner, is_open, bounds, lines = "", False, "", None
     for line in text.splitlines():
         block = re.match(r"(?:pub )?(impl|trait)\b(<.*?>)? ?(.*?) ?\{", line)
+        if not block and re.match(r"(?:pub )?(?:impl|trait)\b", line):
+            raise ValueError(f"{line}: a head of more than one line, which isn't read")
         if block:
             owner = block[3].partition(":")[0] if block[1] == "trait" else block[3]
             is_open = block[1] == "trait" or " for " in owner
@@ -364,7 +374,7 @@ ALIKE = ((r"(PatternID|SmallIndex|StateID)::as_\w+", r"\1::as_.+"), (r"(?:Try)?F
          ("PatternSetInsertError::attempted", "PatternSetInsertError::capacity"), ("Captures::pattern", "Captures::is_match"),
          ("Captures::group_info", "Captures::group_len"), ("GroupInfoError::kind", "GroupInfoError::clone"), ("Nfa::(?:group_info|matcher)", "Nfa::states"),
          ("From<.*> for Error", "ErrorFromBuildError::from"), ("Program::nfa", "Program::start"))
-EXEMPT = ("GroupInfo::all_names", "Dfa::new")
+EXEMPT = ("GroupInfo::all_names", "Dfa::new", "Cache::new", "Matches::into_cache")
 
 
 def bodies_alike(call, bodies):

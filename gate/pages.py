@@ -116,12 +116,13 @@ def statement(is_quoted):
 
 
 # What rsc_engine promises of a search, and by what its groups are read: the clauses of these functions.
-ENGINE = (("rsc_engine", "iterate.rt", ("find", "new", "next")), ("rsc_engine", "builder.rt", ("build",)),
-          ("rsc_engine", "dfa.rt", ("earliest_end", "is_match", "find", "leftmost_end")), ("rsc_captures", "captures.rt", ("get_group",)))
+ENGINE = (("rsc_engine", "iterate.rt", ("find", "new", "next", "into_cache")), ("rsc_engine", "builder.rt", ("build", "build_with")),
+          ("rsc_engine", "dfa.rt", ("earliest_end", "is_match", "find", "leftmost_end")), ("rsc_engine", "cache.rt", ("new", "find", "matches")),
+          ("rsc_engine", "program.rt", ("captures",)), ("rsc_captures", "captures.rt", ("get_group",)))
 
 
 ENGINE_MEANT = (("rsc_look/src/word.rt", r"ghost word_chars = .*?;"), ("rsc_engine/src/iterate.rt", r"impl<[^{]*Model for Matches.*?^\}"))
-ENGINE_SEEN = (("rsc_engine", "program.rt", "Program"), ("rsc_engine", "dfa.rt", "Dfa"), ("rsc_engine", "iterate.rt", "Matches"), ("rsc_nfa", "nfa.rt", "Nfa"),
+ENGINE_SEEN = (("rsc_engine", "program.rt", "Program"), ("rsc_engine", "dfa.rt", "Dfa"), ("rsc_engine", "cache.rt", "Cache"), ("rsc_engine", "iterate.rt", "Matches"), ("rsc_nfa", "nfa.rt", "Nfa"),
                ("rsc_look", "matcher.rt", "LookMatcher"), ("rsc_search", "input.rt", "Input"), ("rsc_search", "matches.rt", "Match"),
                ("rsc_captures", "captures.rt", "Captures"), ("rsc_captures", "group_info.rt", "GroupInfo"), ("rsc_captures", "layout.rt", "SharedLists"),
                *(("rsc_primitives", f"primitives/{it}.rt", name) for it, name in
@@ -207,7 +208,7 @@ def engine_trusted():
     """Returns the lines of docs/TRUSTED.md on what the answers of rsc_engine rest on."""
     own, outside = reached(engine_statement())
     count, all_lines = sizes(own)
-    calls = "`find`, `Matches::new`, `Matches::next`, `Builder::build`, the four searches of `Dfa`, and `Captures::get_group`, which reads a match's groups,"
+    calls = "`Builder::build` and `build_with`, `Program::captures`, all searches (`find`, `Matches`, `Cache`, `Dfa`), and `Captures::get_group`, which reads a match's groups,"
     lines = [f"The clauses of {calls}", f"reach {count} definitions, {all_lines} lines:", "",
              "| File | Lines | Definitions |", "|---|---|---|"]
     for (crate, module), names in sorted(own.items(), key=lambda it: (LIBRARIES.index(it[0][0]), it[0][1])):
@@ -300,17 +301,6 @@ def module_list(path):
     return "\n".join(made) + "\n"
 
 
-def test_modules(crate, text):
-    """Returns the README.md of a crate of tests with its table: each module by its own words."""
-    rows = []
-    for file in sorted((ROOT / "crates" / crate / "src").glob("**/*.rt")):
-        module = file.relative_to(ROOT / "crates" / crate / "src").with_suffix("").as_posix().replace("/", "::")
-        head = re.match(r"//! (.*)", file.read_text(encoding="utf-8"))
-        if head and module != "lib":
-            rows.append(f"| `{module}` | {head[1]} |")
-    return re.sub(r"(\| Module \| What is there \|\n\|---\|---\|\n)(?:\|.*\n)*", lambda it: it[1] + "\n".join(rows) + "\n", text)
-
-
 def pages():
     """Yields each page with what it should be."""
     for crate in LIBRARIES:
@@ -325,8 +315,6 @@ def pages():
         file = ROOT / "crates" / crate / "README.md"
         example = ROOT / "crates/rsc_docs/src/readmes" / f"{crate.removeprefix('rsc_')}.rt"
         yield file, readme(example.read_text(encoding="utf-8"), file.read_text(encoding="utf-8"))
-        file = ROOT / "crates" / f"{crate}_tests" / "README.md"
-        yield file, test_modules(file.parent.name, file.read_text(encoding="utf-8"))
     for file in sorted((ROOT / "crates").glob("*/*/Lib.antt")):
         yield file, module_list(file)
     file = ROOT / "README.md"

@@ -73,7 +73,7 @@ for snippet in crates/*/must-run/*.snippet; do
   count "$snippet" passed "$answer"
 done
 # The repository of one's own that own/new-repository.sh makes: the test of its first function.
-answer=$(own/new-repository.sh "$copy/own" first && cd "$copy/own/crates/first" && rt try --test 2>&1)
+answer=$(own/new-repository.sh "$copy/own" first engine uses && cd "$copy/own/crates/first" && rt try --test 2>&1)
 printf '%s\n' "$answer" | grep -q '^test result: ok. 1 passed'
 count own/new-repository.sh passed "$answer"
 echo "snippets: $passed passed, $failed failed"

@@ -1,21 +1,22 @@
 #!/usr/bin/env bash
 # Makes a Rattle repository whose crate may call the libraries.
-#   own/new-repository.sh FOLDER CRATE [engine]
-# FOLDER must not be there yet. It gets the six libraries (and rsc_engine, where that is asked for), crates.txt, HANDLES, and the crate CRATE with a
-# function that calls rsc_look and a test.
+#   own/new-repository.sh FOLDER CRATE [engine [uses]]
+# FOLDER must not be there yet. It gets the six libraries, crates.txt, HANDLES, and the crate CRATE with a function that calls rsc_look and a test; with
+# 'engine' rsc_engine too, and the search of README.md as src/pairs.rt; with 'uses' also rsc_uses, whose callers and lemmas CALLING.md quotes.
 set -euo pipefail
 here=$(cd "$(dirname "${BASH_SOURCE[0]}")/.." && pwd)
-if [ $# -lt 2 ] || [ -e "$1" ] || [[ $2 == rsc_* ]] || [ "${3:-engine}" != engine ]; then
-  echo "usage: own/new-repository.sh FOLDER CRATE [engine], where FOLDER is not there yet, and CRATE doesn't begin with rsc_" >&2
+if [ $# -lt 2 ] || [ -e "$1" ] || [[ $2 == rsc_* ]] || [ "${3:-engine}" != engine ] || [ "${4:-uses}" != uses ]; then
+  echo "usage: own/new-repository.sh FOLDER CRATE [engine [uses]], where FOLDER is not there yet, and CRATE doesn't begin with rsc_" >&2
   exit 2
 fi
-commit=$(git -C "$here" rev-parse HEAD)
-libraries=(rsc_primitives rsc_alphabet rsc_look rsc_search rsc_captures rsc_nfa ${3:+rsc_engine})
+commit=$(git -C "$here" describe --always --abbrev=40 --exclude '*' --dirty=", changed")
+libraries=(rsc_primitives rsc_alphabet rsc_look rsc_search rsc_captures rsc_nfa ${3:+rsc_engine} ${4:+rsc_uses})
 
 mkdir -p "$1/crates/$2/src"
 git init -q "$1"
 for library in "${libraries[@]}"; do
-  tar -C "$here/crates" --exclude=out --exclude=wrong-bodies --exclude=must-not-compile --exclude=tested-bodies.edits -cf - "$library" | tar -C "$1/crates" -xf -
+  tar -C "$here/crates" --exclude=out --exclude=wrong-bodies --exclude=must-not-compile --exclude=must-run --exclude=tested-bodies.edits -cf - "$library" |
+    tar -C "$1/crates" -xf -
   grep "^$library:" "$here/crates.txt" >> "$1/crates.txt"
 done
 echo "$2: ${libraries[*]}" >> "$1/crates.txt"
@@ -24,5 +25,9 @@ echo 'out/' > "$1/.gitignore"
 cp "$here/LICENSE-MIT" "$here/NOTICE" "$1"
 echo "$commit" > "$1/LIBRARIES"
 cp "$here/own/first.txt" "$1/crates/$2/src/lib.rt"
-echo "In $1/crates/$2: 'rt try --test' runs the test without a proof; 'rt check' proves the crate. The first check proves the libraries too, which"
-echo "takes some 10 minutes on an idle machine (with the engine more), so start it now and write meanwhile. Pages that the copies link to are in $here."
+if [ -n "${3:-}" ]; then
+  cp "$here/crates/rsc_example/src/pairs.rt" "$1/crates/$2/src"
+  sed -i 's/^use rsc_look::{Look, LookMatcher, WordClass};$/&\n\n\/\/\/ A search for two patterns.\npub mod pairs;/' "$1/crates/$2/src/lib.rt"
+fi
+echo "In $1/crates/$2: 'rt try --test' runs the test without a proof; 'rt check' proves the crate. The first check proves the libraries too, which takes some"
+echo "10 minutes on an idle machine, and 10 more with the engine: start it now and write meanwhile. Pages that the copies link to are in $here."

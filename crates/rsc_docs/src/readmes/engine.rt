@@ -1,4 +1,3 @@
-use rsc_captures::Captures;
 use rsc_engine::{Builder, Matches};
 use rsc_look::AsciiWord;
 use rsc_search::Input;
@@ -17,7 +16,7 @@ fn example(rt: HostRuntime) -> Result<(), Fail> {
     let whole = builder.then(group, last)?;
     let program = builder.build(AsciiWord, true, whole)?;
 
-    let mut captures = Captures::all(rt.alloc(), program.nfa().group_info().clone()?)?;
+    let mut captures = program.captures(rt.alloc())?;
     let mut matches = Matches::new(rt.alloc(), &program, Input::new(b"abc ac"))?;
     // The first way is preferred, though the other would lead to a longer match.
     let found = matches.next(&mut captures)?;
