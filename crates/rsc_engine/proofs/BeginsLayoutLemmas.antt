@@ -316,10 +316,11 @@ accepted wanted (Some (Fork a b)) h = absurd (true≢false (sym h))
 accepted wanted (Some (Capture slot next)) h = absurd (true≢false (sym h))
 accepted wanted (Some (Accept q)) h = (q, refl)
 
+-- what ends at a position is a match of a pattern
 pub end_is_in : (e : Search) (patterns : List Pattern) (i : ℕ) → ((other : Matched) → HasRunOf e other ↔ IsMatchIn patterns e other)
-    → IsEarliestEnd e i → (found : Matched) × IsMatchIn patterns e found × MayBegin e found.span.start × (found.span.end ≡ i)
-end_is_in e patterns i both h =
-    let x = h.ends in
+    → (x : IsMatchEnd e i)
+    → (found : Matched) × IsMatchIn patterns e found × MayBegin e found.span.start × (found.span.end ≡ i) × (found.span.start ≡ x.from)
+end_is_in e patterns i both x =
     let q = accepted (pattern_of_mode e.mode) (slice_get e.states (place x.run (length x.run - 1)).0) x.is_match.ends in
     let found : Matched = record { pattern = q.0; span = record { start = x.from; end = i } } in (
       found,
@@ -329,6 +330,7 @@ end_is_in e patterns i both h =
         makes = record { pattern = q.1; start = sym (ap (λ (p : ℕ × ℕ). p.1) x.is_match.begins); end = sym x.ends };
       }),
       x.begins,
+      refl,
       refl,
     )
 

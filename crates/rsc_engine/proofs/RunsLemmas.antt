@@ -1,14 +1,15 @@
--- What a run records is between its first position and its last.
-use Rattle.std.proofs.Common.{◌≡◌, ℕ, zero, suc, ◌+◌, ◌-◌, ◌<◌, ◌≤◌, Bool, true, false, cond, List, [], ◌∷◌, length, get_or, refl, sym, ap, ◌∙◌, arith, slice_get, Option, Some, None, ⊎_elim}
+-- Runs in a part of a span; and what a run records is between its first position and its last.
+use Rattle.std.proofs.Common.{◌≡◌, ℕ, zero, suc, ◌+◌, ◌-◌, ◌<◌, ◌≤◌, Bool, true, false, cond, List, [], ◌∷◌, length, get_or, sym, ◌∙◌, arith, slice_get, Option, Some, None, MatchOption, ⊎_elim}
 use Rattle.std.proofs.lemmas.Bool.{cases_lt}
 use Rattle.std.proofs.lemmas.List.{get_or_past}
 use Rattle.rsc_nfa.specs.declared.state.State.{State}
-use Rattle.rsc_nfa.specs.Steps.{place, IsRun, is_capture_of, or_earlier, recorded}
+use Rattle.rsc_nfa.specs.declared.state.State.TheVariants.{ByteRange, Assert, Fork, Capture, Accept}
+use Rattle.rsc_nfa.specs.Steps.{place, IsStep, StepsTo, IsRun, is_capture_of, or_earlier, recorded}
 use Rattle.rsc_captures.specs.Captured.{Captured}
 use Rattle.rsc_search.specs.Matches.{Matched}
 use Rattle.rsc_engine.specs.Searches.{Search}
-use Rattle.rsc_engine.specs.Runs.{IsMatchRun}
-use Rattle.rsc_engine.specs.Preferred.{IsOf}
+use Rattle.rsc_engine.specs.Runs.{Leads, IsMatchRun}
+use Rattle.rsc_engine.specs.Preferred.{IsOf, MayBegin, HasNone}
 use Rattle.rsc_engine.proofs.WalksLayoutLemmas.{leads-rises}
 
 -- the positions of a run never fall
@@ -36,6 +37,37 @@ recorded-place states (p ∷ (q ∷ rest)) slot i h =
     go (Some j) here found is = let f = found is in (suc f.0, omega (arith, f.1), f.2)
     go None true found is = (0, omega arith, some_same p.1 i is)
     go None false found is = absurd (cc)
+
+-- a step up to an earlier end is one
+step-wider : (e : Search) (n : ℕ) (p q : ℕ × ℕ) → n ≤ e.end → IsStep e.states e.terminator e.words e.haystack n p q → Leads e p q
+step-wider e n p q le s = go (slice_get e.states p.0) s
+  where
+    go : (o : Option State) → MatchOption o ⊥ (λ (state : State). StepsTo state e.terminator e.words e.haystack n p.1 q)
+        → MatchOption o ⊥ (λ (state : State). StepsTo state e.terminator e.words e.haystack e.end p.1 q)
+    go None x = x
+    go (Some (ByteRange a b next)) x = (omega (arith, x.0, le), x.1, x.2, x.3)
+    go (Some (Assert l next)) x = x
+    go (Some (Fork a b)) x = x
+    go (Some (Capture slot next)) x = x
+    go (Some (Accept pattern)) x = x
+
+-- a span without a match has none in a part of it that begins where it does
+pub HasNone-part : (e : Search) (n : ℕ) → n ≤ e.end → HasNone e → HasNone (record e { end = n })
+HasNone-part e n le none at may run m = none at may_begin run is_match
+  where
+    may_begin : MayBegin e at
+    may_begin = record { start = may.start; end = omega (arith, may.end, le); anchored = may.anchored }
+
+    is_match : IsMatchRun e (e.first, at) run
+    is_match = record {
+      is_run = record {
+        places = λ k l. let w = m.is_run.places k l in (w.0, w.1, omega (arith, w.2, le));
+        steps = λ k l. step-wider e n (place run k) (place run (k + 1)) le (m.is_run.steps k l);
+      };
+      some = m.some;
+      begins = m.begins;
+      ends = m.ends;
+    }
 
 -- each offset of a match is within its span
 pub offset-within : (e : Search) (from : ℕ × ℕ) (run : List (ℕ × ℕ)) (found : Matched) (captures : Captured) (slot i : ℕ) → IsMatchRun e from run

@@ -1,5 +1,5 @@
 -- Turns of a loop, one after the other.
-use Rattle.std.proofs.Common.{◌≡◌, ℕ, ◌+◌, ◌-◌, ◌*◌, ◌<◌, ◌≤◌, ◌⊎◌, inl, inr, ⊎_elim, Bool, IsTrue, true, false, ◌&&◌, nat_le, List, [], ◌∷◌, ◌++◌, length, map, get_or, set, refl, sym, subst, ap, ◌∙◌, arith, append_assoc, slice_get, Option, Some, None}
+use Rattle.std.proofs.Common.{◌≡◌, ℕ, ◌+◌, ◌-◌, ◌*◌, ◌<◌, ◌≤◌, inl, inr, ⊎_elim, Bool, IsTrue, true, false, ◌&&◌, nat_le, List, [], ◌∷◌, ◌++◌, length, map, get_or, set, refl, sym, subst, ap, ◌∙◌, arith, append_assoc, slice_get, Option, Some, None}
 use Rattle.std.proofs.lemmas.Bool.{le-leb}
 use Rattle.std.proofs.lemmas.List.{map-append, length-set, set-set, get_or-set_other}
 use Rattle.rsc_nfa.specs.declared.state.State.{State}
@@ -11,7 +11,9 @@ use Rattle.rsc_engine.specs.MovesLayout.{IsMove, other_of}
 use Rattle.rsc_engine.specs.WalksLayout.{IsTrail, IsOnward, IsFutile, IsExplored, StandsAfter, HasFlags, is_flagged, number_in, left_to_do}
 use Rattle.rsc_engine.specs.TrailsLayout.{Stop, stops_from, stops_of, IsApart, IsLoop, IsTurned}
 use Rattle.rsc_engine.proofs.TrailsLayoutLemmas.{stops-one, stops-more}
-use Rattle.rsc_engine.proofs.BacktrackLemmas.{StandsAfter-more, flagged_more, IsLess-flags, futile_fork, pair_is}
+use Rattle.rsc_engine.proofs.BacktrackLemmas.{StandsAfter-more}
+use Rattle.rsc_engine.proofs.BarsLemmas.{futile_fork, pair_is}
+use Rattle.rsc_engine.proofs.PlaceFlagsLemmas.{flagged_more, IsLess-flags}
 
 -- ---- moves of a turn
 

@@ -1,5 +1,5 @@
 //! A backtracker that visits no place, a state at a position, twice: places from which no match is reached stay visited from one search to the next.
-ghost use Rattle.std.specs.Prelude.{◌≡◌, ◌+◌, ◌-◌, ◌*◌, ◌<◌, ◌≤◌, ℕ, [], ◌∷◌, ◌++◌, OnOk, IfOk, IfErr, IfSome, IfNone, Some, None, false, true, length, slice_index_or, count_by, is_some};
+ghost use Rattle.std.specs.Prelude.{◌≡◌, ◌+◌, ◌-◌, ◌<◌, ◌≤◌, ℕ, [], ◌∷◌, ◌++◌, OnOk, IfOk, IfErr, IfSome, IfNone, Some, None, false, true, length, slice_index_or, count_by, is_some};
 ghost use Rattle.rsc_nfa.specs.Steps.{place};
 ghost use Rattle.rsc_search.specs.declared.anchored.Anchored.TheVariants.{No};
 ghost use Rattle.rsc_engine.specs.declared.error.Error.TheVariants.{OutOfMemory};
@@ -9,12 +9,12 @@ ghost use Rattle.rsc_engine.specs.Runs.{HasNoMatch};
 ghost use Rattle.rsc_engine.specs.Ends.{BeginsFrom};
 ghost use Rattle.rsc_engine.specs.StartsLayout.{AreStarts};
 ghost use Rattle.rsc_engine.specs.Preferred.{IsPreferred, IsLeftmostFirst, HasNone};
-ghost use Rattle.rsc_engine.specs.WalksLayout.{AreEnough, HasFlags, IsClosed, IsClosedFrom, IsSettled, is_flagged, IsLess};
+ghost use Rattle.rsc_engine.specs.WalksLayout.{HasFlags, IsClosed, IsClosedFrom, IsSettled, is_flagged, IsLess};
 ghost use Rattle.rsc_engine.specs.TrailsLayout.{run_of, others_of, ends_at, HasTrail, IsOnwardFrom, IsExploredBy, StandsWith, left_with};
 
 use crate::flags::Flags;
 use crate::moves::{Move, move_of, other_way};
-use crate::numbers::{first_after, number_of};
+use crate::numbers::{first_after, number_of, place_count};
 use crate::starts::Starts;
 use crate::trail::{Visit, exit_of};
 use crate::turns::go_round;
@@ -326,22 +326,6 @@ pub fn first_run<W: WordClass>(
         return Ok(None);
     }
     Ok(Some(walk))
-}
-
-/// How many flags a walk needs.
-///
-/// # Errors
-///
-/// `TooLarge` where the span has too many positions for the number of states.
-pub fn place_count<W: WordClass>(program: &Program<W>, input: &Input<'_>) -> Result<usize, Error>
-    ensures enough { IfOk result (AreEnough (search_in W.word_chars program.now input.now)) }
-    ensures refused { IfErr result (FailsFor (search_in W.word_chars program.now input.now)) }
-{
-    let positions = input.end() + 1 - input.start();
-    match positions.checked_mul(program.len()) {
-        Some(places) => Ok(places),
-        None => Err(Error::TooLarge),
-    }
 }
 
 // The last position at which a match may begin.

@@ -4,8 +4,10 @@ ghost use Rattle.rsc_engine.specs.declared.error.Error.TheVariants.{OutOfMemory}
 ghost use Rattle.rsc_engine.specs.Searches.{search_in, FailsFor};
 ghost use Rattle.rsc_engine.specs.Preferred.{HasNone, IsFirstMatch, IsCleared};
 
-use crate::backtrack::{Walk, place_count};
+use crate::backtrack::Walk;
+use crate::dfa::MOST_ROWS;
 use crate::groups::write_match;
+use crate::numbers::place_count;
 use crate::starts::Starts;
 use crate::{AsciiWords, Dfa, Error, Matches, Program};
 use rsc_captures::Captures;
@@ -13,9 +15,6 @@ use rsc_look::WordClass;
 use rsc_search::{Input, Match};
 use std::alloc::Global;
 use std::marker::Model;
-
-// How many rows the DFA keeps.
-const MOST_ROWS: usize = 1000;
 
 /// What searches by a program keep from one to the next: the rows of a DFA, and the memory of a walk. It serves many short haystacks,
 /// as the lines of a file.

@@ -2,7 +2,8 @@
 //!
 //! A row is a set of states ([`successor`] makes it, from the one before and a byte); the [`table`] has the rows and, in its [`entries`], which row each
 //! class of bytes leads to; the [`plan`] has what stays the same. [`needed`] finds bytes that each match has, without which no row is looked at.
-ghost use Rattle.std.specs.Prelude.{◌≡◌, ◌-◌, ◌<◌, ◌≤◌, IfOk, IfErr, IfSome, IfNone, OnErr, true, false, length};
+ghost use Rattle.std.specs.Prelude.{◌≡◌, ◌+◌, ◌-◌, ◌<◌, ◌≤◌, IfOk, IfErr, IfSome, IfNone, OnErr, true, false, length};
+ghost use Rattle.rsc_search.specs.declared.anchored.Anchored.TheVariants.{No};
 ghost use Rattle.rsc_engine.specs.declared.error.Error.TheVariants.{OutOfMemory};
 ghost use Rattle.rsc_engine.specs.Searches.{search_in, FailsFor};
 ghost use Rattle.rsc_engine.specs.Preferred.{HasNone, IsFirstMatch, IsCleared};
@@ -20,7 +21,7 @@ mod table;
 
 use crate::backtrack::first_run;
 use crate::trail::last_place;
-use crate::{AsciiWords, Error, Program, iterate};
+use crate::{AsciiWords, Error, Program, first};
 use entries::Step;
 use lawful::steps_are_lawful;
 use needed::Needed;
@@ -28,13 +29,19 @@ use plan::{Plan, after_of, before_of};
 use rsc_captures::Captures;
 use rsc_look::WordClass;
 use rsc_primitives::StateID;
-use rsc_search::{Input, Match};
+use rsc_search::{Input, Match, Span};
 use std::alloc::Global;
 use std::marker::Model;
 use table::Table;
 
-// A span of fewer bytes is not looked through for what each match has.
+// A span of fewer bytes is a short one.
 const LONG: usize = 4096;
+
+// So many bytes of a first long span are walked over before a row is made.
+const NEAR: usize = 64;
+
+/// How many rows a search keeps at most, unless its caller says.
+pub(crate) const MOST_ROWS: usize = 1000;
 
 /// Where the first match to end ends.
 #[derive(Clone, Copy, Debug, PartialEq, Eq)]
@@ -104,12 +111,30 @@ impl<'p, W: WordClass + AsciiWords> Dfa<'p, W> {
         }
     }
 
-    // Whether the input lacks what each match has. Only a long span is looked through, and none of an anchored input, whose match may end soon.
+    // Whether a walk finds a match in the first bytes of a first long span, which takes less time than to make the first rows.
+    fn begins_near(&self, input: &Input<'_>) -> bool
+        ensures { result ≡ true → ¬ (HasNone (search_in W.word_chars self.now input.now)) }
+    {
+        if self.is_sought || !is_long(input) {
+            return false;
+        }
+        let start = input.start();
+        let near = Input::new(input.haystack()).span(Span {
+            start,
+            end: start + NEAR,
+        });
+        match is_match_by_walk(self.alloc, self.plan.program, &near) {
+            Ok(found) => found,
+            Err(_) => false,
+        }
+    }
+
+    // Whether the input lacks what each match has. Only a long span is looked through.
     fn lacks_needed(&mut self, input: &Input<'_>) -> bool
         ensures program { self.new ≡ self.old }
         ensures none { result ≡ true → HasNone (search_in W.word_chars self.old input.now) }
     {
-        if input.get_anchored().is_anchored() || input.end().saturating_sub(input.start()) < LONG {
+        if !is_long(input) {
             return false;
         }
         self.seek();
@@ -147,6 +172,9 @@ impl<'p, W: WordClass + AsciiWords> Dfa<'p, W> {
         ensures begin { IfOk result (λ found. IfSome found (BeginsFrom (search_in W.word_chars self.old input.now))) }
         ensures memory { IfErr result (λ e. e ≡ OutOfMemory) }
     {
+        if self.begins_near(input) {
+            return Ok(Some(input.start()));
+        }
         if self.lacks_needed(input) {
             return Ok(None);
         }
@@ -168,6 +196,9 @@ impl<'p, W: WordClass + AsciiWords> Dfa<'p, W> {
         ensures none { IfOk result (λ found. found ≡ false → HasNone (search_in W.word_chars self.old input.now)) }
         ensures refused { IfErr result (FailsFor (search_in W.word_chars self.old input.now)) }
     {
+        if self.begins_near(input) {
+            return Ok(true);
+        }
         match self.earliest_end(input)? {
             Answer::End(_) => Ok(true),
             Answer::NoMatch => Ok(false),
@@ -201,7 +232,7 @@ impl<'p, W: WordClass + AsciiWords> Dfa<'p, W> {
         let Some(from) = self.begin(input)? else {
             return Ok(None);
         };
-        iterate::find_from(self.alloc, self.plan.program, input, captures, from)
+        first::find_from(self.alloc, self.plan.program, input, captures, from)
     }
 
     /// The position at which the leftmost-first match in an input's span ends; `None` if no match begins where one may. The DFA tells from
@@ -221,6 +252,14 @@ impl<'p, W: WordClass + AsciiWords> Dfa<'p, W> {
         };
         end_from(self.alloc, self.plan.program, input, from)
     }
+}
+
+/// Whether an input's span is long, and a match may begin anywhere in it.
+pub(crate) fn is_long(input: &Input<'_>) -> bool
+    ensures long { result ≡ true → input.now.span.start + LONG ≤ input.now.span.end }
+    ensures anywhere { result ≡ true → input.now.anchored ≡ No }
+{
+    !input.get_anchored().is_anchored() && input.end().saturating_sub(input.start()) >= LONG
 }
 
 // Where the leftmost-first match ends, if no match begins before a position in the span.

@@ -1,20 +1,21 @@
-//! The first match, and all matches one after the other.
-ghost use Rattle.std.specs.Prelude.{◌≡◌, ◌+◌, ◌*◌, ◌^◌, ◌<◌, ◌≤◌, ◌⊎◌, ℕ, IfOk, IfErr, IfSome, IfNone, OnErr, MatchOption, None, Some, false, true, length, slice_index_or};
+//! All matches one after the other.
+ghost use Rattle.std.specs.Prelude.{◌≡◌, ◌+◌, ◌<◌, ◌≤◌, ℕ, IfOk, IfErr, IfSome, IfNone, OnErr, MatchOption, None, Some, false, true, length, slice_index_or};
 ghost use Rattle.std.specs.Option.{ForSome};
 ghost use Rattle.rsc_search.specs.declared.anchored.Anchored.TheVariants.{No};
 ghost use Rattle.rsc_primitives.specs.Decoding.{IsBoundary};
 ghost use Rattle.rsc_engine.specs.declared.error.Error.TheVariants.{OutOfMemory, TooLarge};
 ghost use Rattle.rsc_engine.specs.Searches.{search_in, FailsFor};
 ghost use Rattle.rsc_engine.specs.GroupsLayout.{IsInSpan};
-ghost use Rattle.rsc_engine.specs.Preferred.{IsLeftmostFirst, IsFirstMatch, IsOf, HasNone, IsCleared};
+ghost use Rattle.rsc_engine.specs.Preferred.{IsLeftmostFirst, IsOf, HasNone, IsCleared};
 ghost use Rattle.rsc_engine.specs.NextMatches.{IsNext, IsOver, IsNextMatch, from_start};
 ghost use Rattle.rsc_engine.specs.Ends.{BeginsFrom};
 ghost use Rattle.rsc_engine.specs.StartsLayout.{AreStarts};
 ghost use Rattle.rsc_engine.specs.WalksLayout.{AreEnough, IsClosed, is_flagged};
 ghost use Rattle.rsc_engine.specs.TrailsLayout.{run_of};
 
-use crate::backtrack::{Walk, first_run, place_count};
+use crate::backtrack::Walk;
 use crate::groups::write_match;
+use crate::numbers::place_count;
 use crate::starts::Starts;
 use crate::{AsciiWords, Cache, Dfa, Error, Program};
 use rsc_captures::Captures;
@@ -25,59 +26,6 @@ use std::marker::Model;
 
 // Where more bytes than these lie before a match, the DFA looks for the next one.
 const FAR: usize = 64;
-
-/// The leftmost-first match in an input's span: of the matches that begin first, the one that the forks prefer. Its groups are in
-/// the captures afterwards; without a match, and after an error, no slot is set.
-///
-/// An anchored input's match begins at the span's start, and with `Anchored::Pattern` only that pattern may match.
-///
-/// # Errors
-///
-/// Out of memory, or `TooLarge` where the span has too many positions for the number of states.
-pub fn find<W: WordClass>(
-    alloc: Global,
-    program: &Program<W>,
-    input: &Input<'_>,
-    captures: &mut Captures,
-) -> Result<Option<Match>, Error>
-    ensures found { IfOk result (λ found. IfSome found (IsFirstMatch (search_in W.word_chars program.now input.now) captures.new)) }
-    ensures none { IfOk result (λ found. IfNone found (HasNone (search_in W.word_chars program.now input.now))) }
-    ensures groups { captures.new.groups ≡ captures.old.groups }
-    ensures slots { length captures.new.offsets ≡ length captures.old.offsets }
-    ensures unset { IfOk result (λ found. IfNone found (IsCleared captures.old captures.new)) }
-    ensures failed { OnErr result (IsCleared captures.old captures.new) }
-    ensures within { IfOk result (λ found. IfSome found (λ m.
-        (input.now.span.start ≤ m.span.start) × (m.span.start ≤ m.span.end) × (m.span.end ≤ input.now.span.end))) }
-    ensures refused { IfErr result (FailsFor (search_in W.word_chars program.now input.now)) }
-{
-    find_from(alloc, program, input, captures, input.start())
-}
-
-/// The same, where no match begins before a position in the span.
-pub(crate) fn find_from<W: WordClass>(
-    alloc: Global,
-    program: &Program<W>,
-    input: &Input<'_>,
-    captures: &mut Captures,
-    from: usize,
-) -> Result<Option<Match>, Error>
-    requires { BeginsFrom (search_in W.word_chars program.now input.now) from }
-    ensures found { IfOk result (λ found. IfSome found (IsFirstMatch (search_in W.word_chars program.now input.now) captures.new)) }
-    ensures none { IfOk result (λ found. IfNone found (HasNone (search_in W.word_chars program.now input.now))) }
-    ensures groups { captures.new.groups ≡ captures.old.groups }
-    ensures slots { length captures.new.offsets ≡ length captures.old.offsets }
-    ensures unset { IfOk result (λ found. IfNone found (IsCleared captures.old captures.new)) }
-    ensures failed { OnErr result (IsCleared captures.old captures.new) }
-    ensures within { IfOk result (λ found. IfSome found (λ m.
-        (input.now.span.start ≤ m.span.start) × (m.span.start ≤ m.span.end) × (m.span.end ≤ input.now.span.end))) }
-    ensures refused { IfErr result (FailsFor (search_in W.word_chars program.now input.now)) }
-{
-    captures.clear();
-    match first_run(alloc, program, input, from)? {
-        None => Ok(None),
-        Some(walk) => Ok(Some(write_match(program, input, walk.trail.as_slice(), captures))),
-    }
-}
 
 /// The matches in an input that are left, in order.
 ///

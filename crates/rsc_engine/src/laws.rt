@@ -7,7 +7,7 @@ ghost use Rattle.rsc_engine.specs.Searches.{Search, Compiled, search_in};
 ghost use Rattle.rsc_engine.specs.Patterns.{Pattern, IsMatchIn, Recognizes};
 ghost use Rattle.rsc_engine.specs.Preferred.{IsPreferred, IsLeftmostFirst, IsFirstMatch, MayBegin, HasNone};
 ghost use Rattle.rsc_engine.specs.NextMatches.{IsNext, IsOver, IsNextMatch, IsOpen, IsRepeated, IsSplitAt, Left, AreAll};
-ghost use Rattle.rsc_engine.specs.Ends.{IsEarliestEnd};
+ghost use Rattle.rsc_engine.specs.Ends.{IsEarliestEnd, IsLeftmostEnd};
 
 use rsc_look::WordClass;
 
@@ -78,4 +78,13 @@ pub fn an_earliest_end_is_of_a_pattern<W: WordClass>()
         Recognizes W.word_chars program patterns → IsEarliestEnd (search_in W.word_chars program input) end →
         MayBegin (search_in W.word_chars program input) other.span.start → other.span.end < end →
         ¬ (IsMatchIn patterns (search_in W.word_chars program input) other) }
+{}
+
+/// What the leftmost end of a program of patterns is: the end of a match of one of them, before which none begins.
+pub fn a_leftmost_end_is_of_a_pattern<W: WordClass>()
+    ensures { (program : Compiled W) (patterns : List Pattern) (input : InputParts) (end : ℕ) →
+        Recognizes W.word_chars program patterns → IsLeftmostEnd (search_in W.word_chars program input) end →
+        (found : Matched) × IsMatchIn patterns (search_in W.word_chars program input) found
+        × MayBegin (search_in W.word_chars program input) found.span.start × (found.span.end ≡ end)
+        × ((other : Matched) → other.span.start < found.span.start → ¬ (IsMatchIn patterns (search_in W.word_chars program input) other)) }
 {}

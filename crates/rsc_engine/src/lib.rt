@@ -2,7 +2,7 @@
 //!
 //! [`find`] returns the leftmost-first match of a [`Program`] in an input, and [`Matches`] all of them, one after the other.
 //!
-//! `builder` makes parts and compiles them to the automaton of a `program`. `iterate` and `cache` have the searches: `starts` and `dfa` tell where no match
+//! `builder` makes parts and compiles them to the automaton of a `program`. `first`, `iterate` and `cache` have the searches: `starts` and `dfa` tell where no match
 //! begins, `backtrack` follows runs by the `moves` of states and the `turns` of loops, over the `flags` of places and a `trail`, and `groups` writes the match
 //! that a run makes.
 #![tactic(auto)]
@@ -12,6 +12,7 @@ mod builder;
 mod cache;
 mod dfa;
 mod error;
+mod first;
 mod flags;
 mod groups;
 mod iterate;
@@ -29,6 +30,7 @@ pub use builder::{Builder, Part};
 pub use cache::Cache;
 pub use dfa::{Answer, Dfa};
 pub use error::Error;
-pub use iterate::{Matches, find};
+pub use first::find;
+pub use iterate::Matches;
 pub use program::Program;
 pub use words::AsciiWords;

@@ -2,7 +2,7 @@
 
 use crate::patterns::{make, text_of};
 use regex::bytes::Regex;
-use rsc_engine::{Dfa, Matches, Program};
+use rsc_engine::{Cache, Dfa, Matches, Program};
 use rsc_look::AsciiWord;
 use rsc_search::Input;
 use std::time::{CpuClock, Duration};
@@ -10,7 +10,7 @@ use std::time::{CpuClock, Duration};
 /// Why nothing was timed.
 pub type Fail = anyhow::Error;
 
-/// Times one pattern: all matches with their groups, and whether there is one.
+/// Times one pattern: all matches with their groups, whether there is one, and the first of each line, which is a haystack of its own.
 pub fn time_pattern(rt: &HostRuntime, name: &str, text: &[u8]) -> Result<(), Fail> {
     let program = make(rt.alloc(), name)?;
     let ours = all_of_ours(rt, name, &program, text)?;
@@ -18,7 +18,9 @@ pub fn time_pattern(rt: &HostRuntime, name: &str, text: &[u8]) -> Result<(), Fai
     let regex = Regex::new(rt.alloc(), text_of(name))?;
     let theirs = all_of_theirs(rt, name, &regex, text)?;
     let is_theirs = is_one_of_theirs(rt, name, &regex, text)?;
-    println!(rt; "{name} {ours} {theirs} {is_ours} {is_theirs}")?;
+    let short_ours = lines_of_ours(rt, name, &program, text)?;
+    let short_theirs = lines_of_theirs(rt, name, &regex, text)?;
+    println!(rt; "{name} {ours} {theirs} {is_ours} {is_theirs} {short_ours} {short_theirs}")?;
     Ok(())
 }
 
@@ -87,6 +89,44 @@ fn is_one_of_theirs(
     let found = matcher.is_match(text);
     report(rt, name, "is_match regex", from)?;
     Ok(found)
+}
+
+fn lines_of_ours(
+    rt: &HostRuntime,
+    name: &str,
+    program: &Program<AsciiWord>,
+    text: &[u8],
+) -> Result<usize, Fail> {
+    let mut captures = program.captures(rt.alloc())?;
+    let mut cache = Cache::new(rt.alloc(), program)?;
+    let from = rt.thread_cpu_time()?;
+    let mut count = 0_usize;
+    for line in text.split(|byte| *byte == b'\n') {
+        if cache.find(&Input::new(line), &mut captures)?.is_some() {
+            count = count.saturating_add(1);
+        }
+    }
+    report(rt, name, "short engine", from)?;
+    Ok(count)
+}
+
+fn lines_of_theirs(
+    rt: &HostRuntime,
+    name: &str,
+    regex: &Regex,
+    text: &[u8],
+) -> Result<usize, Fail> {
+    let mut matcher = regex.matcher(rt.alloc())?;
+    let mut locations = regex.capture_locations(rt.alloc())?;
+    let from = rt.thread_cpu_time()?;
+    let mut count = 0_usize;
+    for line in text.split(|byte| *byte == b'\n') {
+        if matcher.captures_read(&mut locations, line).is_some() {
+            count = count.saturating_add(1);
+        }
+    }
+    report(rt, name, "short regex", from)?;
+    Ok(count)
 }
 
 fn report(rt: &HostRuntime, name: &str, what: &str, from: Duration) -> Result<(), Fail> {

@@ -16,7 +16,7 @@ use rsc_search::{Input, Match, Span};
 use std::alloc::Global;
 
 /// Where a part goes first in a haystack, whose line terminator is `\n`: from where to where, or `None` if it goes nowhere.
-pub fn find_part<W: WordClass>(
+pub fn find_part<W: WordClass + AsciiWords>(
     alloc: Global,
     words: W,
     part: Part<'_>,
@@ -40,7 +40,7 @@ pub fn find_part<W: WordClass>(
 }
 
 /// The span of the first match, or `None` if no match begins where one may.
-pub fn first_span<W: WordClass>(
+pub fn first_span<W: WordClass + AsciiWords>(
     alloc: Global,
     program: &Program<W>,
     input: &Input<'_>,
@@ -217,6 +217,26 @@ pub fn first_end_of_part<W: WordClass + AsciiWords>(
     match dfa.earliest_end(&input)? {
         Answer::End(end) => Ok(Some(end)),
         Answer::NoMatch | Answer::Quit(_) => Ok(None),
+    }
+}
+
+/// The position to which the first match of a part goes.
+pub fn leftmost_end_of_part<W: WordClass + AsciiWords>(
+    alloc: Global,
+    words: W,
+    part: Part<'_>,
+    haystack: &[u8],
+) -> Result<Option<usize>, Error>
+    ensures { IfOk result (λ found. IfSome found (λ end.
+        (i : ℕ) × Goes (record { haystack = haystack.now; terminator = 10; words = W.word_chars words }) (pattern_of part.entry) i end)) }
+{
+    laws::a_leftmost_end_is_of_a_pattern::<W>();
+    let program = Builder::new(alloc).build(words, true, part)?;
+    let input = Input::new(haystack);
+    let mut dfa = Dfa::new(alloc, &program, 100);
+    match dfa.leftmost_end(&input)? {
+        None => Ok(None),
+        Some(end) => Ok(Some(end)),
     }
 }
 

@@ -64,6 +64,30 @@ fn prefers_the_first_way_of_the_leftmost(rt: HostRuntime) -> Result<(), Fail> {
     Ok(())
 }
 
+// A text of 5,000 bytes, with `ab` at a position.
+fn long_text(alloc: Global, at: usize) -> Result<Vec<u8>, Fail> {
+    let mut text = vec![in alloc; b'x'; 5000]?;
+    for (byte, other) in text.iter_mut().skip(at).zip(b"ab") {
+        *byte = *other;
+    }
+    Ok(text)
+}
+
+#[test]
+fn searches_long_spans(rt: HostRuntime) -> Result<(), Fail> {
+    let program = program(rt.alloc(), &alternatives(1), true)?;
+    for at in [0usize, 1, 62, 63, 64, 4096, 4998, 5000] {
+        let text = long_text(rt.alloc(), at)?;
+        let expected = if at < 5000 { Some((at, at.saturating_add(2))) } else { None };
+        let found = first(rt.alloc(), &program, &Input::new(&text))?;
+        assert!(rt; found == expected, "{at}");
+        let input = Input::new(&text).anchored(Anchored::Yes);
+        let anchored = first(rt.alloc(), &program, &input)?;
+        assert!(rt; anchored == expected.filter(|ends| ends.0 == 0), "{at}");
+    }
+    Ok(())
+}
+
 #[test]
 fn searches_the_span_and_looks_beyond_it(rt: HostRuntime) -> Result<(), Fail> {
     // \bb

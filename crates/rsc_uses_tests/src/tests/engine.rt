@@ -49,6 +49,9 @@ fn answers_are_of_parts(rt: HostRuntime) -> Result<(), Fail> {
     let whole = builder.range(b'a', b'z');
     let end = engine::first_end_of_part(rt.alloc(), AsciiWord, whole, b"-a b")?;
     assert!(rt; end == Some(2));
+    let whole = builder.plus(builder.range(b'a', b'z'))?;
+    let end = engine::leftmost_end_of_part(rt.alloc(), AsciiWord, whole, b"-ab c")?;
+    assert!(rt; end == Some(3));
     Ok(())
 }
 

@@ -1,5 +1,6 @@
 use Rattle.rsc_nfa.specs.Steps.{place}
-use Rattle.rsc_engine.proofs.NextMatchesLemmas.{one_preferred, one_first}
+use Rattle.rsc_engine.proofs.NextMatchesLemmas.{one_first}
+use Rattle.rsc_engine.proofs.PreferredLemmas.{one_preferred}
 use Rattle.rsc_engine.proofs.laws.there_is_one_first_match.Goals as goal
 
 pub returns-clause-preferred : goal.returns-clause-preferred

@@ -1,6 +1,5 @@
-use Rattle.std.proofs.Common.{◌≡◌, ℕ, ◌-◌, Bool, List, [], ◌∷◌, length, refl, sym, subst, ap, ◌∙◌, Some}
+use Rattle.std.proofs.Common.{◌≡◌, ℕ, Bool, List, [], ◌∷◌, refl, sym, subst, ap, ◌∙◌, Some}
 use Rattle.rsc_nfa.specs.declared.state.State.TheVariants.{Accept}
-use Rattle.rsc_nfa.specs.Steps.{place}
 use Rattle.rsc_search.specs.Matches.{Matched}
 use Rattle.rsc_engine.specs.Searches.{Search, search_in}
 use Rattle.rsc_engine.specs.Runs.{IsMatchOf}

@@ -1,9 +1,9 @@
-use Rattle.std.proofs.Common.{◌≡◌, ◌+◌, ◌-◌, ◌*◌, ◌<◌, ◌≤◌, ◌∙◌, length, get_or, refl, sym, arith}
+use Rattle.std.proofs.Common.{◌≡◌, ◌+◌, ◌-◌, ◌*◌, ◌<◌, ◌∙◌, length, get_or, refl, arith}
 use Rattle.std.proofs.lemmas.Option.{slice_get-get_or}
 use Rattle.rsc_engine.specs.Searches.{search_in}
 use Rattle.rsc_engine.specs.WalksLayout.{HasFlags}
 use Rattle.rsc_engine.specs.declared.moves.Move.TheVariants.{Forks}
-use Rattle.rsc_engine.proofs.BacktrackLemmas.{row_below}
+use Rattle.rsc_engine.proofs.PlaceFlagsLemmas.{row_below}
 use Rattle.rsc_engine.proofs.TurnsLemmas.{IsFree, turned-none, turned-more, next-row, set-three}
 use Rattle.rsc_engine.proofs.turns.turn.Goals as goal
 

@@ -1,4 +1,3 @@
-use Rattle.std.proofs.Common.{◌∙◌}
 use Rattle.rsc_engine.specs.Searches.{search_in}
 use Rattle.rsc_engine.proofs.cache.Cache.find.Goals as goal
 
