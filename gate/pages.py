@@ -13,7 +13,7 @@
 - The table of docs/WRONG_BODIES.md: for each edit that it names, the function and the goal that refuse it.
 - The comments of each Lib.antt: the first sentence of each module's head. The table of test modules of each README.md of tests, likewise.
 
-It compares the sizes of a block of repeated names and README.md's totals of docs/PERFORMANCE.md with what decides them, asks that the forms under 'Forms that are asked for' of docs/DECISIONS.md are there, that no library
+It compares the sizes of a batch of names and README.md's totals of docs/PERFORMANCE.md with what decides them, asks that the forms under 'Forms that are asked for' of docs/DECISIONS.md are there, that no library
 calls a function whose sums wrap, and that docs/DEFINITIONS.md has each definition that a public contract or the promise of a trait's methods cites, and each of
 docs/TRUSTED.md, in backquotes, alone or after its module, as `Holds` or `Holds.Holds`, and no name at the head of a line that isn't there. A definition
 is a name of a crate's specs/ that a `ghost use` line brings into a file.
@@ -396,7 +396,7 @@ def number_faults():
     source = "crates/rsc_captures/src/repeats.rt"
     table = int(re.search(r"^const TABLE: usize = (\d+);", (ROOT / source).read_text(encoding="utf-8"), flags=re.M)[1])
     for file, words in (
-        ("docs/DECISIONS.md", f"blocks of {table:,} groups are sorted by name in a table of {4 * table // 1024} KiB"),
+        ("docs/DECISIONS.md", f"batches of {table:,} groups are sorted by name in a table of {4 * table // 1024} KiB"),
         ("docs/DECISIONS.md", f"n²/{2 * table} look-ups"),
         ("crates/rsc_captures_tests/src/tests/repeats.rt", f"has room for {table:,} groups"),
     ):

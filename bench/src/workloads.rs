@@ -66,7 +66,7 @@ pub const PATTERN_CLASSES: u32 = 72;
 pub const MATCH_CAPTURES: u32 = 73;
 pub const MATCH_SETS: u32 = 74;
 
-/// What the place of a transition is multiplied by to choose a state.
+/// What the index of a transition is multiplied by to choose a state.
 #[allow(dead_code)]
 pub const SPREAD: u64 = 0x9E37_79B9_7F4A_7C15;
 

@@ -1,6 +1,6 @@
 //! Patterns as lists of the builder's calls, and the matches that they have in texts.
 //!
-//! A call is a word, and takes its parts from those before it:
+//! A call is a token, and takes its parts from those before it:
 //!
 //! ```text
 //! l6162          the literal `ab`, by the digits of its bytes

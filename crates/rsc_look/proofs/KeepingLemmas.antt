@@ -259,7 +259,7 @@ IsCoarsestMap-from m looks t W is a = record {
   needed = λ b lt e. boundaries-IsNeeded looks t W b a e;
 }
 
--- haystacks whose bytes at each index have one class are interchanged, where one class is to be together
+-- haystacks whose bytes at each position have one class are interchanged, where one class is to be together
 pub AreInterchanged-from_classes : (m : List ℕ) (p : ℕ → Bool) (h k : List ℕ)
     → ((q : ℕ → Bool) (b c : ℕ) → b < 256 → c < 256 → (slice_index (class_map q) b ≡ slice_index (class_map q) c) ↔ Together q b c)
     → m ≡ class_map p → IsHaystack h → IsHaystack k → length h ≡ length k

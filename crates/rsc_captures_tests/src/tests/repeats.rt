@@ -1,4 +1,4 @@
-//! Repeated names in long lists, which are read block by block where another fault comes after them.
+//! Repeated names in long lists, which are read batch by batch where another fault comes after them.
 
 use rsc_captures::{GroupInfo, GroupInfoErrorKind};
 use rsc_primitives::PatternID;

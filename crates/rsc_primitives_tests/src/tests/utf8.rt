@@ -1,4 +1,4 @@
-//! Characters at either end of bytes, boundaries, word bytes.
+//! Characters at either end of bytes, character boundaries, word bytes.
 use rsc_primitives::utf8::{decode, decode_last, is_boundary, is_word_byte};
 
 #[test]
