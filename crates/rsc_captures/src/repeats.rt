@@ -56,7 +56,7 @@ pub(crate) fn repeat_in_order(groups: &[Option<&str>], order: &[u32]) -> usize
     ensures distinct { AreDistinctBelow (groups_in groups.now) result }
     ensures repeat { result < length groups.now → is_repeat (groups_in groups.now) result ≡ true }
 {
-    repeat_of_block(groups, order, 0, groups.len())
+    repeat_of_batch(groups, order, 0, groups.len())
 }
 
 // How many of the groups of a pattern are before the group.
@@ -89,14 +89,14 @@ fn first_repeat(groups: &[Option<&str>], end: usize) -> usize
         let len = TABLE.min(least - from);
         let order = &mut table[..len];
         put_in_order(groups, from, order);
-        least = repeat_of_block(groups, order, from, least);
+        least = repeat_of_batch(groups, order, from, least);
         from += len;
     }
     least
 }
 
 // The least of the groups from `from` to `end` whose name a lesser group of the batch has, or `end`.
-fn repeat_of_block(groups: &[Option<&str>], order: &[u32], from: usize, end: usize) -> usize
+fn repeat_of_batch(groups: &[Option<&str>], order: &[u32], from: usize, end: usize) -> usize
     requires { IsSortedByName order.now (groups_in groups.now) }
     ensures within { result ≤ end }
     ensures differ { (g h : ℕ) → Contains order.now g → g < h → from ≤ h → h < result → HaveDifferentNames (groups_in groups.now) g h }
