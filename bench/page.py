@@ -46,7 +46,7 @@ def with_counts(rows, path):
             made.append(row)
             continue
         theirs, ours = counts[row[0]]
-        # More than twenty in a nanosecond is none of the operation: what came before it, or a block filled by one instruction that is counted for each byte.
+        # More than twenty in a nanosecond is none of the operation: what came before it, or memory filled by one instruction that is counted for each byte.
         is_count = min(theirs, ours) > 0 and theirs <= 20 * float(row[2]) and ours <= 20 * float(row[3])
         new = [f"{theirs:.4g}", f"{ours:.4g}", f"{ours / theirs:.2f}"] if is_count else ["", "", ""]
         made.append(row[:5] + new)

@@ -1,49 +1,14 @@
 """Makes the lower part of a library's CALLING.md of its sources, its definitions and its callers in rsc_uses; and docs/CALLS.md, which has each public
-call of the libraries, the names of its clauses, what calls it, and a wrong body that is refused for them."""
+call of the libraries, the names of its clauses, what calls it, and a wrong body that is refused for them. gate/pages.py imports it."""
 import itertools
 import pathlib
 import re
 
-from edits import blocks
-from typed import LIBRARIES, calls_of, files
+from edits import edits_in
+from heads import above, head, source_of
+from typed import calls_of, files
 
 ROOT = pathlib.Path(__file__).resolve().parent.parent
-
-
-def functions(text):
-    """Yields each function of a file: its type or trait, whether the call is public, its signature with its clauses, and the head of its `impl`, if
-    that is one of a type and has bounds.
-
-    >>> text = "impl<W: Words> Half<W> {\\n    pub fn one(&self) -> usize\\n        ensures { result ≡ 1 }\\n    {\\n        1\\n    }\\n}\\n\\nfn two() -> usize {\\n    2\\n}\\n"
-    >>> [*functions(text)]
-    [('Half<W>', True, '    pub fn one(&self) -> usize\\n        ensures { result ≡ 1 }', 'impl<W: Words> Half<W>'), ('', False, 'fn two() -> usize {', '')]
-    >>> [*functions("impl Half\\n{\\n    pub fn one() {}\\n}\\n")]
-    Traceback (most recent call last):
-    ValueError: impl Half: a head of more than one line, which isn't read
-    """
-    owner, is_open, bounds, lines = "", False, "", None
-    for line in text.splitlines():
-        block = re.match(r"(?:pub )?(impl|trait)\b(<.*?>)? ?(.*?) ?\{", line)
-        if not block and re.match(r"(?:pub )?(?:impl|trait)\b", line):
-            raise ValueError(f"{line}: a head of more than one line, which isn't read")
-        if block:
-            owner = block[3].partition(":")[0] if block[1] == "trait" else block[3]
-            is_open = block[1] == "trait" or " for " in owner
-            bounds = f"impl{block[2]} {owner}" if not is_open and ":" in (block[2] or "") else ""
-        elif line.startswith("}"):
-            owner, is_open, bounds = "", False, ""
-        begins = re.match(r"\s*(pub )?(?:const )?fn \w", line)
-        if begins:
-            is_public, lines = bool(begins[1]) or is_open, []
-        if lines is None:
-            continue
-        is_body = re.match(r"\s*\{", line)
-        if not is_body:
-            lines.append(line)
-        is_last_clause = re.match(r"\s*(requires|ensures)\b.*\};$", line)
-        if is_body or is_last_clause or re.search(r"\{\s*(\}\s*)?$|;$", line) and not re.match(r"\s*(requires|ensures)", line):
-            yield owner, is_public, "\n".join(lines).removesuffix(";"), bounds
-            lines = None
 
 
 # The ghost items of a trait's impl that say what its methods promise.
@@ -54,15 +19,15 @@ NO_PROMISES = "Value view invariant bytes cut_of laws inverse inverse_ok coded t
 
 def promises(text):
     """Yields each impl of a trait in a file, with the ghost items that say what its methods promise."""
-    for head, body in re.findall(r"^impl(?:<[^\n]*?>)? ?(\S[^\n{]* for [^\n{]*?)(?: \{(?!\})|\n)(.*?)^\}", text, flags=re.M | re.S):
-        items = re.findall(r"^    ghost (\w+) = (\{.*?\});$", body, flags=re.M | re.S)
-        unknown = {name for name, _ in items} - {*PROMISES, *NO_PROMISES}
+    for it in source_of(text).owners:
+        _, is_impl, of = it.name.rpartition(" for ")
+        ghosts = re.findall(r"^    ghost (\w+) = (\{.*?\});$", text[it.start : it.end], flags=re.M | re.S) if is_impl else ()
+        unknown = {name for name, _ in ghosts} - {*PROMISES, *NO_PROMISES}
         if unknown:
-            raise ValueError(f"impl {head}: is `{unknown.pop()}` a promise? PROMISES or NO_PROMISES of gate/calling.py has to say it")
-        kept = [f"{name} = {promise}" for name, promise in items if name in PROMISES]
-        of = re.match(r"\w*", head.rpartition(" for ")[2])[0]
-        if kept and not re.search(rf"pub\(crate\) (?:struct|enum) {of}\b", text):
-            yield head, kept
+            raise ValueError(f"impl {it.name}: is `{unknown.pop()}` a promise? PROMISES or NO_PROMISES of gate/calling.py has to say it")
+        kept = [f"{name} = {promise}" for name, promise in ghosts if name in PROMISES]
+        if kept and not re.search(rf"pub\(crate\) (?:struct|enum) {head(of)}\b", text):
+            yield it.name, kept
 
 
 def sources(crate):
@@ -78,32 +43,30 @@ LAWS = """## Laws, and what else can be cited
 A law is a public function of `{crate}::laws` that does nothing, and whose contract is the law. A function whose proof needs it calls it at its beginning, as
 `laws::{law}();`: from there on the law is among the facts that the checker searches.
 
-A contract or a proof of yours may use all of `Rattle.{crate}.specs`: a name `{module}.{word}` of the table below by
-`ghost use Rattle.{crate}.specs.{module}.{{{word}}};`, and a struct or an enum `TYPE` of `src/FILE.rt` by
+A contract or a proof of yours may use all of `Rattle.{crate}.specs`: a name `{module}.{name}` of the table below by
+`ghost use Rattle.{crate}.specs.{module}.{{{name}}};`, and a struct or an enum `TYPE` of `src/FILE.rt` by
 `ghost use Rattle.{crate}.specs.declared.FILE.TYPE.{{TYPE}};`. A proof may also cite the lemmas of `specs/..Laws`, which are about definitions
 alone. `Rattle.{crate}.proofs` and what that table lacks of `specs/` are private: they may change in any version.
 """
 
 
-def shortened(owner, signature):
-    """Returns a signature as the page shows it: with its type before the name, and no body."""
-    signature = re.sub(r"\s*\{\s*\}?\s*$", "", signature) if not signature.endswith("}") or signature.endswith("{}") else signature
-    indent = re.match(r"\s*", signature)[0]
-    lines = [it.removeprefix(indent) for it in signature.split("\n")]
-    trait, _, of = owner.rpartition(" for ")
-    prefix = f"<{of} as {trait}>::" if trait else f"{owner}::" if owner else ""
+def shortened(function):
+    """Returns a function's signature as the page shows it: with its type before the name."""
+    indent = re.match(r"\s*", function.signature)[0]
+    lines = [it.removeprefix(indent) for it in function.signature.split("\n")]
+    trait, _, of = function.owner.name.rpartition(" for ")
+    prefix = f"<{of} as {trait}>::" if trait else f"{of}::" if of else ""
     lines[0] = re.sub(r"(?:pub )?((?:const )?fn )", lambda it: it[1] + prefix, lines[0], count=1)
     return "\n".join(lines)
 
 
-def is_exported(crate, path, owner, signature):
+def is_exported(crate, path, function):
     """Returns whether a crate above can name a function: its type, or without one the function or its module, is brought out by lib.rt."""
     text = (ROOT / "crates" / crate / "src/lib.rt").read_text(encoding="utf-8")
     names = set(re.findall(r"\w+", " ".join(re.findall(r"^pub use \w+::([^;]*);", text, flags=re.M))))
-    if owner:
-        return re.match(r"\w*", owner.rpartition(" for ")[2])[0] in names
-    name = re.search(r"\bfn (\w+)", signature)[1]
-    return name in names or f"pub mod {path.parts[0].removesuffix('.rt')};" in text
+    if function.owner.name:
+        return head(function.owner.name.rpartition(" for ")[2]) in names
+    return function.name in names or f"pub mod {path.parts[0].removesuffix('.rt')};" in text
 
 
 # What a law speaks of that says what a derived `Clone`, `Default` or `Hash` does. `laws/clones.rt` has such laws alone.
@@ -111,18 +74,18 @@ DERIVED = re.compile(r"⟦<[^⟧]* as (?:Clone|Default|Hash)>⟧")
 
 
 def contracts(crate):
-    head = ("`specs/` defines the names, and the `ghost use` lines of the quoted file say where; `sets` is `Rattle.std.specs.FinSet`. A line `impl<..> TYPE` has the "
+    what = ("`specs/` defines the names, and the `ghost use` lines of the quoted file say where; `sets` is `Rattle.std.specs.FinSet`. A line `impl<..> TYPE` has the "
             "bounds of that type's calls below it. Below `impl TRAIT for TYPE` is what its methods promise.")
-    parts, last = ["## Contracts", "", f"Quoted from `crates/{crate}/src`; {head}", ""], []
+    parts, last = ["## Contracts", "", f"Quoted from `crates/{crate}/src`; {what}", ""], []
     for path, text in sources(crate):
         shown, before = [], ""
-        for owner, is_public, signature, bounds in functions(text):
-            if is_public and is_exported(crate, path, owner, signature):
-                shown += [bounds] if bounds not in ("", before) else []
-                before = bounds
-                is_last = path.as_posix() == "laws/clones.rt" or path.stem == "laws" and DERIVED.search(signature)
-                (last if is_last else shown).append(shortened(owner, signature))
-        shown += ["\n    ".join([f"impl {head}", *kept]) for head, kept in promises(text)]
+        for it in source_of(text).functions:
+            if it.is_public and is_exported(crate, path, it):
+                shown += [it.owner.bounds] if it.owner.bounds not in ("", before) else []
+                before = it.owner.bounds
+                is_last = path.as_posix() == "laws/clones.rt" or path.stem == "laws" and DERIVED.search(it.signature)
+                (last if is_last else shown).append(shortened(it))
+        shown += ["\n    ".join([f"impl {of}", *kept]) for of, kept in promises(text)]
         if shown:
             parts += [f"### `{path}`", "", "```text", *shown, "```", ""]
     if last:
@@ -147,7 +110,7 @@ def meaning(comment, line, below):
     return f"{comment}: {own}" if comment and own.count("`") == 2 and len(own) < 70 else comment or own
 
 
-def words(crate):
+def names_of_specs(crate):
     """Returns the definitions of specs/, each with the comment above it, or how it is defined; the lemmas come last, and private ones are left out."""
     believed, others = [], []
     for file in sorted((ROOT / "crates" / crate / "specs").glob("**/*.antt")):
@@ -183,7 +146,7 @@ def items(crate):
         if f"pub mod {module};" not in texts["lib.rt"]:
             roots += [it.strip() for it in (names or module).split(",") if it.strip()]
         elif module != "laws":
-            found = re.findall(r"^pub (?:const )?(?:fn|struct|enum|trait) (\w+)", texts[f"{module}.rt"], flags=re.M)
+            found = [it for it in source_of(texts[f"{module}.rt"]).items().values() if "::" not in it]
             paths.append(f"`{crate}::{module}::{{{', '.join(found)}}}`")
             types += found
     paths, types = [f"`{crate}::{{{', '.join(roots)}}}`", *paths], roots + types
@@ -202,30 +165,21 @@ def items(crate):
     return "\n".join(lines)
 
 
-def caller(lines, at):
-    """Returns the item of rsc_uses that begins in a line, with the comment above it."""
-    first = at
-    while lines[first - 1].startswith(("///", "#[")):
-        first -= 1
-    last = next(k for k in range(at, len(lines)) if lines[k].startswith("}"))
-    return "\n".join(lines[first : last + 1])
-
-
 def callers(path, names):
     """Returns the section of some functions of rsc_uses, after what they name of the same file, and says which have a proof file."""
-    lines = (ROOT / "crates/rsc_uses/src" / path).read_text(encoding="utf-8").splitlines()
-    places = {found[2]: k for k, line in enumerate(lines) if (found := re.match(r"pub (fn|trait) (\w+)", line))}
+    text = (ROOT / "crates/rsc_uses/src" / path).read_text(encoding="utf-8")
+    lines = {name: line for line, name in source_of(text).items().items() if text.startswith(("pub fn ", "pub trait "), line)}
     shown = {}
 
     def add(name):
-        text = caller(lines, places[name])
-        for other in places:
-            if other != name and other not in shown and re.search(rf"(?<![.\w]){other}\b", re.sub("^///.*$", "", text, flags=re.M)):
+        quoted = text[above(text, lines[name]) : text.index("\n}", lines[name]) + 2]
+        for other in lines:
+            if other != name and other not in shown and re.search(rf"(?<![.\w]){other}\b", re.sub("^///.*$", "", quoted, flags=re.M)):
                 add(other)
-        shown.setdefault(name, text)
+        shown.setdefault(name, quoted)
 
     for name in names:
-        if name not in places:
+        if name not in lines:
             raise ValueError(f"crates/rsc_uses/src/{path} has no public function {name}, which a line `<!-- callers: .. -->` names")
         add(name)
     quoted = "\n\n".join(shown.values())
@@ -234,10 +188,10 @@ def callers(path, names):
     files = f"Their proof files are in `{folder}`: {', '.join(proved)}; the others need none." if proved else "None needs a proof file."
     used = imports(path, quoted)
     own = " To copy one, copy what it names of `Rattle.rsc_uses` too." if "Rattle.rsc_uses." in used else ""
-    head = f"From `crates/rsc_uses/src/{path}`, proved from the contracts below alone. {files}{own}"
+    first = f"From `crates/rsc_uses/src/{path}`, proved from the contracts below alone. {files}{own}"
     loops = [ROOT / folder / it / "Invariants.antt" for it in shown if (ROOT / folder / it / "Invariants.antt").exists()]
-    files = "".join(f"\nThe invariant of a loop, `{it.relative_to(ROOT)}`:\n\n```text\n{it.read_text(encoding='utf-8')}```\n" for it in loops)
-    return f"## Callers\n\n{head}\n\n```rust\n{used}\n\n{quoted}\n```\n{files}"
+    invariants = "".join(f"\nThe invariant of a loop, `{it.relative_to(ROOT)}`:\n\n```text\n{it.read_text(encoding='utf-8')}```\n" for it in loops)
+    return f"## Callers\n\n{first}\n\n```rust\n{used}\n\n{quoted}\n```\n{invariants}"
 
 
 def imports(path, quoted):
@@ -246,8 +200,8 @@ def imports(path, quoted):
     quoted = re.sub(r"^///.*$", "", quoted, flags=re.M)
     kinds = {"ghost ": [], "": []}
     for kind, source, group, names, alias in re.findall(r"^(ghost |)use ([^{};]+?)(\{([^}]*)\}| as (\w+)|);$", text, flags=re.M):
-        words = names.replace("\n", " ").split(",") if group.startswith("{") else [alias or source.rpartition("::")[2]]
-        used = [it.strip() for it in words if it.strip() and re.search(mentioned(it), quoted)]
+        brought = names.replace("\n", " ").split(",") if group.startswith("{") else [alias or source.rpartition("::")[2]]
+        used = [it.strip() for it in brought if it.strip() and re.search(mentioned(it), quoted)]
         if used:
             is_single = len(used) == 1 and not kind
             names = used[0] if is_single else f"{{{', '.join(used)}}}"
@@ -256,10 +210,10 @@ def imports(path, quoted):
 
 
 def mentioned(name):
-    """Returns a pattern of where a name is used: an operator by its first sign, a word as a whole."""
-    word = name.split(" as ")[-1].strip()
-    sign = word.replace("◌", " ").split()[0]
-    return re.escape(sign) if word != sign and not sign.isalpha() else rf"(?<!\w){re.escape(sign)}(?!\w)"
+    """Returns a pattern of where a name is used: an operator by its first sign, another one as a whole."""
+    here = name.split(" as ")[-1].strip()
+    sign = here.replace("◌", " ").split()[0]
+    return re.escape(sign) if here != sign and not sign.isalpha() else rf"(?<!\w){re.escape(sign)}(?!\w)"
 
 
 NOTATION = """In a clause `x.now` is the value behind a `&`; `x.old` and `x.new` are that behind a `&mut`, before and after the call; `x.entry` is an argument as it was
@@ -272,10 +226,10 @@ def page(crate, text):
     if not mark:
         raise ValueError(f"crates/{crate}/CALLING.md lacks a line `<!-- callers: FILE FUNCTION .. -->`")
     laws = (ROOT / "crates" / crate / "src/laws.rt").read_text(encoding="utf-8")
-    law = re.search(r"pub fn (\w+)\(\)", laws)[1]
-    listed = words(crate)
-    module, word = re.search(r"^\| `(\w+)\.([^`]+)` \|", listed, flags=re.M).groups()
-    cited = LAWS.format(crate=crate, law=law, module=module, word=word)
+    law = next(iter(source_of(laws).items().values()))
+    listed = names_of_specs(crate)
+    module, name = re.search(r"^\| `(\w+)\.([^`]+)` \|", listed, flags=re.M).groups()
+    cited = LAWS.format(crate=crate, law=law, module=module, name=name)
     return text[: mark.end()] + "\n" + "\n".join([NOTATION, items(crate), callers(mark[1], mark[2].split()), cited, contracts(crate), listed])
 
 
@@ -323,18 +277,15 @@ def bodies_of(crate):
     """Returns the names of a crate's wrong bodies by the function that is refused: its type and name, or for a trait's impl type, trait and name."""
     found = {}
     for path in sorted((ROOT / "crates" / crate / "wrong-bodies").glob("**/*.edits")):
-        for name, fields, _ in blocks(path, ("refused", "apart", "also")):
+        for name, fields, _ in edits_in(path, ("refused", "apart", "also")):
             function = re.match(r"[\w:]+(?=: )", fields["refused"])
             if function:
                 found.setdefault("::".join(function[0].split("::")[-2:]), []).append(name)
     return found
 
 
-def bodies_below(path, text, signature, bodies):
-    """Returns the wrong bodies of the first function that a function calls and that has some: of its own file, or of the one type with such a method."""
-    indent = re.match(r"\s*", signature)[0]
-    begins = text.index(signature.strip()) + len(signature.strip())
-    body = text[begins : text.find(f"\n{indent}}}", begins)]
+def bodies_below(path, body, bodies):
+    """Returns the wrong bodies of the first function that a body calls and that has some: of its own file, or of the one type with such a method."""
     for of, dot, name in re.findall(r"(?:\b(\w+)(?:::<[^()]*>)?::|(\.)|\b)(\w+)(?:::<[^()]*>)?\(", body):
         keys = [it for it in bodies if it.endswith(f"::{name}")] if dot else [f"{of or path.stem}::{name}"]
         if len(keys) == 1 and keys[0] in bodies:
@@ -346,26 +297,25 @@ def rows(crate, callers):
     """Yields the row of each call of a crate, and of each impl that promises something."""
     bodies = bodies_of(crate)
     for path, text in sources(crate):
-        for owner, is_public, signature, _ in functions(text):
-            named = re.match(r"\s*pub (?:const )?fn (\w+)", signature)
-            if not named or not is_public or not is_exported(crate, path, owner, signature):
+        for it in source_of(text).functions:
+            if not it.is_pub or not is_exported(crate, path, it):
                 continue
-            owner = re.match(r"\w*", owner)[0]
-            call = f"{owner}::{named[1]}" if owner else f"{path.stem}::{named[1]}"
-            clauses = [it or "ensures" for it in re.findall(r"^\s*ensures\*? (\w*) ?\{", signature, flags=re.M)]
-            made = ("call", owner, named[1]) if owner else ("fn", crate, named[1])
-            refused = bodies.get(call) or (bodies_below(path, text, signature, bodies) if path.stem != "laws" else [])
+            owner = head(it.owner.name)
+            call = f"{owner or path.stem}::{it.name}"
+            clauses = [name or "ensures" for name in re.findall(r"^\s*ensures\*? (\w*) ?\{", it.signature, flags=re.M)]
+            made = ("call", owner, it.name) if owner else ("fn", crate, it.name)
+            refused = bodies.get(call) or (bodies_below(path, text[it.start : it.end], bodies) if path.stem != "laws" else [])
             refused = refused or bodies_alike(call, bodies)
-            yield row(source(crate, path), call.removeprefix("lib::"), clauses, caller_of(crate, callers, made), refused)
-        for head, kept in promises(text):
-            trait, with_what, of = re.match(r"(?:\w+::)*(\w+)(?:<(.*)>)? for (\w+)", head).groups()
+            yield row(crate, path, call.removeprefix("lib::"), clauses, caller_of(crate, callers, made), refused)
+        for impl, kept in promises(text):
+            trait, with_what, of = re.match(r"(?:\w+::)*(\w+)(?:<(.*)>)? for (\w+)", impl).groups()
             # The checker names an impl by its type, its trait and the types in their brackets, as `SpanFromRangeUsize`.
             other = re.match(r"(?:&'\w+ \[)?(\w+)", with_what)[1] if with_what else None
             prefix = rf"{of}\w*{trait}" + (rf"\w*{other[0].upper()}{other[1:]}" if other else "") + r"\w*::"
             found = [name for function, names in bodies.items() if re.match(prefix, function) for name in names]
             made = ("trait", trait, of, other) if other else ("trait", trait, of)
-            found = found or bodies_alike(head, bodies)
-            yield row(source(crate, path), head, [it.partition(" ")[0] for it in kept], caller_of(crate, callers, made), found)
+            found = found or bodies_alike(impl, bodies)
+            yield row(crate, path, impl, [it.partition(" ")[0] for it in kept], caller_of(crate, callers, made), found)
 
 
 # Accessors and conversions that share the wrong body of another one, by the function that is refused; and the calls that have none (docs/DECISIONS.md).
@@ -388,13 +338,9 @@ def bodies_alike(call, bodies):
     return []
 
 
-def source(crate, path):
-    return f"../crates/{crate}/src/{path.as_posix()}"
-
-
-def row(source, call, clauses, caller, bodies):
+def row(crate, path, call, clauses, caller, bodies):
     wrong = f"`{bodies[0]}`" + (f" (of {len(bodies)})" if len(bodies) > 1 else "") if bodies else ""
-    return f"| [`{call}`]({source}) | {', '.join(f'`{it}`' for it in clauses)} | {caller} | {wrong} |"
+    return f"| [`{call}`](../crates/{crate}/src/{path.as_posix()}) | {', '.join(f'`{it}`' for it in clauses)} | {caller} | {wrong} |"
 
 
 def calls(crates):

@@ -1,22 +1,23 @@
 #!/usr/bin/env python3
 """Writes what the pages take from the sources, and compares it; checks what every source and proof holds to.
 
-    gate/pages.py [--write]      # without --write it says which pages are out of date, and what they lack
+    gate/pages.py [--write]      # without --write it says which pages are out of date, and what they lack; with it, what it can't write
 
 - The lower part of each library's CALLING.md: below the line `<!-- callers: FILE FUNCTION .. -->`, which names the functions of
-  crates/rsc_uses/src/FILE to show, come those callers, the contract of each public call, and the words of specs/ with their comments.
-- The first Rust block of a library's README.md: its file in crates/rsc_docs/src/readmes, a test. In the README.md of the repository, each
-  block below a line `<!-- quoted: FILE -->`. README.md also gets how many definitions are to be believed
-  and what is proved by hand, docs/TRUSTED.md each of those definitions, and docs/CALLS.md each public call.
+  crates/rsc_uses/src/FILE to show, come those callers, the contract of each public call, and the names of specs/ with their comments.
+- The first Rust code of a library's README.md: its file in crates/rsc_docs/src/readmes, a test. In the README.md of the repository, the code below each line
+  `<!-- quoted: FILE -->`. README.md also gets how many definitions are to be believed and what is proved by hand, docs/TRUSTED.md each of those definitions,
+  and docs/CALLS.md each public call.
 - The examples of doc comments: what is in a test of crates/rsc_docs/src/examples below the comment that names the item, as `Span::get` in backquotes, after
   four spaces and `// `. A test begins with such a comment, and its last example ends at its `Ok(())`.
 - The table of docs/WRONG_BODIES.md: for each edit that it names, the function and the goal that refuse it.
-- The comments of each Lib.antt: the first sentence of each module's head. The table of test modules of each README.md of tests, likewise.
+- The comments of each Lib.antt: the first sentence of each module's head.
+- Numbers that other files decide: README.md's totals of docs/PERFORMANCE.md, of commands and of wrong bodies, and the sizes of a batch of names.
 
-It compares the sizes of a block of repeated names and README.md's totals of docs/PERFORMANCE.md with what decides them, asks that the forms under 'Forms that are asked for' of docs/DECISIONS.md are there, that no library
-calls a function whose sums wrap, and that docs/DEFINITIONS.md has each definition that a public contract or the promise of a trait's methods cites, and each of
-docs/TRUSTED.md, in backquotes, alone or after its module, as `Holds` or `Holds.Holds`, and no name at the head of a line that isn't there. A definition
-is a name of a crate's specs/ that a `ghost use` line brings into a file.
+It asks that the forms under 'Forms that are asked for' of docs/DECISIONS.md are there, that no library calls a function whose sums wrap, and that
+docs/DEFINITIONS.md has each definition that a public contract or the promise of a trait's methods cites, and each of docs/TRUSTED.md, in backquotes, alone or
+after its module, as `Holds` or `Holds.Holds`, and no name at the head of a line that isn't there. A definition is a name of a crate's specs/ that a
+`ghost use` line brings into a file.
 
 A file that a page written by hand names in backquotes, below one of the usual folders, is there, and so is what a page links to.
 
@@ -29,8 +30,9 @@ import pathlib
 import re
 import sys
 
-from calling import ROOT, calls, functions, is_exported, page, promises, sources
-from edits import blocks
+from calling import ROOT, calls, is_exported, page, promises, sources
+from edits import edits_in
+from heads import above, head, source_of
 from typed import LIBRARIES
 
 MOST_COLUMNS = 160
@@ -50,17 +52,14 @@ SEEN = (("rsc_look", "matcher.rt", "LookMatcher"), ("rsc_alphabet", "byte_classe
 
 
 def readme(shown, text):
-    """Returns a README.md with a program as its first Rust block."""
+    """Returns a README.md with a program as its first Rust code."""
     return re.sub(r"```rust\n.*?```", lambda _: f"```rust\n{shown}```", text, count=1, flags=re.S)
 
 
 def with_quotes(text):
-    """Returns README.md with the file in each Rust block below a line `<!-- quoted: FILE -->`."""
-
-    def block(found):
-        return f"{found[1]}```rust\n{(ROOT / found[2]).read_text(encoding='utf-8')}```"
-
-    return re.sub(r"(<!-- quoted: (\S+) -->\n)```rust\n.*?```", block, text, flags=re.S)
+    """Returns README.md with the file as the Rust code below each line `<!-- quoted: FILE -->`."""
+    code = r"(<!-- quoted: (\S+) -->\n```rust\n).*?```"
+    return re.sub(code, lambda it: f"{it[1]}{(ROOT / it[2]).read_text(encoding='utf-8')}```", text, flags=re.S)
 
 
 def imports_of(text, ghost):
@@ -98,15 +97,21 @@ MEANT = (("rsc_look/src/word.rt", r"ghost word_chars = .*?;"), ("rsc_look/src/ma
          ("rsc_alphabet/src/byte_classes.rt", r"impl Model for ByteClasses .*?^\}"))
 
 
+def clauses_of(file, name):
+    """Returns the head of a public function of a source file, and each of its clauses."""
+    functions = source_of((ROOT / "crates" / file).read_text(encoding="utf-8")).functions
+    signature = next(it.signature for it in functions if it.is_pub and it.name == name)
+    return re.split(r"\n +(?=ensures|requires)", signature.strip())
+
+
 def statement(is_quoted):
     """Yields each part of the main statement with its file: all clauses, or those alone that README.md quotes, which must be as in the source."""
     readme = (ROOT / "README.md").read_text(encoding="utf-8")
     for name, file in MAIN.items():
         shown = re.search(rf"^pub fn {name}\(.*?(?=\n\n|\n```)", readme, flags=re.M | re.S)[0].split()
-        text = (ROOT / "crates" / file).read_text(encoding="utf-8")
-        head, *clauses = re.split(r"\n {8}(?=ensures|requires)", re.search(rf"pub fn {name}\(.*?(?=\n    \{{)", text, flags=re.S)[0])
+        first, *clauses = clauses_of(file, name)
         kept = [it for it in clauses if " ".join(it.split()) in " ".join(shown)]
-        if " ".join([head, *kept]).split() != shown:
+        if " ".join([first, *kept]).split() != shown:
             raise ValueError(f"README.md quotes {name} otherwise than crates/{file} has it")
         for it in kept if is_quoted else clauses:
             yield file, it
@@ -119,11 +124,9 @@ def statement(is_quoted):
 ENGINE = (("rsc_engine", "iterate.rt", ("find", "new", "next", "into_cache")), ("rsc_engine", "builder.rt", ("build", "build_with")),
           ("rsc_engine", "dfa.rt", ("earliest_end", "is_match", "find", "leftmost_end")), ("rsc_engine", "cache.rt", ("new", "find", "matches")),
           ("rsc_engine", "program.rt", ("captures",)), ("rsc_captures", "captures.rt", ("get_group",)))
-
-
 ENGINE_MEANT = (("rsc_look/src/word.rt", r"ghost word_chars = .*?;"), ("rsc_engine/src/iterate.rt", r"impl<[^{]*Model for Matches.*?^\}"))
-ENGINE_SEEN = (("rsc_engine", "program.rt", "Program"), ("rsc_engine", "dfa.rt", "Dfa"), ("rsc_engine", "cache.rt", "Cache"), ("rsc_engine", "iterate.rt", "Matches"), ("rsc_nfa", "nfa.rt", "Nfa"),
-               ("rsc_look", "matcher.rt", "LookMatcher"), ("rsc_search", "input.rt", "Input"), ("rsc_search", "matches.rt", "Match"),
+ENGINE_SEEN = (("rsc_engine", "program.rt", "Program"), ("rsc_engine", "dfa.rt", "Dfa"), ("rsc_engine", "cache.rt", "Cache"),
+               ("rsc_engine", "iterate.rt", "Matches"), ("rsc_nfa", "nfa.rt", "Nfa"), ("rsc_look", "matcher.rt", "LookMatcher"), ("rsc_search", "input.rt", "Input"), ("rsc_search", "matches.rt", "Match"),
                ("rsc_captures", "captures.rt", "Captures"), ("rsc_captures", "group_info.rt", "GroupInfo"), ("rsc_captures", "layout.rt", "SharedLists"),
                *(("rsc_primitives", f"primitives/{it}.rt", name) for it, name in
                  (("small_index", "SmallIndex"), ("pattern_id", "PatternID"), ("state_id", "StateID"), ("non_max", "NonMaxUsize"))))
@@ -134,10 +137,7 @@ def engine_statement():
     for file, pattern in ENGINE_MEANT:
         yield from ((file, it) for it in re.findall(pattern, (ROOT / "crates" / file).read_text(encoding="utf-8"), flags=re.M | re.S))
     for crate, file, names in ENGINE:
-        text = (ROOT / "crates" / crate / "src" / file).read_text(encoding="utf-8")
-        for name in names:
-            signature = re.search(rf"pub fn {name}\b.*?(?=\n *\{{\n)", text, flags=re.S)[0]
-            yield from ((f"{crate}/src/{file}", it) for it in re.split(r"\n +(?=ensures|requires)", signature)[1:])
+        yield from ((f"{crate}/src/{file}", it) for name in names for it in clauses_of(f"{crate}/src/{file}", name)[1:])
 
 
 def reached(parts):
@@ -171,6 +171,14 @@ def sizes(own):
     return sum(map(len, own.values())), sum(len(texts[it][name].splitlines()) for it, names in own.items() for name in names)
 
 
+def rows(own, *columns):
+    """Yields for each file of definitions a row of a table: its lines, and in each column the definitions that are listed there."""
+    for (crate, module), names in sorted(own.items(), key=lambda it: (LIBRARIES.index(it[0][0]), it[0][1])):
+        found = definitions((ROOT / "crates" / crate / "specs" / f"{module}.antt").read_text(encoding="utf-8"))
+        listed = (", ".join(f"`{it}`" for it in found if it in column[crate, module]) for column in columns)
+        yield f"| `{crate}/specs/{module}.antt` | {sizes({(crate, module): names})[1]} | {' | '.join(listed)} |"
+
+
 def trusted():
     """Returns docs/TRUSTED.md: what is to be believed for the main statement, definition by definition."""
     (own, outside), (quoted, _) = reached(statement(False)), reached(statement(True))
@@ -179,14 +187,10 @@ def trusted():
              "meaning of `AsciiWord` and `UnicodeWord`. The last column has what only clauses need which README.md doesn't quote. Whoever trusts the toolchain need only",
              "believe these, the clauses, and what they see of a value; [DEFINITIONS.md](DEFINITIONS.md) explains all.", "",
              "| File | Lines | Definitions of the quoted clauses | Of other clauses alone |", "|---|---|---|---|"]
-    order = {crate: k for k, crate in enumerate(LIBRARIES)}
-    for (crate, module), names in sorted(own.items(), key=lambda it: (order[it[0][0]], it[0][1])):
-        found = definitions((ROOT / "crates" / crate / "specs" / f"{module}.antt").read_text(encoding="utf-8"))
-        listed = [", ".join(f"`{it}`" for it in found if it in names and (it in quoted[crate, module]) == is_quoted) for is_quoted in (True, False)]
-        lines.append(f"| `{crate}/specs/{module}.antt` | {sizes({(crate, module): names})[1]} | {listed[0]} | {listed[1]} |")
+    lines += rows(own, quoted, {it: names - quoted[it] for it, names in own.items()})
     lines += ["", "A clause speaks of what a contract sees of a value, by the type's `impl Model`:", "", *views(SEEN)]
-    lines += ["", "The contracts of `LookMatcher::new` and `set_line_terminator` say which matcher a caller makes, and that of `ByteClasses::get` what it reads from the map.", ""]
-    lines[-2:] = [f"{lines[-2]} Of the word predicates `AsciiWord` has `word_chars = λ _ c. is_word_byte c`, and `UnicodeWord` `λ _ c. is_unicode_word c`.", ""]
+    lines += ["", "The contracts of `LookMatcher::new` and `set_line_terminator` say which matcher a caller makes, and that of `ByteClasses::get` what it reads from "
+              "the map. Of the word predicates `AsciiWord` has `word_chars = λ _ c. is_word_byte c`, and `UnicodeWord` `λ _ c. is_unicode_word c`.", ""]
     said = "The quoted clauses and the meaning of the two word predicates reach {} definitions, {} lines; all clauses {}, {} lines.".format(*sizes(quoted), *sizes(own))
     lines += [f"{said} They use types of the libraries, and names of the toolchain:", "", "| Module | Names |", "|---|---|"]
     lines += [f"| `{module}` | {', '.join(f'`{it}`' for it in sorted(names))} |" for module, names in sorted(outside.items())]
@@ -209,12 +213,9 @@ def engine_trusted():
     own, outside = reached(engine_statement())
     count, all_lines = sizes(own)
     calls = "`Builder::build` and `build_with`, `Program::captures`, all searches (`find`, `Matches`, `Cache`, `Dfa`), and `Captures::get_group`, which reads a match's groups,"
-    lines = [f"The clauses of {calls}", f"reach {count} definitions, {all_lines} lines:", "",
-             "| File | Lines | Definitions |", "|---|---|---|"]
-    for (crate, module), names in sorted(own.items(), key=lambda it: (LIBRARIES.index(it[0][0]), it[0][1])):
-        found = definitions((ROOT / "crates" / crate / "specs" / f"{module}.antt").read_text(encoding="utf-8"))
-        lines.append(f"| `{crate}/specs/{module}.antt` | {sizes({(crate, module): names})[1]} | {', '.join(f'`{it}`' for it in found if it in names)} |")
-    lines += ["", "What is seen of a value; of a `Builder` and a `Part` clauses see the fields:", "", *views(ENGINE_SEEN), "", "They use types of the libraries, and names of the toolchain:", "", "| Module | Names |", "|---|---|"]
+    lines = [f"The clauses of {calls}", f"reach {count} definitions, {all_lines} lines:", "", "| File | Lines | Definitions |", "|---|---|---|", *rows(own, own)]
+    lines += ["", "What is seen of a value; of a `Builder` and a `Part` clauses see the fields:", "", *views(ENGINE_SEEN)]
+    lines += ["", "They use types of the libraries, and names of the toolchain:", "", "| Module | Names |", "|---|---|"]
     return lines + [f"| `{module}` | {', '.join(f'`{it}`' for it in sorted(names))} |" for module, names in sorted(outside.items())]
 
 
@@ -231,8 +232,8 @@ def by_hand(text):
     """Returns README.md with how much is taken without a proof, and what is proved by hand."""
     found = [it for it in sorted((ROOT / "crates").glob("*/**/*")) if it.suffix in (".antt", ".rt") and "out" not in it.parts]
     texts = [re.sub(r"//.*|--.*", "", it.read_text(encoding="utf-8")) for it in found]
-    words = {"axioms": r"^\s*(?:pub )?axiom ", "holes": r"= \?(?:\s|$)", "`unsafe` blocks": r"\bunsafe \{"}
-    counts = [f"{sum(len(re.findall(word, it, flags=re.M)) for it in texts)} {name}" for name, word in words.items()]
+    patterns = {"axioms": r"^\s*(?:pub )?axiom ", "holes": r"= \?(?:\s|$)", "`unsafe` blocks": r"\bunsafe \{"}
+    counts = [f"{sum(len(re.findall(pattern, it, flags=re.M)) for it in texts)} {name}" for name, pattern in patterns.items()]
     hands = [f"`{'::'.join(it.parts[-3:-1])}`" for it in found if it.name == "Proof.antt"]
     said = f"{', '.join(counts)}; {len(hands)} proofs by hand ({', '.join(hands)})"
     return re.sub(r"<!-- by hand -->.*?<!-- end -->", lambda _: f"<!-- by hand -->{said}<!-- end -->", text, flags=re.S)
@@ -268,24 +269,16 @@ def examples(crate):
 
 def documented(text, quoted, missing):
     """Returns a source file with the examples in its doc comments regenerated; takes each that is quoted out of `missing`."""
-    owner, made, first = "", [], 0
-    for line in text.split("\n"):
-        block = re.match(r"impl(?:<.*?>)? (\w+)(?!.* for )", line)
-        owner = block[1] if block else "" if line.startswith("}") else owner
-        item = re.match(r"\s*pub (?:const )?(?:fn|struct|enum|trait) (\w+)", line)
-        name = item and "::".join(filter(None, (owner, item[1])))
+    for line, name in reversed(source_of(text).items().items()):
         if name in quoted:
-            missing.discard(name)
-            indent = re.match(r"\s*", line)[0]
-            fences = [k for k in range(first, len(made)) if made[k] == f"{indent}/// ```"]
-            if len(fences) == 2:
-                made[fences[0] + 1 : fences[1]] = [f"{indent}/// {it}".rstrip() for it in quoted[name]]
-            else:
-                missing.add(name)
-        made.append(line)
-        if not line.strip().startswith(("///", "#[")):
-            first = len(made)
-    return "\n".join(made)
+            first, indent = above(text, line), re.match(" *", text[line:])[0]
+            fence = f"{indent}/// ```\n"
+            parts = text[first:line].split(fence)
+            if len(parts) == 3:
+                missing.discard(name)
+                parts[1] = "".join(f"{indent}/// {it}".rstrip() + "\n" for it in quoted[name])
+                text = text[:first] + fence.join(parts) + text[line:]
+    return text
 
 
 def module_list(path):
@@ -296,8 +289,8 @@ def module_list(path):
         text = (path.parent / f"{module[1]}.antt").read_text(encoding="utf-8")
         head = " ".join(it[3:] for it in itertools.takewhile(lambda it: it.startswith("-- "), text.splitlines()))
         sentence = re.match(r".*?(?=\.(?: |$)|$)", head)[0]
-        is_word = sentence[1:2].islower() or sentence[1:2] == " "
-        made.append(f"{module[0]}  -- {sentence[0].lower() + sentence[1:] if is_word else sentence}")
+        is_plain = sentence[1:2].islower() or sentence[1:2] == " "
+        made.append(f"{module[0]}  -- {sentence[0].lower() + sentence[1:] if is_plain else sentence}")
     return "\n".join(made) + "\n"
 
 
@@ -309,7 +302,7 @@ def pages():
         for path, text in sources(crate) if quoted else ():
             yield ROOT / "crates" / crate / "src" / path, documented(text, quoted, missing)
         if missing:
-            raise ValueError(f"{crate}: no doc comment has a place for the example of {', '.join(sorted(missing))}")
+            raise ValueError(f"{crate}: no doc comment has room for the example of {', '.join(sorted(missing))}")
         file = ROOT / "crates" / crate / "CALLING.md"
         yield file, page(crate, file.read_text(encoding="utf-8"))
         file = ROOT / "crates" / crate / "README.md"
@@ -332,18 +325,16 @@ def cited():
             for of, module, names in re.findall(r"ghost use Rattle\.(rsc_\w+)\.specs\.([\w.]+)\.\{([^}]*)\}", text):
                 if not module.startswith("declared"):
                     imported.update({it.strip(): (of, module) for it in names.split(",")})
-            for owner, _, signature, _ in functions(text):
-                named = re.match(r"\s*pub (?:const )?fn (\w+)", signature)
-                of_type = re.match(r"\w+", owner.rpartition(" for ")[2])
-                for word in set(re.findall(r"[\w-]+", signature)) & set(imported) if named and is_exported(crate, path, owner, signature) else ():
-                    of, module = imported[word]
-                    found[of][f"{module}.{word}"].add(f"{crate}::{of_type[0] + '::' if of_type else ''}{named[1]}")
-            for head, kept in promises(text):
-                for word in set(re.findall(r"[\w-]+", " ".join(kept))) & set(imported):
-                    of, module = imported[word]
+            for it in source_of(text).functions:
+                for name in set(re.findall(r"[\w-]+", it.signature)) & set(imported) if it.is_pub and is_exported(crate, path, it) else ():
+                    of, module = imported[name]
+                    found[of][f"{module}.{name}"].add("::".join(filter(None, (crate, head(it.owner.name), it.name))))
+            for impl, kept in promises(text):
+                for name in set(re.findall(r"[\w-]+", " ".join(kept))) & set(imported):
+                    of, module = imported[name]
                     # Equality as a `bool` needs no trust: its laws tie it to equality.
-                    if not word.startswith("same_"):
-                        found[of][f"{module}.{word}"].add(f"the impl of {head} in {crate}")
+                    if not name.startswith("same_"):
+                        found[of][f"{module}.{name}"].add(f"the impl of {impl} in {crate}")
     return found
 
 
@@ -378,7 +369,7 @@ def named_bodies(text):
     refused = {}
     for path in (ROOT / "crates").glob("*/wrong-bodies/**/*.edits"):
         crate = path.relative_to(ROOT / "crates").parts[0]
-        refused.update({f"{crate}/{name}": fields["refused"] for name, fields, _ in blocks(path, ("refused", "apart", "also"))})
+        refused.update({f"{crate}/{name}": fields["refused"] for name, fields, _ in edits_in(path, ("refused", "apart", "also"))})
     missing = []
 
     def row(found):
@@ -391,32 +382,40 @@ def named_bodies(text):
     return re.sub(r"^\| (.*) \| `(rsc_\w+/\w+)` \| .*\|$", row, text, flags=re.M), missing
 
 
-def number_faults():
-    """Yields for each number that the code decides what is wrong with the page that must have it."""
+def phrases():
+    """Returns for each page the phrases whose numbers other files decide."""
     source = "crates/rsc_captures/src/repeats.rt"
     table = int(re.search(r"^const TABLE: usize = (\d+);", (ROOT / source).read_text(encoding="utf-8"), flags=re.M)[1])
-    for file, words in (
-        ("docs/DECISIONS.md", f"blocks of {table:,} groups are sorted by name in a table of {4 * table // 1024} KiB"),
-        ("docs/DECISIONS.md", f"n²/{2 * table} look-ups"),
-        ("crates/rsc_captures_tests/src/tests/repeats.rt", f"has room for {table:,} groups"),
-    ):
-        is_said = words in " ".join((ROOT / file).read_text(encoding="utf-8").split())
-        yield [] if is_said else [f"{file} lacks `{words}`, which the code decides"]
     count, mean, slower, _, _ = re.search(r"^\| all \| (.*) \|$", (ROOT / "docs/PERFORMANCE.md").read_text(encoding="utf-8"), flags=re.M)[1].split(" | ")
-    text = " ".join((ROOT / "README.md").read_text(encoding="utf-8").split())
-    said = (f"Over {count} workloads", f"takes {mean} of the original's time", f"{slower} are slower")
-    yield [f"README.md lacks `{it}`, as docs/PERFORMANCE.md has it" for it in said if it not in text]
     commands = (ROOT / "crates/rsc_compare/stdin").read_text(encoding="utf-8").splitlines()
     bodies = sum(len(re.findall(r"^== ", path.read_text(encoding="utf-8"), flags=re.M)) for path in (ROOT / "crates").glob("**/*.edits"))
-    said = (f"replays {len(commands):,} commands", f"(in {sum('_port' in it for it in commands)} the", f"each of some {bodies // 10 * 10} wrong bodies")
-    yield [f"README.md lacks `{it}`, as the files have it" for it in said if it not in text]
+    return {
+        "docs/DECISIONS.md": (f"batches of {table:,} groups are sorted by name in a table of {4 * table // 1024} KiB", f"n²/{2 * table} look-ups"),
+        "crates/rsc_captures_tests/src/tests/repeats.rt": (f"has room for {table:,} groups",),
+        "README.md": (f"Over {count} workloads", f"takes {mean} of the original's time", f"{slower} are slower", f"replays {len(commands):,} commands",
+                      f"(in {sum('_port' in it for it in commands)} the", f"each of some {bodies // 10 * 10} wrong bodies"),
+    }
+
+
+def number_faults(made):
+    """Puts the numbers of these phrases into the pages that are made; yields for each page the phrases of which it lacks the rest."""
+    number = r"\d[\d,.]*"
+    for page, said in phrases().items():
+        text, missing = made.get(ROOT / page) or (ROOT / page).read_text(encoding="utf-8"), []
+        for phrase in said:
+            # A phrase may go on in the next line.
+            pattern = r"(\s+)".join(number.join(map(re.escape, re.split(number, it))) for it in phrase.split())
+            text, count = re.subn(pattern, lambda it: "".join(itertools.chain(*itertools.zip_longest(phrase.split(), it.groups(), fillvalue=""))), text)
+            missing += [] if count == 1 else [f"{page} has {count} times `{phrase}`, with whatever numbers"]
+        made[ROOT / page] = text
+        yield missing
 
 
 def form_faults():
     """Yields for each form that is asked for, and for each source of a library, what is wrong with it."""
-    for file, words in FORMS:
-        count = (ROOT / "crates" / file).read_text(encoding="utf-8").count(words)
-        yield [] if count == 1 else [f"{file} has {count} times the form that is asked for: {words.strip()!r}"]
+    for file, form in FORMS:
+        count = (ROOT / "crates" / file).read_text(encoding="utf-8").count(form)
+        yield [] if count == 1 else [f"{file} has {count} times the form that is asked for: {form.strip()!r}"]
     for crate in LIBRARIES:
         for path, text in sources(crate):
             yield [f"{crate}/src/{path} calls `{it}`: no number may wrap" for it in re.findall(r"\bwrapping_\w+", text)]
@@ -503,8 +502,8 @@ def main():
         return 1
     bodies = ROOT / "docs/WRONG_BODIES.md"
     made[bodies], missing = named_bodies(bodies.read_text(encoding="utf-8"))
-    faults_of = (source_faults, form_faults, path_faults, link_faults, number_faults, definition_faults)
-    for faults in [*itertools.chain.from_iterable(it() for it in faults_of), [f"docs/WRONG_BODIES.md names {it}, which isn't there" for it in missing]]:
+    faults_of = [number_faults(made), *(it() for it in (source_faults, form_faults, path_faults, link_faults, definition_faults))]
+    for faults in [*itertools.chain.from_iterable(faults_of), [f"docs/WRONG_BODIES.md names {it}, which isn't there" for it in missing]]:
         count += 1
         failures += faults
     for file, text in made.items():

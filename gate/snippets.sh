@@ -1,8 +1,8 @@
 #!/usr/bin/env bash
-# What `rt ci` can't check, by snippets of code that are added to a file in a copy of the repository.
+# gate/snippets.sh tries what `rt ci` can't check, by snippets of code that are added to a file in a copy of the repository.
 #
 # crates/NAME/must-not-compile/*.snippet is misuse that the borrow checker must refuse: at the end of the crate's root file the
-# check must fail with the words of each of the snippet's lines `// refused: WORDS`.
+# check must fail with the text of each of the snippet's lines `// refused: TEXT`.
 #
 # crates/NAME/must-run/*.snippet is tests of calls whose callers the checker doesn't cover: at the end of the file that the first
 # line names, `// added to: FILE`, they are compiled and run without a proof, and each must pass.
@@ -41,12 +41,12 @@ count() {
   fi
 }
 
-# Whether the words of each line `// refused:` of a snippet are among the errors of an answer.
+# Whether the text of each line `// refused:` of a snippet is among the errors of an answer.
 is_refused() {
-  local words
+  local text
   grep -q '^// refused: ' "$1" || return 1
-  while read -r words; do
-    printf '%s' "$2" | grep -F 'error[' | grep -qF "$words" || return 1
+  while read -r text; do
+    printf '%s' "$2" | grep -F 'error[' | grep -qF "$text" || return 1
   done < <(sed -n 's/^\/\/ refused: //p' "$1")
 }
 

@@ -35,7 +35,8 @@ import tempfile
 import time
 import tty
 
-ROOT = os.path.dirname(os.path.dirname(os.path.realpath(__file__)))
+from edits import ROOT, rt_try
+
 UNREADABLE, FAILING = "@ input unreadable", "@ input fails"
 SHORT = "@ output short"
 Run = collections.namedtuple("Run", "name args unusual stdin stdout stderr status")
@@ -189,13 +190,13 @@ def write_cases(crate, folder, is_joined=False):
 
 
 def unproved_jobs(folder):
-    """Returns what `rt try` runs without a proof: the name of each job, its crate and the words of the command."""
+    """Returns what `rt try` runs without a proof: the name of each job, its crate's folder and its options."""
     found = {}
     for path in sorted(glob.glob(f"{ROOT}/crates/*")):
         crate, cases = os.path.basename(path), ("--steps", "0", "--cases")
         sources = glob.glob(f"{path}/src/**/*.rt", recursive=True)
         if any("#[test]" in open(it, encoding="utf-8").read() for it in sources):
-            found[f"{crate}-tests"] = crate, "--test", "--seconds", "300"
+            found[f"{crate}-tests"] = path, "--test", "--seconds", "300"
         if os.path.exists(f"{path}/stdout"):
             os.makedirs(f"{folder}/{crate}-run")
             # A case is named by its input, which may be empty.
@@ -203,10 +204,10 @@ def unproved_jobs(folder):
             for name, ending in (("stdin", ""), ("stdout", ".stdout"), ("args", ".args")):
                 if os.path.exists(f"{path}/{name}"):
                     shutil.copy(f"{path}/{name}", f"{folder}/{crate}-run/stored{ending}")
-            found[f"{crate}-run"] = crate, *cases, f"{folder}/{crate}-run"
+            found[f"{crate}-run"] = path, *cases, f"{folder}/{crate}-run"
         if os.path.isdir(f"{path}/runs"):
             write_cases(crate, f"{folder}/{crate}-runs")
-            found[f"{crate}-runs"] = crate, *cases, f"{folder}/{crate}-runs"
+            found[f"{crate}-runs"] = path, *cases, f"{folder}/{crate}-runs"
     return found
 
 
@@ -215,7 +216,7 @@ def try_unproved():
     failed = []
     with tempfile.TemporaryDirectory(prefix="unproved-") as folder, concurrent.futures.ThreadPoolExecutor(len(os.sched_getaffinity(0))) as pool:
         jobs = unproved_jobs(folder)
-        running = {pool.submit(rt_try, *words): name for name, words in jobs.items()}
+        running = {pool.submit(rt_try, *job): name for name, job in jobs.items()}
         for it in concurrent.futures.as_completed(running):
             status, said = it.result()
             print(f"{running[it]}: {'FAILED' if status else 'passed'}", flush=True)
@@ -226,18 +227,13 @@ def try_unproved():
     return 1 if failures or not jobs else 0
 
 
-def rt_try(crate, *words):
-    ran = subprocess.run(["rt", "try", *words], cwd=f"{ROOT}/crates/{crate}", stdin=subprocess.DEVNULL, stdout=subprocess.PIPE, stderr=subprocess.STDOUT, errors="replace")
-    return ran.returncode, ran.stdout
-
-
-def main(words):
-    if words[:1] == ["--joined"]:
-        write_cases(*words[1:], is_joined=True)
+def main(arguments):
+    if arguments[:1] == ["--joined"]:
+        write_cases(*arguments[1:], is_joined=True)
         return 0
-    if words == ["--unproved"]:
+    if arguments == ["--unproved"]:
         return try_unproved()
-    crates = words or sorted(os.path.basename(os.path.dirname(it)) for it in glob.glob(f"{ROOT}/crates/*/runs"))
+    crates = arguments or sorted(os.path.basename(os.path.dirname(it)) for it in glob.glob(f"{ROOT}/crates/*/runs"))
     judged = [judge(it) for it in crates]
     passed, failed = (sum(it) for it in zip(*judged))
     print(f"stored-runs: {passed} passed, {failed} failed")

@@ -28,7 +28,7 @@ import subprocess
 import tempfile
 import threading
 
-from edits import ROOT, blocks, in_lanes, replaced
+from edits import ROOT, edits_in, in_lanes, replaced, rt_try
 
 FIELDS = ("file", "tests", "modules", "snippet", "seconds", "runs", "also")
 IN_ONE = 20
@@ -42,7 +42,7 @@ def tested_edits(wanted, names=()):
     for crate in sorted(os.listdir(f"{ROOT}/crates")):
         path = f"{ROOT}/crates/{crate}/tested-bodies.edits"
         if os.path.exists(path) and (not wanted or crate in wanted):
-            found += [(crate, *it) for it in blocks(path, FIELDS) if not names or it[0] in names]
+            found += [(crate, *it) for it in edits_in(path, FIELDS) if not names or it[0] in names]
     return found
 
 
@@ -63,11 +63,6 @@ def misfits(wanted):
         bad = [source for source, (_, after) in changed(ROOT, crate, fields, pairs).items() if after is None]
         found += [f"{crate}/{name}: BAD EDIT: an old text isn't once in {source}" for source in bad]
     return found
-
-
-def rt_try(folder, *words):
-    ran = subprocess.run(["rt", "try", *words], cwd=folder, stdin=subprocess.DEVNULL, stdout=subprocess.PIPE, stderr=subprocess.STDOUT, errors="replace")
-    return ran.stdout
 
 
 def sources_of(crate):
@@ -221,7 +216,7 @@ def judged(crate, left, failing):
 
 def judge_together(copy, crate, tests, edits):
     """Tries edits of a crate together by the tests."""
-    left, said, results = run_together(copy, crate, tests, edits, lambda: rt_try(f"{copy}/crates/{tests}", "--test", "--seconds", "240"))
+    left, said, results = run_together(copy, crate, tests, edits, lambda: rt_try(f"{copy}/crates/{tests}", "--test", "--seconds", "240")[1])
     failing = {number: re.findall(rf"^test v{number}::(\S+) \.\.\. FAILED", said, flags=re.M) for number in [0, *left]}
     return results + [*judged(crate, left, failing)]
 
@@ -239,7 +234,7 @@ def judge_programs(copy, crate, edits):
                 pathlib.Path(cases, f"{own}.args").write_bytes(f"v{number}\n".encode() + args.read_bytes())
             for ending in ("", ".args", ".stdout"):
                 args.with_suffix(ending).unlink()
-        left, said, results = run_together(copy, crate, crate, edits, lambda: rt_try(f"{copy}/crates/{crate}", "--steps", "0", "--cases", cases))
+        left, said, results = run_together(copy, crate, crate, edits, lambda: rt_try(f"{copy}/crates/{crate}", "--steps", "0", "--cases", cases)[1])
     answers = {number: dict(re.findall(rf"^case=v{number}-(\S+) (.*)", said, flags=re.M)) for number in [0, *left]}
     failing = {number: [it for it, answer in answers[number].items() if answer != answers[0].get(it)] for number in left}
     failing[0] = [name for name, answer in answers[0].items() if "output=expected" not in answer]
@@ -249,10 +244,10 @@ def judge_programs(copy, crate, edits):
 def is_asked(runs, crate, args):
     """Says whether an edit's runs are all, or name a stored run by its file or by its arguments, which are a file too."""
     files = tuple(f"{crate}-{it.removesuffix('.txt')}-" for it in runs.split() if it.endswith(".txt"))
-    return runs == "all" or args.stem.startswith(files) or args.read_bytes() == b"".join(it + b"\n" for it in words_of(runs))
+    return runs == "all" or args.stem.startswith(files) or args.read_bytes() == b"".join(it + b"\n" for it in arguments_of(runs))
 
 
-def words_of(run):
+def arguments_of(run):
     """Returns the arguments of a run, as a shell splits them, in which \\xHH is a byte."""
     return [re.sub(rb"\\x([0-9a-f]{2})", lambda it: bytes([int(it[1], 16)]), it.encode()) for it in shlex.split(run)]
 
@@ -260,10 +255,10 @@ def words_of(run):
 def answers_of(copy, crate, run):
     """Returns what the program of a copy prints in a run, line by line: first on standard error, then, after `> `, on standard output."""
     run, _, given = run.partition(" < ")
-    words = words_of(run)
-    flags = ["--steps", "0", *(words[:2] if words[:1] == [b"--fail-alloc"] else [])]
+    arguments = arguments_of(run)
+    flags = ["--steps", "0", *(arguments[:2] if arguments[:1] == [b"--fail-alloc"] else [])]
     given = given.replace("\\n", "\n").replace("\\t", "\t")
-    ran = subprocess.run(["rt", "try", *flags, "--", *words[len(flags) - 2 :]], cwd=f"{copy}/crates/{crate}", input=given, capture_output=True,
+    ran = subprocess.run(["rt", "try", *flags, "--", *arguments[len(flags) - 2 :]], cwd=f"{copy}/crates/{crate}", input=given, capture_output=True,
                          encoding="utf-8", errors="replace")
     return [*ran.stderr.splitlines(), *(f"> {it}" for it in ran.stdout.splitlines())]
 
@@ -294,7 +289,7 @@ def judge_tests(copy, crate, name, fields):
         texts[snippet.splitlines()[0].removeprefix("// added to: src/")] += snippet
     shutil.rmtree(tests / "src")
     write(tests / "src", texts)
-    said = rt_try(tests, "--test", *(["--seconds", fields["seconds"]] if "seconds" in fields else []))
+    _, said = rt_try(tests, "--test", *(["--seconds", fields["seconds"]] if "seconds" in fields else []))
     failed = re.findall(r"^test (\S+) \.\.\. FAILED", said, flags=re.M)
     if failed:
         return True, f"{crate}/{name}: fails {', '.join(failed)[:150]}"

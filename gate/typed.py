@@ -13,22 +13,16 @@ is read from its beginning alone, so its text may go on after it; it is empty wh
 import functools
 import pathlib
 import re
-import types
+
+from heads import Source, head
 
 CRATES = pathlib.Path(__file__).resolve().parent.parent / "crates"
 LIBRARIES = ("rsc_primitives", "rsc_alphabet", "rsc_look", "rsc_search", "rsc_captures", "rsc_nfa", "rsc_engine")
-QUOTED = re.compile(r"""//[^\n]*|b?"(?:\\.|[^"\\])*"|b?'(?:\\x..|\\u\{[^}]*\}|\\.|[^'\\])'""", flags=re.S)
-FUNCTION = re.compile(r"((?:#\[.*\]\s*)*)(?:pub(?:\(crate\))? )?(?:const )?fn (\w+)(?:<[^(]*>)?\(")
-CLAUSE = re.compile(r"[^{;]*\b(?:requires|ensures)\*?(?: \w+)? \{")
 # Where a pattern may bind names: in a closure, an arm, `matches!`, `let` and `for`; but not the `let` of one variable.
 PATTERN = re.compile(r"(?<!\|)\|([^|=;]*)\|(?!\|)|^(?=([^\n]*)=>)|\bmatches!\([^,]*(,[^;]*)|\blet (?!(?:mut )?\w+ = )([^=]*)=|\bfor ([^={]*?) in ", flags=re.M)
 CHAIN = re.compile(r"\blet (?:mut )?(\w+) = &?(?:mut )?|(?<![\w.:])(?=[A-Za-z_])")
 PATH = re.compile(r"(?:\w+(?:::<[^<>]*>)?::)*\w+|")
 STEP = re.compile(r"\?|\s*\.(\w+)(?:::<[^()]*>)?\(")
-
-
-def head(of):
-    return re.match(r"\w*", of)[0]
 
 
 def typed(text, file, owner):
@@ -38,8 +32,8 @@ def typed(text, file, owner):
     return re.sub(r"\w+", lambda it: it[0] if file.crate in LIBRARIES or it[0] in kept else "_", text)
 
 
-class File:
-    """A source file with its snippets of must-run: what it brings in from which crate, where each bracket ends, and its functions."""
+class File(Source):
+    """A source file with its snippets of must-run: also what it brings in from which crate, and the types of parameters and results."""
 
     def __init__(self, path):
         self.crate, _, *self.module = path.relative_to(CRATES).with_suffix("").parts
@@ -47,31 +41,14 @@ class File:
         for snippet in sorted((CRATES / self.crate).glob("must-run/*.snippet")):
             added = snippet.read_text(encoding="utf-8")
             text += added if added.startswith(f"// added to: {path.relative_to(CRATES / self.crate)}\n") else ""
-        # Texts and comments keep their lengths alone.
-        self.plain = QUOTED.sub(lambda it: ("_" if it[0][0] != "/" else " ") * len(it[0]), text)
-        self.ends, opened = {}, []
-        for found in re.finditer(r"[()\[\]{}]", self.plain):
-            if found[0] in "([{":
-                opened.append(found.start())
-            else:
-                self.ends[opened.pop()] = found.start()
+        super().__init__(text)
         uses = re.findall(r"^(?:pub )?use (\w+)::(?:\w+::)*(?:\{([^}]*)\}|([^;{]*));", self.plain, flags=re.M)
         self.uses = {name: crate for crate, group, one in uses for name in re.findall(r"(\w+)\s*(?=,|$)", group or one)}
-        blocks = re.finditer(r"^(?:impl(?:<.*?>)?|pub trait) ([^{\n]*?) *\{", self.plain, flags=re.M)
-        self.blocks = [(it.start(), self.ends[it.end() - 1], it[1]) for it in blocks]
-        self.functions = [self.function(it) for it in FUNCTION.finditer(self.plain)]
-
-    def function(self, found):
-        """Returns a function with its owner, its parameters' and its result's types, and where its body is."""
-        owner, end = next((of for start, end, of in self.blocks if start < found.start() < end), ""), self.ends[found.end() - 1]
-        params = re.findall(r"(\w+): (.*?)(?=,\s*(?:mut )?\w+: |$)", " ".join(self.plain[found.end() : end].split()))
-        result = re.match(r" -> ([^{;]*)|", self.plain[end + 1 :])[1] or ""
-        while clause := CLAUSE.match(self.plain, end + 1):
-            end = self.ends[clause.end() - 1]
-        start = re.compile(r"[^{;]*").match(self.plain, end + 1).end()
-        params = {name: {typed(of, self, owner)} for name, of in params}
-        return types.SimpleNamespace(name=found[2], owner=owner, is_test="#[test]" in found[1], file=self, params=params, result=typed(result, self, owner),
-                                     start=start, end=self.ends.get(start, start), calls=None)
+        for it in self.functions:
+            it.file, it.calls = self, None
+            params = re.findall(r"(\w+): (.*?)(?=,\s*(?:mut )?\w+: |$)", " ".join(self.plain[it.opens : it.closes].split()))
+            it.params = {name: {typed(of, self, it.owner.name)} for name, of in params}
+            it.result = typed(re.match(r" -> ([^{;]*)|", self.plain[it.closes + 1 :])[1] or "", self, it.owner.name)
 
 
 @functools.cache
@@ -85,7 +62,7 @@ def library():
     known = {}
     for file in (it for crate in LIBRARIES for it in files(crate)):
         for it in file.functions:
-            trait, _, of = it.owner.rpartition(" for ")
+            trait, _, of = it.owner.name.rpartition(" for ")
             if trait:
                 known.setdefault((head(of), it.name), (("trait", re.search(r"(\w+)(?:<.*)?$", trait)[1], head(of)), it.result))
             else:
@@ -111,7 +88,7 @@ class Body:
         """Returns the type of the chain that begins there, and the chain's end."""
         path = PATH.match(self.text, at)
         parts, end = re.sub(r"<[^<>]*>|::(?=<)", "", path[0]).split("::"), path.end()
-        owner = typed(parts[-2], self.file, self.it.owner) if len(parts) > 1 and parts[-2][0].isupper() else ""
+        owner = typed(parts[-2], self.file, self.it.owner.name) if len(parts) > 1 and parts[-2][0].isupper() else ""
         if self.text[end] == "(":
             of, end = self.called(owner, parts, end), self.file.ends[end] + 1
         elif len(parts) > 1:
@@ -129,7 +106,7 @@ class Body:
         """Returns the result of a function that is called by its path, and records it, or what it calls."""
         name, crate = parts[-1], self.file.uses.get(parts[0], parts[0])
         there = files(self.file.crate) if crate in ("crate", "super") else [self.file] if len(parts) == 1 else []
-        own = [it for file in there for it in file.functions if it.name == name and not it.owner]
+        own = [it for file in there for it in file.functions if it.name == name and not it.owner.name]
         if len(own) == 1 and name not in self.bound:
             self.found |= calls_of(own[0])
             return own[0].result

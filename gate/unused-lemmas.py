@@ -4,7 +4,8 @@
     gate/unused-lemmas.py [CRATE ..]      # all crates without a name; prints FILE:LINE: NAME, and exits with 1 if there is any
 
 A lemma counts as used where another declaration that is used names it, in its own file or in one that imports it. A tactic may use what is imported
-into a source without naming it, so such an import counts as a use. A file that passes names on (`pub use`) doesn't use them. Whether a lemma can go is for a check from nothing to say.
+into a source without naming it, so such an import counts as a use. A file that passes names on (`pub use`) doesn't use them. Whether a lemma can go is for
+a check from nothing to say.
 """
 import glob
 import os
@@ -12,13 +13,17 @@ import re
 import sys
 
 ROOT = os.path.dirname(os.path.dirname(os.path.realpath(__file__)))
-WORD = re.compile(r"[^\s(){}\[\],.;:λ⟦⟧]+")
+TOKEN = re.compile(r"[^\s(){}\[\],.;:λ⟦⟧]+")
 USING = re.compile(r"crate::proofs::(\w+)::([^\s,()]+)")
 IMPORT = re.compile(r"^\s*(?:pub )?(?:ghost )?use ([\w.]+?)(?:\.\{([^}]*)\}| as (\w+)|);?$")
 
 
-def path_of_module(path, file, crate):
-    """Returns the file of a module named in a file of a crate, or None where it isn't this repository's."""
+def crate_of(file):
+    return os.path.relpath(file, f"{ROOT}/crates").split(os.sep)[0]
+
+
+def path_of_module(path, crate):
+    """Returns the file of a module that a file of a crate names, or None where it isn't this repository's."""
     parts = path.split(".")
     if parts[0] == "lib":
         parts = ["Rattle", crate, "proofs"] + parts[1:]
@@ -27,12 +32,12 @@ def path_of_module(path, file, crate):
 
 
 def declarations(lines):
-    """Yields (name, first line, words) of each declaration, at the margin or in a `module`: its signature, its equations, and what is indented below them."""
-    name, start, words, modules = None, 0, set(), []
+    """Yields (name, first line, tokens) of each declaration, at the margin or in a `module`: its signature, its equations, and what is indented below them."""
+    name, start, tokens, modules = None, 0, set(), []
     for number, line in enumerate(lines, 1):
         if not line.strip() or line.lstrip().startswith("--") or line.startswith(("use ", "pub use ", "pub mod ", "mod ")):
             continue
-        found = WORD.findall(line)
+        found = TOKEN.findall(line)
         indent = len(line) - len(line.lstrip())
         while modules and indent < modules[-1][0]:
             modules.pop()
@@ -40,25 +45,24 @@ def declarations(lines):
             head = next((it for it in found if it not in ("unfoldable", "abbrev", "record", "data", "pub")), found[0])
             if head != name:
                 if name:
-                    yield name, start, words
-                name, start, words = head, number, {word for _, of_module in modules for word in of_module}
+                    yield name, start, tokens
+                name, start, tokens = head, number, {token for _, of_module in modules for token in of_module}
             if head == "module":
                 modules.append((indent + 2, set(found)))
                 name = None
-        words.update(found)
+        tokens.update(found)
     if name:
-        yield name, start, words
+        yield name, start, tokens
 
 
 def read(file):
     """Returns the imports of a file (name here: file and name there; None for a whole module) and its lines."""
-    crate = os.path.relpath(file, f"{ROOT}/crates").split(os.sep)[0]
     imports, modules = {}, {}
     with open(file, encoding="utf-8") as text:
         lines = text.read().splitlines()
     for line in lines:
         found = IMPORT.match(line)
-        module = found and path_of_module(found[1], file, crate)
+        module = found and path_of_module(found[1], crate_of(file))
         if not module:
             continue
         if found[2] is None:
@@ -78,33 +82,34 @@ def is_law_file(file):
     return not file.endswith("/Examples.antt") and ("/proofs/" in file or file.endswith("Laws.antt"))
 
 
-def main():
+def unused_lemmas():
+    """Returns the lemmas that nothing names, each by its file, line and name."""
     files = [it for kind in ("antt", "rt") for it in glob.glob(f"{ROOT}/crates/*/**/*.{kind}", recursive=True) if "/out/" not in it]
-    named, places, pending, passed = {}, {}, [], {}
+    named, first_lines, pending, passed = {}, {}, [], {}
     for file in files:
         imports, modules, lines = read(file)
         passed.update({(file, here): there for here, there in imports.items()})
 
-        def targets(words, own):
-            for word in words:
-                if word in imports:
-                    yield imports[word]
-                elif (file, word) in own:
-                    yield file, word
-            for module in (modules[word] for word in words if word in modules):
-                yield from ((module, word) for word in words)
+        def targets(tokens, own):
+            for token in tokens:
+                if token in imports:
+                    yield imports[token]
+                elif (file, token) in own:
+                    yield file, token
+            for module in (modules[token] for token in tokens if token in modules):
+                yield from ((module, token) for token in tokens)
 
         if not is_lemma_file(file):
             if file.endswith(".rt"):
-                proofs = f"{ROOT}/crates/{os.path.relpath(file, f'{ROOT}/crates').split(os.sep)[0]}/proofs"
+                proofs = f"{ROOT}/crates/{crate_of(file)}/proofs"
                 pending += list(imports.values()) + [(f"{proofs}/{it[0]}.antt", it[1]) for line in lines for it in USING.findall(line)]
-            pending += targets({word for line in lines if not IMPORT.match(line) for word in WORD.findall(line)}, ())
+            pending += targets({token for line in lines if not IMPORT.match(line) for token in TOKEN.findall(line)}, ())
             continue
         found = list(declarations(lines))
         own = {(file, name) for name, _, _ in found}
-        for name, line, words in found:
-            named[file, name] = named.get((file, name), set()) | set(targets(words, own))
-            places.setdefault((file, name), line)
+        for name, line, tokens in found:
+            named[file, name] = named.get((file, name), set()) | set(targets(tokens, own))
+            first_lines.setdefault((file, name), line)
     # Definitions are the contracts' vocabulary, and examples compute them: only lemmas and laws have to be used.
     pending += [it for it in named if not is_law_file(it[0])]
     used = set()
@@ -115,8 +120,11 @@ def main():
         if it in named and it not in used:
             used.add(it)
             pending += named[it]
-    unused = sorted((file, line, name) for (file, name), line in places.items() if (file, name) not in used)
-    unused = [it for it in unused if not sys.argv[1:] or os.path.relpath(it[0], f"{ROOT}/crates").split(os.sep)[0] in sys.argv[1:]]
+    return sorted((file, line, name) for (file, name), line in first_lines.items() if (file, name) not in used)
+
+
+def main():
+    unused = [it for it in unused_lemmas() if not sys.argv[1:] or crate_of(it[0]) in sys.argv[1:]]
     for file, line, name in unused:
         print(f"{os.path.relpath(file, ROOT)}:{line}: {name}")
     sys.exit(1 if unused else 0)

@@ -20,7 +20,7 @@ wrong-bodies/FILE.edits has the edits of src/FILE.rt. The fields of an edit are
 `rt ci` tries the edits of crates/CRATE/must-fail one by one, each for the price of a start of the checker, and takes any refusal. Here edits of
 different functions are applied together to a copy, and one check of those functions judges them all: it goes on after a refused function. An edit that
 isn't refused there is tried again alone. An edit passes only if its function is refused at a goal that begins as named (of a proof by hand, `by hand at `
-and the word that is refused); a goal that is refused because a proof file names what the edit took away does not count. `rt ci` proves the crate itself as
+and the name that is refused); a goal that is refused because a proof file names what the edit took away does not count. `rt ci` proves the crate itself as
 it is. Parts of a crate's edits are tried side by side, each in a copy of the crate, over the libraries that stand in out/.
 
 A contract says nothing of whether memory is there, of the texts that only tests show, and of what a program reads and writes. gate/tested.py explains
@@ -36,8 +36,9 @@ import subprocess
 import sys
 import tempfile
 
-from edits import ROOT, below, blocks, crates, fault, in_lanes, of_kit, replaced
-from tested import misfits, tested_edits, try_tested
+from edits import ROOT, below, crates, edits_in, fault, in_lanes, of_kit, replaced
+from heads import source_of
+from tested import misfits, tested_edits, try_tested, write
 
 IN_ONE_PART = 60
 Edit = collections.namedtuple("Edit", "name file function goal pairs apart also")
@@ -48,7 +49,7 @@ def edits_of(crate, names=()):
     folder, found = f"{ROOT}/crates/{crate}/wrong-bodies", []
     for path in sorted(glob.glob(f"{folder}/**/*.edits", recursive=True)):
         source = f"src/{os.path.relpath(path, folder).removesuffix('.edits')}.rt"
-        for name, fields, pairs in blocks(path, ("refused", "apart", "also")):
+        for name, fields, pairs in edits_in(path, ("refused", "apart", "also")):
             function, _, goal = fields["refused"].rpartition(": ")
             if not names or name in names:
                 found.append(Edit(name, source, function, goal, pairs, fields.get("apart", "").split(), fields.get("also", "").split()))
@@ -57,11 +58,7 @@ def edits_of(crate, names=()):
 
 def apply(edit, texts, folder):
     """Returns the texts with the edit, or None where a text isn't once in its file."""
-    text = texts.get(edit.file)
-    if text is None:
-        with open(f"{folder}/{edit.file}", encoding="utf-8") as file:
-            text = file.read()
-    text = replaced(text, edit.pairs)
+    text = replaced(texts.get(edit.file) or pathlib.Path(folder, edit.file).read_text(encoding="utf-8"), edit.pairs)
     return None if text is None else {**texts, edit.file: text}
 
 
@@ -88,14 +85,13 @@ def batches_of(edits, folder):
     return batches
 
 
-def word_at(path, line, column):
-    """Returns the word of a file at a place, both counted from 1."""
-    with open(path, encoding="utf-8") as file:
-        return re.match(r"\w*", file.read().splitlines()[line - 1][column - 1 :])[0]
+def name_at(path, line, column):
+    """Returns the name in a file at a line and a column, both counted from 1."""
+    return re.match(r"\w*", pathlib.Path(path).read_text(encoding="utf-8").splitlines()[line - 1][column - 1 :])[0]
 
 
 def refusals(crate, folder, said):
-    """Returns the goals at which each function is refused, from what the checker said; of a proof by hand the word that is refused.
+    """Returns the goals at which each function is refused, from what the checker said; of a proof by hand the name that is refused.
 
     >>> said = '''fn low::span::Span::len: no proof: expected answers in a file; `search` did not prove `returns-clause-len`, `returns-clause-room`
     ... fn low::span::Span::get: proved
@@ -112,7 +108,7 @@ def refusals(crate, folder, said):
             found[at_function[1]].update(re.findall(r"`([^`]+)`", unproved[1]) if unproved else [])
         in_file = re.match(r"(?:\./)?(proofs/(.+)/(Answers|Proof)\.antt):(\d+):(\d+): error: `([^`]+)`: (.*)", line)
         if in_file and not re.search(r"has no field|is not in scope|has no `|was not admitted|no module", in_file[7]):
-            by_hand = in_file[3] == "Proof" and f"by hand at {word_at(f'{folder}/{in_file[1]}', int(in_file[4]), int(in_file[5]))}"
+            by_hand = in_file[3] == "Proof" and f"by hand at {name_at(f'{folder}/{in_file[1]}', int(in_file[4]), int(in_file[5]))}"
             found[in_file[2].replace("/", "::")].add(by_hand or in_file[6])
         # Where a proof file is refused too, the goals of the exits stand in notes of their own.
         at_exit = re.match(r"note: (src/\S+?):(\d+):\d+: it is not proved that [^(]*\(`([^`]+)`\)", line)
@@ -123,25 +119,23 @@ def refusals(crate, folder, said):
 
 def function_at_line(path, line):
     """Returns the name of the function that a line of a source file is in, or is an attribute of, if there is one."""
-    with open(path, encoding="utf-8") as file:
-        lines = file.readlines()
-    while line < len(lines) and lines[line - 1].lstrip().startswith("#["):
-        line += 1
-    names = re.findall(r"^\s*(?:pub(?:\(crate\))? )?(?:const )?fn (\w+)", "".join(lines[:line]), flags=re.M)
-    return names[-1] if names else ""
+    text = pathlib.Path(path).read_text(encoding="utf-8")
+    lines = text.splitlines(keepends=True)
+    start, end = sum(map(len, lines[: line - 1])), sum(map(len, lines[:line]))
+    return next((it.name for it in reversed(source_of(text).functions) if it.begin < end and start <= it.end), "")
 
 
 def rattle_check(crate, known, folder, functions):
     """Checks functions of a crate in a folder over the libraries in out/, as `rattle check --help` explains, which keeps there what it found of others."""
     kit = os.path.dirname(subprocess.run(["rt", "doc"], stdout=subprocess.PIPE, encoding="utf-8", check=True).stdout.strip())
     rlibs = {it: f"{kit}/rlibs/{it}.rlib" for it in ["std", *of_kit(crate)]} | {it: f"{ROOT}/crates/{it}/out/rlib/{it}.rlib" for it in known[crate]}
-    words = [word for name, rlib in rlibs.items() for word in ("--extern", f"{name}={rlib}")]
+    options = [it for name, rlib in rlibs.items() for it in ("--extern", f"{name}={rlib}")]
     for path in sorted({f"{kit}/rlibs", *(f"{ROOT}/crates/{it}/out/rlib" for it in below(crate, known) - {crate})}):
-        words += ["-L", f"dependency={path}"]
-    words += ["--antt-project", f"{kit}/rattle/logic/antt-project.json", "--logic-built", f"{kit}/logic_built", "--incremental", "out/incremental"]
-    words += [word for it in functions for word in ("--only", it)]
+        options += ["-L", f"dependency={path}"]
+    options += ["--antt-project", f"{kit}/rattle/logic/antt-project.json", "--logic-built", f"{kit}/logic_built", "--incremental", "out/incremental"]
+    options += [it for function in functions for it in ("--only", function)]
     root = "src/main.rt" if os.path.exists(f"{folder}/src/main.rt") else "src/lib.rt"
-    ran = subprocess.run([f"{kit}/bin/rattle", "check", "--crate-name", crate, *words, "--jobs", "1", root], cwd=folder, stdin=subprocess.DEVNULL,
+    ran = subprocess.run([f"{kit}/bin/rattle", "check", "--crate-name", crate, *options, "--jobs", "1", root], cwd=folder, stdin=subprocess.DEVNULL,
                          stdout=subprocess.PIPE, stderr=subprocess.STDOUT, encoding="utf-8", errors="replace")
     return ran.returncode, ran.stdout
 
@@ -151,19 +145,13 @@ def judge(crate, known, folder, batch, texts, is_told):
     told."""
     if texts is None:
         return [(False, f"{crate}/{it.name}: BAD EDIT: an old text isn't once in {it.file}") for it in batch]
-    kept = {}
-    for path, text in texts.items():
-        with open(f"{folder}/{path}", encoding="utf-8") as file:
-            kept[path] = file.read()
-        with open(f"{folder}/{path}", "w", encoding="utf-8") as file:
-            file.write(text)
+    kept = {path: pathlib.Path(folder, path).read_text(encoding="utf-8") for path in texts}
+    write(folder, texts)
     status, said = rattle_check(crate, known, folder, [it.function for it in batch])
     found = refusals(crate, folder, said)
     if is_told:
         print(said)
-    for path, text in kept.items():
-        with open(f"{folder}/{path}", "w", encoding="utf-8") as file:
-            file.write(text)
+    write(folder, kept)
     return [verdict(crate, it, status, said, found) for it in batch]
 
 
@@ -249,8 +237,8 @@ def try_refused(wanted, names, known):
 
 def main():
     known = crates()
-    words = [it for it in sys.argv[1:] if not it.startswith("--")]
-    named, names = [it for it in words if it in known], [it for it in words if it not in known]
+    given = [it for it in sys.argv[1:] if not it.startswith("--")]
+    named, names = [it for it in given if it in known], [it for it in given if it not in known]
     wanted = [it for it in known if (not named or it in named) and edits_of(it, names)]
     tested = tested_edits(named, names)
     if names and not (tested if "--tested" in sys.argv else wanted):

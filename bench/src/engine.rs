@@ -49,8 +49,8 @@ fn steps(data: &[u8], param: u64, reps: u64) -> u64 {
 /// A row for each state, whose entries say where the next row begins.
 fn transitions(states: u64, classes: &ByteClasses) -> Vec<u32> {
     let stride2 = classes.stride2();
-    let next = |place: u64| (place.wrapping_mul(SPREAD) >> 32) % states;
-    (0..states << stride2).map(|place| (next(place) << stride2) as u32).collect()
+    let next = |index: u64| (index.wrapping_mul(SPREAD) >> 32) % states;
+    (0..states << stride2).map(|index| (next(index) << stride2) as u32).collect()
 }
 
 fn classes_of_patterns(data: &[u8], param: u64, reps: u64) -> u64 {
@@ -90,8 +90,8 @@ fn captures_of_matches(data: &[u8], param: u64, reps: u64) -> u64 {
 }
 
 fn sets_of_matches(data: &[u8], param: u64, reps: u64) -> u64 {
-    let word = |w: &[u8]| u32::from_le_bytes(w.try_into().unwrap()) as usize;
-    let numbers: Vec<usize> = data.chunks_exact(4).map(word).collect();
+    let number = |bytes: &[u8]| u32::from_le_bytes(bytes.try_into().unwrap()) as usize;
+    let numbers: Vec<usize> = data.chunks_exact(4).map(number).collect();
     let pids: Vec<PatternID> = numbers[1..].iter().map(|&n| PatternID::must(n)).collect();
     let mut set = PatternSet::new(param as usize);
     repeat(reps, || {

@@ -75,5 +75,5 @@ fn patterns_of_matches(capacity: u32) -> Vec<u8> {
     let mut numbers = Numbers(u64::from(capacity));
     let count = PATTERNS_OF_A_MATCH * MATCHES;
     let patterns = (0..count).map(|_| numbers.below(u64::from(capacity)) as u32);
-    words([PATTERNS_OF_A_MATCH].into_iter().chain(patterns))
+    le_bytes([PATTERNS_OF_A_MATCH].into_iter().chain(patterns))
 }

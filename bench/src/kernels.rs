@@ -196,8 +196,8 @@ pub fn matcher(line_terminator: u8) -> LookMatcher {
 fn look(kernel: u32, data: &[u8], param: u64, reps: u64) -> u64 {
     let (bits, matcher) = (param as u32, matcher((param >> 32) as u8));
     let sets = || -> Vec<LookSet> {
-        let word = |w: &[u8]| u32::from_le_bytes(w.try_into().unwrap());
-        data.chunks_exact(4).map(|w| LookSet { bits: word(w) }).collect()
+        let set = |b: &[u8]| LookSet { bits: u32::from_le_bytes(b.try_into().unwrap()) };
+        data.chunks_exact(4).map(set).collect()
     };
     match kernel {
         LOOK_AT => {
@@ -385,13 +385,13 @@ fn captures(kernel: u32, data: &[u8], reps: u64) -> u64 {
 }
 
 fn group_info(kernel: u32, lists: &[Vec<Option<&str>>], info: &GroupInfo, reps: u64) -> u64 {
-    let places: Vec<(PatternID, usize)> = lists
+    let groups: Vec<(PatternID, usize)> = lists
         .iter()
         .enumerate()
         .flat_map(|(p, groups)| (0..groups.len()).map(move |g| (PatternID::must(p), g)))
         .collect();
     let names: Vec<(PatternID, &str)> =
-        places.iter().filter_map(|&(pid, g)| Some((pid, lists[pid.as_usize()][g]?))).collect();
+        groups.iter().filter_map(|&(pid, g)| Some((pid, lists[pid.as_usize()][g]?))).collect();
     let length = |name: Option<&str>| name.map_or(0, |name| name.len() as u64);
     match kernel {
         GI_TO_INDEX => repeat(reps, || {
@@ -401,11 +401,11 @@ fn group_info(kernel: u32, lists: &[Vec<Option<&str>>], info: &GroupInfo, reps: 
         }),
         GI_TO_NAME => repeat(reps, || {
             let info = black_box(info);
-            places.iter().map(|&(pid, g)| length(info.to_name(pid, g))).sum()
+            groups.iter().map(|&(pid, g)| length(info.to_name(pid, g))).sum()
         }),
         GI_SLOT => repeat(reps, || {
             let info = black_box(info);
-            places.iter().filter_map(|&(pid, g)| info.slot(pid, g)).map(|s| s as u64).sum()
+            groups.iter().filter_map(|&(pid, g)| info.slot(pid, g)).map(|s| s as u64).sum()
         }),
         GI_CLONE => repeat(reps, || {
             let clone = black_box(info).clone();

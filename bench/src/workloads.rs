@@ -66,7 +66,7 @@ pub const PATTERN_CLASSES: u32 = 72;
 pub const MATCH_CAPTURES: u32 = 73;
 pub const MATCH_SETS: u32 = 74;
 
-/// What the place of a transition is multiplied by to choose a state.
+/// What the index of a transition is multiplied by to choose a state.
 #[allow(dead_code)]
 pub const SPREAD: u64 = 0x9E37_79B9_7F4A_7C15;
 
@@ -241,9 +241,8 @@ fn singles(haystack: &[u8]) -> Vec<u8> {
     data
 }
 
-// Numbers of 32 bits, little-endian.
-
-pub fn words(numbers: impl IntoIterator<Item = u32>) -> Vec<u8> {
+/// Numbers of 32 bits, little-endian.
+pub fn le_bytes(numbers: impl IntoIterator<Item = u32>) -> Vec<u8> {
     numbers.into_iter().flat_map(u32::to_le_bytes).collect()
 }
 
@@ -256,7 +255,7 @@ fn pattern_set(capacity: u32, members: u32) -> Vec<u8> {
     }
     let queries = (0..QUERIES).map(|_| numbers.below(u64::from(capacity)) as u32 * 11 / 10);
     let queries: Vec<u32> = queries.collect();
-    words([members].into_iter().chain(all.into_iter().take(members as usize)).chain(queries))
+    le_bytes([members].into_iter().chain(all.into_iter().take(members as usize)).chain(queries))
 }
 
 const QUERIES: u64 = 4096;
@@ -293,8 +292,8 @@ fn names_on_one_slot(named: usize) -> impl Iterator<Item = String> {
     const MULTIPLIER: u64 = 0x9E37_79B9_7F4A_7C15;
     let slots = 2 * named.next_power_of_two() as u64;
     let slot = move |name: &str| {
-        let word = |at: usize| u32::from_le_bytes(name.as_bytes()[at..at + 4].try_into().unwrap());
-        let read = u64::from(word(0)) | u64::from(word(3)) << 32;
+        let four = |at: usize| u32::from_le_bytes(name.as_bytes()[at..at + 4].try_into().unwrap());
+        let read = u64::from(four(0)) | u64::from(four(3)) << 32;
         let (a, b) = (0x243F_6A88_85A3_08D3 ^ read, MULTIPLIER ^ (2 * 7));
         let product = u128::from(a) * u128::from(b);
         (product as u64 ^ (product >> 64) as u64) % slots
@@ -388,8 +387,8 @@ pub fn all() -> Vec<Workload> {
     let mut numbers = Numbers(8);
     let sets: Vec<u32> = (0..4096).map(|_| numbers.below(1 << 18) as u32).collect();
     let members = sets.iter().map(|s| u64::from(s.count_ones())).sum();
-    add("lookset_union", LOOKSET_UNION, &words(sets.iter().copied()), 0, 4095);
-    add("lookset_iter", LOOKSET_ITER, &words(sets), 0, members);
+    add("lookset_union", LOOKSET_UNION, &le_bytes(sets.iter().copied()), 0, 4095);
+    add("lookset_iter", LOOKSET_ITER, &le_bytes(sets), 0, members);
 
     // rsc_search
     for capacity in [64u32, 65, 1000, 4096, 100_000] {

@@ -139,9 +139,10 @@ pub fn cut(haystack: &[u8], start: usize, end: usize) -> Option<&[u8]> {
 
 /// The text of a span, whose ends must be character boundaries too.
 pub fn cut_text(haystack: &str, start: usize, end: usize) -> Option<&str> {
-    let boundary = |i: usize| haystack.as_bytes().get(i).is_none_or(|b| !matches!(b, 0x80..=0xBF));
+    let is_char_boundary =
+        |i: usize| haystack.as_bytes().get(i).is_none_or(|b| !matches!(b, 0x80..=0xBF));
     let bytes = cut(haystack.as_bytes(), start, end)?;
-    if !boundary(start) || !boundary(end) {
+    if !is_char_boundary(start) || !is_char_boundary(end) {
         return None;
     }
     std::str::from_utf8(bytes).ok()

@@ -15,7 +15,7 @@ use Rattle.rsc_captures.proofs.FaultsLemmas.{some_group, before_more}
 -- ---- names in one text, as one more is added
 
 module _ (text more : List ℕ) where
-  -- an entry where the text may be cut is one of the longer text
+  -- where the text may be cut, the longer text may be
   boundary_stays : (i : ℕ) → IsUtf8 more → IsCharBoundary text i → IsCharBoundary (text ++ more) i
   boundary_stays i utf8 boundary =
       ⊎_elim
@@ -28,7 +28,7 @@ module _ (text more : List ℕ) where
   cut_stays : (p : Entry) → IsUtf8 more → IsCut text p → IsCut (text ++ more) p
   cut_stays p utf8 cut = record { start = boundary_stays p.start utf8 cut.start; end = boundary_stays (p.start + p.length) utf8 cut.end }
 
-  -- what is at an entry of the text is there in the longer text
+  -- where an entry says, the longer text has the same bytes
   part_stays : (p : Entry) → IsCut text p → slice_range (text ++ more) p.start (p.start + p.length) ≡ slice_range text p.start (p.start + p.length)
   part_stays p cut =
       let rest : (p.start + p.length) - p.start ≤ length (drop p.start text) = rw length-drop (omega (arith, cut.end.0)) in
@@ -51,7 +51,7 @@ module _ (text more : List ℕ) where
   cuts_stay : (entries : List Entry) → IsUtf8 more → AreCut text entries → AreCut (text ++ more) entries
   cuts_stay entries utf8 cuts k d lt le = cut_stays (get_or entries k d) utf8 (cuts k d lt le)
 
--- the name that is added is at its entry
+-- its entry says the name that is added
 name_added : (text : List ℕ) (name : Option (List ℕ)) → length (unwrap_or name []) < NO_NAME
     → name_held (text ++ unwrap_or name []) (entry_held text name) ≡ name
 name_added text None short = refl

@@ -70,7 +70,7 @@ impl<A: Allocator + Clone + Drop> GroupInfo<A> {
     /// # Cost
     ///
     /// Names are sorted, pattern by pattern, and each is looked up in their order by binary search. The names of a list with any other
-    /// fault are sorted in blocks, each in a table on the stack, and a block's names and those after it are looked up there.
+    /// fault are sorted in batches, each in a table on the stack, and a batch's names and those after it are looked up there.
     pub fn new(alloc: A, lists: &[&[Option<&str>]]) -> Result<GroupInfo<A>, GroupInfoError<A>>
         ensures groups { IfOk result (λ info. info ≡ lists_in lists.now) }
         ensures faultless { OnOk result (IsFaultless max_index (lists_in lists.now)) }

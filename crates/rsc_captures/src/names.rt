@@ -1,4 +1,4 @@
-//! A list of optional names, which stand one after another in one text.
+//! A list of optional names: one text, in which they stand one after another, and a table that says where.
 ghost use Rattle.std.specs.Prelude.{◌≡◌, ◌<◌, [], ◌++◌, length, IfOk, OnOk, slice_index_or, None};
 ghost use Rattle.std.specs.List.{flat_map};
 ghost use Rattle.std.specs.Option.{option_copied, unwrap_or};
@@ -10,7 +10,7 @@ ghost use Rattle.rsc_captures.specs.NamesLayout.{names_held, entry_held, AreCut,
 use std::alloc::{AllocError, Allocator};
 use std::marker::Model;
 
-// The length of an entry where the group has no name. No name has this length.
+// The length of a group's entry of the table where the group has no name. No name has this length.
 const NO_NAME: usize = usize::MAX;
 
 // Where a name begins in the text, and how many bytes it has: a caller who wants no more than its length needs no sum.

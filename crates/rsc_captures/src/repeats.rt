@@ -1,7 +1,7 @@
 //! Repeated names: the least group of a pattern whose name a lesser group has.
 //!
 //! A group's name is looked up by binary search among groups that are sorted by name and then by number. A list with another fault
-//! takes no memory: its groups are sorted in blocks, each in a table on the stack.
+//! takes no memory: its groups are sorted in batches, each in a table on the stack.
 ghost use Rattle.std.specs.Prelude.{◌≡◌, ℕ, List, ◌+◌, ◌<◌, ◌≤◌, length, true, slice_index_or, Some, None, MatchBool, MatchOption};
 ghost use Rattle.std.specs.Ordering.{is_lt};
 ghost use Rattle.std.specs.List.{Contains};
@@ -15,7 +15,7 @@ use crate::names::has_name;
 use crate::order::{name_at, put_in_order};
 use rsc_primitives::PatternID;
 
-// How many groups a block has at most: its table has room for them.
+// How many groups a batch has at most: its table has room for them.
 const TABLE: usize = 4096;
 
 /// The first repeated name before a group, which is given as its pattern and its index, and the pattern that has it. Takes no memory.
@@ -56,7 +56,7 @@ pub(crate) fn repeat_in_order(groups: &[Option<&str>], order: &[u32]) -> usize
     ensures distinct { AreDistinctBelow (groups_in groups.now) result }
     ensures repeat { result < length groups.now → is_repeat (groups_in groups.now) result ≡ true }
 {
-    repeat_of_block(groups, order, 0, groups.len())
+    repeat_of_batch(groups, order, 0, groups.len())
 }
 
 // How many of the groups of a pattern are before the group.
@@ -89,14 +89,14 @@ fn first_repeat(groups: &[Option<&str>], end: usize) -> usize
         let len = TABLE.min(least - from);
         let order = &mut table[..len];
         put_in_order(groups, from, order);
-        least = repeat_of_block(groups, order, from, least);
+        least = repeat_of_batch(groups, order, from, least);
         from += len;
     }
     least
 }
 
-// The least of the groups from `from` to `end` whose name a lesser group of the block has, or `end`.
-fn repeat_of_block(groups: &[Option<&str>], order: &[u32], from: usize, end: usize) -> usize
+// The least of the groups from `from` to `end` whose name a lesser group of the batch has, or `end`.
+fn repeat_of_batch(groups: &[Option<&str>], order: &[u32], from: usize, end: usize) -> usize
     requires { IsSortedByName order.now (groups_in groups.now) }
     ensures within { result ≤ end }
     ensures differ { (g h : ℕ) → Contains order.now g → g < h → from ≤ h → h < result → HaveDifferentNames (groups_in groups.now) g h }

@@ -106,11 +106,11 @@ fn push_classes(answer: &mut Answer, classes: &ByteClasses) {
 }
 
 fn push_classes_at(line: &mut Line<'_>, answer: &mut Answer, classes: &ByteClasses) {
-    let mut places = line.bytes(b' ');
-    for byte in places.as_mut_slice() {
+    let mut bytes = line.bytes(b' ');
+    for byte in bytes.as_mut_slice() {
         *byte = classes.get(*byte);
     }
-    answer.bytes(places.as_slice());
+    answer.bytes(bytes.as_slice());
 }
 
 fn class_set(line: &mut Line<'_>) -> ByteClasses {

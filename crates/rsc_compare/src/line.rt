@@ -55,9 +55,9 @@ impl<'a> Line<'a> {
     }
 
     /// Replaces a value by what was made, unless memory ran out.
-    pub fn replace<T: Drop, E: Drop>(&mut self, made: Result<T, E>, place: &mut T) {
+    pub fn replace<T: Drop, E: Drop>(&mut self, made: Result<T, E>, value: &mut T) {
         if let Some(made) = self.kept(made) {
-            *place = made;
+            *value = made;
         }
     }
 

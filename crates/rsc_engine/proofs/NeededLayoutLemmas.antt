@@ -11,10 +11,10 @@ use Rattle.rsc_engine.specs.Runs.{Leads, is_accepting, HasNoMatch}
 use Rattle.rsc_engine.specs.Preferred.{HasNone}
 use Rattle.rsc_engine.specs.RowsLayout.{machine_of}
 use Rattle.rsc_engine.specs.StartsLayout.{IsMarked}
-use Rattle.rsc_engine.specs.NeededLayout.{is_in, HasNoPair, mark_of, IsNeeded}
+use Rattle.rsc_engine.specs.NeededLayout.{is_in, HasNoPair, mark_of, NeedsPair}
 use Rattle.rsc_engine.proofs.StartsLayoutLemmas.{both, between}
 
-module _ (e : Search) (a b : ℕ × ℕ) (needed : IsNeeded (machine_of e) a b) (none : HasNoPair a b e.haystack e.start e.end) where
+module _ (e : Search) (a b : ℕ × ℕ) (needed : NeedsPair (machine_of e) a b) (none : HasNoPair a b e.haystack e.start e.end) where
   -- whether the byte before the position is of the first range, and in the span
   abbrev after : ℕ → Bool
   after at = nat_lt e.start at && is_in a (slice_index e.haystack (at - 1))

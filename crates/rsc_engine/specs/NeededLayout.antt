@@ -19,21 +19,22 @@ abbrev pub mark_of : ℕ → Bool → ℕ
 mark_of s after = 2 * s + (if after then 1 else 0)
 
 -- what the state leads to is marked, but over bytes of the second range where one of the first is before; and it's no match
-abbrev pub IsPassed : ℕ × ℕ → ℕ × ℕ → List Bool → Bool → State → Type 0
-IsPassed a b marks after (ByteRange low high next) =
+abbrev pub PassesMarksOn : ℕ × ℕ → ℕ × ℕ → List Bool → Bool → State → Type 0
+PassesMarksOn a b marks after (ByteRange low high next) =
     (x : ℕ) → low ≤ x → x ≤ high → (after ≡ true → ¬ (is_in b x ≡ true)) → IsMarked marks (mark_of next (is_in a x))
-IsPassed a b marks after (Assert l next) = IsMarked marks (mark_of next after)
-IsPassed a b marks after (Fork s t) = IsMarked marks (mark_of s after) × IsMarked marks (mark_of t after)
-IsPassed a b marks after (Capture slot next) = IsMarked marks (mark_of next after)
-IsPassed a b marks after (Accept p) = false ≡ true
+PassesMarksOn a b marks after (Assert l next) = IsMarked marks (mark_of next after)
+PassesMarksOn a b marks after (Fork s t) = IsMarked marks (mark_of s after) × IsMarked marks (mark_of t after)
+PassesMarksOn a b marks after (Capture slot next) = IsMarked marks (mark_of next after)
+PassesMarksOn a b marks after (Accept p) = false ≡ true
 
 -- the last n states are passed, where they are marked
-abbrev pub ArePassed : ℕ → List State → ℕ × ℕ → ℕ × ℕ → List Bool → Type 0
-ArePassed n states a b marks = (s : ℕ) (after : Bool) (state : State) → length states ≤ s + n → slice_get states s ≡ Some state
-    → IsMarked marks (mark_of s after) → IsPassed a b marks after state
+abbrev pub PassMarksOn : ℕ → List State → ℕ × ℕ → ℕ × ℕ → List Bool → Type 0
+PassMarksOn n states a b marks = (s : ℕ) (after : Bool) (state : State) → length states ≤ s + n → slice_get states s ≡ Some state
+    → IsMarked marks (mark_of s after) → PassesMarksOn a b marks after state
 
 -- each match has a byte of the second range directly after one of the first: without such bytes no marked state accepts
-pub record IsNeeded (m : Machine) (a b : ℕ × ℕ) : Type 0 where
+pub record NeedsPair (m : Machine) (a b : ℕ × ℕ) : Type 0 where
   pub marks : List Bool
   pub first : (after : Bool) → IsMarked marks (mark_of m.first after)
-  pub passed : (s : ℕ) (after : Bool) (state : State) → slice_get m.states s ≡ Some state → IsMarked marks (mark_of s after) → IsPassed a b marks after state
+  pub passed : (s : ℕ) (after : Bool) (state : State) → slice_get m.states s ≡ Some state → IsMarked marks (mark_of s after)
+      → PassesMarksOn a b marks after state

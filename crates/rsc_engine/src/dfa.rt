@@ -72,7 +72,7 @@ pub struct Dfa<'p, W: WordClass> {
 impl<'p, W: WordClass> Model for Dfa<'p, W> {
     ghost use Rattle.rsc_engine.specs.Searches.{Compiled};
     ghost use Rattle.std.specs.Prelude.{◌≡◌, true, IfSome};
-    ghost use Rattle.rsc_engine.specs.NeededLayout.{IsNeeded};
+    ghost use Rattle.rsc_engine.specs.NeededLayout.{NeedsPair};
     ghost use Rattle.rsc_engine.specs.RowsLayout.{machine, IsPlan, IsNeverEntered};
     ghost use Rattle.rsc_engine.specs.TablesLayout.{IsExact};
 
@@ -83,7 +83,7 @@ impl<'p, W: WordClass> Model for Dfa<'p, W> {
     ghost invariant = { λ d. IsPlan (machine W.word_chars d.plan.program.now) d.plan.classes d.plan.width d.plan.unicode
         × (d.plan.is_start_never_entered ≡ true → IsNeverEntered (machine W.word_chars d.plan.program.now))
         × IsExact (machine W.word_chars d.plan.program.now) d.plan.classes d.plan.width d.table.rows.items d.table.leads.items
-        × IfSome d.needed (λ n. IsNeeded (machine W.word_chars d.plan.program.now) n.first n.second) };
+        × IfSome d.needed (λ n. NeedsPair (machine W.word_chars d.plan.program.now) n.first n.second) };
 }
 
 impl<'p, W: WordClass + AsciiWords> Dfa<'p, W> {

@@ -1,6 +1,6 @@
 //! Patterns as lists of the builder's calls, and the matches that they have in texts.
 //!
-//! A call is a word, and takes its parts from those before it:
+//! A call is a token, and takes its parts from those before it:
 //!
 //! ```text
 //! l6162          the literal `ab`, by the digits of its bytes
@@ -118,11 +118,11 @@ fn program_of(alloc: Global, calls: &[u8]) -> Result<Option<Program<AsciiWord>>,
         builder: Builder::new(alloc),
         parts: Vec::new(alloc),
     };
-    for word in calls.split(|byte| *byte == b' ') {
-        if word == b"(".as_slice() {
+    for token in calls.split(|byte| *byte == b' ') {
+        if token == b"(".as_slice() {
             continue;
         }
-        match made.call(word)? {
+        match made.call(token)? {
             None => return Ok(None),
             Some(part) => made.parts.push(part)?,
         }
@@ -135,8 +135,8 @@ fn program_of(alloc: Global, calls: &[u8]) -> Result<Option<Program<AsciiWord>>,
 
 impl Calls {
     // The part that a call makes, or `None` if it can't be read.
-    fn call(&mut self, word: &[u8]) -> Result<Option<Part<'static>>, Error> {
-        let Some((kind, rest)) = word.split_first() else {
+    fn call(&mut self, token: &[u8]) -> Result<Option<Part<'static>>, Error> {
+        let Some((kind, rest)) = token.split_first() else {
             return Ok(None);
         };
         match *kind {

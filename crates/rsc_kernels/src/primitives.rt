@@ -108,7 +108,7 @@ fn encoded_length(c: char) -> usize
     }
 }
 
-// How many positions are boundaries.
+// How many positions are character boundaries.
 #[inline(never)]
 fn boundaries(data: &[u8], sum: u64) -> u64 {
     let mut sum = sum;

@@ -151,18 +151,18 @@ differs-is_word_boundary b = go (ltb b 255) (is_word_boundary b) refl refl
 -- ---- the boundaries of the runs of the word bytes
 
 -- a set's membership differs where exactly one of two neighbours is a member
-is_boundary_of_set-is : (words : Numbers) → ((b : ℕ) → sets.contains words b ≡ is_word_byte b) → (b : ℕ) → is_boundary_of_set words b ≡ (ltb b 255 && differs b)
-is_boundary_of_set-is words same b = rw (same b, same (b + 1)) (ap (λ x. ltb b 255 && x) (by_cases (is_word_byte b) (is_word_byte (b + 1))))
+is_boundary_of_set-is : (bytes : Numbers) → ((b : ℕ) → sets.contains bytes b ≡ is_word_byte b) → (b : ℕ) → is_boundary_of_set bytes b ≡ (ltb b 255 && differs b)
+is_boundary_of_set-is bytes same b = rw (same b, same (b + 1)) (ap (λ x. ltb b 255 && x) (by_cases (is_word_byte b) (is_word_byte (b + 1))))
   where
     by_cases : (x y : Bool) → ((x && not y) || (not x && y)) ≡ exactly_one x y
     by_cases true true = refl
     by_cases _ _ = refl
 
 -- what `add_set` of the word bytes leaves of a set of boundaries
-pub word_boundaries_added : (old new words : Numbers) → ((b : ℕ) → sets.contains words b ≡ is_word_byte b)
-    → ((b : ℕ) → sets.contains new b ≡ (sets.contains old b || is_boundary_of_set words b)) → new ≡ sets.union old word_boundaries
-word_boundaries_added old new words same added = same_set nat_cmp_total nat_cmp-IsAntisymmetric new (sets.union old word_boundaries) (λ b.
-    added b ∙ ap (λ x. sets.contains old b || x) (is_boundary_of_set-is words same b ∙ differs-is_word_boundary b ∙ sym (contains-word_boundaries b))
+pub word_boundaries_added : (old new bytes : Numbers) → ((b : ℕ) → sets.contains bytes b ≡ is_word_byte b)
+    → ((b : ℕ) → sets.contains new b ≡ (sets.contains old b || is_boundary_of_set bytes b)) → new ≡ sets.union old word_boundaries
+word_boundaries_added old new bytes same added = same_set nat_cmp_total nat_cmp-IsAntisymmetric new (sets.union old word_boundaries) (λ b.
+    added b ∙ ap (λ x. sets.contains old b || x) (is_boundary_of_set-is bytes same b ∙ differs-is_word_boundary b ∙ sym (contains-word_boundaries b))
     ∙ sym (contains-joined old word_boundaries b))
 
 -- ---- the boundaries of a list's members make the coarsest partition that keeps them
@@ -259,7 +259,7 @@ IsCoarsestMap-from m looks t W is a = record {
   needed = λ b lt e. boundaries-IsNeeded looks t W b a e;
 }
 
--- haystacks whose bytes at each index have one class are interchanged, where one class is to be together
+-- haystacks whose bytes at each position have one class are interchanged, where one class is to be together
 pub AreInterchanged-from_classes : (m : List ℕ) (p : ℕ → Bool) (h k : List ℕ)
     → ((q : ℕ → Bool) (b c : ℕ) → b < 256 → c < 256 → (slice_index (class_map q) b ≡ slice_index (class_map q) c) ↔ Together q b c)
     → m ≡ class_map p → IsHaystack h → IsHaystack k → length h ≡ length k

@@ -155,7 +155,7 @@ Holds-text_mirror l t W cs k u s o =
     let m = Holds-position (reversed l) t W (reverse cs) (length cs - k) (is_unicode-reversed l ∙ u) r i in
     same_tests _ _ _ _ (Holds-position l t W cs k u s o) m (rw (p, q) (sym (sides_reversed l (side_by W (byte_before cs k)) (side_by W (byte_after cs k)))))
 
--- in the words of the encodings
+-- by the encodings
 ends_first : (h : List ℕ) (i : ℕ) (cs : List ℕ) (k : ℕ) → EndsFirst h i cs k → (all_scalars cs ≡ true) × (h ≡ encode_utf8_all cs) × (i ≡ position cs k)
 ends_first h i cs k e =
     let whole = (EncodesAll-std h cs).0 e.text in

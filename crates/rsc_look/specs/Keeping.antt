@@ -14,7 +14,7 @@ use Rattle.rsc_look.specs.Boundaries.{boundaries_of}
 abbrev pub IsHaystack : List ℕ → Type 0
 IsHaystack h = All (λ b. b < 256) h
 
--- two haystacks of one length, whose bytes at each index are together
+-- two haystacks of one length, whose bytes at each position are together
 pub record AreInterchanged (p : ℕ → Bool) (h k : List ℕ) : Type 0 where
   pub first : IsHaystack h
   pub second : IsHaystack k

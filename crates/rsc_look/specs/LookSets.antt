@@ -38,16 +38,16 @@ abbrev pub line_anchors : List Look
 line_anchors = StartLF ∷ EndLF ∷ StartCRLF ∷ EndCRLF ∷ []
 
 -- the assertions about words of ASCII
-abbrev pub ascii_words : List Look
-ascii_words = WordAscii ∷ WordAsciiNegate ∷ WordStartAscii ∷ WordEndAscii ∷ WordStartHalfAscii ∷ WordEndHalfAscii ∷ []
+abbrev pub ascii_word_assertions : List Look
+ascii_word_assertions = WordAscii ∷ WordAsciiNegate ∷ WordStartAscii ∷ WordEndAscii ∷ WordStartHalfAscii ∷ WordEndHalfAscii ∷ []
 
 -- and those about words of Unicode
-abbrev pub unicode_words : List Look
-unicode_words = WordUnicode ∷ WordUnicodeNegate ∷ WordStartUnicode ∷ WordEndUnicode ∷ WordStartHalfUnicode ∷ WordEndHalfUnicode ∷ []
+abbrev pub unicode_word_assertions : List Look
+unicode_word_assertions = WordUnicode ∷ WordUnicodeNegate ∷ WordStartUnicode ∷ WordEndUnicode ∷ WordStartHalfUnicode ∷ WordEndHalfUnicode ∷ []
 
 -- all twelve about words
-abbrev pub words : List Look
-words = unicode_words ++ ascii_words
+abbrev pub word_assertions : List Look
+word_assertions = unicode_word_assertions ++ ascii_word_assertions
 
 -- how members in order are shown, and the empty set: each by its character, or `∅`
 abbrev pub look_text : Look → List ℕ

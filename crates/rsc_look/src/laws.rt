@@ -24,7 +24,7 @@ pub fn at_most_one_coarsest()
         IsCoarsest p looks t W → IsCoarsest q looks t W → (b : ℕ) → b < 255 → p b ≡ q b }
 {}
 
-/// What `classes_of` promises, over the class map alone: if two haystacks of one length have the same classes of a coarsest class map at each index,
+/// What `classes_of` promises, over the class map alone: if two haystacks of one length have the same classes of a coarsest class map at each position,
 /// each listed assertion holds at the same positions of both; a Unicode one only if they differ in ASCII alone.
 pub fn same_classes_change_nothing()
     ensures bytes { (m : List ℕ) (looks : List Look) (t : ℕ) (W : ℕ → Bool) → IsCoarsestMap m looks t W →

@@ -109,7 +109,7 @@ HasBoundariesOfState p state t = (q : ℕ) → sets.contains (boundaries_of_stat
 
 -- ---- a step
 
--- the two haystacks may change places
+-- the two haystacks may be exchanged
 pub AreInterchangedBy-sym : (m : List ℕ) (u : Bool) (h k : List ℕ) → AreInterchangedBy m u h k → AreInterchangedBy m u k h
 AreInterchangedBy-sym m u h k s = record {
   first = s.second;

@@ -10,7 +10,7 @@ use Rattle.rsc_alphabet.specs.Partitions.{Together, class_map}
 use Rattle.rsc_alphabet.specs.PartitionsLaws.{contains-joined}
 use Rattle.rsc_look.specs.declared.assertion.Look.{Look}
 use Rattle.rsc_look.specs.declared.assertion.Look.TheVariants.{WordUnicode}
-use Rattle.rsc_look.specs.LookSets.{Looks, unicode_words}
+use Rattle.rsc_look.specs.LookSets.{Looks, unicode_word_assertions}
 use Rattle.rsc_nfa.specs.declared.state.State.{State}
 use Rattle.rsc_nfa.specs.declared.state.State.TheVariants.{ByteRange, Assert, Fork, Capture, Accept}
 use Rattle.rsc_nfa.specs.Classes.{boundaries_of_states, asks_characters, has_unicode, asserts, IsFiner, KeepsRuns, AreInterchangedBy}
@@ -75,20 +75,21 @@ any_or f g (u ∷ rest) = ap (λ x. (f u || g u) || x) (any_or f g rest) ∙ by_
     by_cases : (a b c d : Bool) → ((a || b) || (c || d)) ≡ ((a || c) || (b || d))
     by_cases a b c d = grind (arith, nat_tests)
 
-of_state : (state : State) → list_any (λ u. asserts u state) unicode_words ≡ asks_characters state
+of_state : (state : State) → list_any (λ u. asserts u state) unicode_word_assertions ≡ asks_characters state
 of_state (Assert WordUnicode next) = refl
 of_state (Assert _ next) = refl
 of_state _ = refl
 
 -- one of the Unicode assertions is a member exactly if some state asks for characters
-pub unicode_of_states : (states : List State) → list_any (λ u. list_any (asserts u) states) unicode_words ≡ has_unicode states
+pub unicode_of_states : (states : List State) → list_any (λ u. list_any (asserts u) states) unicode_word_assertions ≡ has_unicode states
 unicode_of_states [] = refl
 unicode_of_states (s ∷ rest) =
-    any_or (λ u. asserts u s) (λ u. list_any (asserts u) rest) unicode_words ∙ ap₂ (λ x y. x || y) (of_state s) (unicode_of_states rest)
+    any_or (λ u. asserts u s) (λ u. list_any (asserts u) rest) unicode_word_assertions ∙ ap₂ (λ x y. x || y) (of_state s) (unicode_of_states rest)
 
 -- the same of a set that has the assertions of the states
-pub HasLooks-unicode : (set : Looks) (states : List State) → HasLooks set states → list_any (λ u. sets.contains set u) unicode_words ≡ has_unicode states
-HasLooks-unicode set states has = same unicode_words ∙ unicode_of_states states
+pub HasLooks-unicode : (set : Looks) (states : List State) → HasLooks set states
+    → list_any (λ u. sets.contains set u) unicode_word_assertions ≡ has_unicode states
+HasLooks-unicode set states has = same unicode_word_assertions ∙ unicode_of_states states
   where
     same : (us : List Look) → list_any (λ u. sets.contains set u) us ≡ list_any (λ u. list_any (asserts u) states) us
     same [] = refl

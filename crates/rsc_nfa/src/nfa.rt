@@ -8,7 +8,7 @@ ghost use Rattle.rsc_nfa.specs.Automata.{Automaton};
 ghost use Rattle.rsc_nfa.specs.Classes.{IsOrdered, IsFiner, asserts, boundaries_of_state, boundaries_of_states, has_unicode, KeepsRuns, IsEachNeeded, HasNoSpareBoundary};
 ghost use Rattle.rsc_nfa.specs.Faults.{target_fault, fault_of_state, AreFaultless, IsFirstFaulty};
 ghost use Rattle.rsc_look.specs.declared.assertion.Look.{Look};
-ghost use Rattle.rsc_look.specs.LookSets.{has_one_of, unicode_words};
+ghost use Rattle.rsc_look.specs.LookSets.{has_one_of, unicode_word_assertions};
 ghost use Rattle.rsc_nfa.specs.Steps.{IsStep, IsRun, IsWithin, recorded};
 ghost use Rattle.rsc_nfa.specs.StepsLayout.{put_offset, slot_recorded};
 ghost use Rattle.rsc_nfa.specs.declared.error.BuildError.TheVariants.{OutOfMemory};
@@ -294,7 +294,7 @@ impl<W: WordClass, A: Allocator + Clone + Drop> Nfa<W, A> {
     /// ```
     pub fn looks(&self) -> LookSet
         ensures looks { (look : Look) → sets.contains result look ≡ list_any (asserts look) self.now.states }
-        ensures unicode { has_one_of result unicode_words ≡ has_unicode self.now.states }
+        ensures unicode { has_one_of result unicode_word_assertions ≡ has_unicode self.now.states }
     {
         let mut looks = LookSet::empty();
         for state in self.states.iter() {

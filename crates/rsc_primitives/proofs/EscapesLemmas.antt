@@ -50,7 +50,7 @@ EncodesOnlyAscii-rest b h only i c p = only (1 + i) c (1 + p.0, with_prefix (b �
 pub past_ascii-high : (c : ℕ) → is_ascii c ≡ false → 128 ≤ c
 past_ascii-high c e = grind (arith, nat_tests)
 
--- after a part of a list is written, its front up to a position within the part
+-- after a part of a list is written, its front up to an index within the part
 pub take-put_mid-front : (a k n : ℕ) (xs ys : List ℕ) → n ≤ length ys → a ≤ length xs → take (a + n) (put_mid a k xs ys) ≡ take a xs ++ take n ys
 take-put_mid-front a k n xs ys p q =
     sym (take-take (a + n) (a + length ys) (put_mid a k xs ys) (omega arith)) ∙ ap (take (a + n)) (take-put_mid a k xs ys (a + length ys) refl q)

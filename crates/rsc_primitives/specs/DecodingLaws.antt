@@ -1,4 +1,4 @@
--- The characters of a part of a list are those of the whole, and boundaries are where characters begin.
+-- The characters of a part of a list are those of the whole, and character boundaries are where characters begin.
 use Rattle.std.proofs.Common.{◌≡◌, ℕ, ◌+◌, ◌-◌, ◌<◌, ◌≤◌, List, length, take, drop, ap, ◌∙◌, arith, length-take, length-take-le, take-take, length-drop, Option, Some, Result, Ok, Err, zero, suc, ◌⊎◌, [], ◌∷◌, refl, subst, inl, inr, ⊎_elim, ◌↔◌, ◌++◌, sym, length-append, get_or-append-add}
 use Rattle.std.specs.Char.{len_utf8}
 use Rattle.std.specs.Prelude.{slice_range}
@@ -127,12 +127,12 @@ EndsAt-decided h i =
     ⊎_elim (λ q. inl (q.2.0, (q.0, q.2.1))) (λ n. inr (λ c b. n (b.0, omega (arith, b.1.ordered), (c, b.1))))
     (below (λ j. (c : ℕ) × EncodedFrom h j i c) (λ j. EncodedFrom-decided h j i) (i + 1))
 
--- ---- the boundaries of encoded text are the positions where a character begins, and the end
+-- ---- the character boundaries of encoded text are the positions where a character begins, and the end
 
 abbrev pub BeginsOrEnds : List ℕ → ℕ → Type 0
 BeginsOrEnds h i = ((c : ℕ) × BeginsAt h i c) ⊎ (i ≡ length h)
 
--- where a character begins is a boundary, in any bytes
+-- where a character begins is a character boundary, in any bytes
 pub IsBoundary-begins : (h : List ℕ) (i c : ℕ) → BeginsAt h i c → IsBoundary h i
 IsBoundary-begins h i c b = let p = IsExtent-from h i b.0 c b.1 in grind (arith, p.some, p.within, p.head)
 

@@ -1,7 +1,7 @@
 pub mod Bits  -- numbers by their bits
 pub mod BitsLaws  -- a number of n bits is made of them
 pub mod Decoding  -- what a reader of UTF-8 answers, from either end of any bytes, and where characters meet
-pub mod DecodingLaws  -- the characters of a part of a list are those of the whole, and boundaries are where characters begin
+pub mod DecodingLaws  -- the characters of a part of a list are those of the whole, and character boundaries are where characters begin
 pub mod Escapes  -- bytes shown as text
 pub mod IndexTexts  -- what the refusals of an index print
 pub mod Indices  -- the numbers of patterns, states and the like, which fit four bytes, with room for a count of them in an `i32`

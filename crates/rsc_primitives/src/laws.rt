@@ -175,7 +175,7 @@ pub fn none_begins_or_ends_inside()
     ensures ends { (h : List ℕ) (i c : ℕ) → IsInside h i → EndsAt h i c → ⊥ }
 {}
 
-/// In the encoding of a list of characters the boundaries are the positions where a character begins, and the end.
+/// In the encoding of a list of characters the character boundaries are the positions where a character begins, and the end.
 #[tactic(auto, using(crate::proofs::CitedLaws::is_boundary_encoded))]
 pub fn boundaries_of_encoded_text()
     ensures { (h cs : List ℕ) (i : ℕ) → EncodesAll h cs → IsBoundary h i ↔ (((c : ℕ) × BeginsAt h i c) ⊎ (i ≡ length h)) }

@@ -37,7 +37,7 @@ fn has_bit(number: u64, bit: u8) -> bool
     (number >> bit) & 1 == 1
 }
 
-/// Whether `at` is the length of the bytes, or the position of a byte that continues no character: at most 7F or at least C0.
+/// Whether `at` is a character boundary: the length of the bytes, or the position of a byte that continues no character, at most 7F or at least C0.
 ///
 /// Any number is allowed. Above the length it is false.
 ///

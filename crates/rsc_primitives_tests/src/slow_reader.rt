@@ -60,7 +60,7 @@ fn number_of(part: &[u8]) -> u32 {
     }
 }
 
-// The bits of the byte under the mask, shifted left by that many positions.
+// The bits of the byte under the mask, shifted left by that many bits.
 fn low(byte: u8, mask: u8, positions: u32) -> u32 {
     u32::from(byte & mask).wrapping_shl(positions)
 }

@@ -89,7 +89,7 @@ pub length_filter_le : (t : ℕ → Bool) (a n : ℕ) → length (filter t (rang
 length_filter_le t a n =
     omega (arith, length-filter t (range_with_len a n), count_by-le-length t (range_with_len a n), length-range_with_len a n)
 
--- ---- the test of membership, in std's words
+-- ---- the test of membership, as std says it
 
 to_contains : (members : List ℕ) (p : ℕ) → has_member members p ≡ true → Contains members p
 to_contains members p h = Contains-from_any {eq = λ q r. eqb r q} (λ q r e. sym (eqb-true r q e)) p members h

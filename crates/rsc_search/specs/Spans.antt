@@ -7,7 +7,7 @@ use Rattle.rsc_search.specs.declared.span.Span.{Span}
 abbrev pub same_span : Span → Span → Bool
 same_span s t = s.start == t.start && s.end == t.end
 
--- the position is the end of the text, or a byte is there that continues no character
+-- the position is a character boundary: the end of the text, or a byte is there that continues no character
 abbrev pub is_boundary : List ℕ → ℕ → Bool
 is_boundary text i = i == length text || (nat_lt i (length text) && (nat_le (slice_index text i) 0x7F || nat_le 0xC0 (slice_index text i)))
 
@@ -15,7 +15,7 @@ is_boundary text i = i == length text || (nat_lt i (length text) && (nat_le (sli
 abbrev pub cut : List ℕ → Span → Option (List ℕ)
 cut haystack s = if nat_le s.start s.end && nat_le s.end (length haystack) then Some (slice_range haystack s.start s.end) else None
 
--- the same of a text, where both ends are also boundaries between characters
+-- the same of a text, where both ends are also character boundaries
 abbrev pub cut_text : List ℕ → Span → Option (List ℕ)
 cut_text text s = if is_boundary text s.start && is_boundary text s.end then cut text s else None
 

@@ -19,8 +19,8 @@ parts_more p q ranges r grows added before = λ x inside fills b lt boundary.
     (Contains-push_cases ranges r x inside)
 
 -- a boundary of one of the ranges is one of them and one more
-pub edge_kept : (b : ℕ) (ranges : List (ℕ × ℕ)) (r : ℕ × ℕ) → HasBoundary b ranges → HasBoundary b (ranges ++ r ∷ [])
-edge_kept b ranges r e = record {
+pub boundary_kept : (b : ℕ) (ranges : List (ℕ × ℕ)) (r : ℕ × ℕ) → HasBoundary b ranges → HasBoundary b (ranges ++ r ∷ [])
+boundary_kept b ranges r e = record {
   range = e.range;
   listed = Contains-append_left ranges (r ∷ []) e.range e.listed;
   holds_a_byte = e.holds_a_byte;
@@ -98,14 +98,15 @@ boundaries_added p q boundaries ranges r joined boundary fills before = (
   parts_more p q ranges r (λ b e. joined b ∙ or_left (p b) (boundaries b) e)
       (λ _ b lt at. joined b ∙ or_right (p b) (boundaries b) ((boundary b lt).1 at)) before.0,
   λ b lt e.
-      ⊎_elim (λ (old : p b ≡ true). edge_kept b ranges r (before.1 b lt old))
+      ⊎_elim (λ (old : p b ≡ true). boundary_kept b ranges r (before.1 b lt old))
       (λ new. boundary_added b ranges r fills ((boundary b lt).0 new))
       (or_cases (p b) (boundaries b) (sym (joined b) ∙ e)),
 )
 
 -- and as it is, with one more range that holds none
-pub edges_as_they_are : (p : ℕ → Bool) (ranges : List (ℕ × ℕ)) (r : ℕ × ℕ) → ¬ (r.0 ≤ r.1) → AreBoundariesOf p ranges → AreBoundariesOf p (ranges ++ r ∷ [])
-edges_as_they_are p ranges r empty before = (
+pub boundaries_as_they_are : (p : ℕ → Bool) (ranges : List (ℕ × ℕ)) (r : ℕ × ℕ) → ¬ (r.0 ≤ r.1) → AreBoundariesOf p ranges
+    → AreBoundariesOf p (ranges ++ r ∷ [])
+boundaries_as_they_are p ranges r empty before = (
   parts_more p p ranges r (λ b e. e) (λ fills. absurd (empty fills)) before.0,
-  λ b lt e. edge_kept b ranges r (before.1 b lt e),
+  λ b lt e. boundary_kept b ranges r (before.1 b lt e),
 )

@@ -114,7 +114,7 @@ fn push_meaning(page: &mut Page, look: Look) {
     page.push('\n');
 }
 
-// What an assertion asks of the two sides of a position, in words of at most 57 columns.
+// What an assertion asks of the two sides of a position, in at most 57 columns.
 fn meaning_of(look: Look) -> &'static str {
     match look {
         Look::Start => "the haystack starts here",

@@ -28,12 +28,12 @@ fn main(rt: HostRuntime) -> ExitCode {
         Ok(arguments) => arguments,
         Err(error) => return failure(&rt, &error_of(&error)),
     };
-    let words: Vec<String> = match arguments.collect(rt.alloc()) {
-        Ok(words) => words,
+    let all: Vec<String> = match arguments.collect(rt.alloc()) {
+        Ok(all) => all,
         Err(_) => return failure(&rt, &ShowError::OutOfMemory),
     };
-    // The first word is the program's name.
-    let arguments = words.as_slice().get(1..).unwrap_or(&[]);
+    // The first is the program's name.
+    let arguments = all.as_slice().get(1..).unwrap_or(&[]);
     match run(
         rt.alloc(),
         arguments,

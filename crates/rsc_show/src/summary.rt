@@ -76,11 +76,11 @@ fn push_label(page: &mut Page, item: Item) {
     page.push_cell(&label, LABEL_WIDTH);
 }
 
-// A column for each boundary of all, in blocks that are at most 80 columns wide, and what its marks mean.
+// A column for each boundary of all, in tables that are at most 80 columns wide, and what its marks mean.
 fn push_picture(page: &mut Page, all: &ByteClasses, shares: &[Share]) {
     let count = boundaries_of(all);
-    for block in 0..count.div_ceil(BOUNDARIES_A_LINE) {
-        push_block(page, all, shares, block);
+    for table in 0..count.div_ceil(BOUNDARIES_A_LINE) {
+        push_table(page, all, shares, table);
     }
     if count > 0 {
         page.push_str("\nx: a boundary of this line's item; X: of no other item\n");
@@ -88,25 +88,25 @@ fn push_picture(page: &mut Page, all: &ByteClasses, shares: &[Share]) {
 }
 
 // The bytes before which the boundaries are, and a line of marks for each item.
-fn push_block(page: &mut Page, all: &ByteClasses, shares: &[Share], block: usize) {
+fn push_table(page: &mut Page, all: &ByteClasses, shares: &[Share], table: usize) {
     page.push_str("\nboundary before     ");
     for byte in 0..255u8 {
-        if is_in_block(all, byte, block) {
+        if is_in_table(all, byte, table) {
             page.push(' ');
             page.push_digits(byte + 1);
         }
     }
     page.push('\n');
     for share in shares {
-        push_marks(page, all, share, block);
+        push_marks(page, all, share, table);
     }
 }
 
 // A mark for each boundary of all: whether the item has it, and whether another one does too.
-fn push_marks(page: &mut Page, all: &ByteClasses, share: &Share, block: usize) {
+fn push_marks(page: &mut Page, all: &ByteClasses, share: &Share, table: usize) {
     push_label(page, share.item);
     for byte in 0..255u8 {
-        if is_in_block(all, byte, block) {
+        if is_in_table(all, byte, table) {
             page.push_str(if is_beyond(&share.own, &share.others, byte) {
                 "  X"
             } else if is_boundary(&share.own, byte) {
@@ -119,9 +119,9 @@ fn push_marks(page: &mut Page, all: &ByteClasses, share: &Share, block: usize) {
     page.push('\n');
 }
 
-// Whether a boundary of all is in a block: the class of the byte before it is the number of boundaries below.
-fn is_in_block(all: &ByteClasses, byte: u8, block: usize) -> bool
+// Whether a boundary of all is in the table of a number: the class of the byte before it is the number of boundaries below.
+fn is_in_table(all: &ByteClasses, byte: u8, table: usize) -> bool
     requires { byte < 255 }
 {
-    is_boundary(all, byte) && usize::from(all.get(byte)) / BOUNDARIES_A_LINE == block
+    is_boundary(all, byte) && usize::from(all.get(byte)) / BOUNDARIES_A_LINE == table
 }

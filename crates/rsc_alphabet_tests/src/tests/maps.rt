@@ -40,11 +40,11 @@ fn odd_and_even_bytes(rt: HostRuntime) -> Result<(), Fail> {
     assert!(rt; classes.alphabet_len() == 3 && classes.stride2() == 2 && !classes.is_singleton());
     let odd = elements(rt.alloc(), &classes, Unit::u8(1))?;
     let mut all_odd = odd.len() == 128;
-    for (place, unit) in odd.iter().enumerate() {
+    for (index, unit) in odd.iter().enumerate() {
         all_odd = all_odd
             && unit
                 .as_u8()
-                .is_some_and(|byte| usize::from(byte / 2) == place && byte % 2 == 1);
+                .is_some_and(|byte| usize::from(byte / 2) == index && byte % 2 == 1);
     }
     assert!(rt; all_odd);
     let found = all_representatives(rt.alloc(), &classes)?;

@@ -32,8 +32,8 @@ impl<'a> Read for ByteReader<'a> {
             return Ok(0);
         };
         match buf.first_mut() {
-            Some(place) => {
-                *place = *first;
+            Some(byte) => {
+                *byte = *first;
                 self.left = rest;
                 Ok(1)
             }
@@ -49,8 +49,8 @@ struct EndlessReader;
 impl Read for EndlessReader {
     fn read(&mut self, buf: &mut [u8]) -> io::Result<usize> {
         match buf.first_mut() {
-            Some(place) => {
-                *place = b'\n';
+            Some(byte) => {
+                *byte = b'\n';
                 Ok(1)
             }
             None => Ok(0),
@@ -69,8 +69,8 @@ impl Read for CountingReader {
     fn read(&mut self, buf: &mut [u8]) -> io::Result<usize> {
         self.calls = self.calls.saturating_add(1);
         match buf.first_mut() {
-            Some(place) if self.calls < self.ends_at => {
-                *place = b'x';
+            Some(byte) if self.calls < self.ends_at => {
+                *byte = b'x';
                 Ok(1)
             }
             _ => Ok(0),

@@ -1,4 +1,4 @@
-//! Repeated names in long lists, which are read block by block where another fault comes after them.
+//! Repeated names in long lists, which are read batch by batch where another fault comes after them.
 
 use rsc_captures::{GroupInfo, GroupInfoErrorKind};
 use rsc_primitives::PatternID;
@@ -54,7 +54,7 @@ fn is_refused(
 
 // The table of rsc_captures has room for 4,096 groups.
 #[test]
-fn finds_a_repeated_name_at_each_edge_of_a_block(rt: HostRuntime) -> Result<(), Fail> {
+fn finds_a_repeated_name_at_each_end_of_a_batch(rt: HostRuntime) -> Result<(), Fail> {
     let names = names(rt.alloc(), 8194)?;
     for (count, earlier, later) in [
         (4096usize, 1usize, 4095usize),

@@ -7,7 +7,7 @@
 ghost use Rattle.std.specs.Prelude.{◌≡◌, ◌+◌, ◌-◌, ◌<◌, ◌≤◌, ℕ, IfSome, true, false, length, slice_get, slice_index, slice_index_or, Some};
 ghost use Rattle.rsc_engine.specs.Searches.{search_in};
 ghost use Rattle.rsc_engine.specs.Preferred.{HasNone};
-ghost use Rattle.rsc_engine.specs.NeededLayout.{HasNoPair, IsNeeded, IsPassed, is_in, mark_of};
+ghost use Rattle.rsc_engine.specs.NeededLayout.{HasNoPair, NeedsPair, PassesMarksOn, is_in, mark_of};
 ghost use Rattle.rsc_engine.specs.RowsLayout.{machine};
 ghost use Rattle.rsc_engine.specs.StartsLayout.{IsMarked};
 ghost use Rattle.rsc_nfa.specs.declared.state.State.{State};
@@ -27,7 +27,7 @@ const MARKS: usize = 128;
 const MOST_TRIES: usize = 64;
 
 // That many bytes are looked at without a jump.
-const BLOCK: usize = 64;
+const AT_ONCE: usize = 64;
 
 /// Two ranges of bytes: in each match a byte of the second is directly after one of the first.
 #[derive(Clone, Copy)]
@@ -41,7 +41,7 @@ pub struct Needed {
 impl Needed {
     /// Two ranges that each match of the program has, if some are found.
     pub fn of<W: WordClass>(program: &Program<W>) -> Option<Needed>
-        ensures { IfSome result (λ n. IsNeeded (machine W.word_chars program.now) n.first n.second) }
+        ensures { IfSome result (λ n. NeedsPair (machine W.word_chars program.now) n.first n.second) }
     {
         if program.len() > MOST_STATES {
             return None;
@@ -67,7 +67,7 @@ impl Needed {
 
     // Whether each match of the program has such bytes, as far as the marks tell. Passes over the states go on until none marks anything.
     fn is_in_each<W: WordClass>(&self, program: &Program<W>) -> bool
-        ensures { result ≡ true → IsNeeded (machine W.word_chars program.now) self.now.first self.now.second }
+        ensures { result ≡ true → NeedsPair (machine W.word_chars program.now) self.now.first self.now.second }
     {
         let mut marks = [false; MARKS];
         let start = program.start().as_usize();
@@ -89,7 +89,7 @@ impl Needed {
     fn are_passed<W: WordClass>(&self, program: &Program<W>, marks: &mut [bool]) -> bool
         requires { length marks.old ≡ MARKS }
         ensures len { length marks.new ≡ MARKS }
-        ensures needed { result ≡ true → IsNeeded (machine W.word_chars program.now) self.now.first self.now.second }
+        ensures needed { result ≡ true → NeedsPair (machine W.word_chars program.now) self.now.first self.now.second }
     {
         let start = program.start().as_usize();
         let mut all = true;
@@ -117,7 +117,7 @@ impl Needed {
         ensures len { length marks.new ≡ MARKS }
         ensures same { result ≡ true → marks.new ≡ marks.old }
         ensures passed { result ≡ true → (state : State) → slice_get program.now.automaton.states index ≡ Some state
-            → IsMarked marks.new (mark_of index after) → IsPassed self.now.first self.now.second marks.new after state }
+            → IsMarked marks.new (mark_of index after) → PassesMarksOn self.now.first self.now.second marks.new after state }
     {
         !is_marked(marks, index, after) || self.passes(program.nfa().states()[index], after, marks)
     }
@@ -128,7 +128,7 @@ impl Needed {
         requires { length marks.old ≡ MARKS }
         ensures len { length marks.new ≡ MARKS }
         ensures same { result ≡ true → marks.new ≡ marks.old }
-        ensures passed { result ≡ true → IsPassed self.now.first self.now.second marks.new after state }
+        ensures passed { result ≡ true → PassesMarksOn self.now.first self.now.second marks.new after state }
     {
         match state {
             State::ByteRange { start, end, next } => {
@@ -157,7 +157,7 @@ impl Needed {
 
     /// Whether an input's span lacks such bytes, and so has no match of the program.
     pub fn are_missing<W: WordClass>(&self, program: &Program<W>, input: &Input<'_>) -> bool
-        requires { IsNeeded (machine W.word_chars program.now) self.now.first self.now.second }
+        requires { NeedsPair (machine W.word_chars program.now) self.now.first self.now.second }
         ensures { result ≡ true → HasNone (search_in W.word_chars program.now input.now) }
     {
         if self.stand_in(input.haystack(), input.start(), input.end()) {
@@ -175,11 +175,11 @@ impl Needed {
             return false;
         }
         let mut at = start + 1;
-        'parts: while end - at >= BLOCK {
-            if self.stand_before(haystack, at, at + BLOCK) {
+        'parts: while end - at >= AT_ONCE {
+            if self.stand_before(haystack, at, at + AT_ONCE) {
                 return true;
             }
-            at += BLOCK;
+            at += AT_ONCE;
         }
         self.stand_before(haystack, at, end)
     }

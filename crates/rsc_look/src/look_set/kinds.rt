@@ -1,7 +1,7 @@
 //! Whether a set has a member of a kind: what an engine asks of a state's assertions before it looks at a haystack.
 ghost use Rattle.std.specs.Prelude.{◌≡◌, ◌∷◌, []};
 ghost use Rattle.rsc_look.specs.declared.assertion.Look.{Look};
-ghost use Rattle.rsc_look.specs.LookSets.{has_one_of, anchors, line_anchors, ascii_words, unicode_words, words};
+ghost use Rattle.rsc_look.specs.LookSets.{has_one_of, anchors, line_anchors, ascii_word_assertions, unicode_word_assertions, word_assertions};
 
 use crate::{Look, LookSet};
 
@@ -49,7 +49,7 @@ impl LookSet {
     /// Whether one of the twelve assertions about words is a member.
     #[inline]
     pub fn contains_word(self) -> bool
-        ensures { result ≡ has_one_of self words }
+        ensures { result ≡ has_one_of self word_assertions }
     {
         self.contains_word_unicode() || self.contains_word_ascii()
     }
@@ -57,7 +57,7 @@ impl LookSet {
     /// Whether one of the six Unicode assertions is a member.
     #[inline]
     pub fn contains_word_unicode(self) -> bool
-        ensures { result ≡ has_one_of self unicode_words }
+        ensures { result ≡ has_one_of self unicode_word_assertions }
     {
         self.contains(Look::WordUnicode)
             || self.contains(Look::WordUnicodeNegate)
@@ -70,7 +70,7 @@ impl LookSet {
     /// Whether one of the six assertions about words of ASCII is a member.
     #[inline]
     pub fn contains_word_ascii(self) -> bool
-        ensures { result ≡ has_one_of self ascii_words }
+        ensures { result ≡ has_one_of self ascii_word_assertions }
     {
         self.contains(Look::WordAscii)
             || self.contains(Look::WordAsciiNegate)

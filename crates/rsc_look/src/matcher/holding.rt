@@ -120,9 +120,9 @@ fn with(set: LookSet, look: Look, holds: bool) -> LookSet
 fn holding_at_bytes(terminator: u8, before: Option<u8>, after: Option<u8>) -> LookSet
     ensures { (look : Look) → sets.contains result look ≡ holds_at_bytes look terminator before after }
 {
-    let words = holding_at_words(is_word_neighbor(before), is_word_neighbor(after));
+    let about_words = holding_at_words(is_word_neighbor(before), is_word_neighbor(after));
     if is_within_line(terminator, before) & is_within_line(terminator, after) {
-        return words;
+        return about_words;
     }
     let starts = before.is_none()
         | is_byte(LINE_FEED, before)
@@ -130,7 +130,7 @@ fn holding_at_bytes(terminator: u8, before: Option<u8>, after: Option<u8>) -> Lo
     let ends = after.is_none()
         | is_byte(CARRIAGE_RETURN, after)
         | (is_byte(LINE_FEED, after) & !is_byte(CARRIAGE_RETURN, before));
-    let set = with(words, Look::Start, before.is_none());
+    let set = with(about_words, Look::Start, before.is_none());
     let set = with(set, Look::End, after.is_none());
     let set = with(
         set,

@@ -70,7 +70,7 @@ impl<W: WordClass> LookMatcher<W> {
 
     /// Whether a word character is on exactly one side.
     ///
-    /// Bytes that are no character count as no word character, so a boundary may be beside them.
+    /// Bytes that are no character count as no word character, so a word boundary may be beside them.
     ///
     /// # Errors
     ///

@@ -1,4 +1,4 @@
-//! Characters at either end of bytes, boundaries, word bytes.
+//! Characters at either end of bytes, character boundaries, word bytes.
 use rsc_primitives::utf8::{decode, decode_last, is_boundary, is_word_byte};
 
 #[test]
@@ -87,7 +87,7 @@ fn counted(bytes: &[u8], so_far: (u32, u32)) -> (u32, u32) {
 }
 
 #[test]
-fn finds_boundaries_in_any_bytes(rt: HostRuntime) {
+fn finds_character_boundaries_in_any_bytes(rt: HostRuntime) {
     for (bytes, at, want) in [
         (b"\xFF\x80".as_slice(), 0, true),
         (b"\xFF\x80".as_slice(), 1, false),
@@ -104,13 +104,13 @@ fn finds_boundaries_in_any_bytes(rt: HostRuntime) {
 
 #[test]
 fn knows_the_word_bytes(rt: HostRuntime) {
-    let mut words = 0u32;
+    let mut count = 0u32;
     for byte in 0..=255u8 {
         if is_word_byte(byte) {
-            words = words.saturating_add(1);
+            count = count.saturating_add(1);
         }
     }
-    assert_eq!(rt; words, 63);
+    assert_eq!(rt; count, 63);
     for byte in *b"09AZ_az" {
         assert!(rt; is_word_byte(byte), "{byte}");
     }

@@ -3,7 +3,7 @@ use Rattle.rsc_captures.proofs.Prelude.{groups_in, is_repeat}
 use Rattle.rsc_captures.proofs.RepeatsLayoutLemmas.{DifferBelow}
 use Rattle.rsc_captures.proofs.repeats.first_repeat.Given as goal
 
--- no group of the blocks so far has the name of a greater one before the least repeat so far
+-- no group of the batches so far has the name of a greater one before the least repeat so far
 abbrev pub invariant-loop-from : goal.invariant-loop-from
 invariant-loop-from l = record {
   within : l.least ≤ l.end;

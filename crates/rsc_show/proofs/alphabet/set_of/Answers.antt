@@ -3,7 +3,7 @@ use Rattle.std.specs.FinSet as sets
 use Rattle.std.proofs.lemmas.List.{take_all, take_more}
 use Rattle.rsc_alphabet.specs.Partitions.{boundaries_of_range}
 use Rattle.rsc_show.specs.Ranges.{Parts}
-use Rattle.rsc_show.proofs.RangesLemmas.{boundaries_added, edges_as_they_are}
+use Rattle.rsc_show.proofs.RangesLemmas.{boundaries_added, boundaries_as_they_are}
 use Rattle.rsc_show.proofs.alphabet.set_of.Goals as goal
 use Rattle.rsc_show.proofs.alphabet.set_of.Goals.{then-start-end, else-start-end}
 
@@ -25,7 +25,7 @@ loop-start-preserved c =
       | else-start-end w ↦
           rw w.set-is
           (rw (take_more ranges i (0, 0) c.loop-start-test.true)
-          (edges_as_they_are before (take i ranges) r (λ (h : r.0 ≤ r.1). omega (arith, h, w.if-start-end)) c.loop-start.invariant))
+          (boundaries_as_they_are before (take i ranges) r (λ (h : r.0 ≤ r.1). omega (arith, h, w.if-start-end)) c.loop-start.invariant))
     ]
 
 pub returns-clause-parts : goal.returns-clause-parts
