@@ -121,7 +121,7 @@ def statement(is_quoted):
 
 
 # What rsc_engine promises of a search, and by what its groups are read: the clauses of these functions.
-ENGINE = (("rsc_engine", "iterate.rt", ("find", "new", "next", "into_cache")), ("rsc_engine", "builder.rt", ("build", "build_with")),
+ENGINE = (("rsc_engine", "first.rt", ("find",)), ("rsc_engine", "iterate.rt", ("new", "next", "into_cache")), ("rsc_engine", "builder.rt", ("build", "build_with")),
           ("rsc_engine", "dfa.rt", ("earliest_end", "is_match", "find", "leftmost_end")), ("rsc_engine", "cache.rt", ("new", "find", "matches")),
           ("rsc_engine", "program.rt", ("captures",)), ("rsc_captures", "captures.rt", ("get_group",)))
 ENGINE_MEANT = (("rsc_look/src/word.rt", r"ghost word_chars = .*?;"), ("rsc_engine/src/iterate.rt", r"impl<[^{]*Model for Matches.*?^\}"))

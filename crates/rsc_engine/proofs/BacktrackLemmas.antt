@@ -11,8 +11,7 @@ use Rattle.rsc_engine.specs.MovesLayout.{IsMove, other_of}
 use Rattle.rsc_engine.specs.WalksLayout.{IsTrail, IsOnward, IsOn, IsFutile, IsSettled, IsDone, IsClosed, IsBarred, IsFirstWay, IsExplored, StandsAfter}
 use Rattle.rsc_engine.specs.declared.moves.Move.{Move}
 use Rattle.rsc_engine.specs.declared.moves.Move.TheVariants.{Fails, Goes, Forks, Accepts}
-use Rattle.rsc_engine.proofs.WalksLayoutLemmas.{IsTrail-more, IsOnward-more, IsMatchRun-more, place-before, place-after}
-use Rattle.rsc_engine.proofs.BarsLemmas.{fork_leads, fork_steps, pair_is, none_is_number, same_number, settled_seen, settled_cases, kept_settled, match_drop, barred}
+use Rattle.rsc_engine.proofs.WalksLayoutLemmas.{IsTrail-more, IsOnward-more, IsMatchRun-more, place-before, place-after, fork_leads, fork_steps, pair_is, none_is_number, same_number, settled_seen, settled_cases, kept_settled, match_drop, barred}
 
 -- ---- the beginning and the end of a walk
 

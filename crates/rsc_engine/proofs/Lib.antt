@@ -1,19 +1,17 @@
 pub mod GroupsLayoutLemmas  -- what a trail's run records, from its end on
 pub mod FlagsLayoutLemmas  -- flags, by the bits of their blocks
-pub mod WalksLayoutLemmas  -- a trail grows by a place and goes back to one
+pub mod WalksLayoutLemmas  -- a trail grows by a place and goes back to one; places that are settled, and runs that come to no place of a trail
 pub mod StartsLayoutLemmas  -- no match begins with a byte that isn't marked
-pub mod BarsLemmas  -- places that are settled, and runs that come to no place of the trail
 pub mod BacktrackLemmas  -- what is known of the places that were seen, from visit to visit
-pub mod PlaceFlagsLemmas  -- the flags of places, and what they say where a search begins later
-pub mod LeftmostLemmas  -- the leftmost match, and that there is none
+pub mod NumbersLemmas  -- the numbers of places: the flags that have them, and what they say where a search begins later
 pub mod RunsLemmas  -- runs in a part of a span; and what a run records is between its first position and its last
 pub mod TrailsLayoutLemmas  -- the stops of a trail, as it grows and goes back
-pub mod TrailEndsLemmas  -- where a trail begins and ends, and what its visits are
+pub mod TrailLemmas  -- where a trail begins and ends, and what its visits are
 pub mod TurnsLemmas  -- turns of a loop, one after the other
-pub mod PreferredLemmas  -- there is at most one preferred match, wherever a search's start is
+pub mod PreferredLemmas  -- there is at most one preferred match, wherever a search's start is; the leftmost one, and that there is none
 pub mod NextMatchesLemmas  -- which match is next, as the search's start moves on
 pub mod RowsLayoutLemmas  -- a row at a position is exact, and so is the next one
-pub mod RowBeginsLemmas  -- where no match that began earlier goes on from a row
+pub mod EndsLemmas  -- where no match that began earlier goes on from a row
 pub mod NeededLayoutLemmas  -- no match is where no byte of the one range is directly after one of the other
 pub mod LawfulLayoutLemmas  -- what follows from the laws of steps: the bytes on both sides, or others of their classes, stand for a position
 pub mod DfaLemmas  -- a closure as it grows

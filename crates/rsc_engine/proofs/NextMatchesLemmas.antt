@@ -11,8 +11,7 @@ use Rattle.rsc_engine.specs.Searches.{Search, Compiled, search_in}
 use Rattle.rsc_engine.specs.Runs.{IsMatchOf}
 use Rattle.rsc_engine.specs.Preferred.{IsPreferred, IsLeftmostFirst, HasNone, IsOf}
 use Rattle.rsc_engine.specs.NextMatches.{IsRepeat, IsSplit, IsRepeated, IsPassed, IsOpen, IsNext, IsOver, from_start}
-use Rattle.rsc_engine.proofs.LeftmostLemmas.{is_no}
-use Rattle.rsc_engine.proofs.PreferredLemmas.{one_preferred, preferred_shift, none_shift}
+use Rattle.rsc_engine.proofs.PreferredLemmas.{is_no, one_preferred, preferred_shift, none_shift}
 
 -- ---- the positions before a search's start
 

@@ -12,8 +12,8 @@ use Rattle.rsc_engine.specs.WalksLayout.{IsTrail, IsOnward, IsFutile, IsExplored
 use Rattle.rsc_engine.specs.TrailsLayout.{Stop, stops_from, stops_of, IsApart, IsLoop, IsTurned}
 use Rattle.rsc_engine.proofs.TrailsLayoutLemmas.{stops-one, stops-more}
 use Rattle.rsc_engine.proofs.BacktrackLemmas.{StandsAfter-more}
-use Rattle.rsc_engine.proofs.BarsLemmas.{futile_fork, pair_is}
-use Rattle.rsc_engine.proofs.PlaceFlagsLemmas.{flagged_more, IsLess-flags}
+use Rattle.rsc_engine.proofs.WalksLayoutLemmas.{futile_fork, pair_is}
+use Rattle.rsc_engine.proofs.NumbersLemmas.{flagged_more, IsLess-flags}
 
 -- ---- moves of a turn
 

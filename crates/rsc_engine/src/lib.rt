@@ -2,9 +2,9 @@
 //!
 //! [`find`] returns the leftmost-first match of a [`Program`] in an input, and [`Matches`] all of them, one after the other.
 //!
-//! `builder` makes parts and compiles them to the automaton of a `program`. `first`, `iterate` and `cache` have the searches: `starts` and `dfa` tell where no match
-//! begins, `backtrack` follows runs by the `moves` of states and the `turns` of loops, over the `flags` of places and a `trail`, and `groups` writes the match
-//! that a run makes.
+//! `builder` makes parts and compiles them to the automaton of a `program`. `first`, `iterate` and `cache` have the searches: `starts` and `dfa` tell where no
+//! match begins, `backtrack` follows runs by the `moves` of states and the `turns` of loops, over the `flags` of places and a `trail`, and `groups` writes the
+//! match that a run makes.
 #![tactic(auto)]
 
 mod backtrack;

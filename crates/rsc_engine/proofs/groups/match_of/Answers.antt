@@ -4,7 +4,7 @@ use Rattle.rsc_nfa.specs.Steps.{place}
 use Rattle.rsc_engine.specs.Searches.{search_in}
 use Rattle.rsc_engine.specs.TrailsLayout.{run_of}
 use Rattle.rsc_engine.proofs.WalksLayoutLemmas.{run-rises}
-use Rattle.rsc_engine.proofs.TrailEndsLemmas.{trail-some, visit-there}
+use Rattle.rsc_engine.proofs.TrailLemmas.{trail-some, visit-there}
 use Rattle.rsc_engine.proofs.groups.match_of.Goals as goal
 
 pub first_position-start-requires-clause-state : goal.first_position-start-requires-clause-state

@@ -1,7 +1,7 @@
 use Rattle.std.proofs.Common.{◌<◌, ◌≤◌, ◌-◌, ◌∙◌, ℕ, sym, arith}
 use Rattle.rsc_engine.specs.Searches.{search_in}
 use Rattle.rsc_engine.proofs.GroupsLayoutLemmas.{recorded-more, recorded-last_place}
-use Rattle.rsc_engine.proofs.TrailEndsLemmas.{visit-there}
+use Rattle.rsc_engine.proofs.TrailLemmas.{visit-there}
 use Rattle.rsc_engine.proofs.groups.record.Goals as goal
 
 last_visit : (k n : ℕ) → k ≤ n - 1 → 0 < k → k - 1 < n

@@ -2,7 +2,7 @@ use Rattle.std.proofs.Common.{◌≡◌, slice_get, Some, ap, ◌∙◌}
 use Rattle.rsc_nfa.specs.declared.state.State.{State}
 use Rattle.rsc_nfa.specs.declared.state.State.TheVariants.{Fork}
 use Rattle.rsc_engine.specs.Searches.{search_in}
-use Rattle.rsc_engine.proofs.BarsLemmas.{futile_fork}
+use Rattle.rsc_engine.proofs.WalksLayoutLemmas.{futile_fork}
 use Rattle.rsc_engine.proofs.moves.are_dead.Goals as goal
 
 pub chain-preserved : goal.chain-preserved

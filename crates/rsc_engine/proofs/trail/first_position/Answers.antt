@@ -1,4 +1,4 @@
-use Rattle.rsc_engine.proofs.TrailEndsLemmas.{begin-turns}
+use Rattle.rsc_engine.proofs.TrailLemmas.{begin-turns}
 use Rattle.rsc_engine.proofs.trail.first_position.Goals as goal
 
 pub returns-in-Some : goal.returns-in-Some

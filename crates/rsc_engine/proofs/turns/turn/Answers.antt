@@ -3,7 +3,7 @@ use Rattle.std.proofs.lemmas.Option.{slice_get-get_or}
 use Rattle.rsc_engine.specs.Searches.{search_in}
 use Rattle.rsc_engine.specs.WalksLayout.{HasFlags}
 use Rattle.rsc_engine.specs.declared.moves.Move.TheVariants.{Forks}
-use Rattle.rsc_engine.proofs.PlaceFlagsLemmas.{row_below}
+use Rattle.rsc_engine.proofs.NumbersLemmas.{row_below}
 use Rattle.rsc_engine.proofs.TurnsLemmas.{IsFree, turned-none, turned-more, next-row, set-three}
 use Rattle.rsc_engine.proofs.turns.turn.Goals as goal
 

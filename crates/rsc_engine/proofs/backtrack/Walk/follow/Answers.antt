@@ -2,8 +2,8 @@ use Rattle.std.proofs.Common.{◌≡◌, ◌∙◌}
 use Rattle.rsc_engine.specs.Searches.{search_in}
 use Rattle.rsc_engine.specs.WalksLayout.{is_flagged}
 use Rattle.rsc_engine.specs.TrailsLayout.{run_of}
-use Rattle.rsc_engine.proofs.BarsLemmas.{closed_none}
-use Rattle.rsc_engine.proofs.PlaceFlagsLemmas.{ends_there}
+use Rattle.rsc_engine.proofs.WalksLayoutLemmas.{closed_none}
+use Rattle.rsc_engine.proofs.NumbersLemmas.{ends_there}
 use Rattle.rsc_engine.proofs.backtrack.Walk.follow.Goals as goal
 
 pub returns-in_default-clause-none : goal.returns-in_default-clause-none

@@ -1,5 +1,5 @@
 use Rattle.rsc_engine.specs.Searches.{search_in}
-use Rattle.rsc_engine.proofs.PlaceFlagsLemmas.{closed_from}
+use Rattle.rsc_engine.proofs.NumbersLemmas.{closed_from}
 use Rattle.rsc_engine.proofs.backtrack.Walk.forget.Goals as goal
 
 pub returns-clause-after : goal.returns-clause-after

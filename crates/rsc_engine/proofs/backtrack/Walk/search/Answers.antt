@@ -1,6 +1,6 @@
 use Rattle.std.proofs.Common.{◌≤◌, ◌∙◌, arith}
 use Rattle.rsc_engine.specs.Searches.{search_in}
-use Rattle.rsc_engine.proofs.LeftmostLemmas.{leftmost_first, none_more, none_first}
+use Rattle.rsc_engine.proofs.PreferredLemmas.{leftmost_first, none_more, none_first}
 use Rattle.rsc_engine.proofs.backtrack.Walk.search.Goals as goal
 
 pub returns-in-Ok-true-clause-found : goal.returns-in-Ok-true-clause-found

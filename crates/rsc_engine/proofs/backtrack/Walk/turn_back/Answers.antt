@@ -3,7 +3,7 @@ use Rattle.std.proofs.lemmas.Grind.{common_steps}
 use Rattle.rsc_engine.specs.Searches.{search_in}
 use Rattle.rsc_engine.specs.WalksLayout.{is_flagged}
 use Rattle.rsc_engine.proofs.BacktrackLemmas.{explored-end, explored-begun}
-use Rattle.rsc_engine.proofs.TrailEndsLemmas.{run-empty, visit-there}
+use Rattle.rsc_engine.proofs.TrailLemmas.{run-empty, visit-there}
 use Rattle.rsc_engine.proofs.TrailsLayoutLemmas.{back-other, back-turn, back-place}
 use Rattle.rsc_engine.proofs.backtrack.Walk.turn_back.Goals as goal
 

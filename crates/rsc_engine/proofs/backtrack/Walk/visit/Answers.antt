@@ -6,8 +6,8 @@ use Rattle.rsc_engine.specs.MovesLayout.{other_of}
 use Rattle.rsc_engine.specs.WalksLayout.{number_in, is_flagged}
 use Rattle.rsc_engine.specs.TrailsLayout.{run_of, others_of}
 use Rattle.rsc_engine.proofs.BacktrackLemmas.{StandsAfter-more, explored-same}
-use Rattle.rsc_engine.proofs.BarsLemmas.{settled_seen, futile_steps}
-use Rattle.rsc_engine.proofs.PlaceFlagsLemmas.{flagged_more, beyond, IsLess-flags, IsLess-before}
+use Rattle.rsc_engine.proofs.WalksLayoutLemmas.{settled_seen, futile_steps}
+use Rattle.rsc_engine.proofs.NumbersLemmas.{flagged_more, beyond, IsLess-flags, IsLess-before}
 use Rattle.rsc_engine.proofs.TrailsLayoutLemmas.{run-more, others-more, run-place}
 use Rattle.rsc_engine.proofs.backtrack.Walk.visit.Goals as goal
 

@@ -4,7 +4,7 @@ use Rattle.rsc_nfa.specs.Steps.{place}
 use Rattle.rsc_engine.specs.Searches.{search_in}
 use Rattle.rsc_engine.specs.WalksLayout.{IsClosedFrom, is_flagged}
 use Rattle.rsc_engine.specs.TrailsLayout.{run_of}
-use Rattle.rsc_engine.proofs.PlaceFlagsLemmas.{later_start, fewer_flags}
+use Rattle.rsc_engine.proofs.NumbersLemmas.{later_start, fewer_flags}
 use Rattle.rsc_engine.proofs.iterate.Rest.advance.Goals as goal
 
 pub search-requires-clause-closed : goal.search-requires-clause-closed

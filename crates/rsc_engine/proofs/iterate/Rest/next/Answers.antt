@@ -4,7 +4,7 @@ use Rattle.rsc_engine.specs.Searches.{search_in}
 use Rattle.rsc_engine.specs.NextMatches.{from_start}
 use Rattle.rsc_engine.specs.WalksLayout.{is_flagged}
 use Rattle.rsc_engine.specs.TrailsLayout.{run_of}
-use Rattle.rsc_engine.proofs.PlaceFlagsLemmas.{even_later, fewer_flags}
+use Rattle.rsc_engine.proofs.NumbersLemmas.{even_later, fewer_flags}
 use Rattle.rsc_engine.proofs.NextMatchesLemmas.{turn_none, turn_next, turn_repeat, turn_split}
 use Rattle.rsc_engine.proofs.iterate.Rest.next.Goals as goal
 

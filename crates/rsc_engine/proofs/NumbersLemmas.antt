@@ -1,4 +1,4 @@
--- The flags of places, and what they say where a search begins later.
+-- The numbers of places: the flags that have them, and what they say where a search begins later.
 use Rattle.std.proofs.Common.{◌≡◌, ℕ, zero, suc, ◌+◌, ◌-◌, ◌*◌, ◌<◌, ◌≤◌, ◌⊎◌, inl, inr, ⊎_elim, Bool, true, false, not, cond, List, [], ◌∷◌, ◌++◌, length, get_or, set, refl, sym, ap, ◌∙◌, arith, length-append, Option, Some, None, true≢false, count_by, is_some}
 use Rattle.std.proofs.lemmas.Bool.{cases_eq, cases_order}
 use Rattle.std.proofs.Math.Nat.{mul-le-mul_right}
@@ -11,9 +11,8 @@ use Rattle.rsc_engine.specs.Runs.{IsPlace, IsMatchRun}
 use Rattle.rsc_engine.specs.WalksLayout.{IsTrail, IsOnward, IsOn, IsDone, IsClosed, IsClosedFrom, IsExplored, IsLess, AreEnough, HasFlags, is_flagged, number_in, left_to_do}
 use Rattle.rsc_engine.specs.declared.moves.Move.{Move}
 use Rattle.rsc_engine.specs.declared.moves.Move.TheVariants.{Fails, Goes, Forks, Accepts}
-use Rattle.rsc_engine.proofs.WalksLayoutLemmas.{place-after, leads-rises}
+use Rattle.rsc_engine.proofs.WalksLayoutLemmas.{place-after, leads-rises, pair_is, kept_settled}
 use Rattle.rsc_engine.proofs.BacktrackLemmas.{IsSeenMore}
-use Rattle.rsc_engine.proofs.BarsLemmas.{pair_is, kept_settled}
 
 -- ---- the flags of places
 
