@@ -38,7 +38,7 @@ use table::Table;
 const LONG: usize = 4096;
 
 // So many bytes of a first long span are walked over before a row is made.
-const NEAR: usize = 64;
+const NEAR: usize = 256;
 
 /// How many rows a search keeps at most, unless its caller says.
 pub(crate) const MOST_ROWS: usize = 1000;

@@ -55,8 +55,8 @@ fn is_one_of_ours(
     program: &Program<AsciiWord>,
     text: &[u8],
 ) -> Result<bool, Fail> {
-    let from = rt.thread_cpu_time()?;
     let mut dfa = Dfa::new(rt.alloc(), program, 1000);
+    let from = rt.thread_cpu_time()?;
     let found = dfa.is_match(&Input::new(text))?;
     report(rt, name, "is_match engine", from)?;
     Ok(found)
