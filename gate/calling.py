@@ -324,7 +324,7 @@ ALIKE = ((r"(PatternID|SmallIndex|StateID)::as_\w+", r"\1::as_.+"), (r"(?:Try)?F
          ("PatternSetInsertError::attempted", "PatternSetInsertError::capacity"), ("Captures::pattern", "Captures::is_match"),
          ("Captures::group_info", "Captures::group_len"), ("GroupInfoError::kind", "GroupInfoError::clone"), ("Nfa::(?:group_info|matcher)", "Nfa::states"),
          ("From<.*> for Error", "ErrorFromBuildError::from"), ("Program::nfa", "Program::start"))
-EXEMPT = ("GroupInfo::all_names", "Dfa::new", "Cache::new", "Matches::into_cache")
+EXEMPT = ("GroupInfo::all_names", "Dfa::new", "Matches::into_cache")
 
 
 def bodies_alike(call, bodies):

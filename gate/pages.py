@@ -469,7 +469,8 @@ def serves_nothing(crate, below):
     if below[0] != "proofs" or len(below) > 2 or name in ("Lib", "Prelude", "Examples", "CitedLaws"):
         return False
     subject, folder = name.removesuffix("Lemmas"), ROOT / "crates" / crate
-    return subject == name or not ((folder / f"specs/{subject}.antt").exists() or (folder / f"src/{subject.lower()}.rt").exists())
+    source = re.sub(r"(?<=[a-z])(?=[A-Z])", "_", subject).lower()
+    return subject == name or not ((folder / f"specs/{subject}.antt").exists() or [*folder.glob(f"src/**/{source}.rt")])
 
 
 def source_faults():

@@ -1,25 +1,23 @@
 -- The runs of a program that was built: from the state at which a pattern begins its matches are found, and no others.
-use Rattle.std.proofs.Common.{map, get_or, option_map, ◌≡◌, ℕ, zero, suc, ◌+◌, ◌-◌, ◌<◌, ◌≤◌, ◌⊎◌, inl, inr, ⊎_elim, List, [], ◌∷◌, length, slice_get, refl, sym, ap, ◌∙◌, subst, arith, Option, Some, None, MatchOption, ◌↔◌, Bool, true, true≢false}
+use Rattle.std.proofs.Common.{map, get_or, option_map, ◌≡◌, ℕ, zero, suc, ◌+◌, ◌-◌, ◌*◌, ◌<◌, ◌≤◌, ◌⊎◌, inl, inr, ⊎_elim, List, [], ◌∷◌, length, slice_get, refl, sym, ap, ◌∙◌, subst, arith, Option, Some, None, MatchOption, Bool}
 use Rattle.std.proofs.lemmas.Bool.{cases_lt, cases_eq}
 use Rattle.std.proofs.lemmas.Option.{slice_get_within, slice_get_read, slice_get-map}
 use Rattle.rsc_nfa.specs.declared.state.State.{State}
-use Rattle.rsc_nfa.specs.declared.state.State.TheVariants.{ByteRange, Assert, Fork, Capture, Accept}
+use Rattle.rsc_nfa.specs.declared.state.State.TheVariants.{Fork, Capture, Accept}
 use Rattle.rsc_nfa.specs.Steps.{StepsTo, place, IsRun}
 use Rattle.rsc_engine.specs.Patterns.{Pattern, Goes, subject_of, IsMatchIn, HasRunOf, Recognizes}
 use Rattle.rsc_engine.specs.declared.builder.Part.{Part}
 use Rattle.rsc_engine.specs.Parts.{pattern_of}
+use Rattle.rsc_engine.specs.EnclosesLayout.{Encloses}
 use Rattle.rsc_engine.specs.LinksLayout.{Aim, Ends, Realizes, Adds, Builds, IsAdded}
 use Rattle.rsc_engine.specs.BeginsLayout.{Begins, IsOfOne, IsOfSome}
-use Rattle.rsc_engine.proofs.LinksLayoutLemmas.{choice_to, choice_first, choice_next}
+use Rattle.rsc_engine.proofs.LinksLayoutLemmas.{Realizes-between, Realizes-capture, choice_to, choice_first, choice_next}
 use Rattle.rsc_engine.proofs.BuilderLemmas.{Adds-one, Adds-both, Adds-is}
+use Rattle.rsc_engine.proofs.GroupEndsLemmas.{IsWhole, RecordsFrom-one, RecordsFrom-fork}
 use Rattle.rsc_search.specs.Matches.{Matched}
 use Rattle.rsc_search.specs.Modes.{pattern_of_mode}
 use Rattle.rsc_engine.specs.Searches.{Search, Compiled, search_in}
-use Rattle.rsc_engine.specs.Runs.{Leads, IsPlace, IsMatchRun, IsMatchOf, is_accepting, is_wanted}
-use Rattle.rsc_captures.specs.Captured.{Captured}
-use Rattle.rsc_engine.specs.Preferred.{IsFirstMatch, MayBegin, HasNone}
-use Rattle.rsc_engine.specs.NextMatches.{IsRepeated, IsSplitAt, IsPassed, IsNextMatch}
-use Rattle.rsc_engine.specs.Ends.{IsMatchEnd, IsEarliestEnd}
+use Rattle.rsc_engine.specs.Runs.{Leads, IsPlace, IsMatchOf, is_accepting, is_wanted}
 use Rattle.rsc_engine.proofs.WalksLayoutLemmas.{leads-rises}
 
 -- ---- one pattern
@@ -33,25 +31,52 @@ at_accept states a zero s i q is e = (same_pattern a.pattern q (sym e.0 ∙ is),
 at_accept states a (suc n) s i q is e =
     absurd (subst (λ (o : Option State). MatchOption o ⊥ (λ (x : State). StepsTo x a.text.terminator a.text.words a.text.haystack a.end i (e.1, e.2))) is e.3)
 
-Begins-one : (states : List State) (first accept number : ℕ) (p : Pattern) → slice_get states accept ≡ Some (Accept number)
-    → Realizes states first accept p → Begins states first (IsOfOne number p)
-Begins-one states first accept number p is r = record {
+Begins-one : (states : List State) (number low high accept after body first : ℕ) (p : Pattern)
+    → IsWhole states number low high accept after body first → Realizes states body after p → Begins states first (IsOfOne number p)
+Begins-one states number low high accept after body first p w r = record {
   sound = λ a n i e.
-      let g = r.sound a n i e in
-      let end = at_accept states a g.left accept g.to number is g.ends in
+      let g = whole.sound a n i e in
+      let end = at_accept states a g.left accept g.to number w.accepting g.ends in
       (end.0, subst (λ (k : ℕ). Goes a.text p i k) end.1 g.goes);
   complete = λ a i s within.
-      r.complete a i a.position s.1
-      (record { steps = 0; ends = (is ∙ ap (λ (q : ℕ). Some (Accept q)) (sym s.0), refl, within) });
+      whole.complete a i a.position s.1
+      (record { steps = 0; ends = (w.accepting ∙ ap (λ (q : ℕ). Some (Accept q)) (sym s.0), refl, within) });
+  records = RecordsFrom-one states number low high accept after body first w;
 }
+  where
+    whole : Realizes states first accept p
+    whole = Realizes-between states first body after accept p (Realizes-capture states after (2 * number + 1) accept w.ending) r
+        (Realizes-capture states first (2 * number) body w.starting)
 
-pub Adds-pattern : (old middle new : List State) (accept number first index : ℕ) (p : Pattern) → IsAdded old middle (Accept number) accept
-    → Builds middle new first accept p → number ≡ index → Adds old new (λ (states : List State). Begins states first (IsOfOne index p))
-Adds-pattern old middle new accept number first index p a x same =
-    Adds-both old middle new (λ (states : List State). slice_get states accept ≡ Some (Accept number))
-    (λ (states : List State). Realizes states first accept p) (λ (states : List State). Begins states first (IsOfOne index p))
-    (Adds-one old middle (Accept number) accept a) x
-    (λ states is r. Begins-one states first accept index p (is ∙ ap (λ (q : ℕ). Some (Accept q)) same) r)
+pub Adds-pattern : (old middle later last new : List State) (accept number after start end body first index : ℕ) (p : Pattern) → number ≡ index
+    → start ≡ 2 * number → end ≡ 2 * number + 1 → IsAdded old middle (Accept number) accept → IsAdded middle later (Capture end accept) after
+    → Builds end later last body after p → IsAdded last new (Capture start body) first
+    → Adds old new (λ (states : List State). Begins states first (IsOfOne index p))
+Adds-pattern old middle later last new accept number after start end body first index p same starts ends a b x c =
+    Adds-both old last new Three (λ (states : List State). slice_get states first ≡ Some (Capture start body))
+    (λ (states : List State). Begins states first (IsOfOne index p))
+    (Adds-both old later last Two (λ (states : List State). Realizes states body after p × Encloses end (length later) (length last) body after states)
+    Three
+    (Adds-both old middle later (λ (states : List State). slice_get states accept ≡ Some (Accept number))
+    (λ (states : List State). slice_get states after ≡ Some (Capture end accept)) Two
+    (Adds-one old middle (Accept number) accept a) (Adds-one middle later (Capture end accept) after b) (λ states y z. (y, z)))
+    x (λ states y z. (y, z)))
+    (Adds-one last new (Capture start body) first c)
+    (λ states y z. subst (λ (q : ℕ). Begins states first (IsOfOne q p)) same
+    (Begins-one states number (length later) (length last) accept after body first p
+    (record {
+      accepting = y.0.0;
+      ending = y.0.1 ∙ ap (λ (q : ℕ). Some (Capture q accept)) ends;
+      encloses = subst (λ (q : ℕ). Encloses q (length later) (length last) body after states) ends y.1.1;
+      starting = z ∙ ap (λ (q : ℕ). Some (Capture q body)) starts;
+    })
+    y.1.0))
+  where
+    Two : List State → Type 0
+    Two states = (slice_get states accept ≡ Some (Accept number)) × (slice_get states after ≡ Some (Capture end accept))
+
+    Three : List State → Type 0
+    Three states = Two states × (Realizes states body after p × Encloses end (length later) (length last) body after states)
 
 -- ---- several patterns
 
@@ -60,6 +85,7 @@ Begins-is : (states : List State) (first : ℕ) (P Q : Aim → ℕ → Type 0) �
 Begins-is states first P Q to back b = record {
   sound = λ a n i e. to a i (b.sound a n i e);
   complete = λ a i q within. b.complete a i (back a i q) within;
+  records = b.records;
 }
 
 Begins-either : (states : List State) (s one other : ℕ) (P Q : Aim → ℕ → Type 0) → slice_get states s ≡ Some (Fork one other)
@@ -72,6 +98,7 @@ Begins-either states s one other P Q is b c = record {
       (λ (x : P a i). choice_first states a s i one other (inl is) (b.complete a i x within))
       (λ (x : Q a i). choice_next states a s i one other (inl is) (c.complete a i x within))
       h;
+  records = RecordsFrom-fork states s one other is b.records c.records;
 }
 
 same_some : (p q : Pattern) → Some p ≡ Some q → p ≡ q
@@ -264,78 +291,3 @@ pub Recognizes-built : {W : Type 0} (chars : W → ℕ → Bool) (program : Comp
 Recognizes-built chars program patterns b = record {
   exactly = λ input found. (has_match (search_in chars program input) patterns found b, has_run (search_in chars program input) patterns found b);
 }
-
--- ---- the first match
-
-pub first_is_in : (e : Search) (patterns : List Pattern) (captures : Captured) (found : Matched)
-    → ((other : Matched) → HasRunOf e other ↔ IsMatchIn patterns e other) → IsFirstMatch e captures found → IsMatchIn patterns e found
-first_is_in e patterns captures found both f = (both found).0 (record {
-  run = f.run;
-  is_match = subst (λ (i : ℕ). IsMatchRun e (e.first, i) f.run) (sym f.is_of.ends.start) f.is_first.preferred.is_match;
-  makes = f.is_of.ends;
-})
-
-pub none_before : (e : Search) (patterns : List Pattern) (captures : Captured) (found other : Matched)
-    → ((other : Matched) → HasRunOf e other ↔ IsMatchIn patterns e other) → IsFirstMatch e captures found → other.span.start < found.span.start
-    → IsMatchIn patterns e other → ⊥
-none_before e patterns captures found other both f l m =
-    let r = (both other).1 m in
-    f.is_first.leftmost other.span.start m.start (omega (arith, l, f.is_of.ends.start)) r.run r.is_match
-
-pub none_at_all : (e : Search) (patterns : List Pattern) (other : Matched) → ((other : Matched) → HasRunOf e other ↔ IsMatchIn patterns e other)
-    → HasNone e → MayBegin e other.span.start → IsMatchIn patterns e other → ⊥
-none_at_all e patterns other both none begins m =
-    let r = (both other).1 m in
-    none other.span.start begins r.run r.is_match
-
--- ---- the next match
-
-pub next_is_in : (e : Search) (patterns : List Pattern) (last : Option ℕ) (captures : Captured) (found : Matched)
-    → ((other : Matched) → HasRunOf e other ↔ IsMatchIn patterns e other) → IsNextMatch e last captures found → IsMatchIn patterns e found
-next_is_in e patterns last captures found both f = (both found).0 (record {
-  run = f.run;
-  is_match = subst (λ (i : ℕ). IsMatchRun e (e.first, i) f.run) (sym f.is_of.ends.start) f.is_next.preferred.is_match;
-  makes = f.is_of.ends;
-})
-
-pub why_passed : (e : Search) (patterns : List Pattern) (last : Option ℕ) (other : Matched)
-    → ((other : Matched) → HasRunOf e other ↔ IsMatchIn patterns e other) → IsPassed e last other.span.start → IsMatchIn patterns e other
-    → IsRepeated e last other.span.start ⊎ IsSplitAt e other.span.start
-why_passed e patterns last other both passed m =
-    let r = (both other).1 m in
-    ⊎_elim (λ none. absurd (none r.run r.is_match)) (λ why. why) passed
-
--- ---- the first match to end
-
--- a state that accepts does so for some pattern
-accepted : (wanted : Option ℕ) (o : Option State) → is_accepting wanted o ≡ true → (q : ℕ) × (o ≡ Some (Accept q))
-accepted wanted None h = absurd (true≢false (sym h))
-accepted wanted (Some (ByteRange a b next)) h = absurd (true≢false (sym h))
-accepted wanted (Some (Assert l next)) h = absurd (true≢false (sym h))
-accepted wanted (Some (Fork a b)) h = absurd (true≢false (sym h))
-accepted wanted (Some (Capture slot next)) h = absurd (true≢false (sym h))
-accepted wanted (Some (Accept q)) h = (q, refl)
-
--- what ends at a position is a match of a pattern
-pub end_is_in : (e : Search) (patterns : List Pattern) (i : ℕ) → ((other : Matched) → HasRunOf e other ↔ IsMatchIn patterns e other)
-    → (x : IsMatchEnd e i)
-    → (found : Matched) × IsMatchIn patterns e found × MayBegin e found.span.start × (found.span.end ≡ i) × (found.span.start ≡ x.from)
-end_is_in e patterns i both x =
-    let q = accepted (pattern_of_mode e.mode) (slice_get e.states (place x.run (length x.run - 1)).0) x.is_match.ends in
-    let found : Matched = record { pattern = q.0; span = record { start = x.from; end = i } } in (
-      found,
-      (both found).0 (record {
-        run = x.run;
-        is_match = x.is_match;
-        makes = record { pattern = q.1; start = sym (ap (λ (p : ℕ × ℕ). p.1) x.is_match.begins); end = sym x.ends };
-      }),
-      x.begins,
-      refl,
-      refl,
-    )
-
-pub none_ends_before : (e : Search) (patterns : List Pattern) (i : ℕ) (other : Matched) → ((other : Matched) → HasRunOf e other ↔ IsMatchIn patterns e other)
-    → IsEarliestEnd e i → MayBegin e other.span.start → other.span.end < i → IsMatchIn patterns e other → ⊥
-none_ends_before e patterns i other both h begins l m =
-    let r = (both other).1 m in
-    h.none_before other.span.end l (record { from = other.span.start; run = r.run; begins = begins; is_match = r.is_match; ends = sym r.makes.end })

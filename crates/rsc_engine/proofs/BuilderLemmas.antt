@@ -1,14 +1,16 @@
 -- How lists of states grow, part by part.
-use Rattle.std.proofs.Common.{true≢false, drop, drop-cons, get_or, ◌≡◌, ℕ, zero, suc, ◌+◌, ◌-◌, ◌<◌, ◌≤◌, ◌⊎◌, inl, inr, List, [], ◌∷◌, ◌++◌, length, set, slice_get, refl, sym, ap, ◌∙◌, subst, arith, length-append, Some, None}
+use Rattle.std.proofs.Common.{true≢false, drop, drop-cons, get_or, ◌≡◌, ℕ, zero, suc, ◌+◌, ◌-◌, ◌<◌, ◌≤◌, ◌⊎◌, inl, inr, List, [], ◌∷◌, ◌++◌, length, set, slice_get, refl, sym, ap, ◌∙◌, arith, length-append, Some, None}
 use Rattle.std.proofs.lemmas.List.{length-set}
 use Rattle.std.proofs.Math.Seq.{drop-length}
 use Rattle.rsc_look.specs.declared.assertion.Look.{Look}
 use Rattle.rsc_nfa.specs.declared.state.State.{State}
 use Rattle.rsc_nfa.specs.declared.state.State.TheVariants.{ByteRange, Assert, Fork, Capture}
 use Rattle.rsc_engine.specs.Patterns.{Pattern, Empty, Never, Class, Literal, Assertion, Then, Either, Repeat, one_of, Subject, Goes}
+use Rattle.rsc_engine.specs.EnclosesLayout.{IsAmong, StaysAmong, Encloses}
 use Rattle.rsc_engine.specs.LinksLayout.{Adds, Builds, IsAdded, IsChoice, Realizes, copies, up_to}
 use Rattle.rsc_engine.proofs.LinksLayoutLemmas.{Realizes-never, Realizes-range, Realizes-assert, Realizes-capture, Realizes-is, Realizes-then, Realizes-either, Realizes-choice, Realizes-star, Realizes-plus}
-use Rattle.rsc_engine.proofs.PatternsLemmas.{class-is, class-back, literal-is, literal-back, star-is, star-back, limited-is, limited-back, unlimited-is, unlimited-back}
+use Rattle.rsc_engine.proofs.EnclosesLayoutLemmas.{Encloses-one, Encloses-then, Encloses-either, Encloses-choice, Encloses-loop}
+use Rattle.rsc_engine.proofs.PatternsLemmas.{between-is, between-back, class-is, class-back, literal-is, literal-back, star-is, star-back, limited-is, limited-back, unlimited-is, unlimited-back}
 
 -- ---- what a list has at an index
 
@@ -84,85 +86,116 @@ Adds-written old middle new state written id P a p = record {
 
 -- ---- parts
 
-pub Builds-then : (old middle new : List State) (first between next : ℕ) (p q : Pattern) → Builds old middle between next q
-    → Builds middle new first between p → Builds old new first next (Then p q)
-Builds-then old middle new first between next p q x y =
-    Adds-both old middle new (λ (all : List State). Realizes all between next q) (λ (all : List State). Realizes all first between p)
-    (λ (all : List State). Realizes all first next (Then p q)) x y (λ all a b. Realizes-then all first between next p q a b)
+-- the states from low to high are a part's
+abbrev IsPart : ℕ → ℕ → ℕ → ℕ → ℕ → Pattern → List State → Type 0
+IsPart slot low high first next p all = Realizes all first next p × Encloses slot low high first next all
+
+pub Builds-then : (slot : ℕ) (old middle new : List State) (first between next : ℕ) (p q : Pattern) → Builds slot old middle between next q
+    → Builds slot middle new first between p → Builds slot old new first next (Then p q)
+Builds-then slot old middle new first between next p q x y =
+    Adds-both old middle new (IsPart slot (length old) (length middle) between next q) (IsPart slot (length middle) (length new) first between p)
+    (IsPart slot (length old) (length new) first next (Then p q)) x y
+    (λ all a b. (
+      Realizes-then all first between next p q a.0 b.0,
+      Encloses-then slot (length old) (length middle) (length new) first between next all x.longer y.longer a.1 b.1,
+    ))
 
 -- a part is what goes where it goes
-pub Builds-is : (old new : List State) (first next : ℕ) (p q : Pattern) → ((x : Subject) (i j : ℕ) → Goes x p i j → Goes x q i j)
-    → ((x : Subject) (i j : ℕ) → Goes x q i j → Goes x p i j) → Builds old new first next p → Builds old new first next q
-Builds-is old new first next p q to back x =
-    Adds-is old new (λ (all : List State). Realizes all first next p) (λ (all : List State). Realizes all first next q)
-    (λ all r. Realizes-is all first next p q to back r) x
+pub Builds-is : (slot : ℕ) (old new : List State) (first next : ℕ) (p q : Pattern) → ((x : Subject) (i j : ℕ) → Goes x p i j → Goes x q i j)
+    → ((x : Subject) (i j : ℕ) → Goes x q i j → Goes x p i j) → Builds slot old new first next p → Builds slot old new first next q
+Builds-is slot old new first next p q to back x =
+    Adds-is old new (IsPart slot (length old) (length new) first next p) (IsPart slot (length old) (length new) first next q)
+    (λ all r. (Realizes-is all first next p q to back r.0, r.1)) x
 
 -- ---- single states
 
-pub Builds-never : (old new : List State) (this id next : ℕ) → this ≡ length old → IsAdded old new (Fork this this) id → Builds old new id next Never
-Builds-never old new this id next e a =
+grown : (old new : List State) (state : State) (id : ℕ) → IsAdded old new state id → length new ≡ length old + 1
+grown old new state id a = ap length a.added ∙ length-append old (state ∷ [])
+
+Builds-state : (slot : ℕ) (old new : List State) (state : State) (id next : ℕ) (p : Pattern) → IsAdded old new state id
+    → StaysAmong (λ (s : ℕ). IsAmong (length old) (length new) next s) slot state
+    → ((all : List State) → slice_get all id ≡ Some state → Realizes all id next p) → Builds slot old new id next p
+Builds-state slot old new state id next p a stays realizes =
+    Adds-is old new (λ (all : List State). slice_get all id ≡ Some state) (IsPart slot (length old) (length new) id next p)
+    (λ all is. (
+      realizes all is,
+      Encloses-one slot (length old) (length new) id next all state a.last (grown old new state id a) is stays,
+    ))
+    (Adds-one old new state id a)
+
+pub Builds-never : (slot : ℕ) (old new : List State) (this id next : ℕ) → this ≡ length old → IsAdded old new (Fork this this) id
+    → Builds slot old new id next Never
+Builds-never slot old new this id next e a =
     let same : this ≡ id = e ∙ sym a.last in
-    Adds-is old new (λ (all : List State). slice_get all id ≡ Some (Fork this this)) (λ (all : List State). Realizes all id next Never)
-    (λ all is. Realizes-never all id next (is ∙ ap (λ (n : ℕ). Some (Fork n n)) same)) (Adds-one old new (Fork this this) id a)
+    let here : IsAmong (length old) (length new) next this = inl (omega (arith, e), omega (arith, e, grown old new (Fork this this) id a)) in
+    Builds-state slot old new (Fork this this) id next Never a (here, here)
+    (λ all is. Realizes-never all id next (is ∙ ap (λ (n : ℕ). Some (Fork n n)) same))
 
-pub Builds-range : (old new : List State) (x y id next : ℕ) → IsAdded old new (ByteRange x y next) id → Builds old new id next (Class ((x, y) ∷ []))
-Builds-range old new x y id next a =
-    Adds-is old new (λ (all : List State). slice_get all id ≡ Some (ByteRange x y next)) (λ (all : List State). Realizes all id next (Class ((x, y) ∷ [])))
-    (λ all is. Realizes-range all id x y next is) (Adds-one old new (ByteRange x y next) id a)
+pub Builds-range : (slot : ℕ) (old new : List State) (x y id next : ℕ) → IsAdded old new (ByteRange x y next) id
+    → Builds slot old new id next (Class ((x, y) ∷ []))
+Builds-range slot old new x y id next a =
+    Builds-state slot old new (ByteRange x y next) id next (Class ((x, y) ∷ [])) a (inr refl) (λ all is. Realizes-range all id x y next is)
 
-pub Builds-assert : (old new : List State) (look : Look) (id next : ℕ) → IsAdded old new (Assert look next) id → Builds old new id next (Assertion look)
-Builds-assert old new look id next a =
-    Adds-is old new (λ (all : List State). slice_get all id ≡ Some (Assert look next)) (λ (all : List State). Realizes all id next (Assertion look))
-    (λ all is. Realizes-assert all id next look is) (Adds-one old new (Assert look next) id a)
+pub Builds-assert : (slot : ℕ) (old new : List State) (look : Look) (id next : ℕ) → IsAdded old new (Assert look next) id
+    → Builds slot old new id next (Assertion look)
+Builds-assert slot old new look id next a =
+    Builds-state slot old new (Assert look next) id next (Assertion look) a (inr refl) (λ all is. Realizes-assert all id next look is)
 
-Builds-capture : (old new : List State) (slot id next : ℕ) → IsAdded old new (Capture slot next) id → Builds old new id next Empty
-Builds-capture old new slot id next a =
-    Adds-is old new (λ (all : List State). slice_get all id ≡ Some (Capture slot next)) (λ (all : List State). Realizes all id next Empty)
-    (λ all is. Realizes-capture all id slot next is) (Adds-one old new (Capture slot next) id a)
+Builds-capture : (slot : ℕ) (old new : List State) (c id next : ℕ) → slot < c → IsAdded old new (Capture c next) id → Builds slot old new id next Empty
+Builds-capture slot old new c id next l a =
+    Builds-state slot old new (Capture c next) id next Empty a (l, inr refl) (λ all is. Realizes-capture all id c next is)
 
 -- ---- states after parts
 
-pub Builds-either : (old middle last new : List State) (one other id next : ℕ) (p q : Pattern) → Builds old middle other next q
-    → Builds middle last one next p → IsAdded last new (Fork one other) id → Builds old new id next (Either p q)
-Builds-either old middle last new one other id next p q x y a =
-    Adds-both old last new (λ (all : List State). Realizes all other next q × Realizes all one next p)
-    (λ (all : List State). slice_get all id ≡ Some (Fork one other)) (λ (all : List State). Realizes all id next (Either p q))
-    (Adds-both old middle last (λ (all : List State). Realizes all other next q) (λ (all : List State). Realizes all one next p)
-    (λ (all : List State). Realizes all other next q × Realizes all one next p) x y (λ all b c. (b, c)))
-    (Adds-one last new (Fork one other) id a) (λ all b is. Realizes-either all id one other next p q is b.1 b.0)
+pub Builds-either : (slot : ℕ) (old middle last new : List State) (one other id next : ℕ) (p q : Pattern) → Builds slot old middle other next q
+    → Builds slot middle last one next p → IsAdded last new (Fork one other) id → Builds slot old new id next (Either p q)
+Builds-either slot old middle last new one other id next p q x y a =
+    Adds-both old last new Both (λ (all : List State). slice_get all id ≡ Some (Fork one other))
+    (IsPart slot (length old) (length new) id next (Either p q))
+    (Adds-both old middle last (IsPart slot (length old) (length middle) other next q) (IsPart slot (length middle) (length last) one next p) Both x y
+    (λ all b c. (b, c)))
+    (Adds-one last new (Fork one other) id a)
+    (λ all b is. (
+      Realizes-either all id one other next p q is b.1.0 b.0.0,
+      Encloses-either slot (length old) (length middle) (length last) (length new) one other id next all x.longer y.longer a.last
+          (grown last new (Fork one other) id a) b.0.1 b.1.1 is,
+    ))
+  where
+    Both : List State → Type 0
+    Both all = IsPart slot (length old) (length middle) other next q all × IsPart slot (length middle) (length last) one next p all
 
 -- a part before others
-pub Builds-one_of : (old middle last new : List State) (one other id next : ℕ) (p : Pattern) (rest : List Pattern) → 0 < length rest
-    → Builds old middle other next (one_of rest) → Builds middle last one next p → IsAdded last new (Fork one other) id
-    → Builds old new id next (one_of (p ∷ rest))
-Builds-one_of old middle last new one other id next p [] some x y a = absurd (omega (arith, some))
-Builds-one_of old middle last new one other id next p (q ∷ rest) some x y a =
-    Builds-either old middle last new one other id next p (one_of (q ∷ rest)) x y a
+pub Builds-one_of : (slot : ℕ) (old middle last new : List State) (one other id next : ℕ) (p : Pattern) (rest : List Pattern) → 0 < length rest
+    → Builds slot old middle other next (one_of rest) → Builds slot middle last one next p → IsAdded last new (Fork one other) id
+    → Builds slot old new id next (one_of (p ∷ rest))
+Builds-one_of slot old middle last new one other id next p [] some x y a = absurd (omega (arith, some))
+Builds-one_of slot old middle last new one other id next p (q ∷ rest) some x y a =
+    Builds-either slot old middle last new one other id next p (one_of (q ∷ rest)) x y a
 
 -- a range before others, in a class
-pub Builds-class : (old middle last new : List State) (x y one other id next : ℕ) (rest : List (ℕ × ℕ)) → Builds old middle other next (Class rest)
-    → IsAdded middle last (ByteRange x y next) one → IsAdded last new (Fork one other) id → Builds old new id next (Class ((x, y) ∷ rest))
-Builds-class old middle last new x y one other id next rest r a b =
-    Builds-is old new id next (Either (Class ((x, y) ∷ [])) (Class rest)) (Class ((x, y) ∷ rest)) (class-is x y rest) (class-back x y rest)
-    (Builds-either old middle last new one other id next (Class ((x, y) ∷ [])) (Class rest) r (Builds-range middle last x y one next a) b)
+pub Builds-class : (slot : ℕ) (old middle last new : List State) (x y one other id next : ℕ) (rest : List (ℕ × ℕ))
+    → Builds slot old middle other next (Class rest)
+    → IsAdded middle last (ByteRange x y next) one → IsAdded last new (Fork one other) id → Builds slot old new id next (Class ((x, y) ∷ rest))
+Builds-class slot old middle last new x y one other id next rest r a b =
+    Builds-is slot old new id next (Either (Class ((x, y) ∷ [])) (Class rest)) (Class ((x, y) ∷ rest)) (class-is x y rest) (class-back x y rest)
+    (Builds-either slot old middle last new one other id next (Class ((x, y) ∷ [])) (Class rest) r (Builds-range slot middle last x y one next a) b)
 
 -- a byte before others
-pub Builds-byte : (old middle new : List State) (b first id next : ℕ) (rest : List ℕ) → Builds old middle first next (Literal rest)
-    → IsAdded middle new (ByteRange b b first) id → Builds old new id next (Literal (b ∷ rest))
-Builds-byte old middle new b first id next rest r a =
-    Builds-is old new id next (Then (Class ((b, b) ∷ [])) (Literal rest)) (Literal (b ∷ rest)) (literal-is b rest) (literal-back b rest)
-    (Builds-then old middle new id first next (Class ((b, b) ∷ [])) (Literal rest) r (Builds-range middle new b b id first a))
+pub Builds-byte : (slot : ℕ) (old middle new : List State) (b first id next : ℕ) (rest : List ℕ) → Builds slot old middle first next (Literal rest)
+    → IsAdded middle new (ByteRange b b first) id → Builds slot old new id next (Literal (b ∷ rest))
+Builds-byte slot old middle new b first id next rest r a =
+    Builds-is slot old new id next (Then (Class ((b, b) ∷ [])) (Literal rest)) (Literal (b ∷ rest)) (literal-is b rest) (literal-back b rest)
+    (Builds-then slot old middle new id first next (Class ((b, b) ∷ [])) (Literal rest) r (Builds-range slot middle new b b id first a))
 
 -- a part between two records
-pub Builds-group : (old middle last new : List State) (start end body after id next : ℕ) (p : Pattern) → IsAdded old middle (Capture end next) after
-    → Builds middle last body after p → IsAdded last new (Capture start body) id → Builds old new id next p
-Builds-group old middle last new start end body after id next p a x b =
-    Builds-is old new id next (Then Empty (Then p Empty)) p
-    (λ t i j g. subst (λ (k : ℕ). Goes t p i k) g.2.2 (subst (λ (k : ℕ). Goes t p k g.2.0) (sym g.1) g.2.1))
-    (λ t i j g. (i, refl, (j, g, refl)))
-    (Builds-then old last new id body next Empty (Then p Empty)
-    (Builds-then old middle last body after next p Empty (Builds-capture old middle end after next a) x)
-    (Builds-capture last new start id body b))
+pub Builds-group : (slot : ℕ) (old middle last new : List State) (start end body after id next : ℕ) (p : Pattern) → slot < start → slot < end
+    → IsAdded old middle (Capture end next) after → Builds slot middle last body after p → IsAdded last new (Capture start body) id
+    → Builds slot old new id next p
+Builds-group slot old middle last new start end body after id next p l m a x b =
+    Builds-is slot old new id next (Then Empty (Then p Empty)) p (between-is p) (between-back p)
+    (Builds-then slot old last new id body next Empty (Then p Empty)
+    (Builds-then slot old middle last body after next p Empty (Builds-capture slot old middle end after next m a) x)
+    (Builds-capture slot last new start id body l b))
 
 -- the part or nothing
 Adds-choice : (last new : List State) (state : State) (one next id : ℕ) → (state ≡ Fork one next) ⊎ (state ≡ Fork next one) → IsAdded last new state id
@@ -175,59 +208,80 @@ Adds-choice last new state one next id c a =
     choice all is (inl e) = inl (is ∙ ap (λ (s : State). Some s) e)
     choice all is (inr e) = inr (is ∙ ap (λ (s : State). Some s) e)
 
-pub Builds-optional : (old last new : List State) (state : State) (one id next : ℕ) (p : Pattern) → Builds old last one next p
-    → (state ≡ Fork one next) ⊎ (state ≡ Fork next one) → IsAdded last new state id → Builds old new id next (Either p Empty)
-Builds-optional old last new state one id next p x c a =
-    Adds-both old last new (λ (all : List State). Realizes all one next p) (λ (all : List State). IsChoice all id one next)
-    (λ (all : List State). Realizes all id next (Either p Empty)) x (Adds-choice last new state one next id c a)
-    (λ all r is. Realizes-choice all id one next p is r)
+pub Builds-optional : (slot : ℕ) (old last new : List State) (state : State) (one id next : ℕ) (p : Pattern) → Builds slot old last one next p
+    → (state ≡ Fork one next) ⊎ (state ≡ Fork next one) → IsAdded last new state id → Builds slot old new id next (Either p Empty)
+Builds-optional slot old last new state one id next p x c a =
+    Adds-both old last new (IsPart slot (length old) (length last) one next p) (λ (all : List State). IsChoice all id one next)
+    (IsPart slot (length old) (length new) id next (Either p Empty)) x (Adds-choice last new state one next id c a)
+    (λ all r is. (
+      Realizes-choice all id one next p is r.0,
+      Encloses-choice slot (length old) (length last) (length new) one id next all x.longer a.last (grown last new state id a) r.1 is,
+    ))
 
-pub Builds-star : (old last new : List State) (state : State) (one id next : ℕ) (p : Pattern) → Builds old last one next (Repeat 1 None p)
-    → (state ≡ Fork one next) ⊎ (state ≡ Fork next one) → IsAdded last new state id → Builds old new id next (Repeat 0 None p)
-Builds-star old last new state one id next p x c a =
-    Builds-is old new id next (Either (Repeat 1 None p) Empty) (Repeat 0 None p) (star-is p) (star-back p)
-    (Builds-optional old last new state one id next (Repeat 1 None p) x c a)
+pub Builds-star : (slot : ℕ) (old last new : List State) (state : State) (one id next : ℕ) (p : Pattern) → Builds slot old last one next (Repeat 1 None p)
+    → (state ≡ Fork one next) ⊎ (state ≡ Fork next one) → IsAdded last new state id → Builds slot old new id next (Repeat 0 None p)
+Builds-star slot old last new state one id next p x c a =
+    Builds-is slot old new id next (Either (Repeat 1 None p) Empty) (Repeat 0 None p) (star-is p) (star-back p)
+    (Builds-optional slot old last new state one id next (Repeat 1 None p) x c a)
 
 -- a loop: its fork, its part, and the fork written anew
-Adds-loop : (old middle last : List State) (state written : State) (first again next : ℕ) (p : Pattern) → IsAdded old middle state again
-    → Builds middle last first again p → (written ≡ Fork first next) ⊎ (written ≡ Fork next first)
-    → Adds old (set last again written) (λ (all : List State). IsChoice all again first next × Realizes all first again p)
-Adds-loop old middle last state written first again next p a x c =
-    Adds-is old (set last again written) (λ (all : List State). (slice_get all again ≡ Some written) × Realizes all first again p)
-    (λ (all : List State). IsChoice all again first next × Realizes all first again p) (λ all is. (choice all is.0 c, is.1))
-    (Adds-written old middle last state written again (λ (all : List State). Realizes all first again p) a x)
+record IsLoop (slot low high first again next : ℕ) (p : Pattern) (all : List State) : Type 0 where
+  choice : IsChoice all again first next
+  part : Realizes all first again p
+  encloses : Encloses slot low high again next all × Encloses slot low high first next all
+
+Adds-loop : (slot : ℕ) (old middle last : List State) (state written : State) (first again next : ℕ) (p : Pattern) → IsAdded old middle state again
+    → Builds slot middle last first again p → (written ≡ Fork first next) ⊎ (written ≡ Fork next first)
+    → Adds old (set last again written) (IsLoop slot (length old) (length (set last again written)) first again next p)
+Adds-loop slot old middle last state written first again next p a x c =
+    Adds-is old (set last again written)
+    (λ (all : List State). (slice_get all again ≡ Some written) × IsPart slot (length middle) (length last) first again p all)
+    (IsLoop slot (length old) (length (set last again written)) first again next p)
+    (λ all is.
+    let fork = choice all is.0 c in
+    record {
+      choice = fork;
+      part = is.1.0;
+      encloses = Encloses-loop slot (length old) (length middle) (length last) (length (set last again written)) first again next all a.last
+          (grown old middle state again a) x.longer (length-set last again written) fork is.1.1;
+    })
+    (Adds-written old middle last state written again (IsPart slot (length middle) (length last) first again p) a x)
   where
     choice : (all : List State) → slice_get all again ≡ Some written → (written ≡ Fork first next) ⊎ (written ≡ Fork next first) → IsChoice all again first next
     choice all is (inl e) = inl (is ∙ ap (λ (s : State). Some s) e)
     choice all is (inr e) = inr (is ∙ ap (λ (s : State). Some s) e)
 
-pub Builds-again : (old middle last : List State) (state written : State) (first again next : ℕ) (p : Pattern) → IsAdded old middle state again
-    → Builds middle last first again p → (written ≡ Fork first next) ⊎ (written ≡ Fork next first)
-    → Builds old (set last again written) again next (Repeat 0 None p)
-Builds-again old middle last state written first again next p a x c =
-    Adds-is old (set last again written) (λ (all : List State). IsChoice all again first next × Realizes all first again p)
-    (λ (all : List State). Realizes all again next (Repeat 0 None p)) (λ all b. Realizes-star all again first next p b.0 b.1)
-    (Adds-loop old middle last state written first again next p a x c)
+pub Builds-again : (slot : ℕ) (old middle last : List State) (state written : State) (first again next : ℕ) (p : Pattern) → IsAdded old middle state again
+    → Builds slot middle last first again p → (written ≡ Fork first next) ⊎ (written ≡ Fork next first)
+    → Builds slot old (set last again written) again next (Repeat 0 None p)
+Builds-again slot old middle last state written first again next p a x c =
+    let high : ℕ = length (set last again written) in
+    Adds-is old (set last again written) (IsLoop slot (length old) high first again next p) (IsPart slot (length old) high again next (Repeat 0 None p))
+    (λ all b. (Realizes-star all again first next p b.choice b.part, b.encloses.0))
+    (Adds-loop slot old middle last state written first again next p a x c)
 
-pub Builds-plus : (old middle last : List State) (state written : State) (first again next : ℕ) (p : Pattern) → IsAdded old middle state again
-    → Builds middle last first again p → (written ≡ Fork first next) ⊎ (written ≡ Fork next first)
-    → Builds old (set last again written) first next (Repeat 1 None p)
-Builds-plus old middle last state written first again next p a x c =
-    Adds-is old (set last again written) (λ (all : List State). IsChoice all again first next × Realizes all first again p)
-    (λ (all : List State). Realizes all first next (Repeat 1 None p)) (λ all b. Realizes-plus all again first next p b.0 b.1)
-    (Adds-loop old middle last state written first again next p a x c)
+pub Builds-plus : (slot : ℕ) (old middle last : List State) (state written : State) (first again next : ℕ) (p : Pattern) → IsAdded old middle state again
+    → Builds slot middle last first again p → (written ≡ Fork first next) ⊎ (written ≡ Fork next first)
+    → Builds slot old (set last again written) first next (Repeat 1 None p)
+Builds-plus slot old middle last state written first again next p a x c =
+    let high : ℕ = length (set last again written) in
+    Adds-is old (set last again written) (IsLoop slot (length old) high first again next p) (IsPart slot (length old) high first next (Repeat 1 None p))
+    (λ all b. (Realizes-plus all again first next p b.choice b.part, b.encloses.1))
+    (Adds-loop slot old middle last state written first again next p a x c)
 
-pub Builds-limited : (old middle new : List State) (min max rest first next : ℕ) (p : Pattern) → Builds old middle rest next (up_to (max - min) p)
-    → Builds middle new first rest (copies min p) → Builds old new first next (Repeat min (Some max) p)
-Builds-limited old middle new min max rest first next p x y =
-    Builds-is old new first next (Then (copies min p) (up_to (max - min) p)) (Repeat min (Some max) p) (limited-is min max p) (limited-back min max p)
-    (Builds-then old middle new first rest next (copies min p) (up_to (max - min) p) x y)
+pub Builds-limited : (slot : ℕ) (old middle new : List State) (min max rest first next : ℕ) (p : Pattern)
+    → Builds slot old middle rest next (up_to (max - min) p)
+    → Builds slot middle new first rest (copies min p) → Builds slot old new first next (Repeat min (Some max) p)
+Builds-limited slot old middle new min max rest first next p x y =
+    Builds-is slot old new first next (Then (copies min p) (up_to (max - min) p)) (Repeat min (Some max) p) (limited-is min max p) (limited-back min max p)
+    (Builds-then slot old middle new first rest next (copies min p) (up_to (max - min) p) x y)
 
-pub Builds-unlimited : (old middle new : List State) (min last first next : ℕ) (p : Pattern) → 0 < min → Builds old middle last next (Repeat 1 None p)
-    → Builds middle new first last (copies (min - 1) p) → Builds old new first next (Repeat min None p)
-Builds-unlimited old middle new min last first next p some x y =
-    Builds-is old new first next (Then (copies (min - 1) p) (Repeat 1 None p)) (Repeat min None p) (unlimited-is min p some) (unlimited-back min p some)
-    (Builds-then old middle new first last next (copies (min - 1) p) (Repeat 1 None p) x y)
+pub Builds-unlimited : (slot : ℕ) (old middle new : List State) (min last first next : ℕ) (p : Pattern)
+    → 0 < min → Builds slot old middle last next (Repeat 1 None p)
+    → Builds slot middle new first last (copies (min - 1) p) → Builds slot old new first next (Repeat min None p)
+Builds-unlimited slot old middle new min last first next p some x y =
+    Builds-is slot old new first next (Then (copies (min - 1) p) (Repeat 1 None p)) (Repeat min None p) (unlimited-is min p some) (unlimited-back min p some)
+    (Builds-then slot old middle new first last next (copies (min - 1) p) (Repeat 1 None p) x y)
 
 -- ---- a list from an index on
 
@@ -240,14 +294,14 @@ pub drop-one : {A : Type 0} (xs : List A) (d : A) → 0 < length xs → drop (le
 drop-one {A = A} xs d some = drop-last xs (length xs) d some (omega arith) ∙ ap (λ (ys : List A). get_or xs (length xs - 1) d ∷ ys) (drop-length xs)
 
 -- without a part there is no match
-pub Builds-nothing : (old new : List State) (first next : ℕ) (parts : List Pattern) → length parts ≡ 0 → Builds old new first next Never
-    → Builds old new first next (one_of parts)
-Builds-nothing old new first next [] none x = x
-Builds-nothing old new first next (p ∷ rest) none x = absurd (omega (arith, none))
+pub Builds-nothing : (slot : ℕ) (old new : List State) (first next : ℕ) (parts : List Pattern) → length parts ≡ 0 → Builds slot old new first next Never
+    → Builds slot old new first next (one_of parts)
+Builds-nothing slot old new first next [] none x = x
+Builds-nothing slot old new first next (p ∷ rest) none x = absurd (omega (arith, none))
 
 -- a class without a range has no byte
-pub Builds-none : (old new : List State) (first next : ℕ) (ranges : List (ℕ × ℕ)) → length ranges ≡ 0 → Builds old new first next Never
-    → Builds old new first next (Class ranges)
-Builds-none old new first next [] none x =
-    Builds-is old new first next Never (Class []) (λ t i j g. absurd g) (λ t i j g. absurd (true≢false (sym g.0))) x
-Builds-none old new first next (r ∷ rest) none x = absurd (omega (arith, none))
+pub Builds-none : (slot : ℕ) (old new : List State) (first next : ℕ) (ranges : List (ℕ × ℕ)) → length ranges ≡ 0 → Builds slot old new first next Never
+    → Builds slot old new first next (Class ranges)
+Builds-none slot old new first next [] none x =
+    Builds-is slot old new first next Never (Class []) (λ t i j g. absurd g) (λ t i j g. absurd (true≢false (sym g.0))) x
+Builds-none slot old new first next (r ∷ rest) none x = absurd (omega (arith, none))

@@ -67,7 +67,7 @@ AddsSome-only old (Some s) new x e h = go (AddsOne-only old s new x e h)
     go (inl y) = inl y
     go (inr y) = inr (ap Some y)
 
--- the old places stay
+-- what was there stays at its index
 AddsSome-longer : (old : List ℕ) (t : Option ℕ) (new : List ℕ) → AddsSome old t new → length old ≤ length new
 AddsSome-longer old None new e = omega (arith, ap length e)
 AddsSome-longer old (Some s) new (inl e) = omega (arith, ap length e, length-append old (s ∷ []))
@@ -78,12 +78,12 @@ AddsSome-index old None new j e l = ap (λ (y : List ℕ). slice_index y j) e
 AddsSome-index old (Some s) new j (inl e) l = ap (λ (y : List ℕ). slice_index y j) e ∙ get_or_append_left old (s ∷ []) 0 j l
 AddsSome-index old (Some s) new j (inr e) l = ap (λ (y : List ℕ). slice_index y j) e.0
 
--- a place of the new list is an old one, or the last, which is what was added
-AddsSome-place : (old : List ℕ) (t : Option ℕ) (new : List ℕ) (j : ℕ) → AddsSome old t new → j < length new
+-- an index of the new list is one of the old list, or the last, where what was added is
+AddsSome-last : (old : List ℕ) (t : Option ℕ) (new : List ℕ) (j : ℕ) → AddsSome old t new → j < length new
     → (j < length old) ⊎ ((t ≡ Some (slice_index new j)) × (j ≡ length old))
-AddsSome-place old None new j e l = inl (omega (arith, ap length e, l))
-AddsSome-place old (Some s) new j (inr e) l = inl (omega (arith, ap length e.0, l))
-AddsSome-place old (Some s) new j (inl e) l = ⊎_elim
+AddsSome-last old None new j e l = inl (omega (arith, ap length e, l))
+AddsSome-last old (Some s) new j (inr e) l = inl (omega (arith, ap length e.0, l))
+AddsSome-last old (Some s) new j (inl e) l = ⊎_elim
     (λ (h : j < length old). inl h)
     (λ (h : length old ≤ j).
     let last : j ≡ length old = omega (arith, h, l, ap length e, length-append old (s ∷ [])) in
@@ -100,7 +100,7 @@ module _ (m : Machine) (near : List ℕ) (at : ℕ) (set : List ℕ) where
   -- each state of the set is there or is led to; one more
   AreLed-more : (old : List ℕ) (t : Option ℕ) (new : List ℕ) → AreLed m near at set old → AddsSome old t new
       → ((s : ℕ) → t ≡ Some s → Contains set s ⊎ ((j : ℕ) × (j < length old) × Follows m near at (slice_index old j) s)) → AreLed m near at set new
-  AreLed-more old t new led e why = record { led = λ k l. go k (AddsSome-place old t new k e l) }
+  AreLed-more old t new led e why = record { led = λ k l. go k (AddsSome-last old t new k e l) }
     where
       moved : (k : ℕ) → k < length old → Contains set (slice_index old k)
           ⊎ ((j : ℕ) × (j < k) × Follows m near at (slice_index old j) (slice_index old k))

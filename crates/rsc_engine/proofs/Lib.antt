@@ -19,5 +19,8 @@ pub mod TablesLayoutLemmas  -- what the table of a DFA says is so, and stays so 
 pub mod PartsLemmas  -- the pattern of a tree, by its variants
 pub mod PatternsLemmas  -- patterns that go where others go: bytes, classes and repetitions
 pub mod LinksLayoutLemmas  -- how single states lead on, and what follows for parts made of parts
+pub mod EnclosesLayoutLemmas  -- where the states of parts lead that are made of parts
 pub mod BuilderLemmas  -- how lists of states grow, part by part
+pub mod GroupEndsLemmas  -- what the runs of a program that was built record in the slots of the whole match
+pub mod LawsLemmas  -- what first and next matches and ends are, of a program that recognizes patterns
 pub mod BeginsLayoutLemmas  -- the runs of a program that was built: from the state at which a pattern begins its matches are found, and no others

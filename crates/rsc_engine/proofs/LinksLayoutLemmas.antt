@@ -5,6 +5,7 @@ use Rattle.rsc_nfa.specs.declared.state.State.{State}
 use Rattle.rsc_nfa.specs.declared.state.State.TheVariants.{ByteRange, Assert, Fork, Capture, Accept}
 use Rattle.rsc_nfa.specs.Steps.{StepsTo, is_between}
 use Rattle.rsc_engine.specs.Patterns.{Pattern, Empty, Never, Class, Assertion, Then, Either, Repeat, Subject, Times, Goes}
+use Rattle.rsc_engine.proofs.PatternsLemmas.{between-is, between-back}
 use Rattle.rsc_engine.specs.LinksLayout.{Aim, Ends, HasEnd, GoesOn, Realizes, IsChoice}
 
 -- ---- steps of one state
@@ -153,6 +154,13 @@ Realizes-then states first middle next p q rq rp = record {
       record { to = h.to; left = h.left; fewer = omega (arith, g.fewer, h.fewer); goes = (g.to, g.goes, h.goes); ends = h.ends };
   complete = λ a i k g h. rp.complete a i g.0 g.1 (rq.complete a g.0 k g.2 h);
 }
+
+-- a part between two states that stay where they are
+pub Realizes-between : (states : List State) (first body after next : ℕ) (p : Pattern) → Realizes states after next Empty → Realizes states body after p
+    → Realizes states first body Empty → Realizes states first next p
+Realizes-between states first body after next p x r y =
+    Realizes-is states first next (Then Empty (Then p Empty)) p (between-is p) (between-back p)
+    (Realizes-then states first body next Empty (Then p Empty) (Realizes-then states body after next p Empty x r) y)
 
 pub Realizes-either : (states : List State) (s one other next : ℕ) (p q : Pattern) → slice_get states s ≡ Some (Fork one other)
     → Realizes states one next p → Realizes states other next q → Realizes states s next (Either p q)

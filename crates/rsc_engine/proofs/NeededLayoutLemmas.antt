@@ -32,8 +32,8 @@ module _ (e : Search) (a b : ℕ × ℕ) (needed : NeedsPair (machine_of e) a b)
   step : (p q : ℕ × ℕ) → e.start ≤ p.1 → Marked p → Leads e p q → Marked q
   step p q from marked l = go (slice_get e.states p.0) refl l
     where
-      same_place : (next : ℕ) → q.0 ≡ next → q.1 ≡ p.1 → IsMarked needed.marks (mark_of next (after p.1)) → Marked q
-      same_place next state position m = rw (state, position) m
+      to_next : (next : ℕ) → q.0 ≡ next → q.1 ≡ p.1 → IsMarked needed.marks (mark_of next (after p.1)) → Marked q
+      to_next next state position m = rw (state, position) m
 
       go : (o : Option State) → slice_get e.states p.0 ≡ o
           → MatchOption o ⊥ (λ (state : State). StepsTo state e.terminator e.words e.haystack e.end p.1 q) → Marked q
@@ -45,11 +45,11 @@ module _ (e : Search) (a b : ℕ × ℕ) (needed : NeedsPair (machine_of e) a b)
           λ f y. let parts = both (nat_lt e.start p.1) (is_in a (slice_index e.haystack (p.1 - 1))) f in
           none p.1 (ltb-true e.start p.1 parts.0) l.0 (parts.1, rw here y) in
           rw (l.2, l.3, after_byte p.1 byte.0 from here) (needed.passed p.0 (after p.1) (ByteRange low high next) is marked byte.0 byte.2 byte.3 barred)
-      go (Some (Assert look next)) is l = same_place next l.1 l.2 (needed.passed p.0 (after p.1) (Assert look next) is marked)
+      go (Some (Assert look next)) is l = to_next next l.1 l.2 (needed.passed p.0 (after p.1) (Assert look next) is marked)
       go (Some (Fork s t)) is l = ⊎_elim
-          (λ (h : q.0 ≡ s). same_place s h l.1 (needed.passed p.0 (after p.1) (Fork s t) is marked).0)
-          (λ (h : q.0 ≡ t). same_place t h l.1 (needed.passed p.0 (after p.1) (Fork s t) is marked).1) l.0
-      go (Some (Capture slot next)) is l = same_place next l.0 l.1 (needed.passed p.0 (after p.1) (Capture slot next) is marked)
+          (λ (h : q.0 ≡ s). to_next s h l.1 (needed.passed p.0 (after p.1) (Fork s t) is marked).0)
+          (λ (h : q.0 ≡ t). to_next t h l.1 (needed.passed p.0 (after p.1) (Fork s t) is marked).1) l.0
+      go (Some (Capture slot next)) is l = to_next next l.0 l.1 (needed.passed p.0 (after p.1) (Capture slot next) is marked)
       go (Some (Accept p)) is l = absurd l
 
   -- no match begins

@@ -15,7 +15,7 @@ use Rattle.rsc_engine.proofs.PreferredLemmas.{is_no, one_preferred, preferred_sh
 
 -- ---- the positions before a search's start
 
--- the search's start has moved on to i: each free position before it is passed, and it's free itself, if it's in the span
+-- the search's start has moved on to i: each open position before it is passed, and it's open itself, if it's in the span
 pub record IsMoved (e : Search) (last : Option ℕ) (i : ℕ) : Type 0 where
   pub up : e.start ≤ i
   pub passed : (at : ℕ) → at < i → IsOpen e last at → IsPassed e last at
@@ -23,7 +23,7 @@ pub record IsMoved (e : Search) (last : Option ℕ) (i : ℕ) : Type 0 where
 
 module _ (e : Search) (i start : ℕ) (last : Option ℕ) (run : List (ℕ × ℕ)) (v : IsMoved (record e { start = start }) last i)
     (f : IsLeftmostFirst (record e { start = i }) run) where
-  -- up to the leftmost match from i on, each free position is passed
+  -- up to the leftmost match from i on, each open position is passed
   up_to : (at : ℕ) → at < (place run 0).1 → IsOpen (record e { start = start }) last at → IsPassed (record e { start = start }) last at
   up_to at high o = ⊎_elim
       (λ (l : at < i). v.passed at l o)
@@ -88,7 +88,7 @@ module _ (e : Search) (i start : ℕ) (last : Option ℕ) (run : List (ℕ × �
     };
   }
 
-  -- and if it's anchored, no later position is free
+  -- and if it's anchored, no later position is open
   pub moved_over : IsSplit (record e { start = start }) run → ¬ (IsRepeat last run) → ¬ (e.mode ≡ No) → IsMoved (record e { start = start }) last (e.end + 1)
   moved_over splits no_repeat anchored = record {
     up = omega (arith, v.up, f.begins.start, f.begins.end);

@@ -1,10 +1,19 @@
 -- The pattern of a tree, by its variants.
-use Rattle.std.proofs.Common.{◌≡◌, ℕ, [], ◌∷◌, Box, Global, sym, ap, ◌∙◌}
+use Rattle.std.proofs.Common.{◌≡◌, ℕ, [], ◌∷◌, Box, Vec, Global, sym, ap, ◌∙◌}
 use Rattle.rsc_look.specs.declared.assertion.Look.{Look}
-use Rattle.rsc_engine.specs.Patterns.{Pattern, Class, Assertion, Then, Either}
+use Rattle.rsc_engine.specs.Patterns.{Pattern, Never, Class, Literal, Assertion, Then, Either}
 use Rattle.rsc_engine.specs.Parts.{pattern_in, pattern_of_node}
 use Rattle.rsc_engine.specs.declared.builder.tree.Tree.{Tree, Tree-F, fold-roll-Tree}
 use Rattle.rsc_engine.specs.declared.builder.tree.Tree.TheVariants as variants
+
+pub pattern-never : pattern_in variants.Never ≡ Never
+pattern-never = ap pattern_in (sym variants.rolls-Never) ∙ fold-roll-Tree Pattern pattern_of_node Tree-F.Never
+
+pub pattern-class : (ranges : Vec (ℕ × ℕ) Global) → pattern_in (variants.Class ranges) ≡ Class ranges.items
+pattern-class ranges = ap pattern_in (sym (variants.rolls-Class ranges)) ∙ fold-roll-Tree Pattern pattern_of_node (Tree-F.Class ranges)
+
+pub pattern-literal : (bytes : Vec ℕ Global) → pattern_in (variants.Literal bytes) ≡ Literal bytes.items
+pattern-literal bytes = ap pattern_in (sym (variants.rolls-Literal bytes)) ∙ fold-roll-Tree Pattern pattern_of_node (Tree-F.Literal bytes)
 
 pub pattern-range : (a b : ℕ) → pattern_in (variants.Range a b) ≡ Class ((a, b) ∷ [])
 pattern-range a b = ap pattern_in (sym (variants.rolls-Range a b)) ∙ fold-roll-Tree Pattern pattern_of_node (Tree-F.Range a b)

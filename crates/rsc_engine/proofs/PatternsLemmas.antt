@@ -97,6 +97,14 @@ star-back p x i j g = go g.0 g.3
     go zero t = inr t
     go (suc n) t = inl (suc n, omega arith, tt, t)
 
+-- ---- between two positions
+
+pub between-is : (p : Pattern) (x : Subject) (i j : ℕ) → Goes x (Then Empty (Then p Empty)) i j → Goes x p i j
+between-is p x i j g = subst (λ (k : ℕ). Goes x p i k) g.2.2 (subst (λ (k : ℕ). Goes x p k g.2.0) (sym g.1) g.2.1)
+
+pub between-back : (p : Pattern) (x : Subject) (i j : ℕ) → Goes x p i j → Goes x (Then Empty (Then p Empty)) i j
+between-back p x i j g = (i, refl, (j, g, refl))
+
 -- ---- a range more, and a byte more
 
 or_cases : (a b : Bool) → (a || b) ≡ true → (a ≡ true) ⊎ (b ≡ true)

@@ -1,13 +1,32 @@
 -- At which state the matches of a pattern, or of several, begin.
-use Rattle.std.specs.Prelude.{◌≡◌, ℕ, ◌≤◌, List, slice_get, Some}
+use Rattle.std.specs.Prelude.{◌≡◌, ℕ, ◌+◌, ◌*◌, ◌≤◌, List, [], ◌∷◌, slice_get, Some}
 use Rattle.rsc_nfa.specs.declared.state.State.{State}
-use Rattle.rsc_engine.specs.Patterns.{Pattern, Goes}
+use Rattle.rsc_nfa.specs.declared.state.State.TheVariants.{Accept}
+use Rattle.rsc_nfa.specs.Steps.{IsStep, recorded}
+use Rattle.rsc_engine.specs.Patterns.{Pattern, Subject, Goes}
 use Rattle.rsc_engine.specs.LinksLayout.{Aim, Ends, HasEnd}
 
--- from the state `first` exactly the matches that are looked for are found
+-- a step leads from a place to the first of these, and from each to the one after it
+abbrev pub AreSteps : List State → Subject → ℕ → ℕ × ℕ → List (ℕ × ℕ) → Type 0
+AreSteps states x end p [] = Unit {0}
+AreSteps states x end p (q ∷ rest) = IsStep states x.terminator x.words x.haystack end p q × AreSteps states x end q rest
+
+-- the last of these places, or the one before them
+abbrev pub last_place : ℕ × ℕ → List (ℕ × ℕ) → ℕ × ℕ
+last_place p [] = p
+last_place p (q ∷ rest) = last_place q rest
+
+-- what steps from the state `first` to a match record in the slots of the whole match: its ends
+pub record RecordsFrom (states : List State) (first : ℕ) : Type 0 where
+  pub ends : (x : Subject) (end number : ℕ) (p : ℕ × ℕ) (rest : List (ℕ × ℕ)) → p.0 ≡ first → AreSteps states x end p rest →
+      slice_get states (last_place p rest).0 ≡ Some (Accept number) →
+      (recorded states (p ∷ rest) (2 * number) ≡ Some p.1) × (recorded states (p ∷ rest) (2 * number + 1) ≡ Some (last_place p rest).1)
+
+-- from the state `first` exactly the matches that are looked for are found, and their ends are recorded
 pub record Begins (states : List State) (first : ℕ) (IsSought : Aim → ℕ → Type 0) : Type 0 where
   pub sound : (a : Aim) (n i : ℕ) → Ends states a n first i → IsSought a i
   pub complete : (a : Aim) (i : ℕ) → IsSought a i → a.position ≤ a.end → HasEnd states a first i
+  pub records : RecordsFrom states first
 
 -- the match is of this pattern, with this number
 abbrev pub IsOfOne : ℕ → Pattern → Aim → ℕ → Type 0

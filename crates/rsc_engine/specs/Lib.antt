@@ -10,7 +10,9 @@ pub mod MovesLayout  -- what a state does at a position
 pub mod WalksLayout  -- what a backtracker has on hand
 pub mod TrailsLayout  -- a trail: which places each of its visits stands for, and which other ways are left to try there
 pub mod Patterns  -- what a pattern matches, and which programs match it
+pub mod GroupEnds  -- the group of the whole match: what runs record in its slots
 pub mod Parts  -- which pattern a part is, and which groups it has
+pub mod EnclosesLayout  -- where the states of a part lead, and in which slots they record
 pub mod LinksLayout  -- how the states of a part lead on
 pub mod BeginsLayout  -- at which state the matches of a pattern, or of several, begin
 pub mod Ends  -- where matches end, and what a DFA answers

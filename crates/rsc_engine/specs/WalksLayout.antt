@@ -1,4 +1,6 @@
--- What a backtracker has on hand.
+-- What a backtracker has on hand. It visits places: a place is seen once its flag is set. It's settled if it was seen or no match is reached from it, and done
+-- if each step from it leads to a settled one. Seen places are closed if each is done: then no match is reached from any of them. While the backtracker is at
+-- work, the places on its run were seen and aren't done yet.
 use Rattle.std.specs.Prelude.{◌≡◌, ◌≢◌, ℕ, ◌+◌, ◌-◌, ◌*◌, ◌<◌, ◌≤◌, ◌⊎◌, Bool, true, false, not, List, length, take, slice_get, slice_index_or, Option, Some, None, count_by, is_some}
 use Rattle.rsc_nfa.specs.declared.state.State.TheVariants.{Fork}
 use Rattle.rsc_nfa.specs.Steps.{IsRun, place}

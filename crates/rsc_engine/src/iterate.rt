@@ -137,9 +137,9 @@ struct Rest<'p, 'h, W: WordClass> {
     input: Input<'h>,
     starts: Starts,
     dfa: Dfa<'p, W>,
-    // Whether the last match began far from where it was looked for.
+    // Whether the last match began far from where it was looked for; true before the first one.
     is_far: bool,
-    // It has no flags before it is first needed, and then that many.
+    // It has no flags before it is first needed, and then as many as there are places.
     walk: Walk,
     places: usize,
     last_end: Option<usize>,

@@ -1,5 +1,5 @@
 //! Laws of matches that a caller can cite: functions whose contracts are the laws.
-ghost use Rattle.std.specs.Prelude.{◌≡◌, ◌<◌, ◌≤◌, ◌⊎◌, ℕ, List, Option, Some, None, slice_index_or};
+ghost use Rattle.std.specs.Prelude.{◌≡◌, ◌+◌, ◌*◌, ◌<◌, ◌≤◌, ◌⊎◌, ℕ, List, length, Option, Some, None, slice_index_or};
 ghost use Rattle.rsc_captures.specs.Captured.{Captured};
 ghost use Rattle.rsc_search.specs.Inputs.{InputParts};
 ghost use Rattle.rsc_search.specs.Matches.{Matched};
@@ -8,6 +8,7 @@ ghost use Rattle.rsc_engine.specs.Patterns.{Pattern, IsMatchIn, Recognizes};
 ghost use Rattle.rsc_engine.specs.Preferred.{IsPreferred, IsLeftmostFirst, IsFirstMatch, MayBegin, HasNone};
 ghost use Rattle.rsc_engine.specs.NextMatches.{IsNext, IsOver, IsNextMatch, IsOpen, IsRepeated, IsSplitAt, Left, AreAll};
 ghost use Rattle.rsc_engine.specs.Ends.{IsEarliestEnd, IsLeftmostEnd};
+ghost use Rattle.rsc_engine.specs.GroupEnds.{RecordsEnds};
 
 use rsc_look::WordClass;
 
@@ -87,4 +88,21 @@ pub fn a_leftmost_end_is_of_a_pattern<W: WordClass>()
         (found : Matched) × IsMatchIn patterns (search_in W.word_chars program input) found
         × MayBegin (search_in W.word_chars program input) found.span.start × (found.span.end ≡ end)
         × ((other : Matched) → other.span.start < found.span.start → ¬ (IsMatchIn patterns (search_in W.word_chars program input) other)) }
+{}
+
+/// Where the captures of a program that records the ends of its matches have room, the two slots of the first group of a match's pattern hold
+/// the match's start and end.
+pub fn the_first_group_is_the_match<W: WordClass>()
+    ensures first_start { (program : Compiled W) (input : InputParts) (captures : Captured) (found : Matched) → RecordsEnds W.word_chars program →
+        IsFirstMatch (search_in W.word_chars program input) captures found → 2 * found.pattern < length captures.offsets →
+        slice_index_or captures.offsets (2 * found.pattern) None ≡ Some found.span.start }
+    ensures first_end { (program : Compiled W) (input : InputParts) (captures : Captured) (found : Matched) → RecordsEnds W.word_chars program →
+        IsFirstMatch (search_in W.word_chars program input) captures found → 2 * found.pattern + 1 < length captures.offsets →
+        slice_index_or captures.offsets (2 * found.pattern + 1) None ≡ Some found.span.end }
+    ensures next_start { (program : Compiled W) (input : InputParts) (last : Option ℕ) (captures : Captured) (found : Matched) →
+        RecordsEnds W.word_chars program → IsNextMatch (search_in W.word_chars program input) last captures found →
+        2 * found.pattern < length captures.offsets → slice_index_or captures.offsets (2 * found.pattern) None ≡ Some found.span.start }
+    ensures next_end { (program : Compiled W) (input : InputParts) (last : Option ℕ) (captures : Captured) (found : Matched) →
+        RecordsEnds W.word_chars program → IsNextMatch (search_in W.word_chars program input) last captures found →
+        2 * found.pattern + 1 < length captures.offsets → slice_index_or captures.offsets (2 * found.pattern + 1) None ≡ Some found.span.end }
 {}

@@ -1,9 +1,12 @@
 -- Matches of one pattern in a whole haystack.
 use Rattle.std.specs.Option.{ForSome}
-use Rattle.std.proofs.Common.{◌≡◌, ℕ, zero, suc, ◌+◌, ◌-◌, ◌<◌, ◌≤◌, Option, None, Bool, List, [], ◌∷◌, ◌++◌, length, slice_get, refl, sym, ap, subst, arith, Some}
+use Rattle.std.proofs.Common.{◌≡◌, ℕ, zero, suc, ◌+◌, ◌-◌, ◌*◌, ◌<◌, ◌≤◌, Option, None, Bool, List, [], ◌∷◌, ◌++◌, length, slice_get, refl, sym, ap, subst, arith, Some}
+use Rattle.std.proofs.lemmas.List.{length-replicate}
 use Rattle.rsc_search.specs.Inputs.{whole}
+use Rattle.rsc_captures.specs.Groups.{Groups, GroupLists, all_groups}
+use Rattle.rsc_captures.specs.Captured.{Captured, no_offsets}
 use Rattle.rsc_search.specs.Matches.{Matched}
-use Rattle.rsc_engine.specs.Searches.{Compiled, search_in}
+use Rattle.rsc_engine.specs.Searches.{Compiled, Search, search_in}
 use Rattle.rsc_engine.specs.Preferred.{MayBegin}
 use Rattle.rsc_engine.specs.NextMatches.{Left, IsNextOf, IsOver, AreAll, after}
 use Rattle.rsc_engine.specs.Patterns.{Pattern, Subject, Goes, IsMatchIn}
@@ -24,6 +27,20 @@ goes_of {W = W} chars program words p haystack found matcher m =
     subst (λ (x : ℕ × W). Goes (record { haystack = haystack; terminator = x.0; words = chars x.1 }) p found.span.start found.span.end) matcher
     (subst (λ (q : Pattern). Goes (record { haystack = haystack; terminator = program.automaton.matcher.0; words = chars program.automaton.matcher.1 }) q
     found.span.start found.span.end) (its_only p m.pattern found.pattern m.its) m.goes)
+
+-- and it's of pattern 0
+pub number_of : (p : Pattern) (e : Search) (found : Matched) → IsMatchIn (p ∷ []) e found → found.pattern ≡ 0
+number_of p e found m = only found.pattern m.its
+  where
+    only : (n : ℕ) → slice_get (p ∷ []) n ≡ Some m.pattern → n ≡ 0
+    only zero h = refl
+    only (suc n) h = absurd (cc)
+
+-- captures for one pattern have room for its first group
+pub room_for_first : (lists : GroupLists) (groups : Groups) (captures : Captured) → lists ≡ (None ∷ groups) ∷ []
+    → captures ≡ no_offsets lists (2 * all_groups lists) → 1 < length captures.offsets
+room_for_first lists groups captures is made =
+    omega (arith, ap (λ (c : Captured). length c.offsets) made, length-replicate {A = Option ℕ} (2 * all_groups lists) None, ap all_groups is)
 
 -- and where it goes is a match
 pub match_of : {W : Type 0} (chars : W → ℕ → Bool) (program : Compiled W) (words : W) (p : Pattern) (haystack : List ℕ) (i j : ℕ)

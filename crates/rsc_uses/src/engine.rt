@@ -1,5 +1,5 @@
 //! Searches by an engine, and what its answers say of one another.
-ghost use Rattle.std.specs.Prelude.{◌≡◌, ◌<◌, ◌≤◌, ◌⊎◌, ◌++◌, [], ◌∷◌, ℕ, None, false, IfOk, IfSome, IfNone, length};
+ghost use Rattle.std.specs.Prelude.{◌≡◌, ◌<◌, ◌≤◌, ◌⊎◌, ◌++◌, [], ◌∷◌, ℕ, Some, None, false, IfOk, IfSome, IfNone, length, slice_index_or};
 ghost use Rattle.rsc_search.specs.Matches.{Matched};
 ghost use Rattle.rsc_engine.specs.Searches.{search_in};
 ghost use Rattle.rsc_engine.specs.NextMatches.{AreAll};
@@ -36,6 +36,26 @@ pub fn find_part<W: WordClass + AsciiWords>(
     match find(alloc, &program, &input, &mut captures)? {
         None => Ok(None),
         Some(found) => Ok(Some((found.start(), found.end()))),
+    }
+}
+
+/// The first match of a part, with captures whose first two slots hold where it starts and ends.
+pub fn find_with_slots<W: WordClass>(
+    alloc: Global,
+    words: W,
+    part: Part<'_>,
+    input: &Input<'_>,
+) -> Result<Option<(Match, Captures)>, Error>
+    ensures start { IfOk result (λ found. IfSome found (λ both. slice_index_or both.1.offsets 0 None ≡ Some both.0.span.start)) }
+    ensures end { IfOk result (λ found. IfSome found (λ both. slice_index_or both.1.offsets 1 None ≡ Some both.0.span.end)) }
+{
+    laws::a_first_match_is_of_a_pattern::<W>();
+    laws::the_first_group_is_the_match::<W>();
+    let program = Builder::new(alloc).build(words, true, part)?;
+    let mut captures = program.captures(alloc)?;
+    match find(alloc, &program, input, &mut captures)? {
+        None => Ok(None),
+        Some(found) => Ok(Some((found, captures))),
     }
 }
 

@@ -1,5 +1,5 @@
 //! From parts to states. The walk goes from the end of a pattern to its start, so that what comes after a part has its state first.
-ghost use Rattle.std.specs.Prelude.{◌≡◌, ◌++◌, [], ◌∷◌, map, length, IfOk, OnOk};
+ghost use Rattle.std.specs.Prelude.{◌≡◌, ℕ, ◌+◌, ◌*◌, ◌<◌, ◌++◌, [], ◌∷◌, map, length, IfOk, OnOk};
 ghost use Rattle.rsc_nfa.specs.declared.state.State.TheVariants.{Fork};
 ghost use Rattle.rsc_engine.specs.Patterns.{Never, Class, Literal, in_order, one_of};
 ghost use Rattle.rsc_engine.specs.Parts.{pattern_of, pattern_in};
@@ -14,14 +14,37 @@ use rsc_nfa::State;
 use rsc_primitives::{PatternID, SmallIndex, StateID};
 use std::alloc::Global;
 
-/// The states so far, and the groups of the pattern that is compiled.
+/// The states so far.
 #[derive(Drop)]
 pub struct Compiler {
     pub states: Vec<State>,
-    // The slots of its groups, that of the whole match first.
-    pub slots: Vec<(SmallIndex, SmallIndex)>,
-    // How many of them open before the end of the part that is next.
+    // How many groups of the pattern that is compiled open before the end of the part that is next.
     pub left: usize,
+}
+
+/// The slots of the groups of a pattern.
+#[derive(Drop)]
+pub struct Slots {
+    // That of the end of the whole match, which no part records in.
+    pub end: SmallIndex,
+    // Those of each group, that of the whole match first.
+    pub groups: Vec<(SmallIndex, SmallIndex)>,
+}
+
+impl Slots {
+    // The slots of a group of a part. They come after those of the whole match.
+    fn of_group(&self, group: usize) -> Result<(SmallIndex, SmallIndex), Error>
+        ensures start { IfOk result (λ slots. self.now.end < slots.0) }
+        ensures end { IfOk result (λ slots. self.now.end < slots.1) }
+    {
+        let Some((start, end)) = self.groups.get(group).copied() else {
+            return Err(Error::TooLarge);
+        };
+        if start.as_usize() <= self.end.as_usize() || end.as_usize() <= self.end.as_usize() {
+            return Err(Error::TooLarge);
+        }
+        Ok((start, end))
+    }
 }
 
 /// The states of the patterns, and the one at which a match of any of them begins.
@@ -34,7 +57,6 @@ pub fn compile(
 {
     let mut compiler = Compiler {
         states: Vec::new(alloc),
-        slots: Vec::new(alloc),
         left: 0,
     };
     let Some(last) = patterns.len().checked_sub(1) else {
@@ -48,7 +70,7 @@ pub fn compile(
     Ok((compiler.states, first))
 }
 
-// The slots of the groups of a pattern.
+// The slots of each group of a pattern.
 fn slots_of(
     alloc: Global,
     info: &GroupInfo,
@@ -57,19 +79,31 @@ fn slots_of(
 ) -> Result<Vec<(SmallIndex, SmallIndex)>, Error> {
     let mut slots = Vec::new(alloc);
     for group in 0..groups {
-        let Some((start, end)) = info.slots(pattern, group) else {
-            return Err(Error::TooLarge);
-        };
-        let (Ok(start), Ok(end)) = (SmallIndex::new(start), SmallIndex::new(end)) else {
-            return Err(Error::TooLarge);
-        };
-        slots.push((start, end))?;
+        slots.push(pair_of(info, pattern, group)?)?;
     }
     Ok(slots)
 }
 
+// The slots of a group.
+fn pair_of(
+    info: &GroupInfo,
+    pattern: PatternID,
+    group: usize,
+) -> Result<(SmallIndex, SmallIndex), Error>
+    ensures start { IfOk result (λ slots. group ≡ 0 → slots.0 ≡ 2 * pattern) }
+    ensures end { IfOk result (λ slots. group ≡ 0 → slots.1 ≡ 2 * pattern + 1) }
+{
+    let Some((start, end)) = info.slots(pattern, group) else {
+        return Err(Error::TooLarge);
+    };
+    let (Ok(start), Ok(end)) = (SmallIndex::new(start), SmallIndex::new(end)) else {
+        return Err(Error::TooLarge);
+    };
+    Ok((start, end))
+}
+
 impl Compiler {
-    // The state at which matches of the pattern begin.
+    // The state at which matches of the pattern begin. The part is between two records of its position, in the slots of the whole match.
     fn pattern(
         &mut self,
         alloc: Global,
@@ -83,17 +117,29 @@ impl Compiler {
         let Ok(pattern) = PatternID::new(index) else {
             return Err(Error::TooLarge);
         };
-        let groups = whole.names.len();
-        self.left = groups.saturating_add(1);
-        self.slots = slots_of(alloc, info, pattern, self.left)?;
+        let groups = whole.names.len().saturating_add(1);
+        let (start, end) = pair_of(info, pattern, 0)?;
+        let slots = Slots {
+            end,
+            groups: slots_of(alloc, info, pattern, groups)?,
+        };
+        self.left = groups;
         let accept = self.add(State::Accept { pattern })?;
-        self.group(groups, &whole.tree, accept)
+        let after = self.add(State::Capture {
+            slot: end,
+            next: accept,
+        })?;
+        let body = self.part(&slots, &whole.tree, after)?;
+        self.add(State::Capture {
+            slot: start,
+            next: body,
+        })
     }
 
     /// The state at which the part begins. Where it ends the state `next` comes.
     #[cycle(part)]
-    pub fn part(&mut self, tree: &Tree, next: StateID) -> Result<StateID, Error>
-        ensures { IfOk result (λ first. Builds self.old.states.items self.new.states.items first next (pattern_in tree.now)) }
+    pub fn part(&mut self, slots: &Slots, tree: &Tree, next: StateID) -> Result<StateID, Error>
+        ensures { IfOk result (λ first. Builds slots.now.end self.old.states.items self.new.states.items first next (pattern_in tree.now)) }
     {
         match tree {
             Tree::Empty => Ok(next),
@@ -107,31 +153,31 @@ impl Compiler {
             Tree::Literal(bytes) => self.literal(bytes, next),
             Tree::Assertion(look) => self.add(State::Assert { look: *look, next }),
             Tree::Then(one, other) => {
-                let middle = self.part(other, next)?;
-                self.part(one, middle)
+                let middle = self.part(slots, other, next)?;
+                self.part(slots, one, middle)
             }
-            Tree::Concat(parts) => self.concat(parts, next),
+            Tree::Concat(parts) => self.concat(slots, parts, next),
             Tree::Either(one, other) => {
-                let second = self.part(other, next)?;
-                let first = self.part(one, next)?;
+                let second = self.part(slots, other, next)?;
+                let first = self.part(slots, one, next)?;
                 self.fork(first, second)
             }
-            Tree::OneOf(parts) => self.one_of(parts, next),
-            Tree::Repeat(times, sub) => self.repeat(*times, sub, next),
-            Tree::Group(groups, sub) => self.group(*groups, sub, next),
+            Tree::OneOf(parts) => self.one_of(slots, parts, next),
+            Tree::Repeat(times, sub) => self.repeat(slots, *times, sub, next),
+            Tree::Group(groups, sub) => self.group(slots, *groups, sub, next),
         }
     }
 
     // A state from which nothing leads on.
     fn never(&mut self, next: StateID) -> Result<StateID, Error>
-        ensures { IfOk result (λ first. Builds self.old.states.items self.new.states.items first next Never) }
+        ensures { IfOk result (λ first. (slot : ℕ) → Builds slot self.old.states.items self.new.states.items first next Never) }
     {
         let this = self.next_id()?;
         self.fork(this, this)
     }
 
     fn class(&mut self, ranges: &[(u8, u8)], next: StateID) -> Result<StateID, Error>
-        ensures { IfOk result (λ first. Builds self.old.states.items self.new.states.items first next (Class ranges.now)) }
+        ensures { IfOk result (λ first. (slot : ℕ) → Builds slot self.old.states.items self.new.states.items first next (Class ranges.now)) }
     {
         if ranges.is_empty() {
             return self.never(next);
@@ -148,7 +194,7 @@ impl Compiler {
     }
 
     fn literal(&mut self, bytes: &[u8], next: StateID) -> Result<StateID, Error>
-        ensures { IfOk result (λ first. Builds self.old.states.items self.new.states.items first next (Literal bytes.now)) }
+        ensures { IfOk result (λ first. (slot : ℕ) → Builds slot self.old.states.items self.new.states.items first next (Literal bytes.now)) }
     {
         let mut first = next;
         for index in (0..bytes.len()).rev() {
@@ -162,27 +208,27 @@ impl Compiler {
     }
 
     #[cycle(part)]
-    fn concat(&mut self, parts: &[Tree], next: StateID) -> Result<StateID, Error>
-        ensures { IfOk result (λ first. Builds self.old.states.items self.new.states.items first next (in_order (map pattern_in parts.now))) }
+    fn concat(&mut self, slots: &Slots, parts: &[Tree], next: StateID) -> Result<StateID, Error>
+        ensures { IfOk result (λ first. Builds slots.now.end self.old.states.items self.new.states.items first next (in_order (map pattern_in parts.now))) }
     {
         let mut first = next;
         for index in (0..parts.len()).rev() {
-            first = self.part(&parts[index], first)?;
+            first = self.part(slots, &parts[index], first)?;
         }
         Ok(first)
     }
 
     #[cycle(part)]
-    fn one_of(&mut self, parts: &[Tree], next: StateID) -> Result<StateID, Error>
-        ensures { IfOk result (λ first. Builds self.old.states.items self.new.states.items first next (one_of (map pattern_in parts.now))) }
+    fn one_of(&mut self, slots: &Slots, parts: &[Tree], next: StateID) -> Result<StateID, Error>
+        ensures { IfOk result (λ first. Builds slots.now.end self.old.states.items self.new.states.items first next (one_of (map pattern_in parts.now))) }
     {
         if parts.is_empty() {
             return self.never(next);
         }
         let last = parts.len() - 1;
-        let mut first = self.part(&parts[last], next)?;
+        let mut first = self.part(slots, &parts[last], next)?;
         for index in (0..last).rev() {
-            let one = self.part(&parts[index], next)?;
+            let one = self.part(slots, &parts[index], next)?;
             first = self.fork(one, first)?;
         }
         Ok(first)
@@ -190,15 +236,19 @@ impl Compiler {
 
     // The part between two records of its position, in the slots of its group.
     #[cycle(part)]
-    fn group(&mut self, groups: usize, sub: &Tree, next: StateID) -> Result<StateID, Error>
-        ensures { IfOk result (λ first. Builds self.old.states.items self.new.states.items first next (pattern_in sub.now)) }
+    fn group(
+        &mut self,
+        slots: &Slots,
+        groups: usize,
+        sub: &Tree,
+        next: StateID,
+    ) -> Result<StateID, Error>
+        ensures { IfOk result (λ first. Builds slots.now.end self.old.states.items self.new.states.items first next (pattern_in sub.now)) }
     {
         let number = self.left.saturating_sub(groups).saturating_sub(1);
-        let Some((start, end)) = self.slots.get(number).copied() else {
-            return Err(Error::TooLarge);
-        };
+        let (start, end) = slots.of_group(number)?;
         let after = self.add(State::Capture { slot: end, next })?;
-        let body = self.part(sub, after)?;
+        let body = self.part(slots, sub, after)?;
         self.left = number;
         self.add(State::Capture {
             slot: start,

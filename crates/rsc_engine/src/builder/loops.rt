@@ -5,7 +5,7 @@ ghost use Rattle.rsc_engine.specs.Patterns.{Repeat};
 ghost use Rattle.rsc_engine.specs.Parts.{pattern_in};
 ghost use Rattle.rsc_engine.specs.LinksLayout.{Builds, copies, up_to};
 
-use super::compile::Compiler;
+use super::compile::{Compiler, Slots};
 use super::tree::{Times, Tree};
 use crate::Error;
 use rsc_nfa::State;
@@ -14,12 +14,18 @@ use rsc_primitives::StateID;
 impl Compiler {
     /// The part as often as the numbers say.
     #[cycle(part)]
-    pub fn repeat(&mut self, times: Times, sub: &Tree, next: StateID) -> Result<StateID, Error>
-        ensures { IfOk result (λ first. Builds self.old.states.items self.new.states.items first next
+    pub fn repeat(
+        &mut self,
+        slots: &Slots,
+        times: Times,
+        sub: &Tree,
+        next: StateID,
+    ) -> Result<StateID, Error>
+        ensures { IfOk result (λ first. Builds slots.now.end self.old.states.items self.new.states.items first next
             (Repeat times.min times.max (pattern_in sub.now))) }
     {
         let left = self.left;
-        let first = self.times(times, sub, next)?;
+        let first = self.times(slots, times, sub, next)?;
         // The part may have been left out.
         self.left = left.saturating_sub(times.groups);
         Ok(first)
@@ -27,39 +33,51 @@ impl Compiler {
 
     // The part as often as it must be there, and then again as often as it may.
     #[cycle(part)]
-    fn times(&mut self, times: Times, sub: &Tree, next: StateID) -> Result<StateID, Error>
-        ensures { IfOk result (λ first. Builds self.old.states.items self.new.states.items first next
+    fn times(
+        &mut self,
+        slots: &Slots,
+        times: Times,
+        sub: &Tree,
+        next: StateID,
+    ) -> Result<StateID, Error>
+        ensures { IfOk result (λ first. Builds slots.now.end self.old.states.items self.new.states.items first next
             (Repeat times.min times.max (pattern_in sub.now))) }
     {
         let left = self.left;
         match times.max {
             None => {
                 if times.min == 0 {
-                    return self.star(times, sub, next);
+                    return self.star(slots, times, sub, next);
                 }
-                let (last, _) = self.again(times.is_greedy, sub, next)?;
+                let (last, _) = self.again(slots, times.is_greedy, sub, next)?;
                 self.left = left;
-                self.copies(times.min - 1, sub, last)
+                self.copies(slots, times.min - 1, sub, last)
             }
             Some(max) => {
                 let more = max.saturating_sub(times.min);
-                let rest = self.up_to(more, times.is_greedy, sub, next)?;
+                let rest = self.up_to(slots, more, times.is_greedy, sub, next)?;
                 self.left = left;
-                self.copies(times.min, sub, rest)
+                self.copies(slots, times.min, sub, rest)
             }
         }
     }
 
     // The part a number of times.
     #[cycle(part)]
-    fn copies(&mut self, count: usize, sub: &Tree, next: StateID) -> Result<StateID, Error>
-        ensures { IfOk result (λ first. Builds self.old.states.items self.new.states.items first next (copies count (pattern_in sub.now))) }
+    fn copies(
+        &mut self,
+        slots: &Slots,
+        count: usize,
+        sub: &Tree,
+        next: StateID,
+    ) -> Result<StateID, Error>
+        ensures { IfOk result (λ first. Builds slots.now.end self.old.states.items self.new.states.items first next (copies count (pattern_in sub.now))) }
     {
         let left = self.left;
         let mut first = next;
         for done in 0..count {
             self.left = left;
-            first = self.part(sub, first)?;
+            first = self.part(slots, sub, first)?;
         }
         Ok(first)
     }
@@ -68,18 +86,19 @@ impl Compiler {
     #[cycle(part)]
     fn up_to(
         &mut self,
+        slots: &Slots,
         count: usize,
         is_greedy: bool,
         sub: &Tree,
         next: StateID,
     ) -> Result<StateID, Error>
-        ensures { IfOk result (λ first. Builds self.old.states.items self.new.states.items first next (up_to count (pattern_in sub.now))) }
+        ensures { IfOk result (λ first. Builds slots.now.end self.old.states.items self.new.states.items first next (up_to count (pattern_in sub.now))) }
     {
         let left = self.left;
         let mut first = next;
         for done in 0..count {
             self.left = left;
-            let one = self.part(sub, first)?;
+            let one = self.part(slots, sub, first)?;
             first = self.add(choice(is_greedy, one, next))?;
         }
         Ok(first)
@@ -87,10 +106,16 @@ impl Compiler {
 
     // The part any number of times.
     #[cycle(part)]
-    fn star(&mut self, times: Times, sub: &Tree, next: StateID) -> Result<StateID, Error>
-        ensures { IfOk result (λ first. Builds self.old.states.items self.new.states.items first next (Repeat 0 None (pattern_in sub.now))) }
+    fn star(
+        &mut self,
+        slots: &Slots,
+        times: Times,
+        sub: &Tree,
+        next: StateID,
+    ) -> Result<StateID, Error>
+        ensures { IfOk result (λ first. Builds slots.now.end self.old.states.items self.new.states.items first next (Repeat 0 None (pattern_in sub.now))) }
     {
-        let (first, again) = self.again(times.is_greedy, sub, next)?;
+        let (first, again) = self.again(slots, times.is_greedy, sub, next)?;
         if times.may_be_empty {
             return self.add(choice(times.is_greedy, first, next));
         }
@@ -101,16 +126,19 @@ impl Compiler {
     #[cycle(part)]
     fn again(
         &mut self,
+        slots: &Slots,
         is_greedy: bool,
         sub: &Tree,
         next: StateID,
     ) -> Result<(StateID, StateID), Error>
-        ensures first { IfOk result (λ made. Builds self.old.states.items self.new.states.items made.0 next (Repeat 1 None (pattern_in sub.now))) }
-        ensures again { IfOk result (λ made. Builds self.old.states.items self.new.states.items made.1 next (Repeat 0 None (pattern_in sub.now))) }
+        ensures first { IfOk result (λ made. Builds slots.now.end self.old.states.items self.new.states.items made.0 next
+            (Repeat 1 None (pattern_in sub.now))) }
+        ensures again { IfOk result (λ made. Builds slots.now.end self.old.states.items self.new.states.items made.1 next
+            (Repeat 0 None (pattern_in sub.now))) }
     {
         // What it leads to isn't known yet.
         let again = self.fork(next, next)?;
-        let first = self.part(sub, again)?;
+        let first = self.part(slots, sub, again)?;
         self.states[again.as_usize()] = choice(is_greedy, first, next);
         Ok((first, again))
     }

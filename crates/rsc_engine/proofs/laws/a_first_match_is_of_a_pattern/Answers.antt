@@ -1,5 +1,5 @@
 use Rattle.rsc_engine.specs.Searches.{search_in}
-use Rattle.rsc_engine.proofs.BeginsLayoutLemmas.{first_is_in, none_before, none_at_all}
+use Rattle.rsc_engine.proofs.LawsLemmas.{first_is_in, none_before, none_at_all}
 use Rattle.rsc_engine.proofs.laws.a_first_match_is_of_a_pattern.Goals as goal
 
 pub returns-clause-some : goal.returns-clause-some

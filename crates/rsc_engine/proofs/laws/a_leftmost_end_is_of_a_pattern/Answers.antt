@@ -2,7 +2,7 @@ use Rattle.std.proofs.Common.{arith}
 use Rattle.rsc_nfa.specs.Steps.{place}
 use Rattle.rsc_engine.specs.Searches.{search_in}
 use Rattle.rsc_engine.specs.Ends.{IsMatchEnd}
-use Rattle.rsc_engine.proofs.BeginsLayoutLemmas.{end_is_in}
+use Rattle.rsc_engine.proofs.LawsLemmas.{end_is_in}
 use Rattle.rsc_engine.proofs.laws.a_leftmost_end_is_of_a_pattern.Goals as goal
 
 pub returns : goal.returns

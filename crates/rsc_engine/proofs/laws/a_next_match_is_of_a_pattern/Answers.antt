@@ -1,6 +1,6 @@
 use Rattle.std.proofs.Common.{arith}
 use Rattle.rsc_engine.specs.Searches.{search_in}
-use Rattle.rsc_engine.proofs.BeginsLayoutLemmas.{next_is_in, why_passed}
+use Rattle.rsc_engine.proofs.LawsLemmas.{next_is_in, why_passed}
 use Rattle.rsc_engine.proofs.laws.a_next_match_is_of_a_pattern.Goals as goal
 
 pub returns-clause-some : goal.returns-clause-some

@@ -1,5 +1,5 @@
 use Rattle.rsc_engine.specs.Searches.{search_in}
-use Rattle.rsc_engine.proofs.BeginsLayoutLemmas.{end_is_in, none_ends_before}
+use Rattle.rsc_engine.proofs.LawsLemmas.{end_is_in, none_ends_before}
 use Rattle.rsc_engine.proofs.laws.an_earliest_end_is_of_a_pattern.Goals as goal
 
 pub returns-clause-some : goal.returns-clause-some
