@@ -40,7 +40,7 @@ pub fn find_part<W: WordClass + AsciiWords>(
 }
 
 /// The first match of a part, with captures whose first two slots hold where it starts and ends.
-pub fn find_with_slots<W: WordClass>(
+pub fn find_with_slots<W: WordClass + AsciiWords>(
     alloc: Global,
     words: W,
     part: Part<'_>,

@@ -2,7 +2,7 @@
 use super::made::captures_of;
 use super::programs::program_of;
 use rsc_captures::Captures;
-use rsc_engine::{Answer, Builder, Dfa, Error, Program, find};
+use rsc_engine::{Answer, AsciiWords, Builder, Dfa, Error, Program, find};
 use rsc_look::{AsciiWord, Look, UnicodeWord, WordClass};
 use rsc_primitives::PatternID;
 use rsc_search::{Anchored, Input, Span};
@@ -33,7 +33,7 @@ fn text_of(number: usize) -> ([u8; 4], usize) {
 }
 
 // Whether the backtracker finds a match that ends at the position or before.
-fn ends_by<W: WordClass>(
+fn ends_by<W: WordClass + AsciiWords>(
     alloc: Global,
     program: &Program<W>,
     input: &Input<'_>,
@@ -52,7 +52,7 @@ fn ends_by<W: WordClass>(
 }
 
 // Whether the backtracker agrees with an answer.
-fn agrees<W: WordClass>(
+fn agrees<W: WordClass + AsciiWords>(
     alloc: Global,
     program: &Program<W>,
     input: &Input<'_>,
