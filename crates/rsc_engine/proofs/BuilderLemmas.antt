@@ -6,7 +6,7 @@ use Rattle.rsc_look.specs.declared.assertion.Look.{Look}
 use Rattle.rsc_nfa.specs.declared.state.State.{State}
 use Rattle.rsc_nfa.specs.declared.state.State.TheVariants.{ByteRange, Assert, Fork, Capture}
 use Rattle.rsc_engine.specs.Patterns.{Pattern, Empty, Never, Class, Literal, Assertion, Then, Either, Repeat, one_of, Subject, Goes}
-use Rattle.rsc_engine.specs.EnclosesLayout.{IsAmong, StaysAmong, Encloses}
+use Rattle.rsc_engine.specs.EnclosesLayout.{IsOnWay, StaysOnWay, Encloses}
 use Rattle.rsc_engine.specs.LinksLayout.{Adds, Builds, IsAdded, IsChoice, Realizes, copies, up_to}
 use Rattle.rsc_engine.proofs.LinksLayoutLemmas.{Realizes-never, Realizes-range, Realizes-assert, Realizes-capture, Realizes-is, Realizes-then, Realizes-either, Realizes-choice, Realizes-star, Realizes-plus}
 use Rattle.rsc_engine.proofs.EnclosesLayoutLemmas.{Encloses-one, Encloses-then, Encloses-either, Encloses-choice, Encloses-loop}
@@ -113,7 +113,7 @@ grown : (old new : List State) (state : State) (id : ℕ) → IsAdded old new st
 grown old new state id a = ap length a.added ∙ length-append old (state ∷ [])
 
 Builds-state : (slot : ℕ) (old new : List State) (state : State) (id next : ℕ) (p : Pattern) → IsAdded old new state id
-    → StaysAmong (λ (s : ℕ). IsAmong (length old) (length new) next s) slot state
+    → StaysOnWay (λ (s : ℕ). IsOnWay (length old) (length new) next s) slot state
     → ((all : List State) → slice_get all id ≡ Some state → Realizes all id next p) → Builds slot old new id next p
 Builds-state slot old new state id next p a stays realizes =
     Adds-is old new (λ (all : List State). slice_get all id ≡ Some state) (IsPart slot (length old) (length new) id next p)
@@ -127,7 +127,7 @@ pub Builds-never : (slot : ℕ) (old new : List State) (this id next : ℕ) → 
     → Builds slot old new id next Never
 Builds-never slot old new this id next e a =
     let same : this ≡ id = e ∙ sym a.last in
-    let here : IsAmong (length old) (length new) next this = inl (omega (arith, e), omega (arith, e, grown old new (Fork this this) id a)) in
+    let here : IsOnWay (length old) (length new) next this = inl (omega (arith, e), omega (arith, e, grown old new (Fork this this) id a)) in
     Builds-state slot old new (Fork this this) id next Never a (here, here)
     (λ all is. Realizes-never all id next (is ∙ ap (λ (n : ℕ). Some (Fork n n)) same))
 
@@ -225,18 +225,18 @@ Builds-star slot old last new state one id next p x c a =
     (Builds-optional slot old last new state one id next (Repeat 1 None p) x c a)
 
 -- a loop: its fork, its part, and the fork written anew
-record IsLoop (slot low high first again next : ℕ) (p : Pattern) (all : List State) : Type 0 where
+record LoopsOver (slot low high first again next : ℕ) (p : Pattern) (all : List State) : Type 0 where
   choice : IsChoice all again first next
   part : Realizes all first again p
   encloses : Encloses slot low high again next all × Encloses slot low high first next all
 
 Adds-loop : (slot : ℕ) (old middle last : List State) (state written : State) (first again next : ℕ) (p : Pattern) → IsAdded old middle state again
     → Builds slot middle last first again p → (written ≡ Fork first next) ⊎ (written ≡ Fork next first)
-    → Adds old (set last again written) (IsLoop slot (length old) (length (set last again written)) first again next p)
+    → Adds old (set last again written) (LoopsOver slot (length old) (length (set last again written)) first again next p)
 Adds-loop slot old middle last state written first again next p a x c =
     Adds-is old (set last again written)
     (λ (all : List State). (slice_get all again ≡ Some written) × IsPart slot (length middle) (length last) first again p all)
-    (IsLoop slot (length old) (length (set last again written)) first again next p)
+    (LoopsOver slot (length old) (length (set last again written)) first again next p)
     (λ all is.
     let fork = choice all is.0 c in
     record {
@@ -256,7 +256,7 @@ pub Builds-again : (slot : ℕ) (old middle last : List State) (state written : 
     → Builds slot old (set last again written) again next (Repeat 0 None p)
 Builds-again slot old middle last state written first again next p a x c =
     let high : ℕ = length (set last again written) in
-    Adds-is old (set last again written) (IsLoop slot (length old) high first again next p) (IsPart slot (length old) high again next (Repeat 0 None p))
+    Adds-is old (set last again written) (LoopsOver slot (length old) high first again next p) (IsPart slot (length old) high again next (Repeat 0 None p))
     (λ all b. (Realizes-star all again first next p b.choice b.part, b.encloses.0))
     (Adds-loop slot old middle last state written first again next p a x c)
 
@@ -265,7 +265,7 @@ pub Builds-plus : (slot : ℕ) (old middle last : List State) (state written : S
     → Builds slot old (set last again written) first next (Repeat 1 None p)
 Builds-plus slot old middle last state written first again next p a x c =
     let high : ℕ = length (set last again written) in
-    Adds-is old (set last again written) (IsLoop slot (length old) high first again next p) (IsPart slot (length old) high first next (Repeat 1 None p))
+    Adds-is old (set last again written) (LoopsOver slot (length old) high first again next p) (IsPart slot (length old) high first next (Repeat 1 None p))
     (λ all b. (Realizes-plus all again first next p b.choice b.part, b.encloses.1))
     (Adds-loop slot old middle last state written first again next p a x c)
 

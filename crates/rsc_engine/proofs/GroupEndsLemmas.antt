@@ -11,7 +11,7 @@ use Rattle.rsc_engine.specs.Runs.{IsMatchRun, IsMatchOf}
 use Rattle.rsc_engine.specs.Preferred.{IsOf}
 use Rattle.rsc_engine.specs.Patterns.{Subject, subject_of}
 use Rattle.rsc_engine.specs.GroupEnds.{RecordsEnds}
-use Rattle.rsc_engine.specs.EnclosesLayout.{IsAmong, StaysAmong, Encloses}
+use Rattle.rsc_engine.specs.EnclosesLayout.{IsOnWay, StaysOnWay, Encloses}
 use Rattle.rsc_engine.specs.BeginsLayout.{AreSteps, last_place, RecordsFrom}
 
 -- ---- one step more
@@ -40,24 +40,24 @@ first_recorded states p q rest slot is e =
 
 -- ---- within a part
 
-silent : (P : ℕ → Type 0) (slot s : ℕ) (state : State) → s ≤ slot → StaysAmong P slot state → is_capture_of s (Some state) ≡ false
+silent : (P : ℕ → Type 0) (slot s : ℕ) (state : State) → s ≤ slot → StaysOnWay P slot state → is_capture_of s (Some state) ≡ false
 silent P slot s (ByteRange a b next) l x = refl
 silent P slot s (Assert look next) l x = refl
 silent P slot s (Fork a b) l x = refl
 silent P slot s (Capture c next) l x = ne_eqb c s (λ e. absurd (omega (arith, e, l, x.0)))
 silent P slot s (Accept p) l x = refl
 
-leads_among : (P : ℕ → Type 0) (slot : ℕ) (state : State) (x : Subject) (end i : ℕ) (to : ℕ × ℕ) → StaysAmong P slot state
+leads_on_way : (P : ℕ → Type 0) (slot : ℕ) (state : State) (x : Subject) (end i : ℕ) (to : ℕ × ℕ) → StaysOnWay P slot state
     → StepsTo state x.terminator x.words x.haystack end i to → P to.0
-leads_among P slot (ByteRange a b next) x end i to h step = subst (λ (s : ℕ). P s) (sym step.2) h
-leads_among P slot (Assert look next) x end i to h step = subst (λ (s : ℕ). P s) (sym step.1) h
-leads_among P slot (Fork a b) x end i to h step =
+leads_on_way P slot (ByteRange a b next) x end i to h step = subst (λ (s : ℕ). P s) (sym step.2) h
+leads_on_way P slot (Assert look next) x end i to h step = subst (λ (s : ℕ). P s) (sym step.1) h
+leads_on_way P slot (Fork a b) x end i to h step =
     ⊎_elim (λ (e : to.0 ≡ a). subst (λ (s : ℕ). P s) (sym e) h.0) (λ (e : to.0 ≡ b). subst (λ (s : ℕ). P s) (sym e) h.1) step.0
-leads_among P slot (Capture c next) x end i to h step = subst (λ (s : ℕ). P s) (sym step.0) h.1
-leads_among P slot (Accept p) x end i to h step = absurd h
+leads_on_way P slot (Capture c next) x end i to h step = subst (λ (s : ℕ). P s) (sym step.0) h.1
+leads_on_way P slot (Accept p) x end i to h step = absurd h
 
 record Leaves (states : List State) (slot low high next : ℕ) (p q : ℕ × ℕ) : Type 0 where
-  among : IsAmong low high next q.0
+  to : IsOnWay low high next q.0
   silent : (s : ℕ) → s ≤ slot → is_capture_of s (slice_get states p.0) ≡ false
 
 step_within : (states : List State) (x : Subject) (end slot low high first next : ℕ) (p q : ℕ × ℕ) → Encloses slot low high first next states
@@ -70,8 +70,8 @@ step_within states x end slot low high first next p q e l h step = go (slice_get
     go (Some state) is y =
         let stays = e.stays p.0 state l h is in
         record {
-          among = leads_among (λ (s : ℕ). IsAmong low high next s) slot state x end p.1 q stays y;
-          silent = λ s m. ap (λ (o : Option State). is_capture_of s o) is ∙ silent (λ (s : ℕ). IsAmong low high next s) slot s state m stays;
+          to = leads_on_way (λ (s : ℕ). IsOnWay low high next s) slot state x end p.1 q stays y;
+          silent = λ s m. ap (λ (o : Option State). is_capture_of s o) is ∙ silent (λ (s : ℕ). IsOnWay low high next s) slot s state m stays;
         }
 
 -- ---- from within a pattern to a match
@@ -133,7 +133,7 @@ from_end states x end number low high accept after body first accepted p q rest 
     go (z ∷ more) steps at = absurd (step_of states x end accept q z (Accept number) step.0 w.accepting steps.0)
 
 from_within : (states : List State) (x : Subject) (end number low high accept after body first accepted : ℕ) (p : ℕ × ℕ) (rest : List (ℕ × ℕ))
-    → IsWhole states number low high accept after body first → IsAmong low high after p.0 → AreSteps states x end p rest
+    → IsWhole states number low high accept after body first → IsOnWay low high after p.0 → AreSteps states x end p rest
     → slice_get states (last_place p rest).0 ≡ Some (Accept accepted) → Finds states number accepted p rest
 from_within states x end number low high accept after body first accepted p [] w (inl h) steps at =
     absurd (w.encloses.stays p.0 (Accept accepted) h.0 h.1 at)
@@ -141,7 +141,7 @@ from_within states x end number low high accept after body first accepted p [] w
     absurd (no_capture (2 * number + 1) accept accepted (sym w.ending ∙ (ap (λ (s : ℕ). slice_get states s) (sym same) ∙ at)))
 from_within states x end number low high accept after body first accepted p (q ∷ rest) w (inl h) steps at =
     let l = step_within states x end (2 * number + 1) low high body after p q w.encloses h.0 h.1 steps.0 in
-    let r = from_within states x end number low high accept after body first accepted q rest w l.among steps.1 at in
+    let r = from_within states x end number low high accept after body first accepted q rest w l.to steps.1 at in
     record {
       its = r.its;
       end = unrecorded states p q rest (2 * number + 1) (l.silent (2 * number + 1) (omega arith)) ∙ r.end;
@@ -168,7 +168,7 @@ RecordsFrom-one states number low high accept after body first w = record { ends
     each x end accepted p (q ∷ rest) same steps at =
         let step : (q.0 ≡ body) × (q.1 ≡ p.1) = step_of states x end first p q (Capture (2 * number) body) same w.starting steps.0 in
         let f = from_within states x end number low high accept after body first accepted q rest w
-        (subst (λ (s : ℕ). IsAmong low high after s) (sym step.0) w.encloses.begins) steps.1 at in
+        (subst (λ (s : ℕ). IsOnWay low high after s) (sym step.0) w.encloses.begins) steps.1 at in
         subst (λ (n : ℕ). AreRecorded states n p (q ∷ rest)) (sym f.its) (
           first_recorded states p q rest (2 * number) (records_in states first (2 * number) body (2 * number) p same w.starting refl)
               (f.none (2 * number) (omega arith)),
