@@ -78,7 +78,11 @@ fn searches_long_spans(rt: HostRuntime) -> Result<(), Fail> {
     let program = program(rt.alloc(), &alternatives(1), true)?;
     for at in [0usize, 1, 253, 254, 255, 256, 4096, 4998, 5000] {
         let text = long_text(rt.alloc(), at)?;
-        let expected = if at < 5000 { Some((at, at.saturating_add(2))) } else { None };
+        let expected = if at < 5000 {
+            Some((at, at.saturating_add(2)))
+        } else {
+            None
+        };
         let found = first(rt.alloc(), &program, &Input::new(&text))?;
         assert!(rt; found == expected, "{at}");
         let input = Input::new(&text).anchored(Anchored::Yes);
