@@ -1,4 +1,4 @@
-//! A regex engine over the contracts of the libraries: a builder of automata, and a search for the leftmost-first match in it, whose every answer is proved.
+//! A regex engine over the contracts of the libraries: a builder of automata, and searches in them for the leftmost-first match, whose every answer is proved.
 //!
 //! [`find`] returns the leftmost-first match of a [`Program`] in an input, and [`Matches`] all of them, one after the other.
 //!
