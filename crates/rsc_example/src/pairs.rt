@@ -13,7 +13,7 @@ pub const WORD: [(u8, u8); 5] = [
     (0x80, 0xFF),
 ];
 
-/// Prints the values of all pairs and tags: the matches of `\w+=(?P<value>\w+)` and of `#(?P<value>\w+)`, where `\w` takes every byte of `WORD`.
+/// Prints the values of all pairs and tags: the matches of `(\w+)=(?P<value>\w+)` and of `#(?P<value>\w+)`, where `\w` takes every byte of `WORD`.
 pub fn pairs(rt: &HostRuntime, text: &str) -> Result<(), Error> {
     let program = pair_or_tag(rt.alloc())?;
     let mut captures = program.captures(rt.alloc())?;
@@ -42,6 +42,7 @@ fn pair_or_tag(alloc: Global) -> Result<Program<UnicodeWord>, Error> {
     let hash = builder.literal(b"#")?;
     let value = word(&builder, Some("value"))?;
     let tag = builder.then(hash, value)?;
+    // The last pattern ends the program; `true` says that haystacks are text.
     builder.build(UnicodeWord, true, tag)
 }
 
