@@ -37,7 +37,7 @@ use table::Table;
 // A span of fewer bytes is a short one.
 const LONG: usize = 4096;
 
-// So many bytes of a first long span are walked over before a row is made.
+// How many bytes of a first long span are walked over before a row is made.
 const NEAR: usize = 256;
 
 /// How many rows a search keeps at most, unless its caller says.

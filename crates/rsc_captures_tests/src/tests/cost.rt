@@ -96,7 +96,7 @@ fn each_group_takes_the_same_time_in_any_pattern(rt: HostRuntime) -> Result<(), 
     Ok(())
 }
 
-// Whether each call on a pattern, of so many of two groups, answers as it should.
+// Whether each call on a pattern answers as it should, where each pattern has two groups.
 fn is_pattern(info: &GroupInfo, pid: PatternID) -> bool {
     let mut names = info.pattern_names(pid);
     let walked = [names.next(), names.next()];
