@@ -1,8 +1,10 @@
 -- Flags, by the bits of their blocks.
-use Rattle.std.proofs.Common.{◌≡◌, ◌≢◌, ℕ, ◌*◌, ◌/◌, ◌%◌, ◌<◌, ◌≤◌, ◌==◌, ⊎_elim, Bool, true, false, List, length, get_or, set, replicate, refl, ap, sym, ◌∙◌, arith}
+use Rattle.std.proofs.Common.{◌≡◌, ◌≢◌, ℕ, ◌+◌, ◌-◌, ◌*◌, ◌/◌, ◌%◌, ◌^◌, ◌<◌, ◌≤◌, ◌==◌, ◌⊎◌, ⊎_elim, Bool, true, false, List, length, get_or, set, replicate, refl, ap, sym, ◌∙◌, arith}
 use Rattle.std.specs.Int.{bit_at}
+use Rattle.std.specs.Int.Bits.{bit_and, bit_or}
 use Rattle.std.proofs.lemmas.Bool.{cases_lt, cases_eq}
-use Rattle.std.proofs.lemmas.Nat.Bits.{bit_at-zero}
+use Rattle.std.proofs.lemmas.Nat.{pow_pos, one_shl, shl_whole}
+use Rattle.std.proofs.lemmas.Nat.Bits.{bit_at-zero, bit_at-lt, bit_at_and, bit_at_or, bit_at_cat_low, bit_at_cat_high, bit_at_ones, bit_at_ones_above}
 use Rattle.std.proofs.lemmas.Grind.{get_or-set_at}
 use Rattle.std.proofs.lemmas.List.{get_or-replicate, length-replicate, get_or_past, get_or-set_other, length-set, set-set, ext_get_or}
 use Rattle.std.proofs.lemmas.List.FromFn.{get_or-map-range_with_len, length-map-range_with_len}
@@ -74,55 +76,6 @@ set_flag count blocks n b l room here kept =
         ∙ sym (get_or-set_other (flags_of count blocks) n k true false apart))
         (cases_eq k n)
 
--- a bit that isn't set is a flag that isn't
-pub flag_out : (v : List Bool) (count : ℕ) (blocks : List ℕ) (n i block : ℕ) → flags_of count blocks ≡ v → n < length v → n / 64 ≡ i
-    → block ≡ get_or blocks i 0 → (bit_at block (n % 64) == 1) ≡ false → get_or v n false ≡ false
-flag_out v count blocks n i block view l same read out =
-    ap (λ (x : List Bool). get_or x n false) (sym view)
-    ∙ flag_is count blocks n (omega (arith, l, length_is v count blocks view))
-    ∙ ap (λ (k : ℕ). bit_at (get_or blocks k 0) (n % 64) == 1) same
-    ∙ ap (λ (x : ℕ). bit_at x (n % 64) == 1) (sym read)
-    ∙ out
-
--- to set three bits of one block is to set three flags
-pub set_flags : (count : ℕ) (blocks : List ℕ) (a b c one two three : ℕ) → a < count → b < count → c < count → count ≤ 64 * length blocks
-    → b / 64 ≡ a / 64 → c / 64 ≡ a / 64
-    → bit_at one (a % 64) ≡ 1 → ((j : ℕ) → j ≢ a % 64 → bit_at one j ≡ bit_at (get_or blocks (a / 64) 0) j)
-    → bit_at two (b % 64) ≡ 1 → ((j : ℕ) → j ≢ b % 64 → bit_at two j ≡ bit_at one j)
-    → bit_at three (c % 64) ≡ 1 → ((j : ℕ) → j ≢ c % 64 → bit_at three j ≡ bit_at two j)
-    → flags_of count (set blocks (a / 64) three) ≡ set (set (set (flags_of count blocks) a true) b true) c true
-set_flags count blocks a b c one two three la lb lc room with_b with_c here kept here_b kept_b here_c kept_c =
-    ap (λ (x : List ℕ). flags_of count x) (sym whole)
-    ∙ set_flag count second c three lc (rw (length-set first (b / 64) two) room_first) here_c
-    (λ j h. kept_c j h ∙ ap (λ (x : ℕ). bit_at x j) (sym read_c))
-    ∙ ap (λ (v : List Bool). set v c true) (set_flag count first b two lb room_first here_b
-    (λ j h. kept_b j h ∙ ap (λ (x : ℕ). bit_at x j) (sym read_b))
-    ∙ ap (λ (v : List Bool). set v b true) (set_flag count blocks a one la room here kept))
-  where
-    first : List ℕ
-    first = set blocks (a / 64) one
-
-    second : List ℕ
-    second = set first (b / 64) two
-
-    within : a / 64 < length blocks
-    within = omega (arith, la, room)
-
-    room_first : count ≤ 64 * length first
-    room_first = rw (length-set blocks (a / 64) one) room
-
-    read_b : get_or first (b / 64) 0 ≡ one
-    read_b = get_or-set_at blocks (a / 64) (b / 64) one 0 with_b (omega (arith, within, with_b))
-
-    read_c : get_or second (c / 64) 0 ≡ two
-    read_c = get_or-set_at first (b / 64) (c / 64) two 0 (with_c ∙ sym with_b) (omega (arith, within, with_c, length-set blocks (a / 64) one))
-
-    whole : set second (c / 64) three ≡ set blocks (a / 64) three
-    whole = ap (λ (i : ℕ). set (set first i two) (c / 64) three) with_b
-        ∙ ap (λ (i : ℕ). set (set first (a / 64) two) i three) with_c
-        ∙ set-set first (a / 64) two three
-        ∙ set-set blocks (a / 64) one three
-
 -- where a bit is kept, so is its flag
 pub kept_all : (count now : ℕ) (blocks new : List ℕ) (n : ℕ) → now ≡ count → flag_in new n ≡ flag_in blocks n
     → get_or (flags_of now new) n false ≡ get_or (flags_of count blocks) n false
@@ -131,3 +84,61 @@ kept_all count now blocks new n same kept = ⊎_elim
     (λ (le : count ≤ n). get_or_past (flags_of now new) n false (omega (arith, le, same, count_is now new))
     ∙ sym (get_or_past (flags_of count blocks) n false (omega (arith, le, count_is count blocks))))
     (cases_lt n count)
+
+-- a bit that isn't set is a flag that isn't
+pub flag_out : (v : List Bool) (count : ℕ) (blocks : List ℕ) (n : ℕ) → flags_of count blocks ≡ v → flag_in blocks n ≡ false → get_or v n false ≡ false
+flag_out v count blocks n view out = ap (λ (x : List Bool). get_or x n false) (sym view) ∙ ⊎_elim
+    (λ (l : n < count). flag_is count blocks n l ∙ out)
+    (λ (le : count ≤ n). get_or_past (flags_of count blocks) n false (omega (arith, le, count_is count blocks)))
+    (cases_lt n count)
+
+-- of two blocks that have no bit in common, the one has no bit that the other has
+pub none_common : (block mask j : ℕ) → bit_and block mask ≡ 0 → bit_at mask j ≡ 1 → (bit_at block j == 1) ≡ false
+none_common block mask j none one =
+    let out : bit_at block j ≡ 0 = omega (arith, bit_at_and block mask j, ap (λ (x : ℕ). bit_at x j) none, bit_at-zero j, one, bit_at-lt block j) in
+    ap (λ (x : ℕ). x == 1) out
+
+-- the bits of a block and of a mask
+pub bit_joined : (block mask j : ℕ) → bit_at mask j ≡ 1 → bit_at (bit_or block mask) j ≡ 1
+bit_joined block mask j one = omega (arith, bit_at_or block mask j, one, bit_at-lt block j)
+
+pub bit_alone : (block mask j : ℕ) → bit_at mask j ≡ 0 → bit_at (bit_or block mask) j ≡ bit_at block j
+bit_alone block mask j none = omega (arith, bit_at_or block mask j, none)
+
+-- a flag in a block that is written
+pub flag_at : (count : ℕ) (blocks : List ℕ) (i b n : ℕ) → i < length blocks → n / 64 ≡ i → n < count
+    → get_or (flags_of count (set blocks i b)) n false ≡ (bit_at b (n % 64) == 1)
+flag_at count blocks i b n within here l =
+    flag_is count (set blocks i b) n l ∙ ap (λ (x : ℕ). bit_at x (n % 64) == 1) (get_or-set_at blocks i (n / 64) b 0 here within)
+
+-- where a block is another one, or the bit is kept, the flag is
+pub flag_kept : (blocks : List ℕ) (i b n : ℕ) → i < length blocks → (n / 64 ≡ i → bit_at b (n % 64) ≡ bit_at (get_or blocks i 0) (n % 64))
+    → flag_in (set blocks i b) n ≡ flag_in blocks n
+flag_kept blocks i b n within kept = ⊎_elim
+    (λ (same : n / 64 ≡ i).
+    ap (λ (x : ℕ). bit_at x (n % 64) == 1) (get_or-set_at blocks i (n / 64) b 0 same within)
+    ∙ ap (λ (x : ℕ). x == 1) (kept same)
+    ∙ ap (λ (k : ℕ). bit_at (get_or blocks k 0) (n % 64) == 1) (sym same))
+    (λ (apart : (n / 64 ≡ i) → ⊥). ap (λ (x : ℕ). bit_at x (n % 64) == 1) (get_or-set_other blocks i (n / 64) b 0 apart))
+    (cases_eq (n / 64) i)
+
+-- ---- bits in a row
+
+ones_are : (count low : ℕ) → count < 64 → low + count ≤ 64 → ((1 * 2 ^ count) % 2 ^ 64 - 1) * 2 ^ low % 2 ^ 64 ≡ (2 ^ count - 1) * 2 ^ low + 0
+ones_are count low l le =
+    rw (one_shl count 64 l) (shl_whole (2 ^ count - 1) count low 64 (omega (arith, pow_pos count)) (omega (arith, le)) ∙ omega arith)
+
+pub ones_set : (count low j : ℕ) → count < 64 → low + count ≤ 64 → low ≤ j → j < low + count
+    → bit_at (((1 * 2 ^ count) % 2 ^ 64 - 1) * 2 ^ low % 2 ^ 64) j ≡ 1
+ones_set count low j l le from to =
+    ap (λ (x : ℕ). bit_at x j) (ones_are count low l le)
+    ∙ bit_at_cat_high (2 ^ count - 1) low 0 j (pow_pos low) from
+    ∙ bit_at_ones count (j - low) (omega (arith, from, to))
+
+pub ones_unset : (count low j : ℕ) → count < 64 → low + count ≤ 64 → (j < low) ⊎ (low + count ≤ j)
+    → bit_at (((1 * 2 ^ count) % 2 ^ 64 - 1) * 2 ^ low % 2 ^ 64) j ≡ 0
+ones_unset count low j l le out = ap (λ (x : ℕ). bit_at x j) (ones_are count low l le) ∙ ⊎_elim
+    (λ (below : j < low). bit_at_cat_low (2 ^ count - 1) low 0 j below ∙ bit_at-zero j)
+    (λ (above : low + count ≤ j). bit_at_cat_high (2 ^ count - 1) low 0 j (pow_pos low) (omega (arith, above))
+    ∙ bit_at_ones_above count (j - low) (omega (arith, above)))
+    out

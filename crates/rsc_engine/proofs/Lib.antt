@@ -8,6 +8,7 @@ pub mod RunsLemmas  -- runs in a part of a span; and what a run records is betwe
 pub mod TrailsLayoutLemmas  -- the stops of a trail, as it grows and goes back
 pub mod TrailLemmas  -- where a trail begins and ends, and what its visits are
 pub mod TurnsLemmas  -- turns of a loop, one after the other
+pub mod TurnsLayoutLemmas  -- the flags of a loop's turns that are in the same blocks, and what such turns do
 pub mod PreferredLemmas  -- there is at most one preferred match, wherever a search's start is; the leftmost one, and that there is none
 pub mod NextMatchesLemmas  -- which match is next, as the search's start moves on
 pub mod RowsLayoutLemmas  -- a row at a position is exact, and so is the next one

@@ -1,6 +1,6 @@
 -- The numbers of places: the flags that have them, and what they say where a search begins later.
-use Rattle.std.proofs.Common.{◌≡◌, ℕ, zero, suc, ◌+◌, ◌-◌, ◌*◌, ◌<◌, ◌≤◌, ◌⊎◌, inl, inr, ⊎_elim, Bool, true, false, not, cond, List, [], ◌∷◌, ◌++◌, length, get_or, set, refl, sym, ap, ◌∙◌, arith, length-append, Option, Some, None, true≢false, count_by, is_some}
-use Rattle.std.proofs.lemmas.Bool.{cases_eq, cases_order}
+use Rattle.std.proofs.Common.{◌≡◌, ◌≢◌, ℕ, zero, suc, ◌+◌, ◌-◌, ◌*◌, ◌/◌, ◌%◌, ◌<◌, ◌≤◌, ◌⊎◌, inl, inr, ⊎_elim, Bool, true, false, not, cond, List, [], ◌∷◌, ◌++◌, length, get_or, set, refl, sym, ap, ◌∙◌, arith, length-append, Option, Some, None, true≢false, count_by, is_some}
+use Rattle.std.proofs.lemmas.Bool.{cases_eq, cases_lt, cases_order}
 use Rattle.std.proofs.Math.Nat.{mul-le-mul_right}
 use Rattle.std.proofs.lemmas.List.Sums.{sum_by-set, sum_by_push}
 use Rattle.std.proofs.lemmas.Grind.{get_or-set_at}
@@ -19,25 +19,30 @@ use Rattle.rsc_engine.proofs.BacktrackLemmas.{IsSeenMore}
 next_row : (a b w : ℕ) → a < b → a * w + w ≤ b * w
 next_row a b w l = omega (arith, mul-le-mul_right {m = a + 1} {n = b} w (omega (arith, l)))
 
--- a position's flags are there
-pub row_below : (e : Search) (v : List Bool) (i before states len : ℕ) → HasFlags e v → e.start ≤ i → i ≤ e.end → before ≡ e.end - i → states ≡ length e.states
-    → len ≡ length v → before * states + states ≤ len
-row_below e v i before states len room low high is count size =
-    rw (count, size) (omega (arith, room, next_row before (e.end + 1 - e.start) (length e.states) (omega (arith, is, low, high))))
+-- a position's blocks are there
+pub blocks_below : (e : Search) (v : List Bool) (i before states len : ℕ) → HasFlags e v → e.start ≤ i → i ≤ e.end → before ≡ e.end - i
+    → states ≡ length e.states → len ≡ length v → 64 * (before / 64 * states + states) ≤ len
+blocks_below e v i before states len room low high is count size =
+    let fewer : before / 64 < (e.end - e.start) / 64 + 1 = omega (arith, is, low, high) in
+    rw (count, size) (omega (arith, room, next_row (before / 64) ((e.end - e.start) / 64 + 1) (length e.states) fewer))
 
-number_below : (e : Search) (v : List Bool) (p : ℕ × ℕ) → HasFlags e v → IsPlace e p → number_in e p < length v
+pub number_below : (e : Search) (v : List Bool) (p : ℕ × ℕ) → HasFlags e v → IsPlace e p → number_in e p < length v
 number_below e v p room there =
-    omega (arith, row_below e v p.1 (e.end - p.1) (length e.states) (length v) room there.1 there.2 refl refl refl, there.0)
+    omega (arith, blocks_below e v p.1 (e.end - p.1) (length e.states) (length v) room there.1 there.2 refl refl refl, there.0)
 
 -- each place has a number of its own
-one_number : (e : Search) (p q : ℕ × ℕ) → IsPlace e p → IsPlace e q → number_in e q ≡ number_in e p → q ≡ p
+pub one_number : (e : Search) (p q : ℕ × ℕ) → IsPlace e p → IsPlace e q → number_in e q ≡ number_in e p → q ≡ p
 one_number e p q here there same = ⊎_elim
-    (λ (row : q.1 ≡ p.1). pair_is p q.0 q.1 (omega (arith, same, ap (λ (s : ℕ). (e.end - s) * length e.states) row)) (sym row))
-    (λ (h : (q.1 < p.1) ⊎ (p.1 < q.1)). ⊎_elim
-    (λ (l : q.1 < p.1). absurd (omega (arith, same, next_row (e.end - p.1) (e.end - q.1) (length e.states) (omega (arith, l, here.2)), here.0, there.0)))
-    (λ (l : p.1 < q.1). absurd (omega (arith, same, next_row (e.end - q.1) (e.end - p.1) (length e.states) (omega (arith, l, there.2)), here.0, there.0)))
+    (λ (row : (e.end - q.1) / 64 ≡ (e.end - p.1) / 64).
+    let equal : (e.end - q.1) / 64 * length e.states ≡ (e.end - p.1) / 64 * length e.states = ap (λ (g : ℕ). g * length e.states) row in
+    pair_is p q.0 q.1 (omega (arith, same, equal)) (omega (arith, same, row, here.2, there.2)))
+    (λ (h : ((e.end - q.1) / 64 < (e.end - p.1) / 64) ⊎ ((e.end - p.1) / 64 < (e.end - q.1) / 64)). ⊎_elim
+    (λ (l : (e.end - q.1) / 64 < (e.end - p.1) / 64).
+    absurd (omega (arith, same, next_row ((e.end - q.1) / 64) ((e.end - p.1) / 64) (length e.states) l, here.0, there.0)))
+    (λ (l : (e.end - p.1) / 64 < (e.end - q.1) / 64).
+    absurd (omega (arith, same, next_row ((e.end - p.1) / 64) ((e.end - q.1) / 64) (length e.states) l, here.0, there.0)))
     h)
-    (cases_order q.1 p.1)
+    (cases_order ((e.end - q.1) / 64) ((e.end - p.1) / 64))
 
 pub flagged_more : (e : Search) (v : List Bool) (p : ℕ × ℕ) (n : ℕ) → HasFlags e v → IsPlace e p → n ≡ number_in e p
     → get_or v n false ≡ false → IsSeenMore e (is_flagged e v) p (is_flagged e (set v n true))
@@ -105,31 +110,38 @@ beyond e from seen after run others p t n x g q there later s = ⊎_elim
         omega (arith, rw same at (up k (length run - 1 - k) (omega (arith, l))), leads-rises e (place run (length run - 1)) p (n.leads (omega (arith, l))))
 
 -- without the places at a position, each from there on that was seen is done
-pub closed_from : (e : Search) (i : ℕ) (old new : List Bool) (first states : ℕ) → i ≤ e.end → first ≡ (e.end - i) * states → states ≡ length e.states
-    → IsClosedFrom e (i + 1) (is_flagged e old)
-    → ((n : ℕ) → first ≤ n → n < first + states → get_or new n false ≡ false)
-    → ((n : ℕ) → n < first → get_or new n false ≡ get_or old n false) → IsClosedFrom e i (is_flagged e new)
-closed_from e i old new first states end is count beyond out kept p there from s = ⊎_elim
-    (λ (same : p.1 ≡ i).
-    absurd (true≢false (sym s ∙ out (number_in e p) (omega (arith, is, row same)) (omega (arith, is, row same, there.0, count)))))
+pub closed_from : (e : Search) (i : ℕ) (old new : List Bool) (first states bit : ℕ) → i ≤ e.end → first ≡ (e.end - i) / 64 * states
+    → states ≡ length e.states → bit ≡ (e.end - i) % 64 → IsClosedFrom e (i + 1) (is_flagged e old)
+    → ((k : ℕ) → first ≤ k → k < first + states → get_or new (64 * k + bit) false ≡ false)
+    → ((n : ℕ) → (n / 64 < first) ⊎ (n % 64 ≢ bit) → get_or new n false ≡ get_or old n false) → IsClosedFrom e i (is_flagged e new)
+closed_from e i old new first states bit end is count at beyond out kept p there from s = ⊎_elim
+    (λ (same : p.1 ≡ i). absurd (true≢false (sym s ∙ ap (λ (n : ℕ). get_or new n false) (number p same)
+    ∙ out (first + p.0) (omega arith) (omega (arith, there.0, count)))))
     (λ (apart : (p.1 ≡ i) → ⊥).
     let later : i + 1 ≤ p.1 = omega (arith, from, apart) in
-    let d : IsDone e (is_flagged e old) p = beyond p there later (sym (kept (number_in e p) (below p there later)) ∙ s) in
+    let d : IsDone e (is_flagged e old) p = beyond p there later (sym (kept (number_in e p) (other p there later)) ∙ s) in
     record {
       no_match = d.no_match;
       steps = λ q here l. kept_settled e (is_flagged e old) (is_flagged e new) q
-          (λ was. kept (number_in e q) (below q here (omega (arith, later, leads-rises e p q l))) ∙ was) (d.steps q here l);
+          (λ was. kept (number_in e q) (other q here (omega (arith, later, leads-rises e p q l))) ∙ was) (d.steps q here l);
     })
     (cases_eq p.1 i)
   where
-    row : p.1 ≡ i → (e.end - p.1) * length e.states ≡ (e.end - i) * states
-    row same = rw (same, count) refl
+    groups : (e.end - i) / 64 * states ≡ (e.end - i) / 64 * length e.states
+    groups = rw count refl
 
-    below : (q : ℕ × ℕ) → IsPlace e q → i + 1 ≤ q.1 → number_in e q < first
-    below q here l =
-        let less = next_row (e.end - q.1) (e.end - i) (length e.states) (omega (arith, l, here.2, end)) in
-        let same : (e.end - i) * states ≡ (e.end - i) * length e.states = rw count refl in
-        omega (arith, is, less, same, here.0)
+    number : (p : ℕ × ℕ) → p.1 ≡ i → number_in e p ≡ 64 * (first + p.0) + bit
+    number p same =
+        let equal : (e.end - p.1) / 64 * length e.states ≡ (e.end - i) / 64 * length e.states =
+        ap (λ (k : ℕ). (e.end - k) / 64 * length e.states) same in
+        omega (arith, is, groups, equal, at, same)
+
+    other : (q : ℕ × ℕ) → IsPlace e q → i + 1 ≤ q.1 → (number_in e q / 64 < first) ⊎ (number_in e q % 64 ≢ bit)
+    other q here l = ⊎_elim
+        (λ (less : (e.end - q.1) / 64 < (e.end - i) / 64).
+        inl (omega (arith, is, groups, next_row ((e.end - q.1) / 64) ((e.end - i) / 64) (length e.states) less, here.0)))
+        (λ (le : (e.end - i) / 64 ≤ (e.end - q.1) / 64). inr (λ equal. absurd (omega (arith, le, l, here.2, end, at, equal))))
+        (cases_lt ((e.end - q.1) / 64) ((e.end - i) / 64))
 
 pub ends_there : (run : List (ℕ × ℕ)) (p : ℕ × ℕ) → place (run ++ p ∷ []) (length (run ++ p ∷ []) - 1) ≡ p
 ends_there run p = place-after run p (length (run ++ p ∷ []) - 1) (omega (arith, length-append run (p ∷ [])))
@@ -159,4 +171,8 @@ even_later e i seen up closed = later_start e i seen up (λ p there from s. clos
 
 -- and needs no more flags
 pub fewer_flags : (e : Search) (i n : ℕ) → e.start ≤ i → AreEnough e n → AreEnough (record e { start = i }) n
-fewer_flags e i n up room = omega (arith, room, mul-le-mul_right {m = e.end + 1 - i} {n = e.end + 1 - e.start} (length e.states) (omega (arith, up)))
+fewer_flags e i n up room = omega (
+  arith,
+  room,
+  mul-le-mul_right {m = (e.end - i) / 64 + 1} {n = (e.end - e.start) / 64 + 1} (length e.states) (omega (arith, up)),
+)

@@ -13,7 +13,7 @@ use Rattle.rsc_engine.specs.TrailsLayout.{Stop, stops_from, stops_of, IsApart, I
 use Rattle.rsc_engine.proofs.TrailsLayoutLemmas.{stops-one, stops-more}
 use Rattle.rsc_engine.proofs.BacktrackLemmas.{StandsAfter-more}
 use Rattle.rsc_engine.proofs.WalksLayoutLemmas.{futile_fork, pair_is}
-use Rattle.rsc_engine.proofs.NumbersLemmas.{flagged_more, IsLess-flags}
+use Rattle.rsc_engine.proofs.NumbersLemmas.{flagged_more, number_below, one_number, IsLess-flags}
 
 -- ---- moves of a turn
 
@@ -97,27 +97,23 @@ pub record IsFree (e : Search) (v : List Bool) (fork class range first last i nc
   pub there : slice_get e.haystack i ≡ Some byte
   pub low : first ≤ byte
   pub high : byte ≤ last
+  pub from : e.start ≤ i
   pub within : i < e.end
   pub room : HasFlags e v
+  pub class_there : class < length e.states
+  pub range_there : range < length e.states
+  pub fork_there : fork < length e.states
   pub class_at : nc ≡ number_in e (class, i)
   pub range_at : nr ≡ number_in e (range, i)
   pub fork_at : nf ≡ number_in e (fork, i + 1)
-  pub class_in : nc < length v
-  pub range_in : nr < length v
-  pub fork_in : nf < length v
   pub no_class : get_or v nc false ≡ false
   pub no_range : get_or v nr false ≡ false
   pub no_fork : get_or v nf false ≡ false
-  pub before : nf < nc
-  pub before_range : nf < nr
 
 -- ---- the flags of a turn
 
--- the flags of the next position come before
-pub next-row : (end i w : ℕ) → i < end → (end - i) * w ≡ (end - (i + 1)) * w + w
-next-row end i w l =
-    let same : end - i ≡ end - (i + 1) + 1 = omega (arith, l) in
-    rw same (omega arith)
+flag_there : (e : Search) (v : List Bool) (s i n : ℕ) → HasFlags e v → s < length e.states → e.start ≤ i → i ≤ e.end → n ≡ number_in e (s, i) → n < length v
+flag_there e v s i n room there low high at = omega (arith, at, number_below e v (s, i) room (there, low, high))
 
 pub set-three : (v : List Bool) (a b c : ℕ) → length (set (set (set v a true) b true) c true) ≡ length v
 set-three v a b c = length-set (set (set v a true) b true) c true ∙ length-set (set v a true) b true ∙ length-set v a true
@@ -128,11 +124,35 @@ after_set v n m apart none = get_or-set_other v n m true false apart ∙ none
 room_set : (e : Search) (v : List Bool) (n : ℕ) → HasFlags e v → HasFlags e (set v n true)
 room_set e v n room = rw (length-set v n true) room
 
+class_in : (e : Search) (v : List Bool) (fork class range first last i nc nr nf : ℕ) → IsFree e v fork class range first last i nc nr nf → nc < length v
+class_in e v fork class range first last i nc nr nf f = flag_there e v class i nc f.room f.class_there f.from (omega (arith, f.within)) f.class_at
+
+range_in : (e : Search) (v : List Bool) (fork class range first last i nc nr nf : ℕ) → IsFree e v fork class range first last i nc nr nf → nr < length v
+range_in e v fork class range first last i nc nr nf f = flag_there e v range i nr f.room f.range_there f.from (omega (arith, f.within)) f.range_at
+
+fork_in : (e : Search) (v : List Bool) (fork class range first last i nc nr nf : ℕ) → IsFree e v fork class range first last i nc nr nf → nf < length v
+fork_in e v fork class range first last i nc nr nf f = flag_there e v fork (i + 1) nf f.room f.fork_there (omega (arith, f.from)) (omega (arith, f.within)) f.fork_at
+
+-- flags of places at different positions have different numbers
+pub apart_at : (e : Search) (s t i j n m : ℕ) → s < length e.states → t < length e.states → e.start ≤ i → i ≤ e.end → e.start ≤ j → j ≤ e.end
+    → n ≡ number_in e (s, i) → m ≡ number_in e (t, j) → n ≡ m → (s ≡ t) × (i ≡ j)
+apart_at e s t i j n m s_there t_there low high from to at other same =
+    let equal : (s, i) ≡ (t, j) = one_number e (t, j) (s, i) (t_there, from, to) (s_there, low, high) (sym at ∙ same ∙ other) in
+    (ap (λ (p : ℕ × ℕ). p.0) equal, ap (λ (p : ℕ × ℕ). p.1) equal)
+
 apart_fork : (e : Search) (v : List Bool) (fork class range first last i nc nr nf : ℕ) → IsFree e v fork class range first last i nc nr nf → nf ≡ nc → ⊥
-apart_fork e v fork class range first last i nc nr nf f same = absurd (omega (arith, f.before, same))
+apart_fork e v fork class range first last i nc nr nf f same = absurd (omega (
+  arith,
+  (apart_at e fork class (i + 1) i nf nc f.fork_there f.class_there (omega (arith, f.from)) (omega (arith, f.within)) f.from (omega (arith, f.within))
+      f.fork_at f.class_at same).1,
+))
 
 apart_fork_range : (e : Search) (v : List Bool) (fork class range first last i nc nr nf : ℕ) → IsFree e v fork class range first last i nc nr nf → nf ≡ nr → ⊥
-apart_fork_range e v fork class range first last i nc nr nf f same = absurd (omega (arith, f.before_range, same))
+apart_fork_range e v fork class range first last i nc nr nf f same = absurd (omega (
+  arith,
+  (apart_at e fork range (i + 1) i nf nr f.fork_there f.range_there (omega (arith, f.from)) (omega (arith, f.within)) f.from (omega (arith, f.within))
+      f.fork_at f.range_at same).1,
+))
 
 no_range_is_fork : (first last fork range rest : ℕ) → Some (ByteRange first last fork) ≡ Some (Fork range rest) → ⊥
 no_range_is_fork first last fork range rest h = absurd (cc)
@@ -140,7 +160,8 @@ no_range_is_fork first last fork range rest h = absurd (cc)
 apart_class : (e : Search) (v : List Bool) (fork class range first last i nc nr nf rest : ℕ) → IsFree e v fork class range first last i nc nr nf
     → slice_get e.states range ≡ Some (ByteRange first last fork) → slice_get e.states class ≡ Some (Fork range rest) → nr ≡ nc → ⊥
 apart_class e v fork class range first last i nc nr nf rest f back there same =
-    let one : range ≡ class = omega (arith, f.class_at, f.range_at, same) in
+    let one : range ≡ class = (apart_at e range class i i nr nc f.range_there f.class_there f.from (omega (arith, f.within)) f.from
+    (omega (arith, f.within)) f.range_at f.class_at same).0 in
     no_range_is_fork first last fork range rest (sym back ∙ ap (λ (s : ℕ). slice_get e.states s) one ∙ there)
 
 -- ---- a turn by a range alone
@@ -239,8 +260,8 @@ less_once e v others fork class range exit first last i nc nr nf l f = ⊎_elim
     by_range : IsFree e v fork range range first last i nc nr nf
         → left_to_do (set (set (set v nc true) nr true) nf true) (others ++ map (λ (s : Stop). s.1) (stops_on e fork range exit i)) ≤ left_to_do v others
     by_range g =
-        let one = less_one v nc others None g.class_in g.no_class in
-        let two = less_one (set v nc true) nf (others ++ None ∷ []) (Some exit) (rw (length-set v nc true) g.fork_in)
+        let one = less_one v nc others None (class_in e v fork range range first last i nc nr nf g) g.no_class in
+        let two = less_one (set v nc true) nf (others ++ None ∷ []) (Some exit) (rw (length-set v nc true) (fork_in e v fork range range first last i nc nr nf g))
         (after_set v nc nf (apart_fork e v fork range range first last i nc nr nf g) g.no_fork) in
         rw (
           same_flags e v fork range first last i nc nr nf g,
@@ -251,11 +272,11 @@ less_once e v others fork class range exit first last i nc nr nf l f = ⊎_elim
     by_class : (rest : ℕ) → slice_get e.states class ≡ Some (Fork range rest)
         → left_to_do (set (set (set v nc true) nr true) nf true) (others ++ map (λ (s : Stop). s.1) (stops_on e fork class exit i)) ≤ left_to_do v others
     by_class rest there =
-        let one = less_one v nc others None f.class_in f.no_class in
-        let two = less_one (set v nc true) nr (others ++ None ∷ []) None (rw (length-set v nc true) f.range_in)
+        let one = less_one v nc others None (class_in e v fork class range first last i nc nr nf f) f.no_class in
+        let two = less_one (set v nc true) nr (others ++ None ∷ []) None (rw (length-set v nc true) (range_in e v fork class range first last i nc nr nf f))
         (after_set v nc nr (apart_class e v fork class range first last i nc nr nf rest f l.back there) f.no_range) in
         let three = less_one (set (set v nc true) nr true) nf (others ++ None ∷ [] ++ None ∷ []) (Some exit)
-        (rw (length-set (set v nc true) nr true, length-set v nc true) f.fork_in)
+        (rw (length-set (set v nc true) nr true, length-set v nc true) (fork_in e v fork class range first last i nc nr nf f))
         (after_set (set v nc true) nr nf (apart_fork_range e v fork class range first last i nc nr nf f)
         (after_set v nc nf (apart_fork e v fork class range first last i nc nr nf f) f.no_fork)) in
         rw (

@@ -9,6 +9,7 @@ pub mod NextMatches  -- which match is next; `last` is where the last one ended,
 pub mod MovesLayout  -- what a state does at a position
 pub mod WalksLayout  -- what a backtracker has on hand
 pub mod TrailsLayout  -- a trail: which places each of its visits stands for, and which other ways are left to try there
+pub mod TurnsLayout  -- the flags of a loop's turns, and what turns do
 pub mod Patterns  -- what a pattern matches, and which programs match it
 pub mod GroupEnds  -- the group of the whole match: what runs record in its slots
 pub mod Parts  -- which pattern a part is, and which groups it has

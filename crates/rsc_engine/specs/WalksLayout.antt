@@ -1,7 +1,7 @@
 -- What a backtracker has on hand. It visits places: a place is seen once its flag is set. It's settled if it was seen or no match is reached from it, and done
 -- if each step from it leads to a settled one. Seen places are closed if each is done: then no match is reached from any of them. While the backtracker is at
 -- work, the places on its run were seen and aren't done yet.
-use Rattle.std.specs.Prelude.{◌≡◌, ◌≢◌, ℕ, ◌+◌, ◌-◌, ◌*◌, ◌<◌, ◌≤◌, ◌⊎◌, Bool, true, false, not, List, length, take, slice_get, slice_index_or, Option, Some, None, count_by, is_some}
+use Rattle.std.specs.Prelude.{◌≡◌, ◌≢◌, ℕ, ◌+◌, ◌-◌, ◌*◌, ◌/◌, ◌%◌, ◌<◌, ◌≤◌, ◌⊎◌, Bool, true, false, not, List, length, take, slice_get, slice_index_or, Option, Some, None, count_by, is_some}
 use Rattle.rsc_nfa.specs.declared.state.State.TheVariants.{Fork}
 use Rattle.rsc_nfa.specs.Steps.{IsRun, place}
 use Rattle.rsc_engine.specs.Searches.{Search}
@@ -76,18 +76,19 @@ StandsAfter e from p seen run others (Goes s i) = IsTrail e from run others × I
 StandsAfter e from p seen run others (Forks a b) = IsTrail e from run others × IsOnward e from run (a, p.1) × IsExplored e from seen run others (Some (a, p.1))
 StandsAfter e from p seen run others Accepts = IsPreferred e from run
 
--- ---- the flags of places, those of the last position first, so that they stay where they are as a search's start moves on
+-- ---- the flags of places: a block has those of a state at 64 positions side by side; those of the last positions come first, so that they stay where they
+-- are as a search's start moves on
 
 -- that many are enough for a flag for each state and each position of the span
 abbrev pub AreEnough : Search → ℕ → Type 0
-AreEnough e n = (e.end + 1 - e.start) * length e.states ≤ n
+AreEnough e n = 64 * (((e.end - e.start) / 64 + 1) * length e.states) ≤ n
 
 abbrev pub HasFlags : Search → List Bool → Type 0
 HasFlags e flags = AreEnough e (length flags)
 
 -- the number of a place
 abbrev pub number_in : Search → ℕ × ℕ → ℕ
-number_in e p = (e.end - p.1) * length e.states + p.0
+number_in e p = 64 * ((e.end - p.1) / 64 * length e.states + p.0) + (e.end - p.1) % 64
 
 -- the flag of the place is set
 abbrev pub is_flagged : Search → List Bool → ℕ × ℕ → Bool

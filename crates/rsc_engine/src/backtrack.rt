@@ -12,9 +12,9 @@ ghost use Rattle.rsc_engine.specs.Preferred.{IsPreferred, IsLeftmostFirst, HasNo
 ghost use Rattle.rsc_engine.specs.WalksLayout.{HasFlags, IsClosed, IsClosedFrom, IsSettled, is_flagged, IsLess};
 ghost use Rattle.rsc_engine.specs.TrailsLayout.{run_of, others_of, ends_at, HasTrail, IsOnwardFrom, IsExploredBy, StandsWith, left_with};
 
-use crate::flags::Flags;
+use crate::flags::{BITS, Flags};
 use crate::moves::{Move, move_of, other_way};
-use crate::numbers::{first_after, number_of, place_count};
+use crate::numbers::{first_block, number_of, place_count};
 use crate::starts::Starts;
 use crate::trail::{Visit, exit_of};
 use crate::turns::go_round;
@@ -102,8 +102,7 @@ impl Walk {
                 Ok(true) => return Ok(true),
                 Ok(false) => {}
                 Err(error) => {
-                    let len = self.visited.len();
-                    self.visited.clear(0, len);
+                    self.visited.clear();
                     return Err(error);
                 }
             }
@@ -256,8 +255,10 @@ impl Walk {
             (is_flagged (search_in W.word_chars program.now input.now) self.new.visited) }
     {
         let states = program.len();
-        let first = first_after(input.end() - position, states, self.visited.len());
-        self.visited.clear(first, first + states);
+        let before = input.end() - position;
+        let first = first_block(before, states, self.visited.len());
+        self.visited
+            .clear_in_each(first, first + states, before % BITS);
     }
 
     // Goes back to the last place with another way, and answers where it leads.

@@ -1,5 +1,5 @@
 //! A list of flags, 64 to a block.
-ghost use Rattle.std.specs.Prelude.{◌≡◌, ◌≢◌, ◌+◌, ◌/◌, ◌<◌, ◌≤◌, ◌==◌, ℕ, [], IfOk, IfErr, OnOk, false, true, length, replicate, slice_index_or, slice_set};
+ghost use Rattle.std.specs.Prelude.{◌≡◌, ◌≢◌, ◌+◌, ◌*◌, ◌/◌, ◌%◌, ◌<◌, ◌≤◌, ◌==◌, ◌⊎◌, ℕ, [], IfOk, IfErr, OnOk, false, true, length, replicate, slice_index_or, slice_set};
 ghost use Rattle.std.specs.Int.{bit_at};
 ghost use Rattle.rsc_engine.specs.declared.error.Error.TheVariants.{OutOfMemory};
 
@@ -7,7 +7,8 @@ use crate::Error;
 use std::alloc::Global;
 use std::marker::Model;
 
-const BITS: usize = 64;
+/// How many flags a block has.
+pub const BITS: usize = 64;
 
 /// A list of flags, of as many as it was made with.
 #[derive(Drop)]
@@ -88,9 +89,6 @@ impl Flags {
         ensures taken { result ≡ true → self.new ≡ slice_set (slice_set (slice_set self.old a true) b true) c true }
         ensures kept { result ≡ false → self.new ≡ self.old }
     {
-        if b / BITS == a / BITS && c / BITS == a / BITS {
-            return self.take_in_block(a, b, c);
-        }
         if self.get(a) || self.get(b) || self.get(c) {
             return false;
         }
@@ -100,42 +98,59 @@ impl Flags {
         true
     }
 
-    // The same for flags of one block, which is written once.
+    /// Whether none of some flags of one block is set.
     #[inline(always)]
-    fn take_in_block(&mut self, a: usize, b: usize, c: usize) -> bool
-        requires a { a < length self.old }
-        requires b { b < length self.old }
-        requires c { c < length self.old }
-        requires with_b { b / 64 ≡ a / 64 }
-        requires with_c { c / 64 ≡ a / 64 }
-        ensures free { result ≡ true → (slice_index_or self.old a false ≡ false) × (slice_index_or self.old b false ≡ false)
-            × (slice_index_or self.old c false ≡ false) }
-        ensures taken { result ≡ true → self.new ≡ slice_set (slice_set (slice_set self.old a true) b true) c true }
-        ensures kept { result ≡ false → self.new ≡ self.old }
+    pub fn are_free(&self, first: usize, count: usize) -> bool
+        requires within { first < length self.now }
+        requires fewer { count < 64 }
+        requires block { first % 64 + count ≤ 64 }
+        ensures { result ≡ true → (n : ℕ) → first ≤ n → n < first + count → slice_index_or self.now n false ≡ false }
     {
-        let at = a / BITS;
-        let block = self.blocks[at];
-        if has_bit(block, a % BITS) || has_bit(block, b % BITS) || has_bit(block, c % BITS) {
-            return false;
-        }
-        let one = with_bit(block, a % BITS);
-        let two = with_bit(one, b % BITS);
-        self.blocks[at] = with_bit(two, c % BITS);
-        true
+        self.blocks[first / BITS] & ones(first % BITS, count) == 0
     }
 
-    /// Clears the flags from one number up to another.
-    pub fn clear(&mut self, first: usize, end: usize)
-        requires { end ≤ length self.old }
+    /// Sets some flags of one block.
+    #[inline(always)]
+    pub fn set_all(&mut self, first: usize, count: usize)
+        requires within { first + count ≤ length self.old }
+        requires some { 0 < count }
+        requires fewer { count < 64 }
+        requires block { first % 64 + count ≤ 64 }
         ensures length { length self.new ≡ length self.old }
-        ensures out { (n : ℕ) → first ≤ n → n < end → slice_index_or self.new n false ≡ false }
-        ensures kept { (n : ℕ) → n < first → slice_index_or self.new n false ≡ slice_index_or self.old n false }
+        ensures set { (n : ℕ) → first ≤ n → n < first + count → slice_index_or self.new n false ≡ true }
+        ensures kept { (n : ℕ) → (n < first) ⊎ (first + count ≤ n) → slice_index_or self.new n false ≡ slice_index_or self.old n false }
     {
-        'clears: for n in first..end {
-            let at = n / BITS;
-            self.blocks[at] = without_bit(self.blocks[at], n % BITS);
+        let at = first / BITS;
+        self.blocks[at] = self.blocks[at] | ones(first % BITS, count);
+    }
+
+    /// Clears a flag of each block from one up to another: the one that lies at the same place in its block.
+    pub fn clear_in_each(&mut self, first: usize, end: usize, bit: usize)
+        requires end { 64 * end ≤ length self.old }
+        requires bit { bit < 64 }
+        ensures length { length self.new ≡ length self.old }
+        ensures out { (k : ℕ) → first ≤ k → k < end → slice_index_or self.new (64 * k + bit) false ≡ false }
+        ensures kept { (n : ℕ) → (n / 64 < first) ⊎ (n % 64 ≢ bit) → slice_index_or self.new n false ≡ slice_index_or self.old n false }
+    {
+        'clears: for at in first..end {
+            self.blocks[at] = without_bit(self.blocks[at], bit);
         }
     }
+
+    /// Clears all flags.
+    pub fn clear(&mut self)
+        ensures length { length self.new ≡ length self.old }
+        ensures none { (n : ℕ) → slice_index_or self.new n false ≡ false }
+    {
+        fill_with_zero(&mut self.blocks);
+    }
+}
+
+// Makes each block zero.
+fn fill_with_zero(blocks: &mut Vec<u64>)
+    ensures { blocks.new.items ≡ replicate (length blocks.old.items) 0 }
+{
+    blocks.fill(0);
 }
 
 // Makes the list one of that many blocks of zero, in its own memory if there is room.
@@ -158,6 +173,18 @@ fn no_blocks(alloc: Global, count: usize) -> Result<Vec<u64>, Error>
     ensures memory { IfErr result (λ e. e ≡ OutOfMemory) }
 {
     Ok(vec![in alloc; 0; count]?)
+}
+
+// The block with some bits set, from the lowest of them on.
+#[inline(always)]
+fn ones(low: usize, count: usize) -> u64
+    requires low { low < 64 }
+    requires fewer { count < 64 }
+    requires within { low + count ≤ 64 }
+    ensures set { (j : ℕ) → low ≤ j → j < low + count → bit_at result j ≡ 1 }
+    ensures unset { (j : ℕ) → (j < low) ⊎ (low + count ≤ j) → bit_at result j ≡ 0 }
+{
+    ((1 << count) - 1) << low
 }
 
 // Whether a bit is set.

@@ -1,8 +1,10 @@
-//! The numbers of places, by which their flags are found: those of the last position come first.
-ghost use Rattle.std.specs.Prelude.{◌≡◌, ◌+◌, ◌*◌, ◌<◌, ◌≤◌, IfOk, IfErr};
+//! The numbers of places, by which their flags are found: a block has those of a state at 64 positions side by side, and those of the last positions come
+//! first.
+ghost use Rattle.std.specs.Prelude.{◌≡◌, ◌+◌, ◌*◌, ◌/◌, ◌%◌, ◌<◌, ◌≤◌, IfOk, IfErr};
 ghost use Rattle.rsc_engine.specs.Searches.{search_in, FailsFor};
 ghost use Rattle.rsc_engine.specs.WalksLayout.{AreEnough};
 
+use crate::flags::BITS;
 use crate::{Error, Program};
 use rsc_look::WordClass;
 use rsc_primitives::StateID;
@@ -12,21 +14,21 @@ use rsc_search::Input;
 #[inline(always)]
 pub fn number_of(sid: StateID, before: usize, states: usize, len: usize) -> usize
     requires sid { sid < states }
-    requires room { before * states + states ≤ len }
-    ensures value { result ≡ before * states + sid }
+    requires room { 64 * (before / 64 * states + states) ≤ len }
+    ensures value { result ≡ 64 * (before / 64 * states + sid) + before % 64 }
     ensures within { result < len }
 {
-    before * states + sid.as_usize()
+    BITS * (before / BITS * states + sid.as_usize()) + before % BITS
 }
 
-/// The number of the first place, that many positions before the end.
+/// The first block that has flags of a position, that many before the end.
 #[inline(always)]
-pub fn first_after(before: usize, states: usize, len: usize) -> usize
-    requires { before * states + states ≤ len }
-    ensures value { result ≡ before * states }
-    ensures within { result + states ≤ len }
+pub fn first_block(before: usize, states: usize, len: usize) -> usize
+    requires { 64 * (before / 64 * states + states) ≤ len }
+    ensures value { result ≡ before / 64 * states }
+    ensures within { 64 * (result + states) ≤ len }
 {
-    before * states
+    before / BITS * states
 }
 
 /// How many flags a walk needs.
@@ -39,8 +41,12 @@ pub fn place_count<W: WordClass>(program: &Program<W>, input: &Input<'_>) -> Res
     ensures refused { IfErr result (FailsFor (search_in W.word_chars program.now input.now)) }
 {
     let positions = input.end() + 1 - input.start();
+    let groups = input.end().saturating_sub(input.start()) / BITS + 1;
     match positions.checked_mul(program.len()) {
-        Some(places) => Ok(places),
+        Some(_) => match groups.checked_mul(program.len()) {
+            Some(blocks) => blocks.checked_mul(BITS).ok_or(Error::OutOfMemory),
+            None => Err(Error::OutOfMemory),
+        },
         None => Err(Error::TooLarge),
     }
 }

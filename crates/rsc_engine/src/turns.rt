@@ -1,17 +1,18 @@
 //! Turns of a loop over a class of bytes: a search spends most of its time in them, and makes each at once.
-ghost use Rattle.std.specs.Prelude.{◌≡◌, ◌<◌, ◌≤◌, ℕ, IfSome, Some, true, length, slice_get};
+ghost use Rattle.std.specs.Prelude.{◌≡◌, ◌+◌, ◌-◌, ◌%◌, ◌<◌, ◌≤◌, ℕ, IfSome, Some, true, false, length, slice_get, slice_index, slice_index_or};
 ghost use Rattle.rsc_nfa.specs.declared.state.State.TheVariants.{ByteRange};
 ghost use Rattle.rsc_engine.specs.declared.moves.Move.TheVariants.{Forks, Accepts};
 ghost use Rattle.rsc_engine.specs.Searches.{search_in};
 ghost use Rattle.rsc_engine.specs.Runs.{IsPlace};
 ghost use Rattle.rsc_engine.specs.MovesLayout.{IsMove};
 ghost use Rattle.rsc_engine.specs.WalksLayout.{HasFlags};
+ghost use Rattle.rsc_engine.specs.TurnsLayout.{turned_flags, TurnsOn};
 ghost use Rattle.rsc_engine.specs.TrailsLayout.{IsApart, IsLoop, IsTurned};
 
 use crate::Program;
-use crate::flags::Flags;
+use crate::flags::{BITS, Flags};
 use crate::moves::{MOST_RANGES, Move};
-use crate::numbers::first_after;
+use crate::numbers::number_of;
 use rsc_look::WordClass;
 use rsc_nfa::State;
 use rsc_primitives::StateID;
@@ -80,25 +81,114 @@ fn turn<W: WordClass>(
     ensures size { length visited.new ≡ length visited.old }
 {
     let end = input.end();
-    let haystack = input.haystack();
-    let states = program.len();
-    let mut row = first_after(end - from, states, visited.len());
     let mut at = from;
     'turns: while at < end {
-        let byte = haystack[at];
-        if byte < looped.bytes.first || looped.bytes.last < byte {
-            return at;
+        let next = turn_some(visited, program, input, &looped, at);
+        if next == at {
+            break;
         }
-        let class = row + looped.class.as_usize();
-        let range = row + looped.range.as_usize();
-        let fork = row - states + looped.fork.as_usize();
-        if !visited.take(class, range, fork) {
-            return at;
-        }
-        row -= states;
-        at += 1;
+        at = next;
     }
     at
+}
+
+// Makes turns at a position, if there are any, and answers where the fork is then: those that have their flags in the same blocks, if none of these flags is
+// set, or else one.
+#[inline(always)]
+fn turn_some<W: WordClass>(
+    visited: &mut Flags,
+    program: &Program<W>,
+    input: &Input<'_>,
+    looped: &Loop,
+    at: usize,
+) -> usize
+    requires room { HasFlags (search_in W.word_chars program.now input.now) visited.old }
+    requires there { IsPlace (search_in W.word_chars program.now input.now) (looped.now.fork, at) }
+    requires within { at < input.now.span.end }
+    requires class { looped.now.class < length program.now.automaton.states }
+    requires range { looped.now.range < length program.now.automaton.states }
+    requires looped { IsLoop program.now.automaton.states looped.now.fork looped.now.class looped.now.range looped.now.bytes.first looped.now.bytes.last }
+    ensures on { at ≤ result }
+    ensures within { result ≤ input.now.span.end }
+    ensures turned { TurnsOn (search_in W.word_chars program.now input.now) visited.old visited.new looped.now.fork looped.now.class at result }
+    ensures size { length visited.new ≡ length visited.old }
+{
+    let haystack = input.haystack();
+    let states = program.len();
+    let before = input.end() - at;
+    let class = number_of(looped.class, before, states, visited.len());
+    let range = number_of(looped.range, before, states, visited.len());
+    let fork = number_of(looped.fork, before - 1, states, visited.len());
+    let most = before % BITS;
+    if are_free(visited, class, range, fork, most) {
+        let count = count_of(haystack, at, most, looped.bytes);
+        set_all(visited, class, range, fork, count);
+        return at + count;
+    }
+    if !has_byte(input, at, looped.bytes) {
+        return at;
+    }
+    if !visited.take(class, range, fork) {
+        return at;
+    }
+    at + 1
+}
+
+// Whether there are turns whose flags are in the blocks of these three, and none of them is set: the last ones are these, and turns after the first have the
+// flags before them.
+#[inline(always)]
+fn are_free(visited: &Flags, class: usize, range: usize, fork: usize, count: usize) -> bool
+    requires class { (class < length visited.now) × (class % 64 ≡ count) }
+    requires range { (range < length visited.now) × (range % 64 ≡ count) }
+    requires fork { (fork < length visited.now) × (0 < count → fork % 64 + 1 ≡ count) }
+    ensures some { result ≡ true → 0 < count }
+    ensures class { result ≡ true → (k : ℕ) → k < count → slice_index_or visited.now (class - k) false ≡ false }
+    ensures range { result ≡ true → (k : ℕ) → k < count → slice_index_or visited.now (range - k) false ≡ false }
+    ensures fork { result ≡ true → (k : ℕ) → k < count → slice_index_or visited.now (fork - k) false ≡ false }
+{
+    if count == 0 {
+        return false;
+    }
+    let before = count - 1;
+    visited.are_free(class - before, count)
+        && visited.are_free(range - before, count)
+        && visited.are_free(fork - before, count)
+}
+
+// Sets the flags of that many turns.
+#[inline(always)]
+fn set_all(visited: &mut Flags, class: usize, range: usize, fork: usize, count: usize)
+    requires class { (class < length visited.old) × (count ≤ class % 64) }
+    requires range { (range < length visited.old) × (count ≤ range % 64) }
+    requires fork { (fork < length visited.old) × (count ≤ fork % 64 + 1) }
+    requires fewer { count < 64 }
+    ensures { visited.new ≡ turned_flags visited.old class range fork count }
+{
+    if count == 0 {
+        return;
+    }
+    let before = count - 1;
+    visited.set_all(class - before, count);
+    visited.set_all(range - before, count);
+    visited.set_all(fork - before, count);
+}
+
+// How many of the bytes from a position on, at most that many, are one of these in turn.
+#[inline(always)]
+fn count_of(haystack: &[u8], at: usize, most: usize, bytes: Bytes) -> usize
+    requires { at + most ≤ length haystack.now }
+    ensures most { result ≤ most }
+    ensures bytes { (k : ℕ) → k < result → (bytes.first ≤ slice_index haystack.now (at + k)) × (slice_index haystack.now (at + k) ≤ bytes.last) }
+{
+    let mut count = 0;
+    'bytes: while count < most {
+        let byte = haystack[at + count];
+        if byte < bytes.first || bytes.last < byte {
+            return count;
+        }
+        count += 1;
+    }
+    count
 }
 
 // The loop of a fork and its first way, if it's one over the byte at the position.
@@ -167,7 +257,9 @@ fn bytes_back<W: WordClass>(program: &Program<W>, fork: StateID, sid: StateID) -
 
 // Whether there is a byte at the position in the span, and it's one of these.
 #[inline(always)]
-fn has_byte(input: &Input<'_>, at: usize, bytes: Bytes) -> bool {
+fn has_byte(input: &Input<'_>, at: usize, bytes: Bytes) -> bool
+    ensures { result ≡ true → (bytes.first ≤ slice_index input.now.haystack at) × (slice_index input.now.haystack at ≤ bytes.last) }
+{
     let haystack = input.haystack();
     at < input.end() && bytes.first <= haystack[at] && haystack[at] <= bytes.last
 }

@@ -1,4 +1,4 @@
-use Rattle.std.proofs.Common.{◌≡◌, ◌-◌, ◌*◌, ◌≤◌, ℕ, length}
+use Rattle.std.proofs.Common.{◌≡◌, ◌-◌, ◌≤◌, ℕ, length}
 use Rattle.rsc_engine.specs.Searches.{search_in}
 use Rattle.rsc_engine.specs.MovesLayout.{IsMove}
 use Rattle.rsc_engine.specs.TrailsLayout.{IsTurned}
@@ -11,7 +11,6 @@ invariant-turns g l =
     record {
       low : l.from ≤ l.at;
       high : l.at ≤ l.end;
-      row : l.row ≡ (l.end - l.at) * l.states;
       size : length l.visited ≡ length l.initial.visited;
       turned : (exit : ℕ) → IsMove e (l.looped.fork, l.from) (Forks l.looped.class exit)
           → IsTurned e l.initial.visited l.visited (l.looped.fork, l.from) (Forks l.looped.class exit) l.at;
