@@ -259,16 +259,18 @@ def main():
     named, names = [it for it in given if it in known], [it for it in given if it not in known]
     wanted = [it for it in known if (not named or it in named) and edits_of(it, names)]
     tested = tested_edits(named, names)
-    kinds = ["wrong-bodies", "tested-bodies"] if "--both" in sys.argv else ["tested-bodies"] if "--tested" in sys.argv else ["wrong-bodies"]
-    if given:
-        kinds = [it for it in kinds if (wanted if it == "wrong-bodies" else tested)]
-    if not kinds:
-        sys.exit(f"no crate with such edits and no such edit is called {given[0]}")
+    if names and not (wanted or tested):
+        sys.exit(f"no crate and no edit is called {names[0]}")
     unfit = {"wrong-bodies": [line for it in wanted for line in faults(it, names)], "tested-bodies": misfits(tested)}
     if any(unfit.values()) or "--texts" in sys.argv:
         for kind, count in (("wrong-bodies", sum(len(edits_of(it, names)) for it in wanted)), ("tested-bodies", len(tested))):
             print(*unfit[kind], f"{kind}: {count - len(unfit[kind])} fit, {len(unfit[kind])} failed", sep="\n")
         return 1 if any(unfit.values()) else 0
+    kinds = ["wrong-bodies", "tested-bodies"] if "--both" in sys.argv else ["tested-bodies"] if "--tested" in sys.argv else ["wrong-bodies"]
+    if given:
+        kinds = [it for it in kinds if (wanted if it == "wrong-bodies" else tested)]
+    if not kinds:
+        sys.exit(f"no edits of this kind: {' '.join(given)}")
     counts = try_all(kinds, wanted, names, known, tested)
     for kind, (passed, failed) in counts.items():
         print(f"{kind}: {passed} passed, {failed} failed")
