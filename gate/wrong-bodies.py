@@ -64,11 +64,12 @@ def apply(edit, texts, folder):
 
 
 def are_apart(one, other):
-    """Says whether two edits change different functions, neither of which is one on whose proof the other's rests."""
+    """Says whether two edits are refused by different functions, neither of which is one on whose proof the other's rests. Two edits that one law refuses
+    are not apart: what one changes may leave the other's clause unproved too."""
     ends = [it.function.rpartition("::")[2] for it in (one, other)]
     # The checker names some goals by their line alone, from which the function's last name is read.
     is_same = one.file == other.file and ends[0] == ends[1]
-    return not is_same and ends[0] not in other.apart and ends[1] not in one.apart
+    return not is_same and one.function != other.function and ends[0] not in other.apart and ends[1] not in one.apart
 
 
 def batches_of(edits, folder):
