@@ -26,17 +26,28 @@ case ${1:-} in
     gate/pages.py
     gate/unused-lemmas.py
     gate/wrong-bodies.py --texts
-    step "rt ci: proofs, tests, programs. It prints a crate when it has judged it"
-    rt ci
+    step "rt ci: proofs, tests, programs. It prints a crate when it has judged it. Beside it the snippets, whose lines come after it"
+    said=$(mktemp)
+    gate/snippets.sh > "$said" 2>&1 &
+    snippets=$!
+    trap 'kill "$snippets" 2> /dev/null || true; rm -f "$said"' EXIT
+    passed=yes
+    rt ci || passed=no
     step "programs with arguments, on a terminal, without UTF-8, where reading or writing fails"
-    gate/stored-runs.py
+    if [ "$passed" = yes ]; then
+      gate/stored-runs.py || passed=no
+    else
+      echo "not run, since rt ci failed"
+    fi
     step "snippets: misuse that must not compile, and tests that are run without a proof"
-    gate/snippets.sh
+    wait "$snippets" || passed=no
+    cat "$said"
+    rm "$said"
+    trap - EXIT
+    [ "$passed" = yes ]
     if [ "${1:-}" = all ]; then
-      step "wrong bodies: each must be refused by the function that it changes"
-      gate/wrong-bodies.py --after-ci
-      step "wrong bodies that no contract refuses: over each a test must fail"
-      gate/wrong-bodies.py --tested
+      step "wrong bodies: each must be refused by the function that it changes, or, where no contract refuses it, a test must fail over it"
+      gate/wrong-bodies.py --after-ci --both
     fi
     ;;
   quick)

@@ -1,4 +1,4 @@
-"""Tries wrong bodies that no contract refuses: over each a test must fail, or a run of the program must go otherwise. gate/wrong-bodies.py --tested calls it.
+"""Tries wrong bodies that no contract refuses: over each a test must fail, or a run of the program must go otherwise. gate/wrong-bodies.py calls it.
 
 The edits stand in crates/CRATE/tested-bodies.edits; gate/edits.py explains the format. The fields of one are `file`, the source file that it changes, and
 
@@ -28,7 +28,7 @@ import subprocess
 import tempfile
 import threading
 
-from edits import ROOT, edits_in, in_lanes, replaced, rt_try
+from edits import ROOT, edits_in, replaced, rt_try
 
 FIELDS = ("file", "tests", "modules", "snippet", "seconds", "runs", "also")
 IN_ONE = 20
@@ -316,8 +316,8 @@ def judge_alone(copy, crate, name, fields, pairs):
 LEFT_OUT = shutil.ignore_patterns("out", "wrong-bodies", "must-not-compile", "must-run", "runs")
 
 
-def try_tested(wanted):
-    """Tries the edits over which a test must fail, side by side, each lane in a copy of the repository; yields whether one passed, and a line that says so."""
+def tested_tasks(wanted, room):
+    """Returns the tasks that try the edits over which a test must fail, each in one of a lane's copies of the repository, which are made in a folder."""
     together, calls = {}, {}
     for crate, name, fields, pairs in wanted:
         runs = fields.get("runs", "")
@@ -329,21 +329,18 @@ def try_tested(wanted):
         for at in range(0, len(edits), IN_ONE):
             part = edits[at : at + IN_ONE]
             calls[crate, tests, at] = lambda copy, it=(crate, tests, part): judge_together(copy, *it) if it[1] else judge_programs(copy, it[0], it[2])
-    lanes = min(len(calls), len(os.sched_getaffinity(0))) or 1
-    with tempfile.TemporaryDirectory(prefix="tested-bodies-") as room:
-        copies = queue.Queue()
-        for lane in range(lanes):
-            shutil.copytree(f"{ROOT}/crates", f"{room}/{lane}/crates", ignore=LEFT_OUT)
-            for name in ("crates.txt", "HANDLES"):
-                shutil.copy(f"{ROOT}/{name}", f"{room}/{lane}")
-            copies.put(f"{room}/{lane}")
+    copies = queue.Queue()
+    for lane in range(min(len(calls), len(os.sched_getaffinity(0)))):
+        shutil.copytree(f"{ROOT}/crates", f"{room}/{lane}/crates", ignore=LEFT_OUT)
+        for name in ("crates.txt", "HANDLES"):
+            shutil.copy(f"{ROOT}/{name}", f"{room}/{lane}")
+        copies.put(f"{room}/{lane}")
 
-        def in_a_copy(call):
-            copy = copies.get()
-            try:
-                return call(copy)
-            finally:
-                copies.put(copy)
+    def in_a_copy(call):
+        copy = copies.get()
+        try:
+            return call(copy)
+        finally:
+            copies.put(copy)
 
-        for _, results in in_lanes({key: ((), lambda _, it=call: in_a_copy(it)) for key, call in calls.items()}):
-            yield from results
+    return {("tested-bodies", *key): ((), lambda _, it=call: in_a_copy(it)) for key, call in calls.items()}

@@ -4,6 +4,7 @@
     gate/wrong-bodies.py [CRATE ..] [NAME ..]      # the edits of crates/CRATE/wrong-bodies, all crates without a name: a contract must refuse each
     gate/wrong-bodies.py --tested [CRATE ..]       # the edits of crates/CRATE/tested-bodies.edits, which no contract refuses: a test must fail over each
     gate/wrong-bodies.py --tested CRATE NAME ..    # those of them that have these names
+    gate/wrong-bodies.py --both [CRATE ..]         # the edits of either kind, side by side
     gate/wrong-bodies.py --texts [CRATE ..]        # tries nothing: says in a second which edits of either kind don't fit the sources
     gate/wrong-bodies.py --after-ci [CRATE ..]     # takes the libraries as the `rt ci` before it left them, instead of building them by `rt lib`
 
@@ -21,7 +22,8 @@ wrong-bodies/FILE.edits has the edits of src/FILE.rt. The fields of an edit are
 different functions are applied together to a copy, and one check of those functions judges them all: it goes on after a refused function. An edit that
 isn't refused there is tried again alone. An edit passes only if its function is refused at a goal that begins as named (of a proof by hand, `by hand at `
 and the name that is refused); a goal that is refused because a proof file names what the edit took away does not count. `rt ci` proves the crate itself as
-it is. Parts of a crate's edits are tried side by side, each in a copy of the crate, over the libraries that stand in out/.
+it is. A crate's first batch is tried in a copy of the crate, over the libraries that stand in out/. The others are tried side by side, each in a copy of
+that one, so what the first check kept of the functions and lemmas that stay as they are is checked once.
 
 A contract says nothing of whether memory is there, of the texts that only tests show, and of what a program reads and writes. gate/tested.py explains
 how the edits of tested-bodies.edits are tried.
@@ -38,9 +40,8 @@ import tempfile
 
 from edits import ROOT, below, crates, edits_in, fault, in_lanes, of_kit, replaced
 from heads import source_of
-from tested import misfits, tested_edits, try_tested, write
+from tested import misfits, tested_edits, tested_tasks, write
 
-IN_ONE_PART = 60
 Edit = collections.namedtuple("Edit", "name file function goal pairs apart also")
 
 
@@ -63,11 +64,12 @@ def apply(edit, texts, folder):
 
 
 def are_apart(one, other):
-    """Says whether two edits change different functions, neither of which is one on whose proof the other's rests."""
+    """Says whether two edits are refused by different functions, neither of which is one on whose proof the other's rests. Two edits that one law refuses
+    are not apart: what one changes may leave the other's clause unproved too."""
     ends = [it.function.rpartition("::")[2] for it in (one, other)]
     # The checker names some goals by their line alone, from which the function's last name is read.
     is_same = one.file == other.file and ends[0] == ends[1]
-    return not is_same and ends[0] not in other.apart and ends[1] not in one.apart
+    return not is_same and one.function != other.function and ends[0] not in other.apart and ends[1] not in one.apart
 
 
 def batches_of(edits, folder):
@@ -194,18 +196,19 @@ def is_of_ci(crate):
     return os.path.isdir(f"{out}/{crate}.rlib") and not os.path.exists(f"{out}/stamp")
 
 
-def try_part(crate, known, edits, is_told, fault):
-    """Tries some edits of a crate in a copy of it; returns the results, each with its line."""
+def try_batch(crate, known, batch, texts, room, number, is_told, fault):
+    """Tries a batch of a crate's edits in a copy of the crate, to which the first one, number 0, leaves what it checked; returns the results, each with its
+    line."""
     if fault:
-        return [(False, fault)]
-    results = []
-    with tempfile.TemporaryDirectory(prefix="wrong-bodies-") as folder:
-        shutil.copytree(f"{ROOT}/crates/{crate}", folder, ignore=shutil.ignore_patterns("out", "wrong-bodies"), dirs_exist_ok=True)
-        for batch, texts in batches_of(edits, folder):
-            for it, result in zip(batch, judge(crate, known, folder, batch, texts, is_told)):
-                # What another edit leaves unproved may hide that this one is refused, so it is tried again alone.
-                alone = not result[0] and len(batch) > 1
-                results.append(judge(crate, known, folder, [it], apply(it, {}, folder), is_told)[0] if alone else result)
+        return [(False, f"{fault}, so {crate}/{it.name} isn't tried") for it in batch]
+    results, first, folder = [], f"{room}/{crate}-0", f"{room}/{crate}-{number}"
+    shutil.copytree(first if number else f"{ROOT}/crates/{crate}", folder, ignore=None if number else shutil.ignore_patterns("out", "wrong-bodies"))
+    for it, result in zip(batch, judge(crate, known, folder, batch, texts, is_told)):
+        # What another edit leaves unproved may hide that this one is refused, so it is tried again alone.
+        alone = not result[0] and len(batch) > 1
+        results.append(judge(crate, known, folder, [it], apply(it, {}, folder), is_told)[0] if alone else result)
+    if number:
+        shutil.rmtree(folder)
     return results
 
 
@@ -219,20 +222,36 @@ def faults(crate, names):
             yield f"{crate}/{it.name}: BAD EDIT of {it.file}: {found}"
 
 
-def try_refused(wanted, names, known):
-    """Tries the edits of crates that a contract must refuse; yields whether each passed, and a line that says so."""
+def refused_tasks(wanted, names, known, room):
+    """Returns the tasks of the edits that a contract must refuse: those of libraries and of each crate's first batch, and those of the other batches."""
     needed = set().union(*(below(it, known) - {it} for it in wanted))
     if "--after-ci" in sys.argv and all(is_of_ci(it) for it in needed):
         needed = set()
-    tasks = {(it, "library"): ([(low, "library") for low in known[it]], lambda given, it=it: build(it)) for it in known if it in needed}
+    first = {("library", it): ([("library", low) for low in known[it]], lambda given, it=it: build(it)) for it in known if it in needed}
+    libraries, others = set(first), {}
     # Those of the crates that take longest begin first.
     for crate in reversed(wanted):
-        edits, waits = edits_of(crate, names), [(it, "library") for it in below(crate, known) if (it, "library") in tasks]
-        for at in range(0, len(edits), IN_ONE_PART):
-            part = edits[at : at + IN_ONE_PART]
-            tasks[crate, at] = waits, lambda given, it=(crate, known, part, bool(names)), waits=waits: try_part(*it, next(filter(None, map(given.get, waits)), ""))
-    for (_, kind), results in in_lanes(tasks):
-        yield from results if kind != "library" else ()
+        waits = [("library", it) for it in below(crate, known) if ("library", it) in libraries]
+        for number, (batch, texts) in enumerate(batches_of(edits_of(crate, names), f"{ROOT}/crates/{crate}")):
+            def call(given, its=(crate, known, batch, texts, room, number, bool(names)), waits=waits):
+                return try_batch(*its, next(filter(None, map(given.get, waits)), ""))
+
+            key = "wrong-bodies", crate, number
+            (others if number else first)[key] = waits + [("wrong-bodies", crate, 0)] * (number > 0), call
+    return first, others
+
+
+def try_all(kinds, wanted, names, known, tested):
+    """Tries the edits of these kinds; prints a line for each, and counts those of each kind that passed and that failed."""
+    counts = {kind: [0, 0] for kind in kinds}
+    with tempfile.TemporaryDirectory(prefix="wrong-bodies-") as room:
+        first, others = refused_tasks(wanted, names, known, room) if "wrong-bodies" in kinds else ({}, {})
+        among = tested_tasks(tested, room) if "tested-bodies" in kinds else {}
+        for (kind, *_), results in in_lanes(first | among | others):
+            for is_well, line in results if kind in kinds else ():
+                print(line, flush=True)
+                counts[kind][not is_well] += 1
+    return counts
 
 
 def main():
@@ -241,21 +260,22 @@ def main():
     named, names = [it for it in given if it in known], [it for it in given if it not in known]
     wanted = [it for it in known if (not named or it in named) and edits_of(it, names)]
     tested = tested_edits(named, names)
-    if names and not (tested if "--tested" in sys.argv else wanted):
+    if names and not (wanted or tested):
         sys.exit(f"no crate and no edit is called {names[0]}")
     unfit = {"wrong-bodies": [line for it in wanted for line in faults(it, names)], "tested-bodies": misfits(tested)}
     if any(unfit.values()) or "--texts" in sys.argv:
         for kind, count in (("wrong-bodies", sum(len(edits_of(it, names)) for it in wanted)), ("tested-bodies", len(tested))):
             print(*unfit[kind], f"{kind}: {count - len(unfit[kind])} fit, {len(unfit[kind])} failed", sep="\n")
         return 1 if any(unfit.values()) else 0
-    kind, results = ("tested-bodies", try_tested(tested)) if "--tested" in sys.argv else ("wrong-bodies", try_refused(wanted, names, known))
-    passed = failed = 0
-    for is_well, line in results:
-        print(line, flush=True)
-        passed += is_well
-        failed += not is_well
-    print(f"{kind}: {passed} passed, {failed} failed")
-    return 1 if failed or not passed else 0
+    kinds = ["wrong-bodies", "tested-bodies"] if "--both" in sys.argv else ["tested-bodies"] if "--tested" in sys.argv else ["wrong-bodies"]
+    if given:
+        kinds = [it for it in kinds if (wanted if it == "wrong-bodies" else tested)]
+    if not kinds:
+        sys.exit(f"no edits of this kind: {' '.join(given)}")
+    counts = try_all(kinds, wanted, names, known, tested)
+    for kind, (passed, failed) in counts.items():
+        print(f"{kind}: {passed} passed, {failed} failed")
+    return 1 if any(failed or not passed for passed, failed in counts.values()) else 0
 
 
 if __name__ == "__main__":
