@@ -12,6 +12,7 @@ PATTERNS = {
     "words": rb"\b[A-Z][a-z]*\b",
     "lines": rb"(?m)^(\w+)?.*$",
     "pairs": rb"(\w+)=(\w+)",
+    "several": rb"([A-Z][a-z]*)|(\w+)=(\w+)|([0-9]+)",
     "none": rb"[a-z]+[0-9]x[0-9]",
     "digits": rb"[a-z]+[0-9]",
 }

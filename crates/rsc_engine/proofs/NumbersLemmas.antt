@@ -1,5 +1,5 @@
 -- The numbers of places: the flags that have them, and what they say where a search begins later.
-use Rattle.std.proofs.Common.{◌≡◌, ◌≢◌, ℕ, zero, suc, ◌+◌, ◌-◌, ◌*◌, ◌/◌, ◌%◌, ◌<◌, ◌≤◌, ◌⊎◌, inl, inr, ⊎_elim, Bool, true, false, not, cond, List, [], ◌∷◌, ◌++◌, length, get_or, set, refl, sym, ap, ◌∙◌, arith, length-append, Option, Some, None, true≢false, count_by, is_some}
+use Rattle.std.proofs.Common.{◌≡◌, ◌≢◌, ℕ, ◌+◌, ◌-◌, ◌*◌, ◌/◌, ◌%◌, ◌<◌, ◌≤◌, ◌⊎◌, inl, inr, ⊎_elim, Bool, true, false, not, cond, List, [], ◌∷◌, ◌++◌, length, get_or, set, refl, sym, ap, ◌∙◌, arith, length-append, Option, Some, None, true≢false, count_by, is_some}
 use Rattle.std.proofs.lemmas.Bool.{cases_eq, cases_lt, cases_order}
 use Rattle.std.proofs.Math.Nat.{mul-le-mul_right}
 use Rattle.std.proofs.lemmas.List.Sums.{sum_by-set, sum_by_push}
@@ -11,7 +11,7 @@ use Rattle.rsc_engine.specs.Runs.{IsPlace, IsMatchRun}
 use Rattle.rsc_engine.specs.WalksLayout.{IsTrail, IsOnward, IsOn, IsDone, IsClosed, IsClosedFrom, IsExplored, IsLess, AreEnough, HasFlags, is_flagged, number_in, left_to_do}
 use Rattle.rsc_engine.specs.declared.moves.Move.{Move}
 use Rattle.rsc_engine.specs.declared.moves.Move.TheVariants.{Fails, Goes, Forks, Accepts}
-use Rattle.rsc_engine.proofs.WalksLayoutLemmas.{place-after, leads-rises, pair_is, kept_settled}
+use Rattle.rsc_engine.proofs.WalksLayoutLemmas.{place-after, run-rises, leads-rises, pair_is, kept_settled}
 use Rattle.rsc_engine.proofs.BacktrackLemmas.{IsSeenMore}
 
 -- ---- the flags of places
@@ -97,17 +97,12 @@ beyond e from seen after run others p t n x g q there later s = ⊎_elim
     (x.off q there h))
     (g.only q there s)
   where
-    up : (k m : ℕ) → k + m < length run → (place run k).1 ≤ (place run (k + m)).1
-    up k zero l = let same : k + zero ≡ k = omega arith in rw same (omega arith)
-    up k (suc m) l =
-        let same : k + suc m ≡ k + m + 1 = omega arith in
-        let step = t.is_run.steps (k + m) (omega (arith, l)) in
-        rw same (omega (arith, up k m (omega (arith, l)), leads-rises e (place run (k + m)) (place run (k + m + 1)) step))
-
     rises : (k : ℕ) → k < length run → (place run k).1 ≤ p.1
-    rises k l =
-        let same : k + (length run - 1 - k) ≡ length run - 1 = omega (arith, l) in
-        omega (arith, rw same at (up k (length run - 1 - k) (omega (arith, l))), leads-rises e (place run (length run - 1)) p (n.leads (omega (arith, l))))
+    rises k l = omega (
+      arith,
+      run-rises e run k (length run - 1) t.is_run (omega (arith, l)) (omega (arith, l)),
+      leads-rises e (place run (length run - 1)) p (n.leads (omega (arith, l))),
+    )
 
 -- without the places at a position, each from there on that was seen is done
 pub closed_from : (e : Search) (i : ℕ) (old new : List Bool) (first states bit : ℕ) → i ≤ e.end → first ≡ (e.end - i) / 64 * states

@@ -129,7 +129,7 @@ match_shift e i j from run low m = record {
   is_run = record {
     places = λ k l. (
       (m.is_run.places k l).0,
-      omega (arith, low, begins, run-rises (record e { start = i }) run k m.is_run l),
+      omega (arith, low, begins, run-rises (record e { start = i }) run 0 k m.is_run (omega arith) l),
       (m.is_run.places k l).2,
     );
     steps = m.is_run.steps;

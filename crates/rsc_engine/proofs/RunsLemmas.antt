@@ -1,5 +1,5 @@
 -- Runs in a part of a span; and what a run records is between its first position and its last.
-use Rattle.std.proofs.Common.{◌≡◌, ℕ, zero, suc, ◌+◌, ◌-◌, ◌<◌, ◌≤◌, Bool, true, false, cond, List, [], ◌∷◌, length, get_or, sym, ◌∙◌, arith, slice_get, Option, Some, None, MatchOption, ⊎_elim}
+use Rattle.std.proofs.Common.{◌≡◌, ℕ, suc, ◌+◌, ◌-◌, ◌<◌, ◌≤◌, Bool, true, false, cond, List, [], ◌∷◌, length, get_or, sym, ◌∙◌, arith, slice_get, Option, Some, None, MatchOption, ⊎_elim}
 use Rattle.std.proofs.lemmas.Bool.{cases_lt}
 use Rattle.std.proofs.lemmas.List.{get_or_past}
 use Rattle.rsc_nfa.specs.declared.state.State.{State}
@@ -10,16 +10,7 @@ use Rattle.rsc_search.specs.Matches.{Matched}
 use Rattle.rsc_engine.specs.Searches.{Search}
 use Rattle.rsc_engine.specs.Runs.{Leads, IsMatchRun}
 use Rattle.rsc_engine.specs.Preferred.{IsOf, MayBegin, HasNone}
-use Rattle.rsc_engine.proofs.WalksLayoutLemmas.{leads-rises}
-
--- the positions of a run never fall
-rises : (e : Search) (run : List (ℕ × ℕ)) (k m : ℕ) → IsRun e.states e.terminator e.words e.haystack e.start e.end run → k + m < length run
-    → (place run k).1 ≤ (place run (k + m)).1
-rises e run k zero r l = let same : k + zero ≡ k = omega arith in rw same (omega arith)
-rises e run k (suc m) r l =
-    let same : k + suc m ≡ k + m + 1 = omega arith in
-    let step = r.steps (k + m) (omega (arith, l)) in
-    rw same (omega (arith, rises e run k m r (omega (arith, l)), leads-rises e (place run (k + m)) (place run (k + m + 1)) step))
+use Rattle.rsc_engine.proofs.WalksLayoutLemmas.{run-rises}
 
 some_same : (i j : ℕ) → Some i ≡ Some j → i ≡ j
 some_same i j h = cc
@@ -90,11 +81,7 @@ offset-within e from run found captures slot i m o at = (
     at_place = recorded-place e.states run slot i (sym (o.records slot there) ∙ at)
 
     from_first : (place run 0).1 ≤ (place run at_place.0).1
-    from_first =
-        let same : 0 + at_place.0 ≡ at_place.0 = omega arith in
-        rw same at (rises e run 0 at_place.0 m.is_run (omega (arith, at_place.1)))
+    from_first = run-rises e run 0 at_place.0 m.is_run (omega arith) at_place.1
 
     to_last : (place run at_place.0).1 ≤ (place run (length run - 1)).1
-    to_last =
-        let same : at_place.0 + (length run - 1 - at_place.0) ≡ length run - 1 = omega (arith, at_place.1) in
-        rw same at (rises e run at_place.0 (length run - 1 - at_place.0) m.is_run (omega (arith, at_place.1)))
+    to_last = run-rises e run at_place.0 (length run - 1) m.is_run (omega (arith, at_place.1)) (omega (arith, at_place.1))

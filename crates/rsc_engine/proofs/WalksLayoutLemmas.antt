@@ -149,12 +149,19 @@ leads-rises e p q l = go (slice_get e.states p.0) l
     go (Some (Accept pattern)) x = absurd x
 
 -- the positions of a run never fall
-pub run-rises : (e : Search) (run : List (ℕ × ℕ)) (k : ℕ) → IsRun e.states e.terminator e.words e.haystack e.start e.end run → k < length run
-    → (place run 0).1 ≤ (place run k).1
-run-rises e run zero r l = omega arith
-run-rises e run (suc k) r l =
-    let same : suc k ≡ k + 1 = omega arith in
-    rw same (omega (arith, run-rises e run k r (omega (arith, l)), leads-rises e (place run k) (place run (k + 1)) (r.steps k (omega (arith, l)))))
+run_rises : (e : Search) (run : List (ℕ × ℕ)) (j m : ℕ) → IsRun e.states e.terminator e.words e.haystack e.start e.end run → j + m < length run
+    → (place run j).1 ≤ (place run (j + m)).1
+run_rises e run j zero r l = let same : j + zero ≡ j = omega arith in rw same (omega arith)
+run_rises e run j (suc m) r l =
+    let same : j + suc m ≡ j + m + 1 = omega arith in
+    let step = r.steps (j + m) (omega (arith, l)) in
+    rw same (omega (arith, run_rises e run j m r (omega (arith, l)), leads-rises e (place run (j + m)) (place run (j + m + 1)) step))
+
+pub run-rises : (e : Search) (run : List (ℕ × ℕ)) (j k : ℕ) → IsRun e.states e.terminator e.words e.haystack e.start e.end run → j ≤ k → k < length run
+    → (place run j).1 ≤ (place run k).1
+run-rises e run j k r le l =
+    let same : j + (k - j) ≡ k = omega (arith, le) in
+    rw same at (run_rises e run j (k - j) r (omega (arith, le, l)))
 
 -- ---- what a fork's steps are
 

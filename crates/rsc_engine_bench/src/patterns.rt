@@ -4,8 +4,10 @@ use rsc_engine::{Builder, Error, Part, Program};
 use rsc_look::{AsciiWord, Look};
 use std::alloc::Global;
 
-/// The names of the patterns.
-pub const NAMES: [&str; 6] = ["capitals", "words", "lines", "pairs", "none", "digits"];
+/// The names of the programs. That of `several` has three patterns, the others have one.
+pub const NAMES: [&str; 7] = [
+    "capitals", "words", "lines", "pairs", "several", "none", "digits",
+];
 
 const CAPITAL: [(u8, u8); 1] = [(b'A', b'Z')];
 
@@ -15,26 +17,28 @@ const WORD: [(u8, u8); 4] = [(b'a', b'z'), (b'A', b'Z'), (b'0', b'9'), (b'_', b'
 
 const NO_LINE_FEED: [(u8, u8); 2] = [(0x0B, 0xFF), (0x00, 0x09)];
 
-/// The text of the pattern of a name.
+/// The text of the pattern of a name; of several patterns, that of one of them or another.
 pub fn text_of(name: &str) -> &'static str {
     match name {
         "capitals" => "(?-u)[A-Z][a-z]*",
         "words" => r"(?-u)\b[A-Z][a-z]*\b",
         "lines" => r"(?m-u)^(\w+)?.*$",
         "pairs" => r"(?-u)(\w+)=(\w+)",
+        "several" => r"(?-u)([A-Z][a-z]*)|(\w+)=(\w+)|([0-9]+)",
         "none" => "(?-u)[a-z]+[0-9]x[0-9]",
         _ => "(?-u)[a-z]+[0-9]",
     }
 }
 
-/// The program of the pattern of a name.
+/// The program of a name.
 pub fn make(alloc: Global, name: &str) -> Result<Program<AsciiWord>, Error> {
-    let builder = Builder::new(alloc);
+    let mut builder = Builder::new(alloc);
     let whole = match name {
         "capitals" => capitals(&builder),
         "words" => words(alloc, &builder),
         "lines" => lines(alloc, &builder),
         "pairs" => pairs(alloc, &builder),
+        "several" => several(alloc, &mut builder),
         "none" => none(alloc, &builder),
         _ => digits(&builder),
     }?;
@@ -69,6 +73,16 @@ fn pairs(alloc: Global, builder: &Builder<'static>) -> Result<Part<'static>, Err
     let equals = builder.literal(b"=")?;
     let value = word(builder)?;
     builder.concat(vec![in alloc; key, equals, value]?)
+}
+
+// A word with a capital, a pair, and a number; the last one is returned, and the others are patterns before it.
+fn several(alloc: Global, builder: &mut Builder<'static>) -> Result<Part<'static>, Error> {
+    let capital = capitals(builder)?;
+    builder.pattern(capital)?;
+    let pair = pairs(alloc, builder)?;
+    builder.pattern(pair)?;
+    let digit = builder.range(b'0', b'9');
+    builder.plus(digit)
 }
 
 fn none(alloc: Global, builder: &Builder<'static>) -> Result<Part<'static>, Error> {
