@@ -60,3 +60,11 @@ has_a_reversed_range patterns = list_any has_reversed_range patterns
 -- why no program is built of patterns with these groups
 abbrev pub FailsToBuild : List Pattern → GroupLists → Error → Type 0
 FailsToBuild patterns lists e = RefusesNames lists e ⊎ ((e ≡ error.Faulty) × IsTrue (has_a_reversed_range patterns))
+
+-- what an error displays
+abbrev pub error_text : Error → List ℕ
+error_text error.OutOfMemory = codes "out of memory"
+error_text error.EmptyClass = codes "a class of bytes without a range"
+error_text error.Names = codes "faulty group names"
+error_text error.Faulty = codes "a faulty state"
+error_text error.TooLarge = codes "too large"
