@@ -1,5 +1,5 @@
 -- The runs of a program that was built: from the state at which a pattern begins its matches are found, and no others.
-use Rattle.std.proofs.Common.{map, get_or, option_map, ◌≡◌, ℕ, zero, suc, ◌+◌, ◌-◌, ◌*◌, ◌<◌, ◌≤◌, ◌⊎◌, inl, inr, ⊎_elim, List, [], ◌∷◌, length, slice_get, refl, sym, ap, ◌∙◌, subst, arith, Option, Some, None, MatchOption, Bool}
+use Rattle.std.proofs.Common.{drop, ◌||◌, map, get_or, option_map, ◌≡◌, ℕ, zero, suc, ◌+◌, ◌-◌, ◌*◌, ◌<◌, ◌≤◌, ◌⊎◌, inl, inr, ⊎_elim, List, [], ◌∷◌, length, slice_get, refl, sym, ap, ◌∙◌, subst, arith, Option, Some, None, MatchOption, Bool}
 use Rattle.std.proofs.lemmas.Bool.{cases_lt, cases_eq}
 use Rattle.std.proofs.lemmas.Option.{slice_get_within, slice_get_read, slice_get-map}
 use Rattle.rsc_nfa.specs.declared.state.State.{State}
@@ -10,9 +10,15 @@ use Rattle.rsc_engine.specs.declared.builder.Part.{Part}
 use Rattle.rsc_engine.specs.Parts.{pattern_of}
 use Rattle.rsc_engine.specs.EnclosesLayout.{Encloses}
 use Rattle.rsc_engine.specs.LinksLayout.{Aim, Ends, Realizes, Adds, Builds, IsAdded}
+use Rattle.std.specs.List.{list_any}
+use Rattle.std.proofs.Math.Seq.{drop-length}
+use Rattle.rsc_captures.specs.Groups.{GroupLists, all_groups}
+use Rattle.rsc_engine.specs.Refusals.{has_reversed_range}
+use Rattle.rsc_engine.specs.NamesLayout.{Names, AreSoundIn}
+use Rattle.rsc_engine.proofs.NamesLayoutLemmas.{AreSound-pattern, AreSound-more, or_none}
 use Rattle.rsc_engine.specs.BeginsLayout.{Begins, IsOfOne, IsOfSome}
 use Rattle.rsc_engine.proofs.LinksLayoutLemmas.{Realizes-between, Realizes-capture, choice_to, choice_first, choice_next}
-use Rattle.rsc_engine.proofs.BuilderLemmas.{Adds-one, Adds-both, Adds-is}
+use Rattle.rsc_engine.proofs.BuilderLemmas.{Adds-one, Adds-both, Adds-is, grown}
 use Rattle.rsc_engine.proofs.GroupEndsLemmas.{IsWhole, RecordsFrom-one, RecordsFrom-fork}
 use Rattle.rsc_search.specs.Matches.{Matched}
 use Rattle.rsc_search.specs.Modes.{pattern_of_mode}
@@ -48,35 +54,57 @@ Begins-one states number low high accept after body first p w r = record {
     whole = Realizes-between states first body after accept p (Realizes-capture states after (2 * number + 1) accept w.ending) r
         (Realizes-capture states first (2 * number) body w.starting)
 
-pub Adds-pattern : (old middle later last new : List State) (accept number after start end body first index : ℕ) (p : Pattern) → number ≡ index
-    → start ≡ 2 * number → end ≡ 2 * number + 1 → IsAdded old middle (Accept number) accept → IsAdded middle later (Capture end accept) after
-    → Builds end later last body after p → IsAdded last new (Capture start body) first
-    → Adds old new (λ (states : List State). Begins states first (IsOfOne index p))
-Adds-pattern old middle later last new accept number after start end body first index p same starts ends a b x c =
+-- a pattern, with its number, begins at a state; and if its number is one of these groups' patterns, its states name what is there
+abbrev OneBegins : GroupLists → List State → List State → ℕ → ℕ → Pattern → List State → Type 0
+OneBegins groups old new first n p states =
+    Begins states first (IsOfOne n p) × (n < length groups → AreSoundIn groups (has_reversed_range p) old new first states)
+
+pub Adds-pattern : (groups : GroupLists) (old middle later last new : List State) (accept number after start end body first index : ℕ) (p : Pattern)
+    → number ≡ index → start ≡ 2 * number → end ≡ 2 * number + 1 → start < 2 * all_groups groups → end < 2 * all_groups groups
+    → IsAdded old middle (Accept number) accept → IsAdded middle later (Capture end accept) after
+    → Builds (end, 2 * all_groups groups) later last body after p → IsAdded last new (Capture start body) first
+    → Adds old new (λ (states : List State). Begins states first (IsOfOne index p)
+    × (index < length groups → AreSoundIn groups (has_reversed_range p) old new first states))
+Adds-pattern groups old middle later last new accept number after start end body first index p same starts ends sw ew a b x c =
     Adds-both old last new Three (λ (states : List State). slice_get states first ≡ Some (Capture start body))
-    (λ (states : List State). Begins states first (IsOfOne index p))
-    (Adds-both old later last Two (λ (states : List State). Realizes states body after p × Encloses end (length later) (length last) body after states)
-    Three
+    (OneBegins groups old new first index p)
+    (Adds-both old later last Two (IsPart later last body after) Three
     (Adds-both old middle later (λ (states : List State). slice_get states accept ≡ Some (Accept number))
     (λ (states : List State). slice_get states after ≡ Some (Capture end accept)) Two
     (Adds-one old middle (Accept number) accept a) (Adds-one middle later (Capture end accept) after b) (λ states y z. (y, z)))
     x (λ states y z. (y, z)))
     (Adds-one last new (Capture start body) first c)
-    (λ states y z. subst (λ (q : ℕ). Begins states first (IsOfOne q p)) same
-    (Begins-one states number (length later) (length last) accept after body first p
-    (record {
-      accepting = y.0.0;
-      ending = y.0.1 ∙ ap (λ (q : ℕ). Some (Capture q accept)) ends;
-      encloses = subst (λ (q : ℕ). Encloses q (length later) (length last) body after states) ends y.1.1;
-      starting = z ∙ ap (λ (q : ℕ). Some (Capture q body)) starts;
-    })
-    y.1.0))
+    (λ states y z. (
+      subst (λ (q : ℕ). Begins states first (IsOfOne q p)) same
+          (Begins-one states number (length later) (length last) accept after body first p
+          (record {
+            accepting = y.0.0;
+            ending = y.0.1 ∙ ap (λ (q : ℕ). Some (Capture q accept)) ends;
+            encloses = subst (λ (q : ℕ). Encloses q (length later) (length last) body after states) ends y.1.1;
+            starting = z ∙ ap (λ (q : ℕ). Some (Capture q body)) starts;
+          })
+          y.1.0),
+      λ l. AreSound-pattern (2 * all_groups groups) (length groups) (has_reversed_range p) (length old) (length later) (length last) (length new) accept number
+          after start end body first end states (omega (arith, l, same)) sw ew a.last (omega (arith, b.last, one)) (omega (arith, two, one)) x.longer c.last
+          (grown last new (Capture start body) first c) y.0.0 y.0.1 y.1.1 y.1.2 z,
+    ))
   where
     Two : List State → Type 0
     Two states = (slice_get states accept ≡ Some (Accept number)) × (slice_get states after ≡ Some (Capture end accept))
 
+    IsPart : List State → List State → ℕ → ℕ → List State → Type 0
+    IsPart from to low high states =
+        Realizes states low high p × Encloses end (length from) (length to) low high states
+        × Names (2 * all_groups groups) (has_reversed_range p) (length from) (length to) states
+
     Three : List State → Type 0
-    Three states = Two states × (Realizes states body after p × Encloses end (length later) (length last) body after states)
+    Three states = Two states × IsPart later last body after states
+
+    one : length middle ≡ length old + 1
+    one = grown old middle (Accept number) accept a
+
+    two : length later ≡ length middle + 1
+    two = grown middle later (Capture end accept) after b
 
 -- ---- several patterns
 
@@ -116,12 +144,38 @@ last-back patterns n p at last a i s =
     let its : s.1 ≡ p = same_some s.1 p (sym s.2 ∙ (subst (λ (m : ℕ). slice_get patterns m ≡ Some p) (sym same) at)) in
     (same, subst (λ (q : Pattern). Goes a.text q i a.position) its s.3)
 
-pub Adds-last : (old new : List State) (first n : ℕ) (p : Pattern) (patterns : List Pattern) → slice_get patterns n ≡ Some p → n + 1 ≡ length patterns
-    → Adds old new (λ (states : List State). Begins states first (IsOfOne n p))
-    → Adds old new (λ (states : List State). Begins states first (IsOfSome n patterns))
-Adds-last old new first n p patterns at last x =
-    Adds-is old new (λ (states : List State). Begins states first (IsOfOne n p)) (λ (states : List State). Begins states first (IsOfSome n patterns))
-    (λ states b. Begins-is states first (IsOfOne n p) (IsOfSome n patterns) (last-is patterns n p at) (last-back patterns n p at last) b) x
+-- the patterns from the number n on begin at a state; and if all are these groups' patterns, their states name what is there
+abbrev SomeBegin : GroupLists → List State → List State → ℕ → ℕ → List Pattern → List State → Type 0
+SomeBegin groups old new first n patterns states =
+    Begins states first (IsOfSome n patterns)
+    × (length patterns ≤ length groups → AreSoundIn groups (list_any has_reversed_range (drop n patterns)) old new first states)
+
+-- a test of the patterns from a number on is one of the first of them, or of those after it
+any_from : (patterns : List Pattern) (n : ℕ) (p : Pattern) → slice_get patterns n ≡ Some p
+    → list_any has_reversed_range (drop n patterns) ≡ (has_reversed_range p || list_any has_reversed_range (drop (n + 1) patterns))
+any_from [] n p e = absurd (cc)
+any_from (q ∷ rest) zero p e = ap (λ (r : Pattern). has_reversed_range r || list_any has_reversed_range rest) (same_some q p e)
+any_from (q ∷ rest) (suc n) p e = let one : suc n + 1 ≡ suc (n + 1) = omega arith in rw one (any_from rest n p e)
+
+any_last : (patterns : List Pattern) (n : ℕ) (p : Pattern) → slice_get patterns n ≡ Some p → n + 1 ≡ length patterns
+    → list_any has_reversed_range (drop n patterns) ≡ has_reversed_range p
+any_last patterns n p at last =
+    any_from patterns n p at
+    ∙ (ap (λ (m : ℕ). has_reversed_range p || list_any has_reversed_range (drop m patterns)) last
+    ∙ (ap (λ (rest : List Pattern). has_reversed_range p || list_any has_reversed_range rest) (drop-length patterns) ∙ or_none (has_reversed_range p)))
+
+pub Adds-last : (groups : GroupLists) (old new : List State) (first n : ℕ) (p : Pattern) (patterns : List Pattern) → slice_get patterns n ≡ Some p
+    → n + 1 ≡ length patterns
+    → Adds old new (λ (states : List State). Begins states first (IsOfOne n p)
+    × (n < length groups → AreSoundIn groups (has_reversed_range p) old new first states))
+    → Adds old new (λ (states : List State). Begins states first (IsOfSome n patterns)
+    × (length patterns ≤ length groups → AreSoundIn groups (list_any has_reversed_range (drop n patterns)) old new first states))
+Adds-last groups old new first n p patterns at last x =
+    Adds-is old new (OneBegins groups old new first n p) (SomeBegin groups old new first n patterns)
+    (λ states b. (
+      Begins-is states first (IsOfOne n p) (IsOfSome n patterns) (last-is patterns n p at) (last-back patterns n p at last) b.0,
+      λ l. subst (λ (r : Bool). AreSoundIn groups r old new first states) (sym (any_last patterns n p at last)) (b.1 (omega (arith, l, last))),
+    )) x
 
 -- a pattern before others
 more-is : (patterns : List Pattern) (n : ℕ) (p : Pattern) → slice_get patterns n ≡ Some p → (a : Aim) (i : ℕ)
@@ -141,21 +195,32 @@ more-back patterns n p at a i s = ⊎_elim
     above : (m : ℕ) → n ≤ m → ((m ≡ n) → ⊥) → n + 1 ≤ m
     above m le apart = ⊎_elim (λ (l : n < m). omega (arith, l)) (λ (l : m ≤ n). absurd (apart (omega (arith, l, le)))) (cases_lt n m)
 
-pub Adds-more : (old middle last new : List State) (one first id n : ℕ) (p : Pattern) (patterns : List Pattern) → slice_get patterns n ≡ Some p
-    → Adds old middle (λ (states : List State). Begins states first (IsOfSome (n + 1) patterns))
-    → Adds middle last (λ (states : List State). Begins states one (IsOfOne n p)) → IsAdded last new (Fork one first) id
-    → Adds old new (λ (states : List State). Begins states id (IsOfSome n patterns))
-Adds-more old middle last new one first id n p patterns at x y a =
-    Adds-both old last new
-    (λ (states : List State). Begins states first (IsOfSome (n + 1) patterns) × Begins states one (IsOfOne n p))
-    (λ (states : List State). slice_get states id ≡ Some (Fork one first)) (λ (states : List State). Begins states id (IsOfSome n patterns))
-    (Adds-both old middle last (λ (states : List State). Begins states first (IsOfSome (n + 1) patterns))
-    (λ (states : List State). Begins states one (IsOfOne n p))
-    (λ (states : List State). Begins states first (IsOfSome (n + 1) patterns) × Begins states one (IsOfOne n p)) x y (λ states b c. (b, c)))
+pub Adds-more : (groups : GroupLists) (old middle last new : List State) (one first id n : ℕ) (p : Pattern) (patterns : List Pattern)
+    → slice_get patterns n ≡ Some p
+    → Adds old middle (λ (states : List State). Begins states first (IsOfSome (n + 1) patterns)
+    × (length patterns ≤ length groups → AreSoundIn groups (list_any has_reversed_range (drop (n + 1) patterns)) old middle first states))
+    → Adds middle last (λ (states : List State). Begins states one (IsOfOne n p)
+    × (n < length groups → AreSoundIn groups (has_reversed_range p) middle last one states))
+    → IsAdded last new (Fork one first) id
+    → Adds old new (λ (states : List State). Begins states id (IsOfSome n patterns)
+    × (length patterns ≤ length groups → AreSoundIn groups (list_any has_reversed_range (drop n patterns)) old new id states))
+Adds-more groups old middle last new one first id n p patterns at x y a =
+    Adds-both old last new Both
+    (λ (states : List State). slice_get states id ≡ Some (Fork one first)) (SomeBegin groups old new id n patterns)
+    (Adds-both old middle last (SomeBegin groups old middle first (n + 1) patterns) (OneBegins groups middle last one n p) Both x y (λ states b c. (b, c)))
     (Adds-one last new (Fork one first) id a)
-    (λ states b is. Begins-is states id (λ (t : Aim) (i : ℕ). IsOfOne n p t i ⊎ IsOfSome (n + 1) patterns t i) (IsOfSome n patterns)
-    (more-is patterns n p at) (more-back patterns n p at)
-    (Begins-either states id one first (IsOfOne n p) (IsOfSome (n + 1) patterns) is b.1 b.0))
+    (λ states b is. (
+      Begins-is states id (λ (t : Aim) (i : ℕ). IsOfOne n p t i ⊎ IsOfSome (n + 1) patterns t i) (IsOfSome n patterns)
+          (more-is patterns n p at) (more-back patterns n p at)
+          (Begins-either states id one first (IsOfOne n p) (IsOfSome (n + 1) patterns) is b.1.0 b.0.0),
+      λ l. subst (λ (r : Bool). AreSoundIn groups r old new id states) (sym (any_from patterns n p at))
+          (AreSound-more (2 * all_groups groups) (length groups) (has_reversed_range p) (list_any has_reversed_range (drop (n + 1) patterns)) (length old)
+          (length middle) (length last) (length new) one first id states x.longer y.longer a.last (grown last new (Fork one first) id a) (b.0.1 l)
+          (b.1.1 (omega (arith, l, slice_get_within patterns n p at))) is),
+    ))
+  where
+    Both : List State → Type 0
+    Both states = SomeBegin groups old middle first (n + 1) patterns states × OneBegins groups middle last one n p states
 
 -- what was added is so in the list itself
 pub Adds-now : (old new : List State) (P : List State → Type 0) → Adds old new P → P new

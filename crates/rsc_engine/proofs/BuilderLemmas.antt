@@ -1,5 +1,5 @@
 -- How lists of states grow, part by part.
-use Rattle.std.proofs.Common.{true≢false, drop, drop-cons, get_or, ◌≡◌, ℕ, zero, suc, ◌+◌, ◌-◌, ◌<◌, ◌≤◌, ◌⊎◌, inl, inr, List, [], ◌∷◌, ◌++◌, length, set, slice_get, refl, sym, ap, ◌∙◌, arith, length-append, Some, None}
+use Rattle.std.proofs.Common.{Bool, true, false, subst, true≢false, drop, drop-cons, get_or, ◌≡◌, ℕ, zero, suc, ◌+◌, ◌-◌, ◌<◌, ◌≤◌, ◌⊎◌, inl, inr, List, [], ◌∷◌, ◌++◌, length, set, slice_get, refl, sym, ap, ◌∙◌, arith, length-append, Some, None}
 use Rattle.std.proofs.lemmas.List.{length-set}
 use Rattle.std.proofs.Math.Seq.{drop-length}
 use Rattle.rsc_look.specs.declared.assertion.Look.{Look}
@@ -7,6 +7,10 @@ use Rattle.rsc_nfa.specs.declared.state.State.{State}
 use Rattle.rsc_nfa.specs.declared.state.State.TheVariants.{ByteRange, Assert, Fork, Capture}
 use Rattle.rsc_engine.specs.Patterns.{Pattern, Empty, Never, Class, Literal, Assertion, Then, Either, Repeat, one_of, Subject, Goes}
 use Rattle.rsc_engine.specs.EnclosesLayout.{IsOnWay, StaysOnWay, Encloses}
+use Rattle.rsc_nfa.specs.Classes.{IsOrdered}
+use Rattle.rsc_engine.specs.Refusals.{has_reversed_range}
+use Rattle.rsc_engine.specs.NamesLayout.{RecordsBelow, Names}
+use Rattle.rsc_engine.proofs.NamesLayoutLemmas.{Names-joined, Names-one, Names-above, Names-choice, Names-loop, or_none, either_back, range-ordered, range-reversed, class-same, literal-same, between-same, star-same, limited-same, unlimited-same}
 use Rattle.rsc_engine.specs.LinksLayout.{Adds, Builds, IsAdded, IsChoice, Realizes, copies, up_to}
 use Rattle.rsc_engine.proofs.LinksLayoutLemmas.{Realizes-never, Realizes-range, Realizes-assert, Realizes-capture, Realizes-is, Realizes-then, Realizes-either, Realizes-choice, Realizes-star, Realizes-plus}
 use Rattle.rsc_engine.proofs.EnclosesLayoutLemmas.{Encloses-one, Encloses-then, Encloses-either, Encloses-choice, Encloses-loop}
@@ -87,67 +91,81 @@ Adds-written old middle new state written id P a p = record {
 -- ---- parts
 
 -- the states from low to high are a part's
-abbrev IsPart : ℕ → ℕ → ℕ → ℕ → ℕ → Pattern → List State → Type 0
-IsPart slot low high first next p all = Realizes all first next p × Encloses slot low high first next all
+abbrev IsPart : ℕ × ℕ → ℕ → ℕ → ℕ → ℕ → Pattern → List State → Type 0
+IsPart slot low high first next p all =
+    Realizes all first next p × Encloses slot.0 low high first next all × Names slot.1 (has_reversed_range p) low high all
 
-pub Builds-then : (slot : ℕ) (old middle new : List State) (first between next : ℕ) (p q : Pattern) → Builds slot old middle between next q
+pub Builds-then : (slot : ℕ × ℕ) (old middle new : List State) (first between next : ℕ) (p q : Pattern) → Builds slot old middle between next q
     → Builds slot middle new first between p → Builds slot old new first next (Then p q)
 Builds-then slot old middle new first between next p q x y =
     Adds-both old middle new (IsPart slot (length old) (length middle) between next q) (IsPart slot (length middle) (length new) first between p)
     (IsPart slot (length old) (length new) first next (Then p q)) x y
     (λ all a b. (
       Realizes-then all first between next p q a.0 b.0,
-      Encloses-then slot (length old) (length middle) (length new) first between next all x.longer y.longer a.1 b.1,
+      Encloses-then slot.0 (length old) (length middle) (length new) first between next all x.longer y.longer a.1 b.1,
+      Names-joined slot.1 (has_reversed_range (Then p q)) (has_reversed_range q) (has_reversed_range p) (length old) (length middle) (length new) all
+          (either_back (has_reversed_range q) (has_reversed_range p)) x.longer y.longer a.2 b.2,
     ))
 
 -- a part is what goes where it goes
-pub Builds-is : (slot : ℕ) (old new : List State) (first next : ℕ) (p q : Pattern) → ((x : Subject) (i j : ℕ) → Goes x p i j → Goes x q i j)
-    → ((x : Subject) (i j : ℕ) → Goes x q i j → Goes x p i j) → Builds slot old new first next p → Builds slot old new first next q
-Builds-is slot old new first next p q to back x =
+pub Builds-is : (slot : ℕ × ℕ) (old new : List State) (first next : ℕ) (p q : Pattern) → ((x : Subject) (i j : ℕ) → Goes x p i j → Goes x q i j)
+    → ((x : Subject) (i j : ℕ) → Goes x q i j → Goes x p i j) → has_reversed_range p ≡ has_reversed_range q
+    → Builds slot old new first next p → Builds slot old new first next q
+Builds-is slot old new first next p q to back same x =
     Adds-is old new (IsPart slot (length old) (length new) first next p) (IsPart slot (length old) (length new) first next q)
-    (λ all r. (Realizes-is all first next p q to back r.0, r.1)) x
+    (λ all r. (
+      Realizes-is all first next p q to back r.0,
+      r.1,
+      subst (λ (b : Bool). Names slot.1 b (length old) (length new) all) same r.2,
+    )) x
 
 -- ---- single states
 
-grown : (old new : List State) (state : State) (id : ℕ) → IsAdded old new state id → length new ≡ length old + 1
+pub grown : (old new : List State) (state : State) (id : ℕ) → IsAdded old new state id → length new ≡ length old + 1
 grown old new state id a = ap length a.added ∙ length-append old (state ∷ [])
 
-Builds-state : (slot : ℕ) (old new : List State) (state : State) (id next : ℕ) (p : Pattern) → IsAdded old new state id
-    → StaysOnWay (λ (s : ℕ). IsOnWay (length old) (length new) next s) slot state
+Builds-state : (slot : ℕ × ℕ) (old new : List State) (state : State) (id next : ℕ) (p : Pattern) → IsAdded old new state id
+    → StaysOnWay (λ (s : ℕ). IsOnWay (length old) (length new) next s) slot.0 state
+    → RecordsBelow slot.1 state → (has_reversed_range p ≡ false → IsOrdered state) → (has_reversed_range p ≡ true → IsOrdered state → ⊥)
     → ((all : List State) → slice_get all id ≡ Some state → Realizes all id next p) → Builds slot old new id next p
-Builds-state slot old new state id next p a stays realizes =
+Builds-state slot old new state id next p a stays below ordered reversed realizes =
     Adds-is old new (λ (all : List State). slice_get all id ≡ Some state) (IsPart slot (length old) (length new) id next p)
     (λ all is. (
       realizes all is,
-      Encloses-one slot (length old) (length new) id next all state a.last (grown old new state id a) is stays,
+      Encloses-one slot.0 (length old) (length new) id next all state a.last (grown old new state id a) is stays,
+      Names-one slot.1 (has_reversed_range p) (length old) (length new) id all state a.last (grown old new state id a) is below ordered reversed,
     ))
     (Adds-one old new state id a)
 
-pub Builds-never : (slot : ℕ) (old new : List State) (this id next : ℕ) → this ≡ length old → IsAdded old new (Fork this this) id
+pub Builds-never : (slot : ℕ × ℕ) (old new : List State) (this id next : ℕ) → this ≡ length old → IsAdded old new (Fork this this) id
     → Builds slot old new id next Never
 Builds-never slot old new this id next e a =
     let same : this ≡ id = e ∙ sym a.last in
     let here : IsOnWay (length old) (length new) next this = inl (omega (arith, e), omega (arith, e, grown old new (Fork this this) id a)) in
-    Builds-state slot old new (Fork this this) id next Never a (here, here)
+    Builds-state slot old new (Fork this this) id next Never a (here, here) tt (λ e. tt) (λ e. absurd (true≢false (sym e)))
     (λ all is. Realizes-never all id next (is ∙ ap (λ (n : ℕ). Some (Fork n n)) same))
 
-pub Builds-range : (slot : ℕ) (old new : List State) (x y id next : ℕ) → IsAdded old new (ByteRange x y next) id
+pub Builds-range : (slot : ℕ × ℕ) (old new : List State) (x y id next : ℕ) → IsAdded old new (ByteRange x y next) id
     → Builds slot old new id next (Class ((x, y) ∷ []))
 Builds-range slot old new x y id next a =
-    Builds-state slot old new (ByteRange x y next) id next (Class ((x, y) ∷ [])) a (inr refl) (λ all is. Realizes-range all id x y next is)
+    Builds-state slot old new (ByteRange x y next) id next (Class ((x, y) ∷ [])) a (inr refl) tt (range-ordered x y next) (range-reversed x y next)
+    (λ all is. Realizes-range all id x y next is)
 
-pub Builds-assert : (slot : ℕ) (old new : List State) (look : Look) (id next : ℕ) → IsAdded old new (Assert look next) id
+pub Builds-assert : (slot : ℕ × ℕ) (old new : List State) (look : Look) (id next : ℕ) → IsAdded old new (Assert look next) id
     → Builds slot old new id next (Assertion look)
 Builds-assert slot old new look id next a =
-    Builds-state slot old new (Assert look next) id next (Assertion look) a (inr refl) (λ all is. Realizes-assert all id next look is)
+    Builds-state slot old new (Assert look next) id next (Assertion look) a (inr refl) tt (λ e. tt) (λ e. absurd (true≢false (sym e)))
+    (λ all is. Realizes-assert all id next look is)
 
-Builds-capture : (slot : ℕ) (old new : List State) (c id next : ℕ) → slot < c → IsAdded old new (Capture c next) id → Builds slot old new id next Empty
-Builds-capture slot old new c id next l a =
-    Builds-state slot old new (Capture c next) id next Empty a (l, inr refl) (λ all is. Realizes-capture all id c next is)
+Builds-capture : (slot : ℕ × ℕ) (old new : List State) (c id next : ℕ) → slot.0 < c → c < slot.1
+    → IsAdded old new (Capture c next) id → Builds slot old new id next Empty
+Builds-capture slot old new c id next l m a =
+    Builds-state slot old new (Capture c next) id next Empty a (l, inr refl) m (λ e. tt) (λ e. absurd (true≢false (sym e)))
+    (λ all is. Realizes-capture all id c next is)
 
 -- ---- states after parts
 
-pub Builds-either : (slot : ℕ) (old middle last new : List State) (one other id next : ℕ) (p q : Pattern) → Builds slot old middle other next q
+pub Builds-either : (slot : ℕ × ℕ) (old middle last new : List State) (one other id next : ℕ) (p q : Pattern) → Builds slot old middle other next q
     → Builds slot middle last one next p → IsAdded last new (Fork one other) id → Builds slot old new id next (Either p q)
 Builds-either slot old middle last new one other id next p q x y a =
     Adds-both old last new Both (λ (all : List State). slice_get all id ≡ Some (Fork one other))
@@ -157,15 +175,19 @@ Builds-either slot old middle last new one other id next p q x y a =
     (Adds-one last new (Fork one other) id a)
     (λ all b is. (
       Realizes-either all id one other next p q is b.1.0 b.0.0,
-      Encloses-either slot (length old) (length middle) (length last) (length new) one other id next all x.longer y.longer a.last
+      Encloses-either slot.0 (length old) (length middle) (length last) (length new) one other id next all x.longer y.longer a.last
           (grown last new (Fork one other) id a) b.0.1 b.1.1 is,
+      Names-above slot.1 (has_reversed_range (Either p q)) (length old) (length last) (length new) id one other all
+          (omega (arith, x.longer, y.longer)) a.last (grown last new (Fork one other) id a) is
+          (Names-joined slot.1 (has_reversed_range (Either p q)) (has_reversed_range q) (has_reversed_range p) (length old) (length middle) (length last) all
+          (either_back (has_reversed_range q) (has_reversed_range p)) x.longer y.longer b.0.2 b.1.2),
     ))
   where
     Both : List State → Type 0
     Both all = IsPart slot (length old) (length middle) other next q all × IsPart slot (length middle) (length last) one next p all
 
 -- a part before others
-pub Builds-one_of : (slot : ℕ) (old middle last new : List State) (one other id next : ℕ) (p : Pattern) (rest : List Pattern) → 0 < length rest
+pub Builds-one_of : (slot : ℕ × ℕ) (old middle last new : List State) (one other id next : ℕ) (p : Pattern) (rest : List Pattern) → 0 < length rest
     → Builds slot old middle other next (one_of rest) → Builds slot middle last one next p → IsAdded last new (Fork one other) id
     → Builds slot old new id next (one_of (p ∷ rest))
 Builds-one_of slot old middle last new one other id next p [] some x y a = absurd (omega (arith, some))
@@ -173,29 +195,32 @@ Builds-one_of slot old middle last new one other id next p (q ∷ rest) some x y
     Builds-either slot old middle last new one other id next p (one_of (q ∷ rest)) x y a
 
 -- a range before others, in a class
-pub Builds-class : (slot : ℕ) (old middle last new : List State) (x y one other id next : ℕ) (rest : List (ℕ × ℕ))
+pub Builds-class : (slot : ℕ × ℕ) (old middle last new : List State) (x y one other id next : ℕ) (rest : List (ℕ × ℕ))
     → Builds slot old middle other next (Class rest)
     → IsAdded middle last (ByteRange x y next) one → IsAdded last new (Fork one other) id → Builds slot old new id next (Class ((x, y) ∷ rest))
 Builds-class slot old middle last new x y one other id next rest r a b =
     Builds-is slot old new id next (Either (Class ((x, y) ∷ [])) (Class rest)) (Class ((x, y) ∷ rest)) (class-is x y rest) (class-back x y rest)
+    (class-same x y rest)
     (Builds-either slot old middle last new one other id next (Class ((x, y) ∷ [])) (Class rest) r (Builds-range slot middle last x y one next a) b)
 
 -- a byte before others
-pub Builds-byte : (slot : ℕ) (old middle new : List State) (b first id next : ℕ) (rest : List ℕ) → Builds slot old middle first next (Literal rest)
+pub Builds-byte : (slot : ℕ × ℕ) (old middle new : List State) (b first id next : ℕ) (rest : List ℕ) → Builds slot old middle first next (Literal rest)
     → IsAdded middle new (ByteRange b b first) id → Builds slot old new id next (Literal (b ∷ rest))
 Builds-byte slot old middle new b first id next rest r a =
     Builds-is slot old new id next (Then (Class ((b, b) ∷ [])) (Literal rest)) (Literal (b ∷ rest)) (literal-is b rest) (literal-back b rest)
+    (literal-same b rest)
     (Builds-then slot old middle new id first next (Class ((b, b) ∷ [])) (Literal rest) r (Builds-range slot middle new b b id first a))
 
 -- a part between two records
-pub Builds-group : (slot : ℕ) (old middle last new : List State) (start end body after id next : ℕ) (p : Pattern) → slot < start → slot < end
+pub Builds-group : (slot : ℕ × ℕ) (old middle last new : List State) (start end body after id next : ℕ) (p : Pattern)
+    → slot.0 < start → start < slot.1 → slot.0 < end → end < slot.1
     → IsAdded old middle (Capture end next) after → Builds slot middle last body after p → IsAdded last new (Capture start body) id
     → Builds slot old new id next p
-Builds-group slot old middle last new start end body after id next p l m a x b =
-    Builds-is slot old new id next (Then Empty (Then p Empty)) p (between-is p) (between-back p)
+Builds-group slot old middle last new start end body after id next p l lw m mw a x b =
+    Builds-is slot old new id next (Then Empty (Then p Empty)) p (between-is p) (between-back p) (between-same p)
     (Builds-then slot old last new id body next Empty (Then p Empty)
-    (Builds-then slot old middle last body after next p Empty (Builds-capture slot old middle end after next m a) x)
-    (Builds-capture slot last new start id body l b))
+    (Builds-then slot old middle last body after next p Empty (Builds-capture slot old middle end after next m mw a) x)
+    (Builds-capture slot last new start id body l lw b))
 
 -- the part or nothing
 Adds-choice : (last new : List State) (state : State) (one next id : ℕ) → (state ≡ Fork one next) ⊎ (state ≡ Fork next one) → IsAdded last new state id
@@ -208,29 +233,33 @@ Adds-choice last new state one next id c a =
     choice all is (inl e) = inl (is ∙ ap (λ (s : State). Some s) e)
     choice all is (inr e) = inr (is ∙ ap (λ (s : State). Some s) e)
 
-pub Builds-optional : (slot : ℕ) (old last new : List State) (state : State) (one id next : ℕ) (p : Pattern) → Builds slot old last one next p
+pub Builds-optional : (slot : ℕ × ℕ) (old last new : List State) (state : State) (one id next : ℕ) (p : Pattern) → Builds slot old last one next p
     → (state ≡ Fork one next) ⊎ (state ≡ Fork next one) → IsAdded last new state id → Builds slot old new id next (Either p Empty)
 Builds-optional slot old last new state one id next p x c a =
     Adds-both old last new (IsPart slot (length old) (length last) one next p) (λ (all : List State). IsChoice all id one next)
     (IsPart slot (length old) (length new) id next (Either p Empty)) x (Adds-choice last new state one next id c a)
     (λ all r is. (
       Realizes-choice all id one next p is r.0,
-      Encloses-choice slot (length old) (length last) (length new) one id next all x.longer a.last (grown last new state id a) r.1 is,
+      Encloses-choice slot.0 (length old) (length last) (length new) one id next all x.longer a.last (grown last new state id a) r.1 is,
+      subst (λ (b : Bool). Names slot.1 b (length old) (length new) all) (sym (or_none (has_reversed_range p)))
+          (Names-choice slot.1 (has_reversed_range p) (length old) (length last) (length new) id one next all x.longer a.last
+          (grown last new state id a) is r.2),
     ))
 
-pub Builds-star : (slot : ℕ) (old last new : List State) (state : State) (one id next : ℕ) (p : Pattern) → Builds slot old last one next (Repeat 1 None p)
+pub Builds-star : (slot : ℕ × ℕ) (old last new : List State) (state : State) (one id next : ℕ) (p : Pattern) → Builds slot old last one next (Repeat 1 None p)
     → (state ≡ Fork one next) ⊎ (state ≡ Fork next one) → IsAdded last new state id → Builds slot old new id next (Repeat 0 None p)
 Builds-star slot old last new state one id next p x c a =
-    Builds-is slot old new id next (Either (Repeat 1 None p) Empty) (Repeat 0 None p) (star-is p) (star-back p)
+    Builds-is slot old new id next (Either (Repeat 1 None p) Empty) (Repeat 0 None p) (star-is p) (star-back p) (star-same p)
     (Builds-optional slot old last new state one id next (Repeat 1 None p) x c a)
 
 -- a loop: its fork, its part, and the fork written anew
-record LoopsOver (slot low high first again next : ℕ) (p : Pattern) (all : List State) : Type 0 where
+record LoopsOver (slot : ℕ × ℕ) (low high first again next : ℕ) (p : Pattern) (all : List State) : Type 0 where
   choice : IsChoice all again first next
   part : Realizes all first again p
-  encloses : Encloses slot low high again next all × Encloses slot low high first next all
+  encloses : Encloses slot.0 low high again next all × Encloses slot.0 low high first next all
+  names : Names slot.1 (has_reversed_range p) low high all
 
-Adds-loop : (slot : ℕ) (old middle last : List State) (state written : State) (first again next : ℕ) (p : Pattern) → IsAdded old middle state again
+Adds-loop : (slot : ℕ × ℕ) (old middle last : List State) (state written : State) (first again next : ℕ) (p : Pattern) → IsAdded old middle state again
     → Builds slot middle last first again p → (written ≡ Fork first next) ⊎ (written ≡ Fork next first)
     → Adds old (set last again written) (LoopsOver slot (length old) (length (set last again written)) first again next p)
 Adds-loop slot old middle last state written first again next p a x c =
@@ -242,8 +271,10 @@ Adds-loop slot old middle last state written first again next p a x c =
     record {
       choice = fork;
       part = is.1.0;
-      encloses = Encloses-loop slot (length old) (length middle) (length last) (length (set last again written)) first again next all a.last
+      encloses = Encloses-loop slot.0 (length old) (length middle) (length last) (length (set last again written)) first again next all a.last
           (grown old middle state again a) x.longer (length-set last again written) fork is.1.1;
+      names = Names-loop slot.1 (has_reversed_range p) (length old) (length middle) (length last) (length (set last again written)) again first next all a.last
+          (grown old middle state again a) x.longer (length-set last again written) fork is.1.2;
     })
     (Adds-written old middle last state written again (IsPart slot (length middle) (length last) first again p) a x)
   where
@@ -251,36 +282,38 @@ Adds-loop slot old middle last state written first again next p a x c =
     choice all is (inl e) = inl (is ∙ ap (λ (s : State). Some s) e)
     choice all is (inr e) = inr (is ∙ ap (λ (s : State). Some s) e)
 
-pub Builds-again : (slot : ℕ) (old middle last : List State) (state written : State) (first again next : ℕ) (p : Pattern) → IsAdded old middle state again
+pub Builds-again : (slot : ℕ × ℕ) (old middle last : List State) (state written : State) (first again next : ℕ) (p : Pattern) → IsAdded old middle state again
     → Builds slot middle last first again p → (written ≡ Fork first next) ⊎ (written ≡ Fork next first)
     → Builds slot old (set last again written) again next (Repeat 0 None p)
 Builds-again slot old middle last state written first again next p a x c =
     let high : ℕ = length (set last again written) in
     Adds-is old (set last again written) (LoopsOver slot (length old) high first again next p) (IsPart slot (length old) high again next (Repeat 0 None p))
-    (λ all b. (Realizes-star all again first next p b.choice b.part, b.encloses.0))
+    (λ all b. (Realizes-star all again first next p b.choice b.part, b.encloses.0, b.names))
     (Adds-loop slot old middle last state written first again next p a x c)
 
-pub Builds-plus : (slot : ℕ) (old middle last : List State) (state written : State) (first again next : ℕ) (p : Pattern) → IsAdded old middle state again
+pub Builds-plus : (slot : ℕ × ℕ) (old middle last : List State) (state written : State) (first again next : ℕ) (p : Pattern) → IsAdded old middle state again
     → Builds slot middle last first again p → (written ≡ Fork first next) ⊎ (written ≡ Fork next first)
     → Builds slot old (set last again written) first next (Repeat 1 None p)
 Builds-plus slot old middle last state written first again next p a x c =
     let high : ℕ = length (set last again written) in
     Adds-is old (set last again written) (LoopsOver slot (length old) high first again next p) (IsPart slot (length old) high first next (Repeat 1 None p))
-    (λ all b. (Realizes-plus all again first next p b.choice b.part, b.encloses.1))
+    (λ all b. (Realizes-plus all again first next p b.choice b.part, b.encloses.1, b.names))
     (Adds-loop slot old middle last state written first again next p a x c)
 
-pub Builds-limited : (slot : ℕ) (old middle new : List State) (min max rest first next : ℕ) (p : Pattern)
+pub Builds-limited : (slot : ℕ × ℕ) (old middle new : List State) (min max rest first next : ℕ) (p : Pattern)
     → Builds slot old middle rest next (up_to (max - min) p)
     → Builds slot middle new first rest (copies min p) → Builds slot old new first next (Repeat min (Some max) p)
 Builds-limited slot old middle new min max rest first next p x y =
     Builds-is slot old new first next (Then (copies min p) (up_to (max - min) p)) (Repeat min (Some max) p) (limited-is min max p) (limited-back min max p)
+    (limited-same min max p)
     (Builds-then slot old middle new first rest next (copies min p) (up_to (max - min) p) x y)
 
-pub Builds-unlimited : (slot : ℕ) (old middle new : List State) (min last first next : ℕ) (p : Pattern)
+pub Builds-unlimited : (slot : ℕ × ℕ) (old middle new : List State) (min last first next : ℕ) (p : Pattern)
     → 0 < min → Builds slot old middle last next (Repeat 1 None p)
     → Builds slot middle new first last (copies (min - 1) p) → Builds slot old new first next (Repeat min None p)
 Builds-unlimited slot old middle new min last first next p some x y =
     Builds-is slot old new first next (Then (copies (min - 1) p) (Repeat 1 None p)) (Repeat min None p) (unlimited-is min p some) (unlimited-back min p some)
+    (unlimited-same min p)
     (Builds-then slot old middle new first last next (copies (min - 1) p) (Repeat 1 None p) x y)
 
 -- ---- a list from an index on
@@ -294,14 +327,14 @@ pub drop-one : {A : Type 0} (xs : List A) (d : A) → 0 < length xs → drop (le
 drop-one {A = A} xs d some = drop-last xs (length xs) d some (omega arith) ∙ ap (λ (ys : List A). get_or xs (length xs - 1) d ∷ ys) (drop-length xs)
 
 -- without a part there is no match
-pub Builds-nothing : (slot : ℕ) (old new : List State) (first next : ℕ) (parts : List Pattern) → length parts ≡ 0 → Builds slot old new first next Never
+pub Builds-nothing : (slot : ℕ × ℕ) (old new : List State) (first next : ℕ) (parts : List Pattern) → length parts ≡ 0 → Builds slot old new first next Never
     → Builds slot old new first next (one_of parts)
 Builds-nothing slot old new first next [] none x = x
 Builds-nothing slot old new first next (p ∷ rest) none x = absurd (omega (arith, none))
 
 -- a class without a range has no byte
-pub Builds-none : (slot : ℕ) (old new : List State) (first next : ℕ) (ranges : List (ℕ × ℕ)) → length ranges ≡ 0 → Builds slot old new first next Never
+pub Builds-none : (slot : ℕ × ℕ) (old new : List State) (first next : ℕ) (ranges : List (ℕ × ℕ)) → length ranges ≡ 0 → Builds slot old new first next Never
     → Builds slot old new first next (Class ranges)
 Builds-none slot old new first next [] none x =
-    Builds-is slot old new first next Never (Class []) (λ t i j g. absurd g) (λ t i j g. absurd (true≢false (sym g.0))) x
+    Builds-is slot old new first next Never (Class []) (λ t i j g. absurd g) (λ t i j g. absurd (true≢false (sym g.0))) refl x
 Builds-none slot old new first next (r ∷ rest) none x = absurd (omega (arith, none))

@@ -1,11 +1,14 @@
 -- What the runs of a program that was built record in the slots of the whole match.
-use Rattle.std.proofs.Common.{◌≡◌, ℕ, ◌+◌, ◌*◌, suc, ◌-◌, ◌<◌, ◌≤◌, ◌⊎◌, inl, inr, ⊎_elim, Bool, true, false, cond, List, [], ◌∷◌, length, slice_get, slice_index_or, refl, sym, ap, ◌∙◌, subst, arith, Option, Some, None, MatchOption}
-use Rattle.std.proofs.lemmas.Bool.{ne_eqb, eq-eqb}
+use Rattle.std.proofs.Common.{nat_eq, nat_lt, ◌≡◌, ℕ, ◌+◌, ◌*◌, suc, ◌-◌, ◌<◌, ◌≤◌, ◌⊎◌, inl, inr, ⊎_elim, Bool, true, false, cond, List, [], ◌∷◌, length, slice_get, slice_index_or, refl, sym, ap, ◌∙◌, subst, arith, Option, Some, None, MatchOption}
+use Rattle.std.proofs.lemmas.Bool.{ne_eqb, eq-eqb, lt-ltb}
+use Rattle.std.proofs.lemmas.Bool.Decides.{nat_tests}
 use Rattle.rsc_nfa.specs.declared.state.State.{State}
 use Rattle.rsc_nfa.specs.declared.state.State.TheVariants.{ByteRange, Assert, Fork, Capture, Accept}
 use Rattle.rsc_nfa.specs.Steps.{StepsTo, IsStep, IsRun, place, is_capture_of, or_earlier, recorded}
 use Rattle.rsc_search.specs.Matches.{Matched}
-use Rattle.rsc_captures.specs.Captured.{Captured}
+use Rattle.rsc_captures.specs.Groups.{GroupLists, group_count, slot_of}
+use Rattle.rsc_captures.specs.Captured.{Captured, first_slot, group_span}
+use Rattle.rsc_engine.proofs.RefusalsLemmas.{pattern_there}
 use Rattle.rsc_engine.specs.Searches.{Search, Compiled, search_in}
 use Rattle.rsc_engine.specs.Runs.{IsMatchRun, IsMatchOf}
 use Rattle.rsc_engine.specs.Preferred.{IsOf}
@@ -244,3 +247,22 @@ pub slot_holds : (e : Search) (run : List (ℕ × ℕ)) (captures : Captured) (f
     → slice_index_or captures.offsets slot None ≡ Some i
 slot_holds e run captures found slot i r m o l =
     o.records slot l ∙ r (subst (λ (at : ℕ). IsMatchRun e (e.first, at) run) (sym o.ends.start) m) o.ends
+
+-- ---- the span of the first group
+
+first_slot-whole : (groups : GroupLists) (q : ℕ) → 0 < group_count groups q → first_slot groups q 0 ≡ Some (2 * q)
+first_slot-whole groups q some = go (nat_eq (length groups) 1) refl
+  where
+    go : (b : Bool) → nat_eq (length groups) 1 ≡ b → cond b (Some (2 * 0)) (slot_of groups q 0) ≡ Some (2 * q)
+    go true e =
+        let there = pattern_there groups q 0 some in
+        let one : length groups ≡ 1 = grind (arith, nat_tests, e) in
+        let none : q ≡ 0 = omega (arith, one, there) in
+        rw none refl
+    go false e = rw (lt-ltb 0 (group_count groups q) some) refl
+
+-- where its two slots hold the match's start and end
+pub whole_span : (captures : Captured) (found : Matched) → captures.pattern ≡ Some found.pattern → 0 < group_count captures.groups found.pattern
+    → slice_index_or captures.offsets (2 * found.pattern) None ≡ Some found.span.start
+    → slice_index_or captures.offsets (2 * found.pattern + 1) None ≡ Some found.span.end → group_span captures 0 ≡ Some found.span
+whole_span captures found is some start end = rw (is, first_slot-whole captures.groups found.pattern some) (rw (start, end) refl)

@@ -17,10 +17,12 @@ pub mod NeededLayoutLemmas  -- no match is where no byte of the one range is dir
 pub mod LawfulLayoutLemmas  -- what follows from the laws of steps: the bytes on both sides, or others of their classes, stand for a position
 pub mod DfaLemmas  -- a closure as it grows
 pub mod TablesLayoutLemmas  -- what the table of a DFA says is so, and stays so as it grows
+pub mod RefusalsLemmas  -- why there is no program
 pub mod PartsLemmas  -- the pattern of a tree, by its variants
 pub mod PatternsLemmas  -- patterns that go where others go: bytes, classes and repetitions
 pub mod LinksLayoutLemmas  -- how single states lead on, and what follows for parts made of parts
 pub mod EnclosesLayoutLemmas  -- where the states of parts lead that are made of parts
+pub mod NamesLayoutLemmas  -- what the states of parts name that are made of parts, and whether a range of theirs is reversed
 pub mod BuilderLemmas  -- how lists of states grow, part by part
 pub mod GroupEndsLemmas  -- what the runs of a program that was built record in the slots of the whole match
 pub mod LawsLemmas  -- what first and next matches and ends are, of a program that recognizes patterns

@@ -1,5 +1,5 @@
 pub mod Searches  -- a program, what a search is over, and why it has no answer
-pub mod Refusals  -- why there is no automaton
+pub mod Refusals  -- why there is no program
 pub mod Runs  -- runs that are matches
 pub mod GroupsLayout  -- the match that a run makes
 pub mod StartsLayout  -- the bytes with which a match may begin
@@ -14,6 +14,7 @@ pub mod Patterns  -- what a pattern matches, and which programs match it
 pub mod GroupEnds  -- the group of the whole match: what runs record in its slots
 pub mod Parts  -- which pattern a part is, and which groups it has
 pub mod EnclosesLayout  -- where the states of a part lead, and in which slots they record
+pub mod NamesLayout  -- what the states of a part or of patterns name, and whether a range of theirs is reversed
 pub mod LinksLayout  -- how the states of a part lead on
 pub mod BeginsLayout  -- at which state the matches of a pattern, or of several, begin
 pub mod Ends  -- where matches end, and what a DFA answers

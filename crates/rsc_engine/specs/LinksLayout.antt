@@ -5,6 +5,8 @@ use Rattle.rsc_nfa.specs.declared.state.State.TheVariants.{Fork, Accept}
 use Rattle.rsc_nfa.specs.Steps.{IsStep}
 use Rattle.rsc_engine.specs.Patterns.{Pattern, Empty, Then, Either, Subject, Goes}
 use Rattle.rsc_engine.specs.EnclosesLayout.{Encloses}
+use Rattle.rsc_engine.specs.NamesLayout.{Names}
+use Rattle.rsc_engine.specs.Refusals.{has_reversed_range}
 
 -- a match that is looked for: in a text up to an end, of a pattern, to a position
 pub record Aim : Type 0 where
@@ -47,10 +49,11 @@ pub record Adds (old new : List State) (Holds : List State → Type 0) : Type 0 
   pub kept : (k : ℕ) → k < length old → slice_get new k ≡ slice_get old k
   pub holds : (states : List State) → IsIn (length old) new states → Holds states
 
--- states were added by which a pattern leads from the state `first` to the state `next`, and which record only in slots after the given one
-abbrev pub Builds : ℕ → List State → List State → ℕ → ℕ → Pattern → Type 0
-Builds slot old new first next p =
-    Adds old new (λ states. Realizes states first next p × Encloses slot (length old) (length new) first next states)
+-- states were added by which a pattern leads from the state `first` to the state `next`, and which record only in slots between the given ones
+abbrev pub Builds : ℕ × ℕ → List State → List State → ℕ → ℕ → Pattern → Type 0
+Builds slots old new first next p =
+    Adds old new (λ states. Realizes states first next p × Encloses slots.0 (length old) (length new) first next states
+    × Names slots.1 (has_reversed_range p) (length old) (length new) states)
 
 -- one state was added, and this is its number
 pub record IsAdded (old new : List State) (state : State) (id : ℕ) : Type 0 where

@@ -1,9 +1,10 @@
 //! A builder: each call makes a part of a pattern, and larger parts are made of smaller ones.
-ghost use Rattle.std.specs.Prelude.{◌≡◌, ◌<◌, ◌++◌, [], ◌∷◌, None, Some, Err, map, flat_map, length, IfOk, IfErr, OnOk, OnErr};
+ghost use Rattle.std.specs.Prelude.{false, ◌≡◌, ◌<◌, ◌++◌, [], ◌∷◌, None, Some, Err, map, flat_map, length, IfOk, IfErr, OnOk, OnErr};
 ghost use Rattle.rsc_captures.specs.Groups.{groups_in};
 ghost use Rattle.rsc_engine.specs.declared.error.Error.TheVariants.{OutOfMemory, EmptyClass};
 ghost use Rattle.rsc_engine.specs.Patterns.{Empty, Never, Class, Literal, Assertion, Then, Either, in_order, one_of, Recognizes};
 ghost use Rattle.rsc_engine.specs.GroupEnds.{RecordsEnds};
+ghost use Rattle.rsc_engine.specs.Refusals.{FailsToBuild, RefusesNames, RepeatsName, error_of, has_a_reversed_range};
 ghost use Rattle.rsc_engine.specs.Parts.{pattern_of, patterns_of, pattern_in, groups_of_part, groups_of_pattern, lists_of};
 
 mod compile;
@@ -222,8 +223,8 @@ impl<'n> Builder<'n> {
     ///
     /// # Errors
     ///
-    /// `Faulty` if a range's first byte is above its last, `Names` if a pattern has a name twice, `TooLarge` for more states, patterns or groups
-    /// than there are numbers for, else out of memory.
+    /// `Names` if a pattern has a name twice, and else `Faulty` if a range's first byte is above its last, unless its part is repeated at most
+    /// 0 times; `TooLarge` for more states, patterns or groups than there are numbers for; or out of memory, which may come first.
     pub fn build<W: WordClass>(
         self,
         words: W,
@@ -235,6 +236,10 @@ impl<'n> Builder<'n> {
         ensures ends { IfOk result (λ program. RecordsEnds W.word_chars program) }
         ensures text { IfOk result (λ program. program.utf8 ≡ utf8) }
         ensures matcher { IfOk result (λ program. program.automaton.matcher ≡ (10, words)) }
+        ensures names { OnOk result (¬ (RepeatsName (lists_of self.entry ++ groups_of_pattern last.entry ∷ []))) }
+        ensures ordered { OnOk result (has_a_reversed_range (patterns_of self.entry ++ pattern_of last.entry ∷ []) ≡ false) }
+        ensures refused { IfErr result (FailsToBuild (patterns_of self.entry ++ pattern_of last.entry ∷ [])
+            (lists_of self.entry ++ groups_of_pattern last.entry ∷ [])) }
     {
         self.build_with(LookMatcher::new(words), utf8, last)
     }
@@ -255,6 +260,10 @@ impl<'n> Builder<'n> {
         ensures ends { IfOk result (λ program. RecordsEnds W.word_chars program) }
         ensures text { IfOk result (λ program. program.utf8 ≡ utf8) }
         ensures matcher { IfOk result (λ program. program.automaton.matcher ≡ matcher) }
+        ensures names { OnOk result (¬ (RepeatsName (lists_of self.entry ++ groups_of_pattern last.entry ∷ []))) }
+        ensures ordered { OnOk result (has_a_reversed_range (patterns_of self.entry ++ pattern_of last.entry ∷ []) ≡ false) }
+        ensures refused { IfErr result (FailsToBuild (patterns_of self.entry ++ pattern_of last.entry ∷ [])
+            (lists_of self.entry ++ groups_of_pattern last.entry ∷ [])) }
     {
         self.pattern(last)?;
         let info = info_of(self.alloc, self.patterns.as_slice())?;
@@ -308,7 +317,9 @@ fn joined<'n>(
 
 // The groups of all patterns: of each that of the whole match, which has no name, and then its own.
 fn info_of(alloc: Global, patterns: &[Part<'_>]) -> Result<GroupInfo, Error>
-    ensures { IfOk result (λ info. info ≡ map groups_of_pattern patterns.now) }
+    ensures groups { IfOk result (λ info. info ≡ map groups_of_pattern patterns.now) }
+    ensures names { OnOk result (¬ (RepeatsName (map groups_of_pattern patterns.now))) }
+    ensures refused { IfErr result (RefusesNames (map groups_of_pattern patterns.now)) }
 {
     let mut all = Vec::new(alloc);
     for part in patterns {
@@ -328,7 +339,9 @@ fn info_of(alloc: Global, patterns: &[Part<'_>]) -> Result<GroupInfo, Error>
 }
 
 // Why there is no group info.
-fn refusal_of(fault: &GroupInfoError) -> Error {
+fn refusal_of(fault: &GroupInfoError) -> Error
+    ensures { result ≡ error_of fault.now }
+{
     match fault.kind() {
         GroupInfoErrorKind::OutOfMemory => Error::OutOfMemory,
         GroupInfoErrorKind::Duplicate { .. } => Error::Names,

@@ -1,7 +1,7 @@
 //! Why there is no program, or no answer.
-ghost use Rattle.std.specs.Prelude.{◌≡◌, if◌then◌else◌};
+ghost use Rattle.std.specs.Prelude.{◌≡◌, Some, if◌then◌else◌};
 ghost use Rattle.rsc_engine.specs.declared.error.Error.TheVariants.{OutOfMemory, Faulty};
-ghost use Rattle.rsc_engine.specs.Refusals.{is_out_of_memory};
+ghost use Rattle.rsc_engine.specs.Refusals.{is_out_of_memory, error_text};
 
 use rsc_nfa::BuildError;
 use std::alloc::{AllocError, AllocFailed};
@@ -23,6 +23,8 @@ pub enum Error {
 }
 
 impl fmt::Display for Error {
+    ghost output = { λ error. Some (error_text error) };
+
     fn fmt<W: fmt::Write>(&self, f: &mut fmt::Formatter<W>) -> fmt::Result {
         match self {
             Error::OutOfMemory => write!(f, "out of memory"),

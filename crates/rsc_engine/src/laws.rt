@@ -1,6 +1,7 @@
 //! Laws of matches that a caller can cite: functions whose contracts are the laws.
 ghost use Rattle.std.specs.Prelude.{◌≡◌, ◌+◌, ◌*◌, ◌<◌, ◌≤◌, ◌⊎◌, ℕ, List, length, Option, Some, None, slice_index_or};
-ghost use Rattle.rsc_captures.specs.Captured.{Captured};
+ghost use Rattle.rsc_captures.specs.Groups.{group_count};
+ghost use Rattle.rsc_captures.specs.Captured.{Captured, group_span};
 ghost use Rattle.rsc_search.specs.Inputs.{InputParts};
 ghost use Rattle.rsc_search.specs.Matches.{Matched};
 ghost use Rattle.rsc_engine.specs.Searches.{Search, Compiled, search_in};
@@ -91,7 +92,7 @@ pub fn a_leftmost_end_is_of_a_pattern<W: WordClass>()
 {}
 
 /// Where the captures of a program that records the ends of its matches have room, the two slots of the first group of a match's pattern hold
-/// the match's start and end.
+/// the match's start and end; so where that pattern has a group, `get_group(0)` is the match's span.
 pub fn the_first_group_is_the_match<W: WordClass>()
     ensures first_start { (program : Compiled W) (input : InputParts) (captures : Captured) (found : Matched) → RecordsEnds W.word_chars program →
         IsFirstMatch (search_in W.word_chars program input) captures found → 2 * found.pattern < length captures.offsets →
@@ -105,4 +106,10 @@ pub fn the_first_group_is_the_match<W: WordClass>()
     ensures next_end { (program : Compiled W) (input : InputParts) (last : Option ℕ) (captures : Captured) (found : Matched) →
         RecordsEnds W.word_chars program → IsNextMatch (search_in W.word_chars program input) last captures found →
         2 * found.pattern + 1 < length captures.offsets → slice_index_or captures.offsets (2 * found.pattern + 1) None ≡ Some found.span.end }
+    ensures first_group { (program : Compiled W) (input : InputParts) (captures : Captured) (found : Matched) → RecordsEnds W.word_chars program →
+        IsFirstMatch (search_in W.word_chars program input) captures found → 2 * found.pattern + 1 < length captures.offsets →
+        0 < group_count captures.groups found.pattern → group_span captures 0 ≡ Some found.span }
+    ensures next_group { (program : Compiled W) (input : InputParts) (last : Option ℕ) (captures : Captured) (found : Matched) →
+        RecordsEnds W.word_chars program → IsNextMatch (search_in W.word_chars program input) last captures found →
+        2 * found.pattern + 1 < length captures.offsets → 0 < group_count captures.groups found.pattern → group_span captures 0 ≡ Some found.span }
 {}

@@ -3,7 +3,7 @@ use Rattle.std.specs.Option.{ForSome}
 use Rattle.std.proofs.Common.{◌≡◌, ℕ, zero, suc, ◌+◌, ◌-◌, ◌*◌, ◌<◌, ◌≤◌, Option, None, Bool, List, [], ◌∷◌, ◌++◌, length, slice_get, refl, sym, ap, subst, arith, Some}
 use Rattle.std.proofs.lemmas.List.{length-replicate}
 use Rattle.rsc_search.specs.Inputs.{whole}
-use Rattle.rsc_captures.specs.Groups.{Groups, GroupLists, all_groups}
+use Rattle.rsc_captures.specs.Groups.{Groups, GroupLists, group_count, all_groups}
 use Rattle.rsc_captures.specs.Captured.{Captured, no_offsets}
 use Rattle.rsc_search.specs.Matches.{Matched}
 use Rattle.rsc_engine.specs.Searches.{Compiled, Search, search_in}
@@ -35,6 +35,10 @@ number_of p e found m = only found.pattern m.its
     only : (n : ℕ) → slice_get (p ∷ []) n ≡ Some m.pattern → n ≡ 0
     only zero h = refl
     only (suc n) h = absurd (cc)
+
+-- its pattern has a first group
+pub has_first : (lists : GroupLists) (groups : Groups) (p : ℕ) → lists ≡ (None ∷ groups) ∷ [] → p ≡ 0 → 0 < group_count lists p
+has_first lists groups p is zero_is = rw (is, zero_is) (omega arith)
 
 -- captures for one pattern have room for its first group
 pub room_for_first : (lists : GroupLists) (groups : Groups) (captures : Captured) → lists ≡ (None ∷ groups) ∷ []

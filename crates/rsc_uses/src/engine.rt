@@ -1,6 +1,7 @@
 //! Searches by an engine, and what its answers say of one another.
 ghost use Rattle.std.specs.Prelude.{◌≡◌, ◌<◌, ◌≤◌, ◌⊎◌, ◌++◌, [], ◌∷◌, ℕ, Some, None, false, IfOk, IfSome, IfNone, length, slice_index_or};
 ghost use Rattle.rsc_search.specs.Matches.{Matched};
+ghost use Rattle.rsc_captures.specs.Captured.{group_span};
 ghost use Rattle.rsc_engine.specs.Searches.{search_in};
 ghost use Rattle.rsc_engine.specs.NextMatches.{AreAll};
 ghost use Rattle.rsc_engine.specs.Preferred.{HasNone, IsFirstMatch};
@@ -39,7 +40,7 @@ pub fn find_part<W: WordClass + AsciiWords>(
     }
 }
 
-/// The first match of a part, with captures whose first two slots hold where it starts and ends.
+/// The first match of a part, with captures whose first two slots hold where it starts and ends; so its first group has its span.
 pub fn find_with_slots<W: WordClass + AsciiWords>(
     alloc: Global,
     words: W,
@@ -48,6 +49,7 @@ pub fn find_with_slots<W: WordClass + AsciiWords>(
 ) -> Result<Option<(Match, Captures)>, Error>
     ensures start { IfOk result (λ found. IfSome found (λ both. slice_index_or both.1.offsets 0 None ≡ Some both.0.span.start)) }
     ensures end { IfOk result (λ found. IfSome found (λ both. slice_index_or both.1.offsets 1 None ≡ Some both.0.span.end)) }
+    ensures group { IfOk result (λ found. IfSome found (λ both. group_span both.1 0 ≡ Some both.0.span)) }
 {
     laws::a_first_match_is_of_a_pattern::<W>();
     laws::the_first_group_is_the_match::<W>();
@@ -56,6 +58,21 @@ pub fn find_with_slots<W: WordClass + AsciiWords>(
     match find(alloc, &program, input, &mut captures)? {
         None => Ok(None),
         Some(found) => Ok(Some((found, captures))),
+    }
+}
+
+/// The first match of a part, with its first group, which has its span.
+pub fn find_with_group<W: WordClass + AsciiWords>(
+    alloc: Global,
+    words: W,
+    part: Part<'_>,
+    input: &Input<'_>,
+) -> Result<Option<(Match, Option<Span>)>, Error>
+    ensures { IfOk result (λ found. IfSome found (λ both. both.1 ≡ Some both.0.span)) }
+{
+    match find_with_slots(alloc, words, part, input)? {
+        None => Ok(None),
+        Some((found, captures)) => Ok(Some((found, captures.get_group(0)))),
     }
 }
 

@@ -1,10 +1,13 @@
 //! From parts to states. The walk goes from the end of a pattern to its start, so that what comes after a part has its state first.
-ghost use Rattle.std.specs.Prelude.{◌≡◌, ℕ, ◌+◌, ◌*◌, ◌<◌, ◌++◌, [], ◌∷◌, map, length, IfOk, OnOk};
+ghost use Rattle.std.specs.Prelude.{◌≡◌, ℕ, ◌+◌, ◌*◌, ◌<◌, ◌≤◌, ◌++◌, [], ◌∷◌, map, length, IfOk, IfErr, MatchResult};
 ghost use Rattle.rsc_nfa.specs.declared.state.State.TheVariants.{Fork};
 ghost use Rattle.rsc_engine.specs.Patterns.{Never, Class, Literal, in_order, one_of};
 ghost use Rattle.rsc_engine.specs.Parts.{pattern_of, pattern_in};
 ghost use Rattle.rsc_engine.specs.LinksLayout.{Adds, Builds, IsAdded};
 ghost use Rattle.rsc_engine.specs.BeginsLayout.{Begins, IsOfOne, IsOfSome};
+ghost use Rattle.rsc_captures.specs.Groups.{all_groups};
+ghost use Rattle.rsc_engine.specs.NamesLayout.{AreSoundIn};
+ghost use Rattle.rsc_engine.specs.Refusals.{RunsOut, has_reversed_range, has_a_reversed_range};
 
 use super::Part;
 use super::tree::Tree;
@@ -29,6 +32,8 @@ pub struct Slots {
     pub end: SmallIndex,
     // Those of each group, that of the whole match first.
     pub groups: Vec<(SmallIndex, SmallIndex)>,
+    // How many slots the groups of all patterns have.
+    pub limit: usize,
 }
 
 impl Slots {
@@ -36,11 +41,17 @@ impl Slots {
     fn of_group(&self, group: usize) -> Result<(SmallIndex, SmallIndex), Error>
         ensures start { IfOk result (λ slots. self.now.end < slots.0) }
         ensures end { IfOk result (λ slots. self.now.end < slots.1) }
+        ensures start_within { IfOk result (λ slots. slots.0 < self.now.limit) }
+        ensures end_within { IfOk result (λ slots. slots.1 < self.now.limit) }
+        ensures refused { IfErr result RunsOut }
     {
         let Some((start, end)) = self.groups.get(group).copied() else {
             return Err(Error::TooLarge);
         };
         if start.as_usize() <= self.end.as_usize() || end.as_usize() <= self.end.as_usize() {
+            return Err(Error::TooLarge);
+        }
+        if self.limit <= start.as_usize() || self.limit <= end.as_usize() {
             return Err(Error::TooLarge);
         }
         Ok((start, end))
@@ -53,7 +64,9 @@ pub fn compile(
     info: &GroupInfo,
     patterns: &[Part<'_>],
 ) -> Result<(Vec<State>, StateID), Error>
-    ensures { IfOk result (λ made. Begins made.0.items made.1 (IsOfSome 0 (map pattern_of patterns.now))) }
+    ensures { MatchResult result (λ made. Begins made.0.items made.1 (IsOfSome 0 (map pattern_of patterns.now))
+        × (length patterns.now ≤ length info.now →
+        AreSoundIn info.now (has_a_reversed_range (map pattern_of patterns.now)) [] made.0.items made.1 made.0.items)) RunsOut }
 {
     let mut compiler = Compiler {
         states: Vec::new(alloc),
@@ -76,7 +89,9 @@ fn slots_of(
     info: &GroupInfo,
     pattern: PatternID,
     groups: usize,
-) -> Result<Vec<(SmallIndex, SmallIndex)>, Error> {
+) -> Result<Vec<(SmallIndex, SmallIndex)>, Error>
+    ensures { IfErr result RunsOut }
+{
     let mut slots = Vec::new(alloc);
     for group in 0..groups {
         slots.push(pair_of(info, pattern, group)?)?;
@@ -92,6 +107,9 @@ fn pair_of(
 ) -> Result<(SmallIndex, SmallIndex), Error>
     ensures start { IfOk result (λ slots. group ≡ 0 → slots.0 ≡ 2 * pattern) }
     ensures end { IfOk result (λ slots. group ≡ 0 → slots.1 ≡ 2 * pattern + 1) }
+    ensures start_within { IfOk result (λ slots. slots.0 < 2 * all_groups info.now) }
+    ensures end_within { IfOk result (λ slots. slots.1 < 2 * all_groups info.now) }
+    ensures refused { IfErr result RunsOut }
 {
     let Some((start, end)) = info.slots(pattern, group) else {
         return Err(Error::TooLarge);
@@ -111,8 +129,9 @@ impl Compiler {
         index: usize,
         whole: &Part<'_>,
     ) -> Result<StateID, Error>
-        ensures { IfOk result (λ first. Adds self.old.states.items self.new.states.items
-            (λ states. Begins states first (IsOfOne index (pattern_of whole.now)))) }
+        ensures { MatchResult result (λ first. Adds self.old.states.items self.new.states.items
+            (λ states. Begins states first (IsOfOne index (pattern_of whole.now)) × (index < length info.now →
+            AreSoundIn info.now (has_reversed_range (pattern_of whole.now)) self.old.states.items self.new.states.items first states))) RunsOut }
     {
         let Ok(pattern) = PatternID::new(index) else {
             return Err(Error::TooLarge);
@@ -122,6 +141,7 @@ impl Compiler {
         let slots = Slots {
             end,
             groups: slots_of(alloc, info, pattern, groups)?,
+            limit: info.slot_len(),
         };
         self.left = groups;
         let accept = self.add(State::Accept { pattern })?;
@@ -139,7 +159,8 @@ impl Compiler {
     /// The state at which the part begins. Where it ends the state `next` comes.
     #[cycle(part)]
     pub fn part(&mut self, slots: &Slots, tree: &Tree, next: StateID) -> Result<StateID, Error>
-        ensures { IfOk result (λ first. Builds slots.now.end self.old.states.items self.new.states.items first next (pattern_in tree.now)) }
+        ensures { MatchResult result (λ first. Builds (slots.now.end, slots.now.limit) self.old.states.items self.new.states.items first next
+            (pattern_in tree.now)) RunsOut }
     {
         match tree {
             Tree::Empty => Ok(next),
@@ -170,14 +191,15 @@ impl Compiler {
 
     // A state from which nothing leads on.
     fn never(&mut self, next: StateID) -> Result<StateID, Error>
-        ensures { IfOk result (λ first. (slot : ℕ) → Builds slot self.old.states.items self.new.states.items first next Never) }
+        ensures { MatchResult result (λ first. (slots : ℕ × ℕ) → Builds slots self.old.states.items self.new.states.items first next Never) RunsOut }
     {
         let this = self.next_id()?;
         self.fork(this, this)
     }
 
     fn class(&mut self, ranges: &[(u8, u8)], next: StateID) -> Result<StateID, Error>
-        ensures { IfOk result (λ first. (slot : ℕ) → Builds slot self.old.states.items self.new.states.items first next (Class ranges.now)) }
+        ensures { MatchResult result (λ first. (slots : ℕ × ℕ) → Builds slots self.old.states.items self.new.states.items first next
+            (Class ranges.now)) RunsOut }
     {
         if ranges.is_empty() {
             return self.never(next);
@@ -194,7 +216,8 @@ impl Compiler {
     }
 
     fn literal(&mut self, bytes: &[u8], next: StateID) -> Result<StateID, Error>
-        ensures { IfOk result (λ first. (slot : ℕ) → Builds slot self.old.states.items self.new.states.items first next (Literal bytes.now)) }
+        ensures { MatchResult result (λ first. (slots : ℕ × ℕ) → Builds slots self.old.states.items self.new.states.items first next
+            (Literal bytes.now)) RunsOut }
     {
         let mut first = next;
         for index in (0..bytes.len()).rev() {
@@ -209,7 +232,8 @@ impl Compiler {
 
     #[cycle(part)]
     fn concat(&mut self, slots: &Slots, parts: &[Tree], next: StateID) -> Result<StateID, Error>
-        ensures { IfOk result (λ first. Builds slots.now.end self.old.states.items self.new.states.items first next (in_order (map pattern_in parts.now))) }
+        ensures { MatchResult result (λ first. Builds (slots.now.end, slots.now.limit) self.old.states.items self.new.states.items first next
+            (in_order (map pattern_in parts.now))) RunsOut }
     {
         let mut first = next;
         for index in (0..parts.len()).rev() {
@@ -220,7 +244,8 @@ impl Compiler {
 
     #[cycle(part)]
     fn one_of(&mut self, slots: &Slots, parts: &[Tree], next: StateID) -> Result<StateID, Error>
-        ensures { IfOk result (λ first. Builds slots.now.end self.old.states.items self.new.states.items first next (one_of (map pattern_in parts.now))) }
+        ensures { MatchResult result (λ first. Builds (slots.now.end, slots.now.limit) self.old.states.items self.new.states.items first next
+            (one_of (map pattern_in parts.now))) RunsOut }
     {
         if parts.is_empty() {
             return self.never(next);
@@ -243,7 +268,8 @@ impl Compiler {
         sub: &Tree,
         next: StateID,
     ) -> Result<StateID, Error>
-        ensures { IfOk result (λ first. Builds slots.now.end self.old.states.items self.new.states.items first next (pattern_in sub.now)) }
+        ensures { MatchResult result (λ first. Builds (slots.now.end, slots.now.limit) self.old.states.items self.new.states.items first next
+            (pattern_in sub.now)) RunsOut }
     {
         let number = self.left.saturating_sub(groups).saturating_sub(1);
         let (start, end) = slots.of_group(number)?;
@@ -258,14 +284,14 @@ impl Compiler {
 
     /// A state that leads to two, preferably to the first.
     pub fn fork(&mut self, a: StateID, b: StateID) -> Result<StateID, Error>
-        ensures { IfOk result (IsAdded self.old.states.items self.new.states.items (Fork a b)) }
+        ensures { MatchResult result (IsAdded self.old.states.items self.new.states.items (Fork a b)) RunsOut }
     {
         self.add(State::Fork { a, b })
     }
 
     /// One more state.
     pub fn add(&mut self, state: State) -> Result<StateID, Error>
-        ensures { IfOk result (IsAdded self.old.states.items self.new.states.items state) }
+        ensures { MatchResult result (IsAdded self.old.states.items self.new.states.items state) RunsOut }
     {
         let id = self.next_id()?;
         self.states.push(state)?;
@@ -274,7 +300,7 @@ impl Compiler {
 
     /// The number of the state that is added next.
     pub fn next_id(&self) -> Result<StateID, Error>
-        ensures { IfOk result (λ id. id ≡ length self.now.states.items) }
+        ensures { MatchResult result (λ id. id ≡ length self.now.states.items) RunsOut }
     {
         match StateID::new(self.states.len()) {
             Err(_) => Err(Error::TooLarge),

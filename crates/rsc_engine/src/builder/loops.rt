@@ -1,9 +1,10 @@
 //! The states of repetitions.
-ghost use Rattle.std.specs.Prelude.{◌≡◌, ◌⊎◌, None, IfOk};
+ghost use Rattle.std.specs.Prelude.{◌≡◌, ◌⊎◌, None, IfOk, IfErr, MatchResult};
 ghost use Rattle.rsc_nfa.specs.declared.state.State.TheVariants.{Fork};
 ghost use Rattle.rsc_engine.specs.Patterns.{Repeat};
 ghost use Rattle.rsc_engine.specs.Parts.{pattern_in};
 ghost use Rattle.rsc_engine.specs.LinksLayout.{Builds, copies, up_to};
+ghost use Rattle.rsc_engine.specs.Refusals.{RunsOut};
 
 use super::compile::{Compiler, Slots};
 use super::tree::{Times, Tree};
@@ -21,8 +22,8 @@ impl Compiler {
         sub: &Tree,
         next: StateID,
     ) -> Result<StateID, Error>
-        ensures { IfOk result (λ first. Builds slots.now.end self.old.states.items self.new.states.items first next
-            (Repeat times.min times.max (pattern_in sub.now))) }
+        ensures { MatchResult result (λ first. Builds (slots.now.end, slots.now.limit) self.old.states.items self.new.states.items first next
+            (Repeat times.min times.max (pattern_in sub.now))) RunsOut }
     {
         let left = self.left;
         let first = self.times(slots, times, sub, next)?;
@@ -40,8 +41,8 @@ impl Compiler {
         sub: &Tree,
         next: StateID,
     ) -> Result<StateID, Error>
-        ensures { IfOk result (λ first. Builds slots.now.end self.old.states.items self.new.states.items first next
-            (Repeat times.min times.max (pattern_in sub.now))) }
+        ensures { MatchResult result (λ first. Builds (slots.now.end, slots.now.limit) self.old.states.items self.new.states.items first next
+            (Repeat times.min times.max (pattern_in sub.now))) RunsOut }
     {
         let left = self.left;
         match times.max {
@@ -71,7 +72,8 @@ impl Compiler {
         sub: &Tree,
         next: StateID,
     ) -> Result<StateID, Error>
-        ensures { IfOk result (λ first. Builds slots.now.end self.old.states.items self.new.states.items first next (copies count (pattern_in sub.now))) }
+        ensures { MatchResult result (λ first. Builds (slots.now.end, slots.now.limit) self.old.states.items self.new.states.items first next
+            (copies count (pattern_in sub.now))) RunsOut }
     {
         let left = self.left;
         let mut first = next;
@@ -92,7 +94,8 @@ impl Compiler {
         sub: &Tree,
         next: StateID,
     ) -> Result<StateID, Error>
-        ensures { IfOk result (λ first. Builds slots.now.end self.old.states.items self.new.states.items first next (up_to count (pattern_in sub.now))) }
+        ensures { MatchResult result (λ first. Builds (slots.now.end, slots.now.limit) self.old.states.items self.new.states.items first next
+            (up_to count (pattern_in sub.now))) RunsOut }
     {
         let left = self.left;
         let mut first = next;
@@ -113,7 +116,8 @@ impl Compiler {
         sub: &Tree,
         next: StateID,
     ) -> Result<StateID, Error>
-        ensures { IfOk result (λ first. Builds slots.now.end self.old.states.items self.new.states.items first next (Repeat 0 None (pattern_in sub.now))) }
+        ensures { MatchResult result (λ first. Builds (slots.now.end, slots.now.limit) self.old.states.items self.new.states.items first next
+            (Repeat 0 None (pattern_in sub.now))) RunsOut }
     {
         let (first, again) = self.again(slots, times.is_greedy, sub, next)?;
         if times.may_be_empty {
@@ -131,10 +135,11 @@ impl Compiler {
         sub: &Tree,
         next: StateID,
     ) -> Result<(StateID, StateID), Error>
-        ensures first { IfOk result (λ made. Builds slots.now.end self.old.states.items self.new.states.items made.0 next
+        ensures first { IfOk result (λ made. Builds (slots.now.end, slots.now.limit) self.old.states.items self.new.states.items made.0 next
             (Repeat 1 None (pattern_in sub.now))) }
-        ensures again { IfOk result (λ made. Builds slots.now.end self.old.states.items self.new.states.items made.1 next
+        ensures again { IfOk result (λ made. Builds (slots.now.end, slots.now.limit) self.old.states.items self.new.states.items made.1 next
             (Repeat 0 None (pattern_in sub.now))) }
+        ensures refused { IfErr result RunsOut }
     {
         // What it leads to isn't known yet.
         let again = self.fork(next, next)?;

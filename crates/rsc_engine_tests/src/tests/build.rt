@@ -65,6 +65,15 @@ fn refuses_a_range_from_a_greater_byte(rt: HostRuntime) -> Result<(), Fail> {
 }
 
 #[test]
+fn builds_a_reversed_range_that_is_there_at_most_0_times(rt: HostRuntime) -> Result<(), Fail> {
+    let builder = Builder::new(rt.alloc());
+    let range = builder.range(b'b', b'a');
+    let whole = builder.repeat(range, 0, Some(0))?;
+    assert!(rt; matches!(builder.build(AsciiWord, true, whole), Ok(_)));
+    Ok(())
+}
+
+#[test]
 fn refuses_a_name_twice(rt: HostRuntime) -> Result<(), Fail> {
     let builder = Builder::new(rt.alloc());
     let one = builder.group(Some("x"), builder.empty())?;

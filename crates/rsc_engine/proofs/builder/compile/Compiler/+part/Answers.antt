@@ -1,5 +1,5 @@
 use Rattle.std.proofs.Common.{◌≡◌, ◌∙◌, ◌<◌, ◌≤◌, ◌-◌, add-one, arith, length, map, drop, length-drop, rules}
-use Rattle.std.proofs.lemmas.Result.{IfOk-weaker}
+use Rattle.rsc_engine.proofs.RefusalsLemmas.{built-weaker}
 use Rattle.std.proofs.lemmas.List.{length-map}
 use Rattle.rsc_engine.specs.Parts.{pattern_in}
 use Rattle.rsc_engine.proofs.PartsLemmas.{pattern-never, pattern-class, pattern-literal, pattern-range, pattern-assertion, pattern-then, pattern-either}
@@ -22,7 +22,7 @@ concat-loop-index-preserved t c =
 pub one_of-returns-then-is_empty : goal.one_of-returns-then-is_empty
 one_of-returns-then-is_empty t c =
     let none : length c.args.parts.now ≡ 0 = search rules in
-    IfOk-weaker c.never.result _ _
+    built-weaker c.never.result _ _
     (λ first x. Builds-nothing _ _ _ first c.args.next (map pattern_in c.args.parts.now) (length-map c.args.parts.now pattern_in ∙ none) (x _)) c.never.ensures
 
 pub one_of-loop-index-init : goal.one_of-loop-index-init
@@ -47,35 +47,36 @@ copies-loop-done-preserved t c = rw add-one (Builds-then _ _ _ _ _ _ _ _ _ c.loo
 
 pub group-returns : goal.group-returns
 group-returns t c =
-    IfOk-weaker c.add-2.result _ _
-    (λ id a. Builds-group _ _ _ _ _ _ _ _ _ id _ _ c.in_ok-start.ensures.start c.in_ok-start.ensures.end c.in_ok-after.ensures c.in_ok-body.ensures a)
+    built-weaker c.add-2.result _ _
+    (λ id a. Builds-group _ _ _ _ _ _ _ _ _ id _ _ c.in_ok-start.ensures.start c.in_ok-start.ensures.start_within
+    c.in_ok-start.ensures.end c.in_ok-start.ensures.end_within c.in_ok-after.ensures c.in_ok-body.ensures a)
     c.add-2.ensures
 
 pub part-returns-in-Range : goal.part-returns-in-Range
 part-returns-in-Range t c =
-    IfOk-weaker c.add.result _ _ (λ id a. rw (c.in-Range.is, pattern-range) (Builds-range _ _ _ _ _ id _ a)) c.add.ensures
+    built-weaker c.add.result _ _ (λ id a. rw (c.in-Range.is, pattern-range) (Builds-range _ _ _ _ _ id _ a)) c.add.ensures
 
 pub part-returns-in-Assertion : goal.part-returns-in-Assertion
 part-returns-in-Assertion t c =
-    IfOk-weaker c.add-in-Assertion.result _ _ (λ id a. rw (c.in-Assertion.is, pattern-assertion) (Builds-assert _ _ _ _ id _ a)) c.add-in-Assertion.ensures
+    built-weaker c.add-in-Assertion.result _ _ (λ id a. rw (c.in-Assertion.is, pattern-assertion) (Builds-assert _ _ _ _ id _ a)) c.add-in-Assertion.ensures
 
 pub part-returns-in_ok-middle-in-Then : goal.part-returns-in_ok-middle-in-Then
 part-returns-in_ok-middle-in-Then t c =
-    IfOk-weaker c.part-in-Then.result _ _
+    built-weaker c.part-in-Then.result _ _
     (λ first x. rw (c.in-Then.is, pattern-then, ← c.deref-in-Then.ensures, ← c.deref-in-Then-2.ensures)
     (Builds-then _ _ _ _ first _ _ _ _ c.in_ok-middle-in-Then.ensures x))
     c.part-in-Then.ensures
 
 pub part-returns-in_ok-first-in-Either : goal.part-returns-in_ok-first-in-Either
 part-returns-in_ok-first-in-Either t c =
-    IfOk-weaker c.fork.result _ _
+    built-weaker c.fork.result _ _
     (λ id a. rw (c.in-Either.is, pattern-either, ← c.deref-in-Either.ensures, ← c.deref-in-Either-2.ensures)
     (Builds-either _ _ _ _ _ _ _ id _ _ _ c.in_ok-second-in-Either.ensures c.in_ok-first-in-Either.ensures a))
     c.fork.ensures
 
 pub star-returns-then-times : goal.star-returns-then-times
 star-returns-then-times t c =
-    IfOk-weaker c.add.result _ _ (λ id a. Builds-star _ _ _ _ _ _ id _ _ c.in_ok-first.ensures.first c.choice.ensures a) c.add.ensures
+    built-weaker c.add.result _ _ (λ id a. Builds-star _ _ _ _ _ _ id _ _ c.in_ok-first.ensures.first c.choice.ensures a) c.add.ensures
 
 pub up_to-loop-done-preserved : goal.up_to-loop-done-preserved
 up_to-loop-done-preserved t c =
@@ -85,24 +86,24 @@ up_to-loop-done-preserved t c =
 pub times-returns-in_ok-last-in-None : goal.times-returns-in_ok-last-in-None
 times-returns-in_ok-last-in-None t c =
     let some : 0 < c.args.times.min = search rules in
-    IfOk-weaker c.copies.result _ _
+    built-weaker c.copies.result _ _
     (λ first x. rw c.in-None.is (Builds-unlimited _ _ _ _ _ _ first _ _ some c.in_ok-last-in-None.ensures.first x))
     c.copies.ensures
 
 pub times-returns-in_ok-rest-in-Some : goal.times-returns-in_ok-rest-in-Some
 times-returns-in_ok-rest-in-Some t c =
-    IfOk-weaker c.copies-in-Some.result _ _
+    built-weaker c.copies-in-Some.result _ _
     (λ first x. rw c.in-Some.is (Builds-limited _ _ _ _ _ _ _ first _ _ (rw c.saturating_sub-more.ensures at c.in_ok-rest-in-Some.ensures) x))
     c.copies-in-Some.ensures
 
 pub part-returns-in-Never : goal.part-returns-in-Never
 part-returns-in-Never t c =
-    IfOk-weaker c.never.result _ _ (λ first x. rw (c.in-Never.is, pattern-never) (x _)) c.never.ensures
+    built-weaker c.never.result _ _ (λ first x. rw (c.in-Never.is, pattern-never) (x _)) c.never.ensures
 
 pub part-returns-in-Class : goal.part-returns-in-Class
 part-returns-in-Class t c =
-    IfOk-weaker c.class.result _ _ (λ first x. rw (c.in-Class.is, pattern-class, ← c.deref.ensures.value) (x _)) c.class.ensures
+    built-weaker c.class.result _ _ (λ first x. rw (c.in-Class.is, pattern-class, ← c.deref.ensures.value) (x _)) c.class.ensures
 
 pub part-returns-in-Literal : goal.part-returns-in-Literal
 part-returns-in-Literal t c =
-    IfOk-weaker c.literal.result _ _ (λ first x. rw (c.in-Literal.is, pattern-literal, ← c.deref-in-Literal.ensures.value) (x _)) c.literal.ensures
+    built-weaker c.literal.result _ _ (λ first x. rw (c.in-Literal.is, pattern-literal, ← c.deref-in-Literal.ensures.value) (x _)) c.literal.ensures

@@ -1,12 +1,12 @@
 use Rattle.std.proofs.Common.{◌≡◌, ◌<◌, arith, length, rules}
-use Rattle.std.proofs.lemmas.Result.{IfOk-weaker}
+use Rattle.rsc_engine.proofs.RefusalsLemmas.{built-weaker}
 use Rattle.rsc_engine.proofs.BuilderLemmas.{Builds-none, Builds-range, Builds-class, drop-one, drop-last}
 use Rattle.rsc_engine.proofs.builder.compile.Compiler.class.Goals as goal
 
 pub returns-then-is_empty : goal.returns-then-is_empty
 returns-then-is_empty c =
     let none : length c.args.ranges.now ≡ 0 = search rules in
-    IfOk-weaker c.never.result _ _ (λ first x slot. Builds-none slot _ _ first c.args.next c.args.ranges.now none (x slot)) c.never.ensures
+    built-weaker c.never.result _ _ (λ first x slot. Builds-none slot _ _ first c.args.next c.args.ranges.now none (x slot)) c.never.ensures
 
 pub loop-index-init : goal.loop-index-init
 loop-index-init c = λ slot.

@@ -5,4 +5,4 @@ use Rattle.rsc_engine.proofs.builder.compile.Compiler.literal.Given as goal
 
 abbrev pub invariant-loop-index : goal.invariant-loop-index
 invariant-loop-index l =
-    (slot : ℕ) → Builds slot l.fn.self.states.items l.self.states.items l.first l.fn.next (Literal (drop l.index l.bytes))
+    (slots : ℕ × ℕ) → Builds slots l.fn.self.states.items l.self.states.items l.first l.fn.next (Literal (drop l.index l.bytes))

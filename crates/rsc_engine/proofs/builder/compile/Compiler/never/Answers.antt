@@ -1,6 +1,6 @@
-use Rattle.std.proofs.lemmas.Result.{IfOk-weaker}
+use Rattle.rsc_engine.proofs.RefusalsLemmas.{built-weaker}
 use Rattle.rsc_engine.proofs.BuilderLemmas.{Builds-never}
 use Rattle.rsc_engine.proofs.builder.compile.Compiler.never.Goals as goal
 
 pub returns : goal.returns
-returns c = IfOk-weaker c.fork.result _ _ (λ id a slot. Builds-never slot _ _ _ id c.args.next c.in_ok-this.ensures a) c.fork.ensures
+returns c = built-weaker c.fork.result _ _ (λ id a slot. Builds-never slot _ _ _ id c.args.next c.in_ok-this.ensures a) c.fork.ensures

@@ -1,0 +1,49 @@
+-- What the states of a part or of patterns name, and whether a range of theirs is reversed.
+use Rattle.std.specs.Prelude.{◌≡◌, ℕ, ◌*◌, ◌<◌, ◌≤◌, Bool, true, false, List, length, slice_get, Some}
+use Rattle.rsc_captures.specs.Groups.{GroupLists, all_groups}
+use Rattle.rsc_nfa.specs.declared.state.State.{State}
+use Rattle.rsc_nfa.specs.declared.state.State.TheVariants.{ByteRange, Assert, Fork, Capture, Accept}
+use Rattle.rsc_nfa.specs.Classes.{IsOrdered}
+
+-- so it is with each state from low on and below high
+abbrev pub EachOf : (State → Type 0) → ℕ → ℕ → List State → Type 0
+EachOf P low high states = (k : ℕ) (state : State) → low ≤ k → k < high → slice_get states k ≡ Some state → P state
+
+-- the state records in no slot from `most` on
+abbrev pub RecordsBelow : ℕ → State → Type 0
+RecordsBelow most (Capture slot next) = slot < most
+RecordsBelow most _ = Unit {0}
+
+-- the first byte of some range of these states is above its last
+pub record HasReversed (low high : ℕ) (states : List State) : Type 0 where
+  pub state : ℕ
+  pub its : State
+  pub from : low ≤ state
+  pub to : state < high
+  pub here : slice_get states state ≡ Some its
+  pub reversed : IsOrdered its → ⊥
+
+-- these states record in no slot from `most` on, and have a reversed range exactly if it is said
+pub record Names (most : ℕ) (reversed : Bool) (low high : ℕ) (states : List State) : Type 0 where
+  pub slots : EachOf (RecordsBelow most) low high states
+  pub ordered : reversed ≡ false → EachOf IsOrdered low high states
+  pub has : reversed ≡ true → HasReversed low high states
+
+-- the state leads only to states below `high`, and accepts a pattern below `count`
+abbrev pub LeadsBelow : ℕ → ℕ → State → Type 0
+LeadsBelow high count (ByteRange a b next) = next < high
+LeadsBelow high count (Assert l next) = next < high
+LeadsBelow high count (Fork a b) = (a < high) × (b < high)
+LeadsBelow high count (Capture slot next) = next < high
+LeadsBelow high count (Accept p) = p < count
+
+-- what these states name is there: each other among them, slots below `most`, patterns below `count`; and `first` is one of them
+pub record AreSound (most count : ℕ) (reversed : Bool) (low high first : ℕ) (states : List State) : Type 0 where
+  pub from : low ≤ first
+  pub to : first < high
+  pub leads : EachOf (LeadsBelow high count) low high states
+  pub names : Names most reversed low high states
+
+-- the states that were added name what is there of these groups
+abbrev pub AreSoundIn : GroupLists → Bool → List State → List State → ℕ → List State → Type 0
+AreSoundIn groups reversed old new first states = AreSound (2 * all_groups groups) (length groups) reversed (length old) (length new) first states
