@@ -131,7 +131,8 @@ range_in : (e : Search) (v : List Bool) (fork class range first last i nc nr nf 
 range_in e v fork class range first last i nc nr nf f = flag_there e v range i nr f.room f.range_there f.from (omega (arith, f.within)) f.range_at
 
 fork_in : (e : Search) (v : List Bool) (fork class range first last i nc nr nf : ℕ) → IsFree e v fork class range first last i nc nr nf → nf < length v
-fork_in e v fork class range first last i nc nr nf f = flag_there e v fork (i + 1) nf f.room f.fork_there (omega (arith, f.from)) (omega (arith, f.within)) f.fork_at
+fork_in e v fork class range first last i nc nr nf f =
+    flag_there e v fork (i + 1) nf f.room f.fork_there (omega (arith, f.from)) (omega (arith, f.within)) f.fork_at
 
 -- flags of places at different positions have different numbers
 pub apart_at : (e : Search) (s t i j n m : ℕ) → s < length e.states → t < length e.states → e.start ≤ i → i ≤ e.end → e.start ≤ j → j ≤ e.end
@@ -261,7 +262,8 @@ less_once e v others fork class range exit first last i nc nr nf l f = ⊎_elim
         → left_to_do (set (set (set v nc true) nr true) nf true) (others ++ map (λ (s : Stop). s.1) (stops_on e fork range exit i)) ≤ left_to_do v others
     by_range g =
         let one = less_one v nc others None (class_in e v fork range range first last i nc nr nf g) g.no_class in
-        let two = less_one (set v nc true) nf (others ++ None ∷ []) (Some exit) (rw (length-set v nc true) (fork_in e v fork range range first last i nc nr nf g))
+        let two = less_one (set v nc true) nf (others ++ None ∷ []) (Some exit)
+        (rw (length-set v nc true) (fork_in e v fork range range first last i nc nr nf g))
         (after_set v nc nf (apart_fork e v fork range range first last i nc nr nf g) g.no_fork) in
         rw (
           same_flags e v fork range first last i nc nr nf g,
@@ -276,7 +278,8 @@ less_once e v others fork class range exit first last i nc nr nf l f = ⊎_elim
         let two = less_one (set v nc true) nr (others ++ None ∷ []) None (rw (length-set v nc true) (range_in e v fork class range first last i nc nr nf f))
         (after_set v nc nr (apart_class e v fork class range first last i nc nr nf rest f l.back there) f.no_range) in
         let three = less_one (set (set v nc true) nr true) nf (others ++ None ∷ [] ++ None ∷ []) (Some exit)
-        (rw (length-set (set v nc true) nr true, length-set v nc true) (fork_in e v fork class range first last i nc nr nf f))
+        (rw (length-set (set v nc true) nr true, length-set v nc true)
+        (fork_in e v fork class range first last i nc nr nf f))
         (after_set (set v nc true) nr nf (apart_fork_range e v fork class range first last i nc nr nf f)
         (after_set v nc nf (apart_fork e v fork class range first last i nc nr nf f) f.no_fork)) in
         rw (

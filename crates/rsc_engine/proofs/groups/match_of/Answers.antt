@@ -18,5 +18,6 @@ pub new-requires : goal.new-requires
 new-requires g c =
     let e = search_in g.W.WordClass.word_chars c.args.program.now c.args.input.now in
     let run = run_of c.args.program.now.automaton.states c.args.trail.now in
-    let rises : (place run 0).1 ≤ (place run (length run - 1)).1 = run-rises e run 0 (length run - 1) c.requires.is_run (omega arith) (omega (arith, c.requires.some)) in
+    let rises : (place run 0).1 ≤ (place run (length run - 1)).1 =
+    run-rises e run 0 (length run - 1) c.requires.is_run (omega arith) (omega (arith, c.requires.some)) in
     rw (c.first_position-start.ensures, c.last_place-sid.ensures c.args.program.now.automaton.states) rises
