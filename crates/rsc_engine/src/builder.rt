@@ -58,7 +58,7 @@ impl<'n> Builder<'n> {
         self.leaf(Tree::Range(start, end), false)
     }
 
-    /// A byte of one of the ranges.
+    /// A byte of one of the ranges. A loop over the class is fastest over bytes of the first range.
     ///
     /// # Errors
     ///

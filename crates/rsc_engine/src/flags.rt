@@ -124,7 +124,7 @@ impl Flags {
         self.blocks[at] = self.blocks[at] | ones(first % BITS, count);
     }
 
-    /// Clears a flag of each block from one up to another: the one that lies at the same place in its block.
+    /// Clears the flag of one bit in each block, from one block up to another.
     pub fn clear_in_each(&mut self, first: usize, end: usize, bit: usize)
         requires end { 64 * end ≤ length self.old }
         requires bit { bit < 64 }
