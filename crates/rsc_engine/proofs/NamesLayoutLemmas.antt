@@ -1,17 +1,15 @@
 -- What the states of parts name that are made of parts, and whether a range of theirs is reversed.
-use Rattle.std.proofs.Common.{◌≡◌, ℕ, zero, suc, ◌+◌, ◌-◌, ◌*◌, ◌<◌, ◌≤◌, ◌⊎◌, ◌||◌, ◌&&◌, nat_lt, inl, inr, ⊎_elim, Bool, true, false, cond, List, [], ◌∷◌, length, slice_get, refl, sym, ap, ◌∙◌, subst, arith, Option, Some, None, true≢false}
+use Rattle.std.proofs.Common.{◌≡◌, ℕ, zero, suc, ◌+◌, ◌-◌, ◌*◌, ◌<◌, ◌≤◌, ◌⊎◌, ◌||◌, nat_lt, inl, inr, ⊎_elim, Bool, true, false, cond, List, [], ◌∷◌, length, slice_get, refl, sym, ap, ◌∙◌, subst, arith, Option, Some, None, true≢false}
 use Rattle.std.proofs.lemmas.Bool.{cases_lt}
 use Rattle.std.proofs.lemmas.Bool.Decides.{nat_tests}
-use Rattle.std.proofs.lemmas.Option.{slice_get_within}
 use Rattle.rsc_captures.specs.Groups.{GroupLists, all_groups}
 use Rattle.rsc_nfa.specs.declared.state.State.{State}
 use Rattle.rsc_nfa.specs.declared.state.State.TheVariants.{ByteRange, Assert, Fork, Capture, Accept}
-use Rattle.rsc_nfa.specs.declared.error.BuildError.{BuildError}
 use Rattle.rsc_nfa.specs.declared.error.BuildError.TheVariants.{EmptyRange}
 use Rattle.rsc_nfa.specs.Classes.{IsOrdered}
 use Rattle.rsc_nfa.specs.Faults.{target_fault, fault_of_state, fault_in, AreFaultless}
-use Rattle.rsc_engine.specs.Patterns.{Pattern, Empty, Never, Class, Literal, Assertion, Then, Either, Repeat}
-use Rattle.rsc_engine.specs.Refusals.{has_reversed_range, may_occur}
+use Rattle.rsc_engine.specs.Patterns.{Pattern, Empty, Class, Literal, Then, Either, Repeat}
+use Rattle.rsc_engine.specs.Refusals.{has_reversed_range}
 use Rattle.rsc_engine.specs.EnclosesLayout.{IsOnWay, StaysOnWay, Encloses}
 use Rattle.rsc_engine.specs.LinksLayout.{IsChoice, copies, up_to}
 use Rattle.rsc_engine.specs.NamesLayout.{EachOf, RecordsBelow, HasReversed, Names, LeadsBelow, AreSound}

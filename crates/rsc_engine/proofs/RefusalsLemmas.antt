@@ -1,5 +1,5 @@
 -- Why there is no program.
-use Rattle.std.proofs.Common.{◌≡◌, ℕ, zero, suc, ◌+◌, ◌*◌, ◌<◌, ◌≤◌, ◌⊎◌, ◌==◌, nat_eq, nat_lt, max, inl, inr, ⊎_elim, Bool, true, false, cond, List, [], ◌∷◌, length, Option, Some, None, Result, MatchResult, refl, sym, ◌∙◌, subst, arith, true≢false}
+use Rattle.std.proofs.Common.{◌≡◌, ℕ, zero, suc, ◌+◌, ◌*◌, ◌<◌, ◌≤◌, ◌⊎◌, nat_eq, nat_lt, inl, inr, ⊎_elim, Bool, true, false, cond, List, [], length, Option, Some, None, Result, MatchResult, refl, subst, arith}
 use Rattle.std.proofs.lemmas.Result.{MatchResult-weaker}
 use Rattle.std.proofs.lemmas.Bool.{cases_lt}
 use Rattle.std.proofs.lemmas.Bool.Decides.{nat_tests}
@@ -8,9 +8,8 @@ use Rattle.rsc_nfa.specs.declared.state.State.{State}
 use Rattle.rsc_nfa.specs.declared.error.BuildError.{BuildError}
 use Rattle.rsc_nfa.specs.declared.error.BuildError.TheVariants.{OutOfMemory}
 use Rattle.rsc_nfa.specs.Faults.{AreFaultless, IsFirstFaulty}
-use Rattle.rsc_primitives.specs.Indices.{max_index}
 use Rattle.rsc_captures.specs.Groups.{GroupLists, Groups, groups_of, group_count, name_of, stands_before, explicit_before, all_groups}
-use Rattle.rsc_captures.specs.Faults.{Fault, TooManyPatterns, MissingGroups, FirstMustBeUnnamed, TooManyGroups, Duplicate, name_fault, explicit_fault, pattern_fault, group_fault, IsFaultOfLeastGroup, IsFirstPastLimit, IsFirstFault, RefusesFor}
+use Rattle.rsc_captures.specs.Faults.{Fault, TooManyPatterns, MissingGroups, FirstMustBeUnnamed, TooManyGroups, Duplicate, name_fault, explicit_fault, group_fault, IsFirstFault, RefusesFor}
 use Rattle.rsc_engine.specs.declared.error.Error.{Error}
 use Rattle.rsc_engine.specs.declared.error.Error.TheVariants as error
 use Rattle.rsc_engine.specs.Patterns.{Pattern}
@@ -87,13 +86,13 @@ pattern_there lists p g l = ⊎_elim
 pub faulty-refused : (groups : GroupLists) (states : List State) (patterns : List Pattern) (first : ℕ) (fault : BuildError)
     → AreSound (2 * all_groups groups) (length groups) (has_a_reversed_range patterns) 0 (length states) first states
     → ((fault ≡ OutOfMemory) × AreFaultless groups states) ⊎ IsFirstFaulty groups states fault
-    → FailsToBuild patterns groups (cond (is_out_of_memory fault) error.OutOfMemory error.Faulty)
-faulty-refused groups states patterns first fault sound (inl r) = rw r.0 (inl (inl (inl refl)))
-faulty-refused groups states patterns first fault sound (inr f) = decide (is_out_of_memory fault) (has_a_reversed_range patterns) refl
+    → ¬ (RepeatsName groups) → FailsToBuild patterns groups (cond (is_out_of_memory fault) error.OutOfMemory error.Faulty)
+faulty-refused groups states patterns first fault sound (inl r) once = rw r.0 (inl (inl (inl refl)))
+faulty-refused groups states patterns first fault sound (inr f) once = decide (is_out_of_memory fault) (has_a_reversed_range patterns) refl
   where
     decide : (t r : Bool) → has_a_reversed_range patterns ≡ r → FailsToBuild patterns groups (cond t error.OutOfMemory error.Faulty)
     decide true r e = inl (inl (inl refl))
-    decide false true e = inr (refl, e)
+    decide false true e = inr (refl, e, once)
     decide false false e = absurd (
         let none = sound-faultless groups states (has_a_reversed_range patterns) first sound e f.state f.there in
         let some = f.fault in

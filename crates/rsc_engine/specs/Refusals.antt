@@ -59,7 +59,8 @@ has_a_reversed_range patterns = list_any has_reversed_range patterns
 
 -- why no program is built of patterns with these groups
 abbrev pub FailsToBuild : List Pattern → GroupLists → Error → Type 0
-FailsToBuild patterns lists e = RefusesNames lists e ⊎ ((e ≡ error.Faulty) × IsTrue (has_a_reversed_range patterns))
+FailsToBuild patterns lists e =
+    RefusesNames lists e ⊎ ((e ≡ error.Faulty) × IsTrue (has_a_reversed_range patterns) × (¬ (RepeatsName lists)))
 
 -- what an error displays
 abbrev pub error_text : Error → List ℕ

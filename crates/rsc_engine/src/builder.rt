@@ -223,8 +223,8 @@ impl<'n> Builder<'n> {
     ///
     /// # Errors
     ///
-    /// `Names` if a pattern has a name twice, and else `Faulty` if a range's first byte is above its last, unless its part is repeated at most
-    /// 0 times; `TooLarge` for more states, patterns or groups than there are numbers for; or out of memory, which may come first.
+    /// `Names` if a pattern has a name twice; if none has, `Faulty` if a range's first byte is above its last, unless its part is repeated at
+    /// most 0 times; `TooLarge` for more states, patterns or groups than there are numbers for; or out of memory, which may come first.
     pub fn build<W: WordClass>(
         self,
         words: W,

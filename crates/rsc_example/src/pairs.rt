@@ -4,8 +4,8 @@ use rsc_primitives::PatternID;
 use rsc_search::Input;
 use std::alloc::Global;
 
-/// The word bytes of ASCII, and all bytes of other characters. The range of most bytes comes first, since a loop is fastest over it.
-pub const WORD: [(u8, u8); 5] = [
+/// The bytes of names: ASCII's letters, digits and `_`, and all bytes of other characters. The range of most bytes comes first, since a loop is fastest over it.
+pub const NAME: [(u8, u8); 5] = [
     (b'a', b'z'),
     (b'A', b'Z'),
     (b'0', b'9'),
@@ -13,7 +13,7 @@ pub const WORD: [(u8, u8); 5] = [
     (0x80, 0xFF),
 ];
 
-/// Prints the values of all pairs and tags: the matches of `(\w+)=(?P<value>\w+)` and of `#(?P<value>\w+)`, where `\w` takes every byte of `WORD`.
+/// Prints the values of all pairs and tags: the matches of `(N+)=(?P<value>N+)` and of `#(?P<value>N+)`, where N takes every byte of `NAME`.
 pub fn pairs(rt: &HostRuntime, text: &str) -> Result<(), Error> {
     let program = pair_or_tag(rt.alloc())?;
     let mut captures = program.captures(rt.alloc())?;
@@ -34,21 +34,21 @@ pub fn pairs(rt: &HostRuntime, text: &str) -> Result<(), Error> {
 
 fn pair_or_tag(alloc: Global) -> Result<Program<UnicodeWord>, Error> {
     let mut builder = Builder::new(alloc);
-    let key = word(&builder, None)?;
+    let key = named(&builder, None)?;
     let equals = builder.literal(b"=")?;
-    let value = word(&builder, Some("value"))?;
+    let value = named(&builder, Some("value"))?;
     let pair = builder.concat(vec![in alloc; key, equals, value]?)?;
     builder.pattern(pair)?;
     let hash = builder.literal(b"#")?;
-    let value = word(&builder, Some("value"))?;
+    let value = named(&builder, Some("value"))?;
     let tag = builder.then(hash, value)?;
     // The last pattern ends the program; `true` says that haystacks are text.
     builder.build(UnicodeWord, true, tag)
 }
 
-/// `(\w+)`, a group of that name.
-pub fn word<'n>(builder: &Builder<'n>, name: Option<&'n str>) -> Result<Part<'n>, Error> {
-    let class = builder.class(&WORD)?;
-    let word = builder.plus(class)?;
-    builder.group(name, word)
+/// `(N+)`, a group with that name or none.
+pub fn named<'n>(builder: &Builder<'n>, name: Option<&'n str>) -> Result<Part<'n>, Error> {
+    let class = builder.class(&NAME)?;
+    let bytes = builder.plus(class)?;
+    builder.group(name, bytes)
 }

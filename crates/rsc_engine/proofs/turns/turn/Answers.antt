@@ -1,4 +1,4 @@
-use Rattle.std.proofs.Common.{◌≡◌, ◌<◌, ◌≤◌, ◌∙◌, ℕ, refl, subst, arith}
+use Rattle.std.proofs.Common.{◌∙◌, ℕ, refl, subst, arith}
 use Rattle.rsc_engine.specs.Searches.{search_in}
 use Rattle.rsc_engine.specs.declared.moves.Move.TheVariants.{Forks}
 use Rattle.rsc_engine.specs.TrailsLayout.{IsTurned}

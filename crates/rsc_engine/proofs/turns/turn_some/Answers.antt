@@ -1,7 +1,7 @@
-use Rattle.std.proofs.Common.{◌≡◌, ◌+◌, ◌-◌, ◌<◌, ◌≤◌, ◌∙◌, length, get_or, refl, ap, arith}
+use Rattle.std.proofs.Common.{◌≡◌, ◌+◌, ◌-◌, get_or, refl, arith}
 use Rattle.std.proofs.lemmas.Option.{slice_get-get_or}
 use Rattle.rsc_engine.specs.Searches.{search_in}
-use Rattle.rsc_engine.proofs.TurnsLemmas.{IsFree, turned-more, set-three}
+use Rattle.rsc_engine.proofs.TurnsLemmas.{IsFree, turned-more}
 use Rattle.rsc_engine.proofs.TurnsLayoutLemmas.{AreFree, turned-many, turned-length}
 use Rattle.rsc_engine.proofs.turns.turn_some.Goals as goal
 

@@ -1,4 +1,4 @@
-use Rattle.std.proofs.Common.{◌≡◌, ◌-◌, ◌%◌, ap, ℕ}
+use Rattle.std.proofs.Common.{◌-◌, ◌%◌, ap, ℕ}
 use Rattle.rsc_engine.specs.Searches.{search_in}
 use Rattle.rsc_engine.proofs.NumbersLemmas.{closed_from}
 use Rattle.rsc_engine.proofs.backtrack.Walk.forget.Goals as goal

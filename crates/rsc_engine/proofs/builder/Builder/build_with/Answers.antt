@@ -40,7 +40,8 @@ returns-in_err-nfa-clause-refused g c =
     let error = err_from_is_err_and c.from_residual-in_err-nfa.result c.from_residual-in_err-nfa.ensures.1 in
     rw (error.1, error.2, ← patterns, ← lists)
     (faulty-refused c.in_ok-info.info c.in_ok-states.states.items (map pattern_of c.as_slice-2.result.now) c.in_ok-states.first c.in_err-nfa.field-0.0
-    (c.in_ok-states.ensures.1 room) (rw c.deref.ensures.value at c.in_err-nfa.ensures.refused))
+    (c.in_ok-states.ensures.1 room) (rw c.deref.ensures.value at c.in_err-nfa.ensures.refused)
+    (rw c.in_ok-info.ensures.groups c.in_ok-info.ensures.names))
 
 pub returns-clause-ordered : goal.returns-clause-ordered
 returns-clause-ordered g c =

@@ -1,4 +1,4 @@
-use Rattle.std.proofs.Common.{◌≡◌, ◌≤◌, ◌<◌, ◌+◌, ◌*◌, ◌/◌, ◌∙◌, ℕ, Bool, List, false, length, get_or, ap, arith}
+use Rattle.std.proofs.Common.{◌<◌, ◌+◌, ◌*◌, ◌∙◌, Bool, List, false, get_or, ap, arith}
 use Rattle.std.proofs.lemmas.Grind.{common_steps}
 use Rattle.rsc_engine.proofs.FlagsLayoutLemmas.{length_is, flag_is, kept_all}
 use Rattle.rsc_engine.proofs.flags.Flags.clear_in_each.Goals as goal
