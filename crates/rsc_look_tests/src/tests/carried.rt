@@ -34,82 +34,46 @@ pub(super) fn tells<W: WordClass>(
     }
 }
 
+// Asserts the same of a matcher with the word characters of Unicode, and of one with those of ASCII.
+fn both_tell(rt: &impl Abort, look: Look, texts: &[&str], marks: &str) {
+    tells(rt, &LookMatcher::default(), look, texts, marks);
+    tells(rt, &LookMatcher::new(AsciiWord), look, texts, marks);
+}
+
 #[test]
 fn look_matches_start_text(rt: HostRuntime) {
     let marks = "x x- x- x-- x---";
-    tells(&rt, &LookMatcher::default(), Look::Start, &LINES, marks);
-    tells(
-        &rt,
-        &LookMatcher::new(AsciiWord),
-        Look::Start,
-        &LINES,
-        marks,
-    );
+    both_tell(&rt, Look::Start, &LINES, marks);
 }
 
 #[test]
 fn look_matches_end_text(rt: HostRuntime) {
     let marks = "x -x -x --x ---x";
-    tells(&rt, &LookMatcher::default(), Look::End, &LINES, marks);
-    tells(&rt, &LookMatcher::new(AsciiWord), Look::End, &LINES, marks);
+    both_tell(&rt, Look::End, &LINES, marks);
 }
 
 #[test]
 fn look_matches_start_line(rt: HostRuntime) {
     let marks = "x xx x- xx- x-x-";
-    tells(&rt, &LookMatcher::default(), Look::StartLF, &LINES, marks);
-    tells(
-        &rt,
-        &LookMatcher::new(AsciiWord),
-        Look::StartLF,
-        &LINES,
-        marks,
-    );
+    both_tell(&rt, Look::StartLF, &LINES, marks);
 }
 
 #[test]
 fn look_matches_end_line(rt: HostRuntime) {
     let marks = "x xx -x x-x -x-x";
-    tells(&rt, &LookMatcher::default(), Look::EndLF, &LINES, marks);
-    tells(
-        &rt,
-        &LookMatcher::new(AsciiWord),
-        Look::EndLF,
-        &LINES,
-        marks,
-    );
+    both_tell(&rt, Look::EndLF, &LINES, marks);
 }
 
 #[test]
 fn look_matches_word_ascii(rt: HostRuntime) {
     let marks = "- xx .-. .x- -xx- ----- ....-- --...-- --------- ....x. .x....";
-    tells(&rt, &LookMatcher::default(), Look::WordAscii, &WORDS, marks);
-    tells(
-        &rt,
-        &LookMatcher::new(AsciiWord),
-        Look::WordAscii,
-        &WORDS,
-        marks,
-    );
+    both_tell(&rt, Look::WordAscii, &WORDS, marks);
 }
 
 #[test]
 fn look_matches_word_ascii_negate(rt: HostRuntime) {
     let marks = "x -- .x. .-x x--x xxxxx ....xx xx...xx xxxxxxxxx ....-. .-....";
-    tells(
-        &rt,
-        &LookMatcher::default(),
-        Look::WordAsciiNegate,
-        &WORDS,
-        marks,
-    );
-    tells(
-        &rt,
-        &LookMatcher::new(AsciiWord),
-        Look::WordAsciiNegate,
-        &WORDS,
-        marks,
-    );
+    both_tell(&rt, Look::WordAsciiNegate, &WORDS, marks);
 }
 
 #[test]
@@ -139,39 +103,13 @@ fn look_matches_word_unicode_negate(rt: HostRuntime) {
 #[test]
 fn look_matches_word_start_ascii(rt: HostRuntime) {
     let marks = "- x- .-. .-- -x-- ----- ....-- --...-- --------- ....x. .-....";
-    tells(
-        &rt,
-        &LookMatcher::default(),
-        Look::WordStartAscii,
-        &WORDS,
-        marks,
-    );
-    tells(
-        &rt,
-        &LookMatcher::new(AsciiWord),
-        Look::WordStartAscii,
-        &WORDS,
-        marks,
-    );
+    both_tell(&rt, Look::WordStartAscii, &WORDS, marks);
 }
 
 #[test]
 fn look_matches_word_end_ascii(rt: HostRuntime) {
     let marks = "- -x .-. .x- --x- ----- ....-- --...-- --------- ....-. .x....";
-    tells(
-        &rt,
-        &LookMatcher::default(),
-        Look::WordEndAscii,
-        &WORDS,
-        marks,
-    );
-    tells(
-        &rt,
-        &LookMatcher::new(AsciiWord),
-        Look::WordEndAscii,
-        &WORDS,
-        marks,
-    );
+    both_tell(&rt, Look::WordEndAscii, &WORDS, marks);
 }
 
 #[test]
@@ -201,39 +139,13 @@ fn look_matches_word_end_unicode(rt: HostRuntime) {
 #[test]
 fn look_matches_word_start_half_ascii(rt: HostRuntime) {
     let marks = "x x- .-. .-x xx-x xxxxx ....xx xx...xx xxxxxxxxx ....x. .-....";
-    tells(
-        &rt,
-        &LookMatcher::default(),
-        Look::WordStartHalfAscii,
-        &WORDS,
-        marks,
-    );
-    tells(
-        &rt,
-        &LookMatcher::new(AsciiWord),
-        Look::WordStartHalfAscii,
-        &WORDS,
-        marks,
-    );
+    both_tell(&rt, Look::WordStartHalfAscii, &WORDS, marks);
 }
 
 #[test]
 fn look_matches_word_end_half_ascii(rt: HostRuntime) {
     let marks = "x -x .-. .xx x-xx xxxxx ....xx xx...xx xxxxxxxxx ....-. .x....";
-    tells(
-        &rt,
-        &LookMatcher::default(),
-        Look::WordEndHalfAscii,
-        &WORDS,
-        marks,
-    );
-    tells(
-        &rt,
-        &LookMatcher::new(AsciiWord),
-        Look::WordEndHalfAscii,
-        &WORDS,
-        marks,
-    );
+    both_tell(&rt, Look::WordEndHalfAscii, &WORDS, marks);
 }
 
 #[test]
