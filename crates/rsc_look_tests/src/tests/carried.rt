@@ -10,6 +10,24 @@ const WORDS: [&str; 11] = [
     "", "a", "ab", "a ", " a ", "𝛃", "𝛃 ", " 𝛃 ", "𝛃𐆀", "𝛃b", "b𝛃",
 ];
 
+// Whether an assertion holds in a text exactly where its group of marks says.
+fn holds_as_marked<W: WordClass>(
+    matcher: &LookMatcher<W>,
+    look: Look,
+    text: &str,
+    group: &str,
+) -> bool {
+    let haystack = text.as_bytes();
+    for (at, mark) in group.bytes().enumerate() {
+        if mark != b'.' {
+            if at > haystack.len() || matcher.matches(look, haystack, at) != (mark == b'x') {
+                return false;
+            }
+        }
+    }
+    true
+}
+
 /// Asserts that an assertion holds exactly where the marks say: a group of marks for each text, and a mark for each position, `x` where it
 /// holds, `-` where it doesn't, and a dot where the test doesn't ask.
 pub(super) fn tells<W: WordClass>(
@@ -20,17 +38,10 @@ pub(super) fn tells<W: WordClass>(
     marks: &str,
 ) {
     for (text, group) in texts.iter().zip(marks.split(' ')) {
-        for (at, mark) in group.bytes().enumerate() {
-            if mark != b'.' {
-                let haystack = text.as_bytes();
-                assert!(rt; at <= haystack.len());
-                assert_eq!(rt;
-                    matcher.matches(look, haystack, at),
-                    mark == b'x',
-                    "{look:?} of {text:?} at {at}"
-                );
-            }
-        }
+        assert!(rt;
+            holds_as_marked(matcher, look, text, group),
+            "{look:?} of {text:?} at {group}"
+        );
     }
 }
 
