@@ -1,61 +1,59 @@
 //! Shown texts, and the traits of each type.
+use super::is_debug;
 use rsc_alphabet::{
     ByteClassElements, ByteClassIter, ByteClassRepresentatives, ByteClassSet, ByteClasses, ByteSet,
     ByteSetIter, ByteSetRangeIter, Unit,
 };
 use rsc_primitives_tests::forms::is_shown;
+use std::alloc::{AllocError, Global};
 use std::fmt;
 use std::test::Fail;
 
+// The text that shows the unit of a byte.
+fn text_of(alloc: Global, byte: u8) -> Result<String, AllocError> {
+    match byte {
+        b' ' => String::from_str(alloc, "' '"),
+        b'\t' => String::from_str(alloc, "\\t"),
+        b'\n' => String::from_str(alloc, "\\n"),
+        b'\r' => String::from_str(alloc, "\\r"),
+        b'"' => String::from_str(alloc, "\\\""),
+        b'\'' => String::from_str(alloc, "\\'"),
+        b'\\' => String::from_str(alloc, "\\\\"),
+        0x21..=0x7E => format!(in alloc; "{}", char::from(byte)),
+        _ => format!(in alloc; "\\x{byte:02X}"),
+    }
+}
+
 #[test]
 fn each_unit_is_shown(rt: HostRuntime) -> Result<(), Fail> {
-    let alloc = rt.alloc();
     for byte in 0..=255u8 {
-        let unit = Unit::u8(byte);
-        let text = format!(in alloc; "{unit:?}")?;
-        let want = match byte {
-            b' ' => String::from_str(alloc, "' '")?,
-            b'\t' => String::from_str(alloc, "\\t")?,
-            b'\n' => String::from_str(alloc, "\\n")?,
-            b'\r' => String::from_str(alloc, "\\r")?,
-            b'"' => String::from_str(alloc, "\\\"")?,
-            b'\'' => String::from_str(alloc, "\\'")?,
-            b'\\' => String::from_str(alloc, "\\\\")?,
-            0x21..=0x7E => format!(in alloc; "{}", char::from(byte))?,
-            _ => format!(in alloc; "\\x{byte:02X}")?,
-        };
-        assert_eq!(rt; text.as_str(), want.as_str());
+        let want = text_of(rt.alloc(), byte)?;
+        assert!(rt; is_debug(rt.alloc(), &Unit::u8(byte), &want), "{byte}");
     }
     for count in 0..=256usize {
-        let unit = Unit::eoi(count);
-        assert_eq!(rt; format!(in alloc; "{unit:?}")?.as_str(), "EOI");
+        assert!(rt; is_debug(rt.alloc(), &Unit::eoi(count), "EOI"), "{count}");
     }
     Ok(())
 }
 
 #[test]
-fn each_range_of_each_class_is_shown(rt: HostRuntime) -> Result<(), Fail> {
-    let alloc = rt.alloc();
+fn each_range_of_each_class_is_shown(rt: HostRuntime) {
     let mut classes = ByteClasses::empty();
     for byte in [b'Z', b'a', b'b', b'c', 0xFF] {
         classes.set(byte, 1);
     }
-    assert_eq!(rt;
-        format!(in alloc; "{classes:?}")?.as_str(),
-        "ByteClasses(0 => [\\x00-Y[-`d-\\xFE], 1 => [Za-c\\xFF], 2 => [EOI])"
-    );
+    let want = "ByteClasses(0 => [\\x00-Y[-`d-\\xFE], 1 => [Za-c\\xFF], 2 => [EOI])";
+    assert!(rt; is_debug(rt.alloc(), &classes, want));
     // A class that no byte has is shown without a range.
     classes.set(0xFF, 3);
-    assert_eq!(rt;
-        format!(in alloc; "{classes:?}")?.as_str(),
-        "ByteClasses(0 => [\\x00-Y[-`d-\\xFE], 1 => [Za-c], 2 => [], 3 => [\\xFF], 4 => [EOI])"
-    );
-    Ok(())
+    let want =
+        "ByteClasses(0 => [\\x00-Y[-`d-\\xFE], 1 => [Za-c], 2 => [], 3 => [\\xFF], 4 => [EOI])";
+    assert!(rt; is_debug(rt.alloc(), &classes, want));
 }
 
 // Twelve classes, of which the first has five ranges and another two neighbours.
 #[test]
-fn each_class_is_shown(rt: HostRuntime) -> Result<(), Fail> {
+fn each_class_is_shown(rt: HostRuntime) {
     let mut classes = ByteClasses::empty();
     for k in 1..=9u8 {
         classes.set(b'0'.saturating_add(k), k);
@@ -64,16 +62,14 @@ fn each_class_is_shown(rt: HostRuntime) -> Result<(), Fail> {
         classes.set(byte, 10);
     }
     classes.set(0xFF, 11);
-    assert_eq!(rt;
-        format!(in rt.alloc(); "{classes:?}")?.as_str(),
-        "ByteClasses(0 => [\\x00-0:-@BDG-\\xFE], 1 => [1], 2 => [2], 3 => [3], 4 => [4], 5 => [5], 6 => [6], 7 => [7], 8 => [8], 9 => [9], 10 => [ACE-F], 11 => [\\xFF], 12 => [EOI])"
-    );
-    Ok(())
+    let want =
+        "ByteClasses(0 => [\\x00-0:-@BDG-\\xFE], 1 => [1], 2 => [2], 3 => [3], 4 => [4], 5 => [5], 6 => [6], 7 => [7], 8 => [8], 9 => [9], 10 => [ACE-F], 11 => [\\xFF], 12 => [EOI])";
+    assert!(rt; is_debug(rt.alloc(), &classes, want));
 }
 
 // As the original gives them.
 #[test]
-fn fixed_texts_are_shown_in_each_form(rt: HostRuntime) -> Result<(), Fail> {
+fn fixed_texts_are_shown_in_each_form(rt: HostRuntime) {
     let alloc = rt.alloc();
     for (unit, want) in [
         (Unit::u8(b' '), "' '"),
@@ -85,29 +81,14 @@ fn fixed_texts_are_shown_in_each_form(rt: HostRuntime) -> Result<(), Fail> {
         assert!(rt; is_shown(alloc, &unit, want), "{want}");
     }
     let mut classes = ByteClasses::empty();
-    assert!(rt;
-        is_shown(
-            alloc,
-            &classes,
-            "ByteClasses(0 => [\\x00-\\xFF], 1 => [EOI])"
-        )
-    );
+    let want = "ByteClasses(0 => [\\x00-\\xFF], 1 => [EOI])";
+    let is_empty = is_shown(alloc, &classes, want);
     classes.set(b'Z', 1);
-    assert!(rt;
-        is_shown(
-            alloc,
-            &classes,
-            "ByteClasses(0 => [\\x00-Y[-\\xFF], 1 => [EOI])"
-        )
-    );
-    assert!(rt;
-        is_shown(
-            alloc,
-            &ByteClasses::singletons(),
-            "ByteClasses({singletons})"
-        )
-    );
-    Ok(())
+    let want = "ByteClasses(0 => [\\x00-Y[-\\xFF], 1 => [EOI])";
+    let is_set = is_shown(alloc, &classes, want);
+    let singletons = ByteClasses::singletons();
+    let are_singletons = is_shown(alloc, &singletons, "ByteClasses({singletons})");
+    assert!(rt; is_empty && is_set && are_singletons);
 }
 
 fn is_copied<T: Clone + Copy + Eq + fmt::Debug>() {}
@@ -136,6 +117,8 @@ fn traits_of_each_type(_rt: HostRuntime) {
 
 #[test]
 fn units_are_ordered(rt: HostRuntime) {
-    assert!(rt; Unit::u8(1) < Unit::u8(2) && Unit::u8(2).cmp(&Unit::u8(1)).is_gt());
-    assert!(rt; Unit::u8(255) < Unit::eoi(0) && Unit::eoi(1).cmp(&Unit::eoi(2)).is_lt());
+    let are_less = [Unit::u8(1) < Unit::u8(2), Unit::u8(255) < Unit::eoi(0)];
+    let is_greater = Unit::u8(2).cmp(&Unit::u8(1)).is_gt();
+    let is_less = Unit::eoi(1).cmp(&Unit::eoi(2)).is_lt();
+    assert!(rt; are_less == [true, true] && is_greater && is_less);
 }

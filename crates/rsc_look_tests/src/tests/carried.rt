@@ -10,6 +10,24 @@ const WORDS: [&str; 11] = [
     "", "a", "ab", "a ", " a ", "𝛃", "𝛃 ", " 𝛃 ", "𝛃𐆀", "𝛃b", "b𝛃",
 ];
 
+// Whether an assertion holds in a text exactly where its group of marks says.
+fn holds_as_marked<W: WordClass>(
+    matcher: &LookMatcher<W>,
+    look: Look,
+    text: &str,
+    group: &str,
+) -> bool {
+    let haystack = text.as_bytes();
+    for (at, mark) in group.bytes().enumerate() {
+        if mark != b'.' {
+            if at > haystack.len() || matcher.matches(look, haystack, at) != (mark == b'x') {
+                return false;
+            }
+        }
+    }
+    true
+}
+
 /// Asserts that an assertion holds exactly where the marks say: a group of marks for each text, and a mark for each position, `x` where it
 /// holds, `-` where it doesn't, and a dot where the test doesn't ask.
 pub(super) fn tells<W: WordClass>(
@@ -20,96 +38,53 @@ pub(super) fn tells<W: WordClass>(
     marks: &str,
 ) {
     for (text, group) in texts.iter().zip(marks.split(' ')) {
-        for (at, mark) in group.bytes().enumerate() {
-            if mark != b'.' {
-                let haystack = text.as_bytes();
-                assert!(rt; at <= haystack.len());
-                assert_eq!(rt;
-                    matcher.matches(look, haystack, at),
-                    mark == b'x',
-                    "{look:?} of {text:?} at {at}"
-                );
-            }
-        }
+        assert!(rt;
+            holds_as_marked(matcher, look, text, group),
+            "{look:?} of {text:?} at {group}"
+        );
     }
+}
+
+// Asserts the same of a matcher with the word characters of Unicode, and of one with those of ASCII.
+fn both_tell(rt: &impl Abort, look: Look, texts: &[&str], marks: &str) {
+    tells(rt, &LookMatcher::default(), look, texts, marks);
+    tells(rt, &LookMatcher::new(AsciiWord), look, texts, marks);
 }
 
 #[test]
 fn look_matches_start_text(rt: HostRuntime) {
     let marks = "x x- x- x-- x---";
-    tells(&rt, &LookMatcher::default(), Look::Start, &LINES, marks);
-    tells(
-        &rt,
-        &LookMatcher::new(AsciiWord),
-        Look::Start,
-        &LINES,
-        marks,
-    );
+    both_tell(&rt, Look::Start, &LINES, marks);
 }
 
 #[test]
 fn look_matches_end_text(rt: HostRuntime) {
     let marks = "x -x -x --x ---x";
-    tells(&rt, &LookMatcher::default(), Look::End, &LINES, marks);
-    tells(&rt, &LookMatcher::new(AsciiWord), Look::End, &LINES, marks);
+    both_tell(&rt, Look::End, &LINES, marks);
 }
 
 #[test]
 fn look_matches_start_line(rt: HostRuntime) {
     let marks = "x xx x- xx- x-x-";
-    tells(&rt, &LookMatcher::default(), Look::StartLF, &LINES, marks);
-    tells(
-        &rt,
-        &LookMatcher::new(AsciiWord),
-        Look::StartLF,
-        &LINES,
-        marks,
-    );
+    both_tell(&rt, Look::StartLF, &LINES, marks);
 }
 
 #[test]
 fn look_matches_end_line(rt: HostRuntime) {
     let marks = "x xx -x x-x -x-x";
-    tells(&rt, &LookMatcher::default(), Look::EndLF, &LINES, marks);
-    tells(
-        &rt,
-        &LookMatcher::new(AsciiWord),
-        Look::EndLF,
-        &LINES,
-        marks,
-    );
+    both_tell(&rt, Look::EndLF, &LINES, marks);
 }
 
 #[test]
 fn look_matches_word_ascii(rt: HostRuntime) {
     let marks = "- xx .-. .x- -xx- ----- ....-- --...-- --------- ....x. .x....";
-    tells(&rt, &LookMatcher::default(), Look::WordAscii, &WORDS, marks);
-    tells(
-        &rt,
-        &LookMatcher::new(AsciiWord),
-        Look::WordAscii,
-        &WORDS,
-        marks,
-    );
+    both_tell(&rt, Look::WordAscii, &WORDS, marks);
 }
 
 #[test]
 fn look_matches_word_ascii_negate(rt: HostRuntime) {
     let marks = "x -- .x. .-x x--x xxxxx ....xx xx...xx xxxxxxxxx ....-. .-....";
-    tells(
-        &rt,
-        &LookMatcher::default(),
-        Look::WordAsciiNegate,
-        &WORDS,
-        marks,
-    );
-    tells(
-        &rt,
-        &LookMatcher::new(AsciiWord),
-        Look::WordAsciiNegate,
-        &WORDS,
-        marks,
-    );
+    both_tell(&rt, Look::WordAsciiNegate, &WORDS, marks);
 }
 
 #[test]
@@ -139,39 +114,13 @@ fn look_matches_word_unicode_negate(rt: HostRuntime) {
 #[test]
 fn look_matches_word_start_ascii(rt: HostRuntime) {
     let marks = "- x- .-. .-- -x-- ----- ....-- --...-- --------- ....x. .-....";
-    tells(
-        &rt,
-        &LookMatcher::default(),
-        Look::WordStartAscii,
-        &WORDS,
-        marks,
-    );
-    tells(
-        &rt,
-        &LookMatcher::new(AsciiWord),
-        Look::WordStartAscii,
-        &WORDS,
-        marks,
-    );
+    both_tell(&rt, Look::WordStartAscii, &WORDS, marks);
 }
 
 #[test]
 fn look_matches_word_end_ascii(rt: HostRuntime) {
     let marks = "- -x .-. .x- --x- ----- ....-- --...-- --------- ....-. .x....";
-    tells(
-        &rt,
-        &LookMatcher::default(),
-        Look::WordEndAscii,
-        &WORDS,
-        marks,
-    );
-    tells(
-        &rt,
-        &LookMatcher::new(AsciiWord),
-        Look::WordEndAscii,
-        &WORDS,
-        marks,
-    );
+    both_tell(&rt, Look::WordEndAscii, &WORDS, marks);
 }
 
 #[test]
@@ -201,39 +150,13 @@ fn look_matches_word_end_unicode(rt: HostRuntime) {
 #[test]
 fn look_matches_word_start_half_ascii(rt: HostRuntime) {
     let marks = "x x- .-. .-x xx-x xxxxx ....xx xx...xx xxxxxxxxx ....x. .-....";
-    tells(
-        &rt,
-        &LookMatcher::default(),
-        Look::WordStartHalfAscii,
-        &WORDS,
-        marks,
-    );
-    tells(
-        &rt,
-        &LookMatcher::new(AsciiWord),
-        Look::WordStartHalfAscii,
-        &WORDS,
-        marks,
-    );
+    both_tell(&rt, Look::WordStartHalfAscii, &WORDS, marks);
 }
 
 #[test]
 fn look_matches_word_end_half_ascii(rt: HostRuntime) {
     let marks = "x -x .-. .xx x-xx xxxxx ....xx xx...xx xxxxxxxxx ....-. .x....";
-    tells(
-        &rt,
-        &LookMatcher::default(),
-        Look::WordEndHalfAscii,
-        &WORDS,
-        marks,
-    );
-    tells(
-        &rt,
-        &LookMatcher::new(AsciiWord),
-        Look::WordEndHalfAscii,
-        &WORDS,
-        marks,
-    );
+    both_tell(&rt, Look::WordEndHalfAscii, &WORDS, marks);
 }
 
 #[test]

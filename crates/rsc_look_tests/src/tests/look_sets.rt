@@ -1,5 +1,6 @@
 //! The assertions and sets of them.
 use rsc_look::{Look, LookSet, UnicodeWordBoundaryError};
+use std::alloc::Global;
 use std::test::Fail;
 
 // Each assertion, its number, its character and its reversed one.
@@ -37,30 +38,58 @@ const LOOKS: [(Look, u32, char, Look); 18] = [
 #[test]
 fn table_of_assertions(rt: HostRuntime) {
     for (look, repr, shown, reversed) in LOOKS {
-        assert_eq!(rt; look.as_repr(), repr, "{look:?}");
-        assert_eq!(rt; Look::from_repr(repr), Some(look), "{look:?}");
-        assert_eq!(rt; look.as_char(), shown, "{look:?}");
-        assert_eq!(rt; look.reversed(), reversed, "{look:?}");
+        let numbers = (look.as_repr(), Look::from_repr(repr));
+        let others = (look.as_char(), look.reversed());
+        assert!(rt;
+            numbers == (repr, Some(look)) && others == (shown, reversed),
+            "{look:?}"
+        );
     }
     for repr in [0, 3, 262143, 262144, u32::MAX] {
-        assert_eq!(rt; Look::from_repr(repr), None, "at {repr}");
+        assert!(rt; Look::from_repr(repr) == None, "at {repr}");
     }
+}
+
+// Whether a set has an assertion as long as it is a member, and a set that is made of it leaves it as it was.
+fn is_member_while_inserted(look: Look) -> bool {
+    let mut set = LookSet::default();
+    let before = set.contains(look);
+    set.set_insert(look);
+    let within = set.contains(look);
+    set.set_remove(look);
+    let after = set.contains(look);
+    let with = set.insert(look);
+    let without = with.remove(look);
+    let made = [
+        set.contains(look),
+        with.contains(look),
+        without.contains(look),
+    ];
+    [before, within, after] == [false, true, false] && made == [false, true, false]
 }
 
 #[test]
 fn look_set(rt: HostRuntime) {
-    let mut set = LookSet::default();
     for (look, _, _, _) in LOOKS {
-        assert!(rt; !set.contains(look), "{look:?}");
-        set.set_insert(look);
-        assert!(rt; set.contains(look), "{look:?}");
-        set.set_remove(look);
-        assert!(rt; !set.contains(look), "{look:?}");
-        let with = set.insert(look);
-        assert!(rt; with.contains(look) && !set.contains(look), "{look:?}");
-        let without = with.remove(look);
-        assert!(rt; !without.contains(look) && with.contains(look), "{look:?}");
+        assert!(rt; is_member_while_inserted(look), "{look:?}");
     }
+}
+
+// How many members a set's iterator gives, and how many the set tells.
+fn counts_of(alloc: Global, set: LookSet) -> Result<(usize, usize), Fail> {
+    let members = set.iter().collect::<Vec<Look>>(alloc)?;
+    Ok((members.len(), set.len()))
+}
+
+// Whether the iterator of the full set gives each assertion in order, and then none.
+fn are_all_given_in_order() -> bool {
+    let mut looks = LookSet::full().iter();
+    for (look, _, _, _) in LOOKS {
+        if looks.next() != Some(look) {
+            return false;
+        }
+    }
+    [looks.next(), looks.next()] == [None, None]
 }
 
 #[test]
@@ -76,19 +105,9 @@ fn look_set_iter(rt: HostRuntime) -> Result<(), Fail> {
         (LookSet::singleton(Look::WordAsciiNegate), 1),
         (LookSet::singleton(Look::WordEndHalfUnicode), 1),
     ] {
-        assert_eq!(rt;
-            set.iter().collect::<Vec<Look>>(rt.alloc())?.len(),
-            want,
-            "{set:?}"
-        );
-        assert_eq!(rt; set.len(), want, "{set:?}");
+        assert!(rt; counts_of(rt.alloc(), set)? == (want, want), "{set:?}");
     }
-    let mut looks = LookSet::full().iter();
-    for (look, _, _, _) in LOOKS {
-        assert_eq!(rt; looks.next(), Some(look));
-    }
-    assert_eq!(rt; looks.next(), None);
-    assert_eq!(rt; looks.next(), None);
+    assert!(rt; are_all_given_in_order());
     Ok(())
 }
 
@@ -107,55 +126,84 @@ fn look_set_debug(rt: HostRuntime) -> Result<(), Fail> {
     Ok(())
 }
 
+// The bits of a set that is joined with another in place, less what it had before, and then what both have.
+fn bits_in_place(mut set: LookSet, other: LookSet) -> [u32; 3] {
+    let before = set;
+    set.set_union(other);
+    let joined = set.bits();
+    set.set_subtract(before);
+    let added = set.bits();
+    set.set_intersect(other);
+    [joined, added, set.bits()]
+}
+
 #[test]
 fn sets_of_assertions(rt: HostRuntime) {
     let lines = LookSet::singleton(Look::StartLF).insert(Look::EndLF);
     let starts = LookSet::singleton(Look::Start).insert(Look::StartLF);
-    assert_eq!(rt; LookSet::full().bits(), 262143);
-    assert_eq!(rt; LookSet::from_bits(262144), None);
-    assert_eq!(rt; LookSet::from_bits(5), Some(starts));
-    assert_eq!(rt; lines.union(starts).bits(), 13);
-    assert_eq!(rt; lines.intersect(starts).bits(), 4);
-    assert_eq!(rt; lines.subtract(starts).bits(), 8);
-    assert_eq!(rt; lines.remove(Look::StartLF).bits(), 8);
-    let mut set = lines;
-    set.set_union(starts);
-    assert_eq!(rt; set.bits(), 13);
-    set.set_subtract(lines);
-    assert_eq!(rt; set.bits(), 1);
-    set.set_intersect(starts);
-    assert_eq!(rt; set.bits(), 1);
-    assert!(rt; !set.is_empty());
-    assert!(rt; LookSet::full().subtract(LookSet::full()).is_empty());
-    assert!(rt; LookSet::full().available().is_ok());
-    assert!(rt; UnicodeWordBoundaryError::check().is_ok());
+    let is_full = LookSet::full().bits() == 262143 && LookSet::from_bits(262144) == None;
+    assert!(rt; is_full && LookSet::from_bits(5) == Some(starts));
+    let bits = [
+        lines.union(starts).bits(),
+        lines.intersect(starts).bits(),
+        lines.subtract(starts).bits(),
+        lines.remove(Look::StartLF).bits(),
+    ];
+    assert!(rt; bits == [13, 4, 8, 8] && bits_in_place(lines, starts) == [13, 1, 1]);
+    let is_empty = LookSet::full().subtract(LookSet::full()).is_empty();
+    assert!(rt; is_empty && !LookSet::singleton(Look::Start).is_empty());
+    let is_available = LookSet::full().available().is_ok();
+    assert!(rt; is_available && UnicodeWordBoundaryError::check().is_ok());
+}
+
+// What the questions of a set answer: of the haystack, of lines that end in LF, in CRLF, in either, of anchors, then of words: of ASCII,
+// of Unicode, of either.
+fn answers_of(set: LookSet) -> [bool; 8] {
+    [
+        set.contains_anchor_haystack(),
+        set.contains_anchor_lf(),
+        set.contains_anchor_crlf(),
+        set.contains_anchor_line(),
+        set.contains_anchor(),
+        set.contains_word_ascii(),
+        set.contains_word_unicode(),
+        set.contains_word(),
+    ]
+}
+
+// The answers that a set of this assertion alone should give.
+fn wanted_of(look: Look) -> [bool; 8] {
+    let haystack = matches!(look, Look::Start | Look::End);
+    let lf = matches!(look, Look::StartLF | Look::EndLF);
+    let crlf = matches!(look, Look::StartCRLF | Look::EndCRLF);
+    let ascii = matches!(
+        look,
+        Look::WordAscii
+            | Look::WordAsciiNegate
+            | Look::WordStartAscii
+            | Look::WordEndAscii
+            | Look::WordStartHalfAscii
+            | Look::WordEndHalfAscii
+    );
+    let anchor = haystack || lf || crlf;
+    let unicode = !anchor && !ascii;
+    [
+        haystack,
+        lf,
+        crlf,
+        lf || crlf,
+        anchor,
+        ascii,
+        unicode,
+        !anchor,
+    ]
 }
 
 // The sets of one member, and what is asked of them.
 #[test]
 fn questions_of_sets(rt: HostRuntime) {
     for (look, _, _, _) in LOOKS {
-        let set = LookSet::singleton(look);
-        let haystack = matches!(look, Look::Start | Look::End);
-        let lf = matches!(look, Look::StartLF | Look::EndLF);
-        let crlf = matches!(look, Look::StartCRLF | Look::EndCRLF);
-        let ascii = matches!(
-            look,
-            Look::WordAscii
-                | Look::WordAsciiNegate
-                | Look::WordStartAscii
-                | Look::WordEndAscii
-                | Look::WordStartHalfAscii
-                | Look::WordEndHalfAscii
-        );
-        let unicode = !haystack && !lf && !crlf && !ascii;
-        assert_eq!(rt; set.contains_anchor_haystack(), haystack, "{look:?}");
-        assert_eq!(rt; set.contains_anchor_lf(), lf, "{look:?}");
-        assert_eq!(rt; set.contains_anchor_crlf(), crlf, "{look:?}");
-        assert_eq!(rt; set.contains_anchor_line(), lf || crlf, "{look:?}");
-        assert_eq!(rt; set.contains_anchor(), haystack || lf || crlf, "{look:?}");
-        assert_eq!(rt; set.contains_word_ascii(), ascii, "{look:?}");
-        assert_eq!(rt; set.contains_word_unicode(), unicode, "{look:?}");
-        assert_eq!(rt; set.contains_word(), ascii || unicode, "{look:?}");
+        let answers = answers_of(LookSet::singleton(look));
+        assert!(rt; answers == wanted_of(look), "{look:?}");
     }
 }

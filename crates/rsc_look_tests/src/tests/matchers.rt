@@ -1,7 +1,7 @@
 //! Where assertions hold: line terminators, bytes that are no characters, each call beside `matches`.
 use super::carried::tells;
 use rsc_alphabet::Unit;
-use rsc_look::{AsciiWord, Look, LookMatcher, LookSet};
+use rsc_look::{AsciiWord, Look, LookMatcher, LookSet, UnicodeWord, UnicodeWordBoundaryError};
 use std::test::Fail;
 
 #[test]
@@ -26,13 +26,17 @@ fn lines_that_end_in_two_bytes(rt: HostRuntime) {
 #[test]
 fn line_terminators(rt: HostRuntime) {
     let mut matcher = LookMatcher::new(AsciiWord);
-    assert_eq!(rt; matcher.get_line_terminator(), b'\n');
-    assert!(rt; matcher.matches(Look::StartLF, b"\na", 1));
-    assert_eq!(rt; matcher.set_line_terminator(0).get_line_terminator(), 0);
-    assert!(rt; !matcher.matches(Look::StartLF, b"\na", 1));
-    assert!(rt; matcher.matches(Look::StartLF, b"\0a", 1));
-    assert!(rt; matcher.matches(Look::EndLF, b"\0a", 0));
-    assert!(rt; matcher.matches(Look::StartCRLF, b"\na", 1));
+    let is_newline = matcher.get_line_terminator() == b'\n';
+    let is_start = matcher.matches(Look::StartLF, b"\na", 1);
+    assert!(rt; is_newline && is_start);
+    let is_zero = matcher.set_line_terminator(0).get_line_terminator() == 0;
+    let are_starts = [
+        matcher.matches(Look::StartLF, b"\na", 1),
+        matcher.matches(Look::StartLF, b"\0a", 1),
+        matcher.matches(Look::StartCRLF, b"\na", 1),
+    ];
+    let is_end = matcher.matches(Look::EndLF, b"\0a", 0);
+    assert!(rt; is_zero && are_starts == [false, true, true] && is_end);
 }
 
 #[test]
@@ -43,15 +47,20 @@ fn clones_of_matchers(rt: HostRuntime) -> Result<(), Fail> {
     Ok(())
 }
 
-// The six Unicode assertions.
-const UNICODE_LOOKS: [Look; 6] = [
-    Look::WordUnicode,
-    Look::WordUnicodeNegate,
-    Look::WordStartUnicode,
-    Look::WordEndUnicode,
-    Look::WordStartHalfUnicode,
-    Look::WordEndHalfUnicode,
-];
+// Which of the six Unicode assertions hold at a position.
+fn unicode_at(matcher: &LookMatcher<UnicodeWord>, haystack: &[u8], at: usize) -> Option<[bool; 6]> {
+    if at > haystack.len() {
+        return None;
+    }
+    Some([
+        matcher.matches(Look::WordUnicode, haystack, at),
+        matcher.matches(Look::WordUnicodeNegate, haystack, at),
+        matcher.matches(Look::WordStartUnicode, haystack, at),
+        matcher.matches(Look::WordEndUnicode, haystack, at),
+        matcher.matches(Look::WordStartHalfUnicode, haystack, at),
+        matcher.matches(Look::WordEndHalfUnicode, haystack, at),
+    ])
+}
 
 #[test]
 fn bytes_that_are_no_characters(rt: HostRuntime) {
@@ -81,20 +90,87 @@ fn bytes_that_are_no_characters(rt: HostRuntime) {
         (b"a\x80", 2, [false, false, false, false, false, true]),
     ];
     for (haystack, at, wants) in rows {
-        assert!(rt; at <= haystack.len());
-        for (look, want) in UNICODE_LOOKS.into_iter().zip(wants) {
-            assert_eq!(rt;
-                matcher.matches(look, haystack, at),
-                want,
-                "{look:?} of {haystack:?} at {at}"
-            );
-        }
+        assert!(rt;
+            unicode_at(&matcher, haystack, at) == Some(wants),
+            "{haystack:?} at {at}"
+        );
     }
     let word = b"\xFFabc\xFF";
-    assert!(rt; matcher.matches(Look::WordUnicode, word, 1));
-    assert!(rt; matcher.matches(Look::WordUnicode, word, 4));
-    assert!(rt; !matcher.matches(Look::WordUnicodeNegate, word, 0));
-    assert!(rt; !matcher.matches(Look::WordStartHalfUnicode, word, 1));
+    let are_words = [
+        matcher.matches(Look::WordUnicode, word, 1),
+        matcher.matches(Look::WordUnicode, word, 4),
+        matcher.matches(Look::WordUnicodeNegate, word, 0),
+        matcher.matches(Look::WordStartHalfUnicode, word, 1),
+    ];
+    assert!(rt; are_words == [true, true, false, false]);
+}
+
+// Whether the calls of the anchors answer as `matches` does.
+fn anchors_agree(matcher: &LookMatcher<UnicodeWord>, haystack: &[u8], at: usize) -> bool {
+    if at > haystack.len() {
+        return false;
+    }
+    let by_call = [
+        matcher.is_start(haystack, at),
+        matcher.is_end(haystack, at),
+        matcher.is_start_lf(haystack, at),
+        matcher.is_end_lf(haystack, at),
+        matcher.is_start_crlf(haystack, at),
+        matcher.is_end_crlf(haystack, at),
+    ];
+    let by_look = [
+        matcher.matches(Look::Start, haystack, at),
+        matcher.matches(Look::End, haystack, at),
+        matcher.matches(Look::StartLF, haystack, at),
+        matcher.matches(Look::EndLF, haystack, at),
+        matcher.matches(Look::StartCRLF, haystack, at),
+        matcher.matches(Look::EndCRLF, haystack, at),
+    ];
+    by_call == by_look
+}
+
+// Whether the calls of the ASCII words answer as `matches` does.
+fn ascii_words_agree(matcher: &LookMatcher<UnicodeWord>, haystack: &[u8], at: usize) -> bool {
+    if at > haystack.len() {
+        return false;
+    }
+    let by_call = [
+        matcher.is_word_ascii(haystack, at),
+        matcher.is_word_ascii_negate(haystack, at),
+        matcher.is_word_start_ascii(haystack, at),
+        matcher.is_word_end_ascii(haystack, at),
+        matcher.is_word_start_half_ascii(haystack, at),
+        matcher.is_word_end_half_ascii(haystack, at),
+    ];
+    let by_look = [
+        matcher.matches(Look::WordAscii, haystack, at),
+        matcher.matches(Look::WordAsciiNegate, haystack, at),
+        matcher.matches(Look::WordStartAscii, haystack, at),
+        matcher.matches(Look::WordEndAscii, haystack, at),
+        matcher.matches(Look::WordStartHalfAscii, haystack, at),
+        matcher.matches(Look::WordEndHalfAscii, haystack, at),
+    ];
+    by_call == by_look
+}
+
+// Whether the calls of the Unicode words answer as `matches` does.
+fn unicode_words_agree(
+    matcher: &LookMatcher<UnicodeWord>,
+    haystack: &[u8],
+    at: usize,
+) -> Result<bool, UnicodeWordBoundaryError> {
+    if at > haystack.len() {
+        return Ok(false);
+    }
+    let by_call = [
+        matcher.is_word_unicode(haystack, at)?,
+        matcher.is_word_unicode_negate(haystack, at)?,
+        matcher.is_word_start_unicode(haystack, at)?,
+        matcher.is_word_end_unicode(haystack, at)?,
+        matcher.is_word_start_half_unicode(haystack, at)?,
+        matcher.is_word_end_half_unicode(haystack, at)?,
+    ];
+    Ok(unicode_at(matcher, haystack, at) == Some(by_call))
 }
 
 #[test]
@@ -102,59 +178,10 @@ fn calls_by_assertion(rt: HostRuntime) -> Result<(), Fail> {
     let matcher = LookMatcher::default();
     let haystack = b"\r\na 1";
     for at in 0..=haystack.len() {
-        for (look, answer) in [
-            (Look::Start, matcher.is_start(haystack, at)),
-            (Look::End, matcher.is_end(haystack, at)),
-            (Look::StartLF, matcher.is_start_lf(haystack, at)),
-            (Look::EndLF, matcher.is_end_lf(haystack, at)),
-            (Look::StartCRLF, matcher.is_start_crlf(haystack, at)),
-            (Look::EndCRLF, matcher.is_end_crlf(haystack, at)),
-            (Look::WordAscii, matcher.is_word_ascii(haystack, at)),
-            (
-                Look::WordAsciiNegate,
-                matcher.is_word_ascii_negate(haystack, at),
-            ),
-            (Look::WordUnicode, matcher.is_word_unicode(haystack, at)?),
-            (
-                Look::WordUnicodeNegate,
-                matcher.is_word_unicode_negate(haystack, at)?,
-            ),
-            (
-                Look::WordStartAscii,
-                matcher.is_word_start_ascii(haystack, at),
-            ),
-            (Look::WordEndAscii, matcher.is_word_end_ascii(haystack, at)),
-            (
-                Look::WordStartUnicode,
-                matcher.is_word_start_unicode(haystack, at)?,
-            ),
-            (
-                Look::WordEndUnicode,
-                matcher.is_word_end_unicode(haystack, at)?,
-            ),
-            (
-                Look::WordStartHalfAscii,
-                matcher.is_word_start_half_ascii(haystack, at),
-            ),
-            (
-                Look::WordEndHalfAscii,
-                matcher.is_word_end_half_ascii(haystack, at),
-            ),
-            (
-                Look::WordStartHalfUnicode,
-                matcher.is_word_start_half_unicode(haystack, at)?,
-            ),
-            (
-                Look::WordEndHalfUnicode,
-                matcher.is_word_end_half_unicode(haystack, at)?,
-            ),
-        ] {
-            assert_eq!(rt;
-                answer,
-                matcher.matches(look, haystack, at),
-                "{look:?} at {at}"
-            );
-        }
+        let anchors = anchors_agree(&matcher, haystack, at);
+        let ascii_words = ascii_words_agree(&matcher, haystack, at);
+        let unicode_words = unicode_words_agree(&matcher, haystack, at)?;
+        assert!(rt; anchors && ascii_words && unicode_words, "at {at}");
     }
     Ok(())
 }
@@ -163,18 +190,38 @@ fn calls_by_assertion(rt: HostRuntime) -> Result<(), Fail> {
 fn every_member_has_to_hold(rt: HostRuntime) {
     let matcher = LookMatcher::default();
     let ends = LookSet::singleton(Look::Start).insert(Look::End);
-    assert!(rt; matcher.matches_set(LookSet::empty(), b"a", 1));
-    assert!(rt; matcher.matches_set(ends, b"", 0));
-    assert!(rt; !matcher.matches_set(ends, b"a", 0));
-    assert!(rt; !matcher.matches_set(ends, b"a", 1));
+    let hold = [
+        matcher.matches_set(LookSet::empty(), b"a", 1),
+        matcher.matches_set(ends, b"", 0),
+        matcher.matches_set(ends, b"a", 0),
+        matcher.matches_set(ends, b"a", 1),
+    ];
+    assert!(rt; hold == [true, true, false, false]);
 }
 
 #[test]
 fn no_line_starts_or_ends_within_a_crlf_pair(rt: HostRuntime) {
     let matcher = LookMatcher::default();
-    assert!(rt; !matcher.matches(Look::StartCRLF, b"\r\na", 1));
-    assert!(rt; !matcher.matches(Look::EndCRLF, b"a\r\n", 2));
-    assert!(rt; matcher.matches(Look::EndCRLF, b"a\n\r", 2));
+    let hold = [
+        matcher.matches(Look::StartCRLF, b"\r\na", 1),
+        matcher.matches(Look::EndCRLF, b"a\r\n", 2),
+        matcher.matches(Look::EndCRLF, b"a\n\r", 2),
+    ];
+    assert!(rt; hold == [false, false, true]);
+}
+
+// Whether those that hold at a position are those for which `matches` says so.
+fn holding_agrees(matcher: &LookMatcher<UnicodeWord>, haystack: &[u8], at: usize) -> bool {
+    if at > haystack.len() {
+        return false;
+    }
+    let holding = matcher.holding(haystack, at);
+    for look in LookSet::full().iter() {
+        if holding.contains(look) != matcher.matches(look, haystack, at) {
+            return false;
+        }
+    }
+    true
 }
 
 #[test]
@@ -190,11 +237,10 @@ fn holding_is_what_each_call_says(rt: HostRuntime) {
     ];
     for haystack in haystacks {
         for at in 0..haystack.len() + 1 {
-            let holding = matcher.holding(haystack, at);
-            for look in LookSet::full().iter() {
-                let want = matcher.matches(look, haystack, at);
-                assert!(rt; holding.contains(look) == want, "{look:?} at {at}");
-            }
+            assert!(rt;
+                holding_agrees(&matcher, haystack, at),
+                "{haystack:?} at {at}"
+            );
         }
     }
 }
@@ -203,21 +249,39 @@ fn holding_is_what_each_call_says(rt: HostRuntime) {
 fn holding_between_a_byte_and_a_unit(rt: HostRuntime) {
     let mut matcher = LookMatcher::new(AsciiWord);
     let between = matcher.holding_between(Some(b'\r'), Unit::u8(b'\n'));
-    assert!(rt; between.contains(Look::EndLF) && !between.contains(Look::StartCRLF));
+    let lines = [
+        between.contains(Look::EndLF),
+        between.contains(Look::StartCRLF),
+    ];
+    assert!(rt; lines == [true, false]);
     matcher.set_line_terminator(0);
     let between = matcher.holding_between(None, Unit::eoi(9));
-    assert!(rt; between.contains(Look::Start) && between.contains(Look::EndLF));
-    assert!(rt; between.contains(Look::WordStartHalfAscii) && !between.contains(Look::WordAscii));
-    assert!(rt; !between.contains(Look::WordStartHalfUnicode));
+    let anchors = [between.contains(Look::Start), between.contains(Look::EndLF)];
+    let words = [
+        between.contains(Look::WordStartHalfAscii),
+        between.contains(Look::WordAscii),
+        between.contains(Look::WordStartHalfUnicode),
+    ];
+    assert!(rt; anchors == [true, true] && words == [true, false, false]);
+}
+
+// Whether an assertion quits at all bytes past ASCII or at none, and at none within it.
+fn quits_past_ascii(matcher: &LookMatcher<UnicodeWord>, look: Look) -> bool {
+    let bytes = matcher.quit_bytes(&[Look::StartLF, look]);
+    let is_unicode = LookSet::singleton(look).contains_word_unicode();
+    let quits = [
+        bytes.contains(0xFF),
+        bytes.contains(0x80),
+        bytes.contains(0x7F),
+    ];
+    let has_other = look.ascii_counterpart() != look;
+    quits == [is_unicode, is_unicode, false] && is_unicode == has_other
 }
 
 #[test]
 fn quits_at_bytes_of_characters(rt: HostRuntime) {
     let matcher = LookMatcher::default();
     for look in LookSet::full().iter() {
-        let bytes = matcher.quit_bytes(&[Look::StartLF, look]);
-        let is_unicode = LookSet::singleton(look).contains_word_unicode();
-        assert!(rt; bytes.contains(0xFF) == is_unicode && bytes.contains(0x80) == is_unicode);
-        assert!(rt; !bytes.contains(0x7F) && is_unicode == (look.ascii_counterpart() != look));
+        assert!(rt; quits_past_ascii(&matcher, look), "{look:?}");
     }
 }

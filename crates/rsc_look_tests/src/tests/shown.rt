@@ -5,15 +5,36 @@ use rsc_look::{
     AsciiWord, Look, LookMatcher, LookSet, LookSetIter, UnicodeWord, UnicodeWordBoundaryError,
     WordClass,
 };
-use std::alloc::AllocError;
+use std::alloc::{AllocError, Global};
 use std::cell::Cell;
 use std::error::Error;
 use std::fmt;
-use std::test::Fail;
+
+// Whether a value is shown by this text.
+fn is_debug<T: fmt::Debug>(alloc: Global, value: &T, want: &str) -> bool {
+    match format!(in alloc; "{value:?}") {
+        Ok(text) => text.as_str() == want,
+        Err(_) => false,
+    }
+}
+
+// Whether a set is shown by this text, in lines too.
+fn is_set_shown(alloc: Global, set: LookSet, want: &str) -> bool {
+    match format!(in alloc; "{set:#?}") {
+        Ok(text) => text.as_str() == want && is_debug(alloc, &set, want),
+        Err(_) => false,
+    }
+}
+
+// Whether an assertion is shown by its name, and the set of it by its character.
+fn is_shown(alloc: Global, look: Look, name: &str) -> bool {
+    let mut buffer = [0u8; 4];
+    let character = &*look.as_char().encode_utf8(&mut buffer);
+    is_debug(alloc, &look, name) && is_debug(alloc, &LookSet::singleton(look), character)
+}
 
 #[test]
-fn assertions_are_shown(rt: HostRuntime) -> Result<(), Fail> {
-    let alloc = rt.alloc();
+fn assertions_are_shown(rt: HostRuntime) {
     for (look, want) in [
         (Look::Start, "Start"),
         (Look::End, "End"),
@@ -34,20 +55,12 @@ fn assertions_are_shown(rt: HostRuntime) -> Result<(), Fail> {
         (Look::WordStartHalfUnicode, "WordStartHalfUnicode"),
         (Look::WordEndHalfUnicode, "WordEndHalfUnicode"),
     ] {
-        assert_eq!(rt; format!(in alloc; "{look:?}")?.as_str(), want);
-        let set = LookSet::singleton(look);
-        let mut buffer = [0u8; 4];
-        assert_eq!(rt;
-            format!(in alloc; "{set:?}")?.as_str(),
-            &*look.as_char().encode_utf8(&mut buffer)
-        );
+        assert!(rt; is_shown(rt.alloc(), look, want), "{want}");
     }
-    Ok(())
 }
 
 #[test]
-fn sets_are_shown_by_their_members(rt: HostRuntime) -> Result<(), Fail> {
-    let alloc = rt.alloc();
+fn sets_are_shown_by_their_members(rt: HostRuntime) {
     let two = LookSet::singleton(Look::Start).insert(Look::EndLF);
     for (set, want) in [
         (LookSet::empty(), "∅"),
@@ -59,21 +72,16 @@ fn sets_are_shown_by_their_members(rt: HostRuntime) -> Result<(), Fail> {
         ),
         (LookSet::full().remove(Look::Start), "z^$rRbB𝛃𝚩<>〈〉◁▷◀▶"),
     ] {
-        assert_eq!(rt; format!(in alloc; "{set:?}")?.as_str(), want);
-        assert_eq!(rt; format!(in alloc; "{set:#?}")?.as_str(), want);
+        assert!(rt; is_set_shown(rt.alloc(), set, want), "{want}");
     }
-    Ok(())
 }
 
 #[test]
-fn matchers_are_shown_with_their_parts(rt: HostRuntime) -> Result<(), Fail> {
+fn matchers_are_shown_with_their_parts(rt: HostRuntime) {
     let mut matcher = LookMatcher::new(AsciiWord);
     matcher.set_line_terminator(7);
-    assert_eq!(rt;
-        format!(in rt.alloc(); "{matcher:?}")?.as_str(),
-        "LookMatcher { line_terminator: 7, words: AsciiWord }"
-    );
-    Ok(())
+    let want = "LookMatcher { line_terminator: 7, words: AsciiWord }";
+    assert!(rt; is_debug(rt.alloc(), &matcher, want));
 }
 
 fn is_assertion<T: Copy + Eq + fmt::Debug>() {}

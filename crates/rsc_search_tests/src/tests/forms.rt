@@ -5,40 +5,49 @@ use rsc_primitives_tests::forms::{is_error, is_shown};
 use rsc_search::{Anchored, MatchError, PatternSet, Span};
 use std::alloc::Global;
 
+// Whether a search that gave up at that offset is displayed in each form.
+fn is_gave_up_displayed(alloc: Global, offset: usize) -> bool {
+    let want = format!(in alloc; "gave up searching at offset {offset}");
+    is_error(alloc, &MatchError::gave_up(offset), want)
+}
+
+// Whether a haystack that is too long by its length is displayed in each form.
+fn is_too_long_displayed(alloc: Global, len: usize) -> bool {
+    let want = format!(in alloc; "haystack of length {len} is too long");
+    is_error(alloc, &MatchError::haystack_too_long(len), want)
+}
+
+// Whether a search that quit at that offset is displayed in each form.
+fn is_quit_displayed(alloc: Global, offset: usize) -> bool {
+    let want = format!(in alloc; "quit search after observing byte \\xFF at offset {offset}");
+    is_error(alloc, &MatchError::quit(255, offset), want)
+}
+
 #[test]
 fn errors_are_displayed_in_each_form(rt: HostRuntime) {
     let alloc = rt.alloc();
     let mut number: usize = 1;
     for _ in 0..65 {
-        let want = format!(in alloc; "gave up searching at offset {number}");
-        assert!(rt;
-            is_error(alloc, &MatchError::gave_up(number), want),
-            "{number}"
-        );
-        let want = format!(in alloc; "haystack of length {number} is too long");
-        assert!(rt;
-            is_error(alloc, &MatchError::haystack_too_long(number), want),
-            "{number}"
-        );
-        let want = format!(in alloc; "quit search after observing byte \\xFF at offset {number}");
-        assert!(rt;
-            is_error(alloc, &MatchError::quit(255, number), want),
-            "{number}"
-        );
+        let is_gave_up = is_gave_up_displayed(alloc, number);
+        let is_too_long = is_too_long_displayed(alloc, number);
+        let is_quit = is_quit_displayed(alloc, number);
+        assert!(rt; is_gave_up && is_too_long && is_quit, "{number}");
         number = number.saturating_mul(2);
     }
     assert_eq!(rt; number, usize::MAX);
-    let want = String::from_str(alloc, "gave up searching at offset 0");
-    assert!(rt; is_error(alloc, &MatchError::gave_up(0), want));
-    let want = String::from_str(alloc, "haystack of length 0 is too long");
-    assert!(rt; is_error(alloc, &MatchError::haystack_too_long(0), want));
     let want = String::from_str(alloc, "quit search after observing byte ' ' at offset 0");
-    assert!(rt; is_error(alloc, &MatchError::quit(b' ', 0), want));
+    let is_quit = is_error(alloc, &MatchError::quit(b' ', 0), want);
+    assert!(rt; is_gave_up_displayed(alloc, 0) && is_too_long_displayed(alloc, 0) && is_quit);
+}
+
+// Whether the refusal of a mode is displayed by this text in each form.
+fn is_mode_displayed(alloc: Global, mode: Anchored, text: &str) -> bool {
+    let want = String::from_str(alloc, text);
+    is_error(alloc, &MatchError::unsupported_anchored(mode), want)
 }
 
 #[test]
 fn unsupported_modes_are_displayed_in_each_form(rt: HostRuntime) {
-    let alloc = rt.alloc();
     for (mode, text) in [
         (
             Anchored::No,
@@ -61,39 +70,40 @@ fn unsupported_modes_are_displayed_in_each_form(rt: HostRuntime) {
             "anchored searches for a specific pattern (2147483646) are not supported or enabled",
         ),
     ] {
-        let want = String::from_str(alloc, text);
-        assert!(rt;
-            is_error(alloc, &MatchError::unsupported_anchored(mode), want),
-            "{text}"
-        );
+        assert!(rt; is_mode_displayed(rt.alloc(), mode, text), "{text}");
     }
+}
+
+// Whether a search that quit after that byte is displayed in each form.
+fn is_byte_displayed(alloc: Global, byte: u8) -> bool {
+    let shown = DebugByte(byte);
+    let want = format!(in alloc; "quit search after observing byte {shown:?} at offset 1001");
+    is_error(alloc, &MatchError::quit(byte, 1_001), want)
 }
 
 #[test]
 fn a_quit_at_each_byte_is_displayed_in_each_form(rt: HostRuntime) {
-    let alloc = rt.alloc();
     for byte in 0..=255u8 {
-        let shown = DebugByte(byte);
-        let want = format!(in alloc; "quit search after observing byte {shown:?} at offset 1001");
-        assert!(rt;
-            is_error(alloc, &MatchError::quit(byte, 1_001), want),
-            "{byte}"
-        );
+        assert!(rt; is_byte_displayed(rt.alloc(), byte), "{byte}");
     }
+}
+
+// Whether the refusal of a search for that pattern is displayed in each form.
+fn is_pattern_displayed(alloc: Global, pattern: PatternID) -> bool {
+    let p = pattern.as_usize();
+    let want = format!(in alloc;
+        "anchored searches for a specific pattern ({p}) are not supported or enabled"
+    );
+    let error = MatchError::unsupported_anchored(Anchored::Pattern(pattern));
+    is_error(alloc, &error, want)
 }
 
 #[test]
 fn an_unsupported_pattern_of_any_length_is_displayed_in_each_form(rt: HostRuntime) {
-    let alloc = rt.alloc();
     let mut number: usize = 1;
     for _ in 0..31 {
         let pattern = PatternID::must(number.min(2147483646));
-        let p = pattern.as_usize();
-        let want = format!(in alloc;
-            "anchored searches for a specific pattern ({p}) are not supported or enabled"
-        );
-        let error = MatchError::unsupported_anchored(Anchored::Pattern(pattern));
-        assert!(rt; is_error(alloc, &error, want), "{p}");
+        assert!(rt; is_pattern_displayed(rt.alloc(), pattern), "{number}");
         number = number.saturating_mul(2);
     }
 }
@@ -106,18 +116,16 @@ fn is_kept(error: &MatchError) -> bool {
 #[test]
 fn clones_of_errors_are_their_sources(rt: HostRuntime) {
     for number in [0, 1_001, usize::MAX] {
-        assert!(rt;
-            is_kept(&MatchError::gave_up(number)) && is_kept(&MatchError::quit(255, number))
-        );
-        assert!(rt; is_kept(&MatchError::haystack_too_long(number)));
+        let is_gave_up = is_kept(&MatchError::gave_up(number));
+        let is_quit = is_kept(&MatchError::quit(255, number));
+        let is_too_long = is_kept(&MatchError::haystack_too_long(number));
+        assert!(rt; is_gave_up && is_quit && is_too_long);
     }
-    for mode in [
-        Anchored::No,
-        Anchored::Yes,
-        Anchored::Pattern(PatternID::MAX),
-    ] {
-        assert!(rt; is_kept(&MatchError::unsupported_anchored(mode)));
-    }
+    let (yes, pattern) = (Anchored::Yes, Anchored::Pattern(PatternID::MAX));
+    let is_no = is_kept(&MatchError::unsupported_anchored(Anchored::No));
+    let is_yes = is_kept(&MatchError::unsupported_anchored(yes));
+    let is_pattern = is_kept(&MatchError::unsupported_anchored(pattern));
+    assert!(rt; is_no && is_yes && is_pattern);
 }
 
 // Whether a set of that capacity refuses a pattern by an error that is displayed in each form.
@@ -154,11 +162,9 @@ fn refused_insertions_are_displayed_in_each_form(rt: HostRuntime) {
         100_000_000,
     ] {
         let first = PatternID::new(capacity).unwrap_or(PatternID::ZERO);
-        assert!(rt; is_refused(rt.alloc(), capacity, first), "{capacity}");
-        assert!(rt;
-            is_refused(rt.alloc(), capacity, PatternID::MAX),
-            "{capacity}"
-        );
+        let is_first = is_refused(rt.alloc(), capacity, first);
+        let is_greatest = is_refused(rt.alloc(), capacity, PatternID::MAX);
+        assert!(rt; is_first && is_greatest, "{capacity}");
     }
 }
 
