@@ -66,6 +66,6 @@ FailsToBuild patterns lists e =
 abbrev pub error_text : Error → List ℕ
 error_text error.OutOfMemory = codes "out of memory"
 error_text error.EmptyClass = codes "a class of bytes without a range"
-error_text error.Names = codes "faulty group names"
-error_text error.Faulty = codes "a faulty state"
+error_text error.Names = codes "a group name twice"
+error_text error.Faulty = codes "a reversed range"
 error_text error.TooLarge = codes "too large"

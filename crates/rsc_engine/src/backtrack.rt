@@ -14,7 +14,7 @@ ghost use Rattle.rsc_engine.specs.TrailsLayout.{run_of, others_of, ends_at, HasT
 
 use crate::flags::{BITS, Flags};
 use crate::moves::{Move, move_of, other_way};
-use crate::numbers::{first_block, number_of, place_count};
+use crate::numbers::{first_block, flags_needed, number_of};
 use crate::starts::Starts;
 use crate::trail::{Visit, exit_of};
 use crate::turns::go_round;
@@ -48,25 +48,25 @@ impl Walk {
     }
 
     /// Makes that many flags, unless it has as many.
-    pub fn open(&mut self, alloc: Global, places: usize) -> Result<(), Error>
-        ensures room { OnOk result (length self.new.visited ≡ places) }
+    pub fn open(&mut self, alloc: Global, flag_count: usize) -> Result<(), Error>
+        ensures room { OnOk result (length self.new.visited ≡ flag_count) }
         ensures closed { (e : Search) → IsClosed e (is_flagged e self.old.visited) → IsClosed e (is_flagged e self.new.visited) }
         ensures forgets { IfErr result (λ e. (n : ℕ) → slice_index_or self.new.visited n false ≡ false) }
         ensures memory { IfErr result (λ e. e ≡ OutOfMemory) }
     {
-        if self.visited.len() != places {
-            self.visited.renew(alloc, places)?;
+        if self.visited.len() != flag_count {
+            self.visited.renew(alloc, flag_count)?;
         }
         Ok(())
     }
 
     /// Makes that many flags, none of them set.
-    pub fn reopen(&mut self, alloc: Global, places: usize) -> Result<(), Error>
-        ensures room { OnOk result (length self.new.visited ≡ places) }
+    pub fn reopen(&mut self, alloc: Global, flag_count: usize) -> Result<(), Error>
+        ensures room { OnOk result (length self.new.visited ≡ flag_count) }
         ensures closed { (e : Search) → IsClosed e (is_flagged e self.new.visited) }
         ensures memory { IfErr result (λ e. e ≡ OutOfMemory) }
     {
-        self.visited.renew(alloc, places)
+        self.visited.renew(alloc, flag_count)
     }
 
     /// Whether a match begins in the input's span, in which none does before a position. If so, the walk has its run.
@@ -322,7 +322,7 @@ pub fn first_run<W: WordClass>(
 {
     let starts = Starts::new(alloc, program)?;
     let mut walk = Walk::new(alloc, program.start());
-    walk.open(alloc, place_count(program, input)?)?;
+    walk.open(alloc, flags_needed(program, input)?)?;
     if !walk.search(program, input, &starts, from)? {
         return Ok(None);
     }

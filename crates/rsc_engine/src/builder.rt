@@ -345,6 +345,7 @@ fn refusal_of(fault: &GroupInfoError) -> Error
     match fault.kind() {
         GroupInfoErrorKind::OutOfMemory => Error::OutOfMemory,
         GroupInfoErrorKind::Duplicate { .. } => Error::Names,
+        // The last two don't come, since `info_of` begins each pattern with a group that has no name.
         GroupInfoErrorKind::TooManyPatterns { .. }
         | GroupInfoErrorKind::TooManyGroups { .. }
         | GroupInfoErrorKind::MissingGroups { .. }

@@ -7,7 +7,7 @@ ghost use Rattle.rsc_engine.specs.Preferred.{HasNone, IsFirstMatch, IsCleared};
 use crate::backtrack::Walk;
 use crate::dfa::MOST_ROWS;
 use crate::groups::write_match;
-use crate::numbers::place_count;
+use crate::numbers::flags_needed;
 use crate::starts::Starts;
 use crate::{AsciiWords, Dfa, Error, Matches, Program};
 use rsc_captures::Captures;
@@ -84,8 +84,8 @@ impl<'p, W: WordClass + AsciiWords> Cache<'p, W> {
         let Some(from) = self.dfa.begin(input)? else {
             return Ok(None);
         };
-        let places = place_count(self.program, input)?;
-        self.walk.reopen(self.alloc, places)?;
+        let flag_count = flags_needed(self.program, input)?;
+        self.walk.reopen(self.alloc, flag_count)?;
         if !self.walk.search(self.program, input, &self.starts, from)? {
             return Ok(None);
         }

@@ -14,9 +14,9 @@ pub enum Error {
     OutOfMemory,
     /// A class of bytes without a range.
     EmptyClass,
-    /// Group names that no pattern may have, as one name twice.
+    /// A group name twice in a pattern.
     Names,
-    /// A state that no automaton may have, as one with a range whose first byte is above its last.
+    /// A range whose first byte is above its last.
     Faulty,
     /// More states, patterns or groups, or states times positions, than there are numbers for.
     TooLarge,
@@ -29,8 +29,8 @@ impl fmt::Display for Error {
         match self {
             Error::OutOfMemory => write!(f, "out of memory"),
             Error::EmptyClass => write!(f, "a class of bytes without a range"),
-            Error::Names => write!(f, "faulty group names"),
-            Error::Faulty => write!(f, "a faulty state"),
+            Error::Names => write!(f, "a group name twice"),
+            Error::Faulty => write!(f, "a reversed range"),
             Error::TooLarge => write!(f, "too large"),
         }
     }

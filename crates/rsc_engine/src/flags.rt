@@ -78,7 +78,7 @@ impl Flags {
         self.blocks[at] = with_bit(self.blocks[at], n % BITS);
     }
 
-    /// Sets three flags, and answers that, if none of them is set.
+    /// Sets three flags if none of them is set. Answers whether it did.
     #[inline(always)]
     pub fn take(&mut self, a: usize, b: usize, c: usize) -> bool
         requires a { a < length self.old }

@@ -15,7 +15,7 @@ ghost use Rattle.rsc_engine.specs.TrailsLayout.{run_of};
 
 use crate::backtrack::Walk;
 use crate::groups::write_match;
-use crate::numbers::place_count;
+use crate::numbers::flags_needed;
 use crate::starts::Starts;
 use crate::{AsciiWords, Cache, Dfa, Error, Program};
 use rsc_captures::Captures;
@@ -65,7 +65,7 @@ impl<'p, 'h, W: WordClass + AsciiWords> Matches<'p, 'h, W> {
         ensures made { IfOk result (λ m. m ≡ record { program = cache.entry; input = input.entry; last = None }) }
         ensures refused { IfErr result (FailsFor (search_in W.word_chars cache.entry input.entry)) }
     {
-        let places = place_count(cache.program, &input)?;
+        let flag_count = flags_needed(cache.program, &input)?;
         let Cache {
             alloc,
             program,
@@ -83,7 +83,7 @@ impl<'p, 'h, W: WordClass + AsciiWords> Matches<'p, 'h, W> {
                 dfa,
                 is_far: true,
                 walk,
-                places,
+                flag_count,
                 last_end: None,
             },
         })
@@ -139,11 +139,11 @@ struct Rest<'p, 'h, W: WordClass> {
     dfa: Dfa<'p, W>,
     // Whether the last match began far from where it was looked for; true before the first one.
     is_far: bool,
-    // It has no flags before it is first needed, and then as many as there are places.
+    // It has no flags before it is first needed, and then as many as a walk needs.
     walk: Walk,
-    places: usize,
+    flag_count: usize,
     last_end: Option<usize>,
-    ghost enough: { AreEnough (search_in W.word_chars program.now input) places },
+    ghost enough: { AreEnough (search_in W.word_chars program.now input) flag_count },
     ghost closed: { IsClosed (search_in W.word_chars program.now input) (is_flagged (search_in W.word_chars program.now input) walk.visited) },
     ghost table: { dfa ≡ program.now },
     ghost begins: { starts.known ≡ true → AreStarts program.now.automaton.states program.now.start starts.marks.items starts.bytes.items },
@@ -217,7 +217,7 @@ impl<'p, 'h, W: WordClass + AsciiWords> Rest<'p, 'h, W> {
         ensures over { IfOk result (λ found. IfNone found (self.new.input ≡ self.old.input)) }
         ensures kept { OnErr result (self.new.input ≡ self.old.input) }
         ensures forgets { OnErr result ((n : ℕ) → slice_index_or self.new.walk.visited n false ≡ false) }
-        ensures places { self.new.places ≡ self.old.places }
+        ensures flag_count { self.new.flag_count ≡ self.old.flag_count }
         ensures program { self.new.program ≡ self.old.program }
         ensures memory { IfErr result (λ e. e ≡ OutOfMemory) }
         ensures last { self.new.last_end ≡ self.old.last_end }
@@ -231,7 +231,7 @@ impl<'p, 'h, W: WordClass + AsciiWords> Rest<'p, 'h, W> {
         let Some(from) = begin_of(&mut self.dfa, self.is_far, &self.input) else {
             return Ok(None);
         };
-        self.walk.open(self.alloc, self.places)?;
+        self.walk.open(self.alloc, self.flag_count)?;
         if !self
             .walk
             .search(self.program, &self.input, &self.starts, from)?

@@ -13,7 +13,7 @@ use rsc_nfa::State;
 use rsc_primitives::{PatternID, StateID};
 use rsc_search::Input;
 
-/// More ranges of a class than these aren't looked through.
+/// More ranges of a class than these, and the first one before them, aren't looked through.
 pub const MOST_RANGES: usize = 16;
 
 /// What a state does at a position.

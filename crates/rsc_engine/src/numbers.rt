@@ -31,19 +31,21 @@ pub fn first_block(before: usize, states: usize, len: usize) -> usize
     before / BITS * states
 }
 
-/// How many flags a walk needs.
+/// How many flags a walk needs: a block for each state and each 64 positions.
 ///
 /// # Errors
 ///
-/// `TooLarge` where the span has too many positions for the number of states.
-pub fn place_count<W: WordClass>(program: &Program<W>, input: &Input<'_>) -> Result<usize, Error>
+/// `TooLarge` where the span has too many positions for the number of states. Where there are more flags than numbers, but only since blocks are
+/// whole, no memory has that many: out of memory.
+pub fn flags_needed<W: WordClass>(program: &Program<W>, input: &Input<'_>) -> Result<usize, Error>
     ensures enough { IfOk result (AreEnough (search_in W.word_chars program.now input.now)) }
     ensures refused { IfErr result (FailsFor (search_in W.word_chars program.now input.now)) }
 {
     let positions = input.end() + 1 - input.start();
-    let groups = input.end().saturating_sub(input.start()) / BITS + 1;
+    // The start may be one past the end.
+    let last = input.end().saturating_sub(input.start());
     match positions.checked_mul(program.len()) {
-        Some(_) => match groups.checked_mul(program.len()) {
+        Some(_) => match (last / BITS + 1).checked_mul(program.len()) {
             Some(blocks) => blocks.checked_mul(BITS).ok_or(Error::OutOfMemory),
             None => Err(Error::OutOfMemory),
         },

@@ -134,8 +134,7 @@ fn turn_some<W: WordClass>(
     at + 1
 }
 
-// Whether there are turns whose flags are in the blocks of these three, and none of them is set: the last ones are these, and turns after the first have the
-// flags before them.
+// Whether the flags of that many turns are clear, and there is one. These three are the first turn's; each turn after it has the flags before.
 #[inline(always)]
 fn are_free(visited: &Flags, class: usize, range: usize, fork: usize, count: usize) -> bool
     requires class { (class < length visited.now) × (class % 64 ≡ count) }

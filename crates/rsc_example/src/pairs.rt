@@ -4,7 +4,7 @@ use rsc_primitives::PatternID;
 use rsc_search::Input;
 use std::alloc::Global;
 
-/// The bytes of names: ASCII's letters, digits and `_`, and all bytes of other characters. The range of most bytes comes first, since a loop is fastest over it.
+/// The bytes of names: letters, digits and `_` of ASCII, and all bytes of other characters. The range of most bytes is first, since a loop is fastest over it.
 pub const NAME: [(u8, u8); 5] = [
     (b'a', b'z'),
     (b'A', b'Z'),

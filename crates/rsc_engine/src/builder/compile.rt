@@ -271,6 +271,7 @@ impl Compiler {
         ensures { MatchResult result (λ first. Builds (slots.now.end, slots.now.limit) self.old.states.items self.new.states.items first next
             (pattern_in sub.now)) RunsOut }
     {
+        // States are made from the last part on, so the group's number is what is left before its inner groups and itself.
         let number = self.left.saturating_sub(groups).saturating_sub(1);
         let (start, end) = slots.of_group(number)?;
         let after = self.add(State::Capture { slot: end, next })?;

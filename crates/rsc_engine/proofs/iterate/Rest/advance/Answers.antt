@@ -26,7 +26,7 @@ invariant_of-self-2 g c =
     let start : c.set_start.new.self.span.start ≡ c.end.result = ap (λ (x : InputParts). x.span.start) c.set_start.ensures in
     let after : IsClosedFrom e c.end.result seen = rw position (c.in_ok-search.ensures.after c.if-not-branch.false) in
     record {
-      enough = rw c.set_start.ensures (fewer_flags e c.end.result c.args.self.now.places up c.args.self.now.enough);
+      enough = rw c.set_start.ensures (fewer_flags e c.end.result c.args.self.now.flag_count up c.args.self.now.enough);
       closed = rw c.set_start.ensures (later_start e c.end.result seen up after);
       table = c.begin_of.ensures.program ∙ c.args.self.now.table;
       begins = c.args.self.now.begins;

@@ -40,7 +40,7 @@ matches-preserved-then-repeats g c =
           c.set_start-then-repeats.new.self (c.repeats.ensures.yes c.if-repeats.true)
           (c.set_start-then-repeats.ensures ∙ ap (λ n. from_start c.advance.new.self.input n) next);
       program = e.program ∙ c.matches.invariant.program;
-      places = e.places ∙ c.matches.invariant.places;
+      flag_count = e.flag_count ∙ c.matches.invariant.flag_count;
       groups = e.groups ∙ c.matches.invariant.groups;
       slots = e.slots ∙ c.matches.invariant.slots;
     }
@@ -61,7 +61,7 @@ matches-preserved g c =
           (λ mode. c.after_split-next.ensures.free mode ∙ ap (λ n. n + 1) c.end-end-in-Ok-Some.ensures.end)
           c.set_start-then-splits.ensures;
       program = e.program ∙ c.matches.invariant.program;
-      places = e.places ∙ c.matches.invariant.places;
+      flag_count = e.flag_count ∙ c.matches.invariant.flag_count;
       groups = e.groups ∙ c.matches.invariant.groups;
       slots = e.slots ∙ c.matches.invariant.slots;
     }
@@ -77,7 +77,7 @@ invariant_of-self-then-splits g c =
     let up : c.advance.new.self.input.span.start ≤ next = omega (arith, at, c.end-end-in-Ok-Some.ensures.end, c.after_split-next.ensures.on) in
     let start : c.set_start-then-splits.new.self.span.start ≡ next = ap (λ (x : InputParts). x.span.start) c.set_start-then-splits.ensures in
     record {
-      enough = rw c.set_start-then-splits.ensures (fewer_flags e next c.advance.new.self.places up c.advance.new.self.enough);
+      enough = rw c.set_start-then-splits.ensures (fewer_flags e next c.advance.new.self.flag_count up c.advance.new.self.enough);
       closed = rw c.set_start-then-splits.ensures (even_later e next seen up c.advance.new.self.closed);
       table = c.advance.new.self.table;
       begins = c.advance.new.self.begins;
@@ -95,7 +95,7 @@ invariant_of-self-then-repeats g c =
     let up : c.advance.new.self.input.span.start ≤ next = omega (arith, at, c.end-end-in-Ok-Some.ensures.end) in
     let start : c.set_start-then-repeats.new.self.span.start ≡ next = ap (λ (x : InputParts). x.span.start) c.set_start-then-repeats.ensures in
     record {
-      enough = rw c.set_start-then-repeats.ensures (fewer_flags e next c.advance.new.self.places up c.advance.new.self.enough);
+      enough = rw c.set_start-then-repeats.ensures (fewer_flags e next c.advance.new.self.flag_count up c.advance.new.self.enough);
       closed = rw c.set_start-then-repeats.ensures (even_later e next seen up c.advance.new.self.closed);
       table = c.advance.new.self.table;
       begins = c.advance.new.self.begins;
