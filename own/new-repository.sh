@@ -1,7 +1,7 @@
 #!/usr/bin/env bash
 # Makes a Rattle repository whose crate may call the libraries.
 #   own/new-repository.sh FOLDER CRATE [engine [uses]]
-# FOLDER must not be there yet. It gets the six libraries, crates.txt, HANDLES, and the crate CRATE with a function that calls rsc_look and a test; with
+# FOLDER must not be there yet. It gets the six libraries, docs, crates.txt, HANDLES, and the crate CRATE with a function that calls rsc_look and a test; with
 # 'engine' rsc_engine too, and the search of README.md as src/pairs.rt; with 'uses' also rsc_uses, whose callers and lemmas CALLING.md quotes.
 set -euo pipefail
 here=$(cd "$(dirname "${BASH_SOURCE[0]}")/.." && pwd)
@@ -23,6 +23,8 @@ echo "$2: ${libraries[*]}" >> "$1/crates.txt"
 echo 'Handles allowed: none.' > "$1/HANDLES"
 echo 'out/' > "$1/.gitignore"
 cp "$here/LICENSE-MIT" "$here/NOTICE" "$1"
+mkdir "$1/docs"
+cp "$here"/docs/*.md "$1/docs"
 echo "$commit" > "$1/LIBRARIES"
 cp "$here/own/first.txt" "$1/crates/$2/src/lib.rt"
 if [ -n "${3:-}" ]; then
@@ -30,4 +32,4 @@ if [ -n "${3:-}" ]; then
   sed -i 's/^use rsc_look::{Look, LookMatcher, WordClass};$/&\n\n\/\/\/ A search for two patterns.\npub mod pairs;/' "$1/crates/$2/src/lib.rt"
 fi
 echo "In $1/crates/$2: 'rt try --test' runs the test without a proof; 'rt check' proves the crate. The first check proves the libraries too, which takes some"
-echo "10 minutes on an idle machine, and 10 more with the engine: start it now and write meanwhile. Pages that the copies link to are in $here."
+echo "10 minutes on an idle machine, and 10 more with the engine: start it now and write meanwhile. docs/DEFINITIONS.md explains what contracts say."

@@ -1,4 +1,4 @@
-//! Answers command lines by calls of the original: the protocol is in `compare/README.md`.
+//! Answers command lines by calls of the original: the protocol is in `compare/worked.txt`.
 
 extern crate alloc;
 

@@ -1,3 +1,4 @@
+mod alternations;
 mod build;
 mod cache;
 mod dfa;
