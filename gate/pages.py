@@ -33,6 +33,7 @@ import sys
 from calling import ROOT, calls, is_exported, page, promises, sources
 from edits import edits_in
 from heads import above, head, source_of
+from trusted import believed, definitions, engine_statement, reached, statement, trusted
 from typed import LIBRARIES
 
 MOST_COLUMNS = 160
@@ -47,8 +48,6 @@ FORMS = (
     ("rsc_primitives/src/utf8.rt", "const WORD_BYTES_FROM_80: u128 = 0;\n"),
     ("rsc_search/src/pattern_set.rt", "    blocks: Vec<u64, A>,\n    capacity: usize,\n    count: usize,\n}"),
 )
-# The types whose values the main statement speaks of.
-SEEN = (("rsc_look", "matcher.rt", "LookMatcher"), ("rsc_alphabet", "byte_classes.rt", "ByteClasses"))
 
 
 def readme(shown, text):
@@ -60,172 +59,6 @@ def with_quotes(text):
     """Returns README.md with the file as the Rust code below each line `<!-- quoted: FILE -->`."""
     code = r"(<!-- quoted: (\S+) -->\n```rust\n).*?```"
     return re.sub(code, lambda it: f"{it[1]}{(ROOT / it[2]).read_text(encoding='utf-8')}```", text, flags=re.S)
-
-
-def imports_of(text, ghost):
-    """Returns what the `use` lines of a source or a definition file bring in: each name or sign, with its module and the name there."""
-    found = {}
-    for module, names, alias in re.findall(rf"^\s*{ghost}use Rattle\.([\w.]+?)(?:\.\{{([^}}]*)\}}| as (\w+))", text, flags=re.M):
-        if alias:
-            found[alias] = (module.rpartition(".")[0], module.rpartition(".")[2])
-        for name in filter(None, map(str.strip, names.split(","))):
-            found[name.replace("◌", " ").split()[0] if name != "◌" else name] = (module, name)
-    return found
-
-
-def definitions(text):
-    """Returns the definitions of a file of specs/, each with its text."""
-    found, name = {}, None
-    for line in text.splitlines():
-        begins = re.match(r"(?:  (?=abbrev ))?(?:abbrev |unfoldable )*(?:pub )?(?:record |data |class )?([^\s:({]+)", line)
-        if re.match(r"  abbrev |\S", line) and not line.startswith(("--", "use ", "unfolding")):
-            name = name if name and begins[1] == name else begins[1]
-        if name and line.strip():
-            found[name] = found.get(name, "") + line + "\n"
-        elif not line.strip():
-            name = None
-    return found
-
-
-def tokens(text):
-    return set(re.findall(r"[^\s(){}\[\],;.]+", re.sub(r"--.*", "", text)))
-
-
-# The main statement: the clauses of these functions, what the two choices of word characters mean, and what a clause sees of a value.
-MAIN = {"classes_of": "rsc_look/src/boundaries.rt", "matches": "rsc_look/src/matcher.rt"}
-MEANT = (("rsc_look/src/word.rt", r"ghost word_chars = .*?;"), ("rsc_look/src/matcher.rt", r"impl<W: WordClass> Model for .*?^\}"),
-         ("rsc_alphabet/src/byte_classes.rt", r"impl Model for ByteClasses .*?^\}"))
-
-
-def clauses_of(file, name):
-    """Returns the head of a public function of a source file, and each of its clauses."""
-    functions = source_of((ROOT / "crates" / file).read_text(encoding="utf-8")).functions
-    signature = next(it.signature for it in functions if it.is_pub and it.name == name)
-    return re.split(r"\n +(?=ensures|requires)", signature.strip())
-
-
-def statement(is_quoted):
-    """Yields each part of the main statement with its file: all clauses, or those alone that README.md quotes, which must be as in the source."""
-    readme = (ROOT / "README.md").read_text(encoding="utf-8")
-    for name, file in MAIN.items():
-        shown = re.search(rf"^pub fn {name}\(.*?(?=\n\n|\n```)", readme, flags=re.M | re.S)[0].split()
-        first, *clauses = clauses_of(file, name)
-        kept = [it for it in clauses if " ".join(it.split()) in " ".join(shown)]
-        if " ".join([first, *kept]).split() != shown:
-            raise ValueError(f"README.md quotes {name} otherwise than crates/{file} has it")
-        for it in kept if is_quoted else clauses:
-            yield file, it
-    for file, pattern in MEANT:
-        for it in re.findall(pattern, (ROOT / "crates" / file).read_text(encoding="utf-8"), flags=re.M | re.S):
-            yield file, it
-
-
-# What rsc_engine promises of a search, and by what its groups are read: the clauses of these functions.
-ENGINE = (("rsc_engine", "first.rt", ("find",)), ("rsc_engine", "iterate.rt", ("new", "next", "into_cache")), ("rsc_engine", "builder.rt", ("build", "build_with")),
-          ("rsc_engine", "dfa.rt", ("earliest_end", "is_match", "find", "leftmost_end")), ("rsc_engine", "cache.rt", ("new", "find", "matches")),
-          ("rsc_engine", "program.rt", ("captures",)), ("rsc_captures", "captures.rt", ("get_group",)))
-ENGINE_MEANT = (("rsc_look/src/word.rt", r"ghost word_chars = .*?;"), ("rsc_engine/src/iterate.rt", r"impl<[^{]*Model for Matches.*?^\}"))
-ENGINE_SEEN = (("rsc_engine", "program.rt", "Program"), ("rsc_engine", "dfa.rt", "Dfa"), ("rsc_engine", "cache.rt", "Cache"),
-               ("rsc_engine", "iterate.rt", "Matches"), ("rsc_nfa", "nfa.rt", "Nfa"), ("rsc_look", "matcher.rt", "LookMatcher"), ("rsc_search", "input.rt", "Input"), ("rsc_search", "matches.rt", "Match"),
-               ("rsc_captures", "captures.rt", "Captures"), ("rsc_captures", "group_info.rt", "GroupInfo"), ("rsc_captures", "layout.rt", "SharedLists"),
-               *(("rsc_primitives", f"primitives/{it}.rt", name) for it, name in
-                 (("small_index", "SmallIndex"), ("pattern_id", "PatternID"), ("state_id", "StateID"), ("non_max", "NonMaxUsize"))))
-
-
-def engine_statement():
-    """Yields each clause of the functions of ENGINE with its file, and what they mean besides."""
-    for file, pattern in ENGINE_MEANT:
-        yield from ((file, it) for it in re.findall(pattern, (ROOT / "crates" / file).read_text(encoding="utf-8"), flags=re.M | re.S))
-    for crate, file, names in ENGINE:
-        yield from ((f"{crate}/src/{file}", it) for name in names for it in clauses_of(f"{crate}/src/{file}", name)[1:])
-
-
-def reached(parts):
-    """Returns the definitions that these parts of files reach, by their files, and the types and toolchain names that they use."""
-    left, own, outside = [], collections.defaultdict(set), collections.defaultdict(set)
-    for file, part in parts:
-        brought = imports_of((ROOT / "crates" / file).read_text(encoding="utf-8"), "ghost ")
-        left += [brought[it] for it in tokens(part) if it in brought]
-    while left:
-        module, name = left.pop()
-        crate, _, rest = module.partition(".specs.")
-        file = ROOT / "crates" / crate / "specs" / f"{rest}.antt"
-        if not file.exists():
-            outside[module].add(name)
-        elif name not in own[crate, rest]:
-            text = file.read_text(encoding="utf-8")
-            found, brought = definitions(text), imports_of(text, "(?:pub )?")
-            # A constructor stands for its type.
-            name = name if name in found else next((it for it in found if re.search(rf"^  (?:pub )?{re.escape(name)} :", found[it], flags=re.M)), None)
-            if not name:
-                raise ValueError(f"{module} has no such definition")
-            own[crate, rest].add(name)
-            used = tokens(found[name])
-            left += [brought[it] for it in used if it in brought] + [(module, it) for it in used if it in found and it not in brought]
-    return own, outside
-
-
-def sizes(own):
-    """Returns how many definitions there are, and how many lines they have."""
-    texts = {it: definitions((ROOT / "crates" / it[0] / "specs" / f"{it[1]}.antt").read_text(encoding="utf-8")) for it in own}
-    return sum(map(len, own.values())), sum(len(texts[it][name].splitlines()) for it, names in own.items() for name in names)
-
-
-def rows(own, *columns):
-    """Yields for each file of definitions a row of a table: its lines, and in each column the definitions that are listed there."""
-    for (crate, module), names in sorted(own.items(), key=lambda it: (LIBRARIES.index(it[0][0]), it[0][1])):
-        found = definitions((ROOT / "crates" / crate / "specs" / f"{module}.antt").read_text(encoding="utf-8"))
-        listed = (", ".join(f"`{it}`" for it in found if it in column[crate, module]) for column in columns)
-        yield f"| `{crate}/specs/{module}.antt` | {sizes({(crate, module): names})[1]} | {' | '.join(listed)} |"
-
-
-def trusted():
-    """Returns docs/TRUSTED.md: what is to be believed for the main statement, definition by definition."""
-    (own, outside), (quoted, _) = reached(statement(False)), reached(statement(True))
-    lines = ["# What the main statements rest on", "", "## `rsc_look`", "",
-             "Written by `gate/pages.py --write`: the definitions that the clauses of `classes_of` and `matches` of `rsc_look` reach, with all that these use, and the",
-             "meaning of `AsciiWord` and `UnicodeWord`. The last column has what only clauses need which README.md doesn't quote. Whoever trusts the toolchain need only",
-             "believe these, the clauses, and what they see of a value; [DEFINITIONS.md](DEFINITIONS.md) explains all.", "",
-             "| File | Lines | Definitions of the quoted clauses | Of other clauses alone |", "|---|---|---|---|"]
-    lines += rows(own, quoted, {it: names - quoted[it] for it, names in own.items()})
-    lines += ["", "A clause speaks of what a contract sees of a value, by the type's `impl Model`:", "", *views(SEEN)]
-    lines += ["", "The contracts of `LookMatcher::new` and `set_line_terminator` say which matcher a caller makes, and that of `ByteClasses::get` what it reads from "
-              "the map. Of the word predicates `AsciiWord` has `word_chars = λ _ c. is_word_byte c`, and `UnicodeWord` `λ _ c. is_unicode_word c`.", ""]
-    said = "The quoted clauses and the meaning of the two word predicates reach {} definitions, {} lines; all clauses {}, {} lines.".format(*sizes(quoted), *sizes(own))
-    lines += [f"{said} They use types of the libraries, and names of the toolchain:", "", "| Module | Names |", "|---|---|"]
-    lines += [f"| `{module}` | {', '.join(f'`{it}`' for it in sorted(names))} |" for module, names in sorted(outside.items())]
-    lines += ["", "## `rsc_engine`", ""] + engine_trusted()
-    return "\n".join(lines) + "\n"
-
-
-def views(types):
-    """Returns a table of what a contract sees of values."""
-    lines = ["| Type | What is seen | Its type |", "|---|---|---|"]
-    for crate, file, name in types:
-        source = (ROOT / "crates" / crate / "src" / file).read_text(encoding="utf-8")
-        model = re.search(rf"Model for {name}\b.*?ghost Value = {{ (.*?) }};.*?ghost view = {{ (.*?) }};\n", source, flags=re.S)
-        lines.append(f"| `{crate}::{name}` | `{model[2]}` | `{model[1]}` |")
-    return lines
-
-
-def engine_trusted():
-    """Returns the lines of docs/TRUSTED.md on what the answers of rsc_engine rest on."""
-    own, outside = reached(engine_statement())
-    count, all_lines = sizes(own)
-    calls = "`Builder::build` and `build_with`, `Program::captures`, all searches (`find`, `Matches`, `Cache`, `Dfa`), and `Captures::get_group`, which reads a match's groups,"
-    lines = [f"The clauses of {calls}", f"reach {count} definitions, {all_lines} lines:", "", "| File | Lines | Definitions |", "|---|---|---|", *rows(own, own)]
-    lines += ["", "What is seen of a value; of a `Builder` and a `Part` clauses see the fields:", "", *views(ENGINE_SEEN)]
-    lines += ["", "They use types of the libraries, and names of the toolchain:", "", "| Module | Names |", "|---|---|"]
-    return lines + [f"| `{module}` | {', '.join(f'`{it}`' for it in sorted(names))} |" for module, names in sorted(outside.items())]
-
-
-def believed(text):
-    """Returns README.md with how many definitions the clauses that it quotes reach, and how many all clauses."""
-    (own, _), (quoted, _) = reached(statement(False)), reached(statement(True))
-    (count, lines), (all_count, all_lines) = sizes(quoted), sizes(own)
-    files = sum(map(bool, quoted.values()))
-    said = f"{count} definitions ({lines} lines, in {files} files of `crates/*/specs`), all clauses of both functions on {all_count} ({all_lines} lines)"
-    return re.sub(r"<!-- believed -->.*?<!-- end -->", f"<!-- believed -->{said}<!-- end -->", text)
 
 
 def by_hand(text):

@@ -24,6 +24,8 @@ use Rattle.rsc_search.specs.Matches.{Matched}
 use Rattle.rsc_search.specs.Modes.{pattern_of_mode}
 use Rattle.rsc_engine.specs.Searches.{Search, Compiled, search_in}
 use Rattle.rsc_engine.specs.Runs.{Leads, IsPlace, IsMatchOf, is_accepting, is_wanted}
+use Rattle.rsc_engine.proofs.PatternOrderLemmas.{PrefersFrom-one, PrefersFrom-fork}
+use Rattle.rsc_engine.proofs.RunsLemmas.{run-before, step-within}
 use Rattle.rsc_engine.proofs.WalksLayoutLemmas.{leads-rises}
 
 -- ---- one pattern
@@ -40,19 +42,23 @@ at_accept states a (suc n) s i q is e =
 Begins-one : (states : List State) (number low high accept after body first : ℕ) (p : Pattern)
     → IsWhole states number low high accept after body first → Realizes states body after p → Begins states first (IsOfOne number p)
 Begins-one states number low high accept after body first p w r = record {
-  sound = λ a n i e.
-      let g = whole.sound a n i e in
-      let end = at_accept states a g.left accept g.to number w.accepting g.ends in
-      (end.0, subst (λ (k : ℕ). Goes a.text p i k) end.1 g.goes);
+  sound = sound;
   complete = λ a i s within.
       whole.complete a i a.position s.1
       (record { steps = 0; ends = (w.accepting ∙ ap (λ (q : ℕ). Some (Accept q)) (sym s.0), refl, within) });
   records = RecordsFrom-one states number low high accept after body first w;
+  prefers = PrefersFrom-one states first number p sound;
 }
   where
     whole : Realizes states first accept p
     whole = Realizes-between states first body after accept p (Realizes-capture states after (2 * number + 1) accept w.ending) r
         (Realizes-capture states first (2 * number) body w.starting)
+
+    sound : (a : Aim) (n i : ℕ) → Ends states a n first i → IsOfOne number p a i
+    sound a n i e =
+        let g = whole.sound a n i e in
+        let end = at_accept states a g.left accept g.to number w.accepting g.ends in
+        (end.0, subst (λ (k : ℕ). Goes a.text p i k) end.1 g.goes)
 
 -- a pattern, with its number, begins at a state; and if its number is one of these groups' patterns, its states name what is there
 abbrev OneBegins : GroupLists → List State → List State → ℕ → ℕ → Pattern → List State → Type 0
@@ -114,11 +120,13 @@ Begins-is states first P Q to back b = record {
   sound = λ a n i e. to a i (b.sound a n i e);
   complete = λ a i q within. b.complete a i (back a i q) within;
   records = b.records;
+  prefers = b.prefers;
 }
 
 Begins-either : (states : List State) (s one other : ℕ) (P Q : Aim → ℕ → Type 0) → slice_get states s ≡ Some (Fork one other)
-    → Begins states one P → Begins states other Q → Begins states s (λ (a : Aim) (i : ℕ). P a i ⊎ Q a i)
-Begins-either states s one other P Q is b c = record {
+    → Begins states one P → Begins states other Q → ((a b : Aim) (i j : ℕ) → P a i → Q b j → a.pattern < b.pattern)
+    → Begins states s (λ (a : Aim) (i : ℕ). P a i ⊎ Q a i)
+Begins-either states s one other P Q is b c apart = record {
   sound = λ a n i e.
       let w = choice_to states a n s i one other (inl is) e in
       ⊎_elim (λ (x : Ends states a w.0 one i). inl (b.sound a w.0 i x)) (λ (x : Ends states a w.0 other i). inr (c.sound a w.0 i x)) w.2;
@@ -127,6 +135,7 @@ Begins-either states s one other P Q is b c = record {
       (λ (x : Q a i). choice_next states a s i one other (inl is) (c.complete a i x within))
       h;
   records = RecordsFrom-fork states s one other is b.records c.records;
+  prefers = PrefersFrom-fork states s one other P Q is b c apart;
 }
 
 same_some : (p q : Pattern) → Some p ≡ Some q → p ≡ q
@@ -212,7 +221,7 @@ Adds-more groups old middle last new one first id n p patterns at x y a =
     (λ states b is. (
       Begins-is states id (λ (t : Aim) (i : ℕ). IsOfOne n p t i ⊎ IsOfSome (n + 1) patterns t i) (IsOfSome n patterns)
           (more-is patterns n p at) (more-back patterns n p at)
-          (Begins-either states id one first (IsOfOne n p) (IsOfSome (n + 1) patterns) is b.1.0 b.0.0),
+          (Begins-either states id one first (IsOfOne n p) (IsOfSome (n + 1) patterns) is b.1.0 b.0.0 (λ s t i j x y. omega (arith, x.0, y.0))),
       λ l. subst (λ (r : Bool). AreSoundIn groups r old new id states) (sym (any_from patterns n p at))
           (AreSound-more (2 * all_groups groups) (length groups) (has_reversed_range p) (list_any has_reversed_range (drop (n + 1) patterns)) (length old)
           (length middle) (length last) (length new) one first id states x.longer y.longer a.last (grown last new (Fork one first) id a) (b.0.1 l)
@@ -264,19 +273,12 @@ record Run (e : Search) (found : Matched) (s i : ℕ) : Type 0 where
   pattern : slice_get e.states (place run (length run - 1)).0 ≡ Some (Accept found.pattern)
   end : (place run (length run - 1)).1 ≡ found.span.end
 
-step_within : (e : Search) (p q : ℕ × ℕ) → Leads e p q → p.0 < length e.states
-step_within e p q l = go (slice_get e.states p.0) refl l
-  where
-    go : (o : Option State) → slice_get e.states p.0 ≡ o → MatchOption o ⊥ (λ (state : State). StepsTo state e.terminator e.words e.haystack e.end p.1 q)
-        → p.0 < length e.states
-    go None is x = absurd x
-    go (Some state) is x = slice_get_within e.states p.0 state is
-
 -- a place before a run
 before : (e : Search) (found : Matched) (s i t k : ℕ) → e.start ≤ i → i ≤ e.end → Leads e (s, i) (t, k) → Run e found t k → Run e found s i
 before e found s i t k low high step r = record {
   run = (s, i) ∷ r.run;
-  is_run = record { places = places; steps = steps };
+  is_run = run-before e (s, i) r.run (step-within e (s, i) (t, k) step, low, high) (λ some. subst (λ (q : ℕ × ℕ). Leads e (s, i) q) (sym r.begins) step)
+      r.is_run;
   some = omega arith;
   begins = refl;
   pattern = rw back r.pattern;
@@ -285,14 +287,6 @@ before e found s i t k low high step r = record {
   where
     back : place ((s, i) ∷ r.run) (length ((s, i) ∷ r.run) - 1) ≡ place r.run (length r.run - 1)
     back = let one : length ((s, i) ∷ r.run) - 1 ≡ suc (length r.run - 1) = omega (arith, r.some) in ap (λ (n : ℕ). place ((s, i) ∷ r.run) n) one
-
-    places : (n : ℕ) → n < length ((s, i) ∷ r.run) → IsPlace e (place ((s, i) ∷ r.run) n)
-    places zero l = (step_within e (s, i) (t, k) step, low, high)
-    places (suc n) l = r.is_run.places n (omega (arith, l))
-
-    steps : (n : ℕ) → n + 1 < length ((s, i) ∷ r.run) → Leads e (place ((s, i) ∷ r.run) n) (place ((s, i) ∷ r.run) (n + 1))
-    steps zero l = subst (λ (q : ℕ × ℕ). Leads e (s, i) q) (sym r.begins) step
-    steps (suc n) l = let one : suc n + 1 ≡ suc (n + 1) = omega arith in rw one (r.is_run.steps n (omega (arith, l)))
 
 run_from : (e : Search) (found : Matched) (n s i : ℕ) → e.start ≤ i → Ends e.states (aim_of e found) n s i → Run e found s i
 run_from e found zero s i low x = record {

@@ -99,7 +99,7 @@ one_pattern : (p q : ℕ) → Some (Accept p) ≡ Some (Accept q) → p ≡ q
 one_pattern p q e = cc
 
 -- where a step leads from a state that is known
-step_of : (states : List State) (x : Subject) (end s : ℕ) (p q : ℕ × ℕ) (state : State) → p.0 ≡ s → slice_get states s ≡ Some state
+pub step_of : (states : List State) (x : Subject) (end s : ℕ) (p q : ℕ × ℕ) (state : State) → p.0 ≡ s → slice_get states s ≡ Some state
     → IsStep states x.terminator x.words x.haystack end p q → StepsTo state x.terminator x.words x.haystack end p.1 q
 step_of states x end s p q state same is step =
     subst (λ (o : Option State). MatchOption o ⊥ (λ (y : State). StepsTo y x.terminator x.words x.haystack end p.1 q))
@@ -209,12 +209,12 @@ rest_is_run e p q rest r = record {
       rw one at (r.steps (suc k) (omega (arith, l)));
 }
 
-steps_of : (e : Search) (p : ℕ × ℕ) (rest : List (ℕ × ℕ)) → IsRun e.states e.terminator e.words e.haystack e.start e.end (p ∷ rest)
+pub steps_of : (e : Search) (p : ℕ × ℕ) (rest : List (ℕ × ℕ)) → IsRun e.states e.terminator e.words e.haystack e.start e.end (p ∷ rest)
     → AreSteps e.states (subject_of e) e.end p rest
 steps_of e p [] r = tt
 steps_of e p (q ∷ rest) r = (r.steps 0 (omega arith), steps_of e q rest (rest_is_run e p q rest r))
 
-last_is : (p : ℕ × ℕ) (rest : List (ℕ × ℕ)) → place (p ∷ rest) (length (p ∷ rest) - 1) ≡ last_place p rest
+pub last_is : (p : ℕ × ℕ) (rest : List (ℕ × ℕ)) → place (p ∷ rest) (length (p ∷ rest) - 1) ≡ last_place p rest
 last_is p [] = refl
 last_is p (q ∷ rest) =
     let one : length (p ∷ (q ∷ rest)) - 1 ≡ suc (length (q ∷ rest) - 1) = omega arith in

@@ -4,7 +4,7 @@ pub mod WalksLayoutLemmas  -- a trail grows by a place and goes back to one; pla
 pub mod StartsLayoutLemmas  -- no match begins with a byte that isn't marked
 pub mod BacktrackLemmas  -- what is known of the places that were seen, from visit to visit
 pub mod NumbersLemmas  -- the numbers of places: the flags that have them, and what they say where a search begins later
-pub mod RunsLemmas  -- runs in a part of a span; and what a run records is between its first position and its last
+pub mod RunsLemmas  -- runs with a place before them, or in a part of a span; and what a run records is between its first position and its last
 pub mod TrailsLayoutLemmas  -- the stops of a trail, as it grows and goes back
 pub mod TrailLemmas  -- where a trail begins and ends, and what its visits are
 pub mod TurnsLemmas  -- turns of a loop, one after the other
@@ -25,5 +25,6 @@ pub mod EnclosesLayoutLemmas  -- where the states of parts lead that are made of
 pub mod NamesLayoutLemmas  -- what the states of parts name that are made of parts, and whether a range of theirs is reversed
 pub mod BuilderLemmas  -- how lists of states grow, part by part
 pub mod GroupEndsLemmas  -- what the runs of a program that was built record in the slots of the whole match
+pub mod PatternOrderLemmas  -- of the matches from a position that of the pattern with the least number is preferred
 pub mod LawsLemmas  -- what first and next matches and ends are, of a program that recognizes patterns
 pub mod BeginsLayoutLemmas  -- the runs of a program that was built: from the state at which a pattern begins its matches are found, and no others

@@ -28,7 +28,7 @@ accepts_stops e p q accepted leads = go (slice_get e.states p.0) accepted leads
     go (Some (Capture slot next)) h x = true≢false (sym h)
     go (Some (Accept pattern)) h x = x
 
-same_place : (p q : ℕ × ℕ) → p.0 ≡ q.0 → p.1 ≡ q.1 → p ≡ q
+pub same_place : (p q : ℕ × ℕ) → p.0 ≡ q.0 → p.1 ≡ q.1 → p ≡ q
 same_place p q a b = ap (λ (n : ℕ). (n, p.1)) a ∙ ap (λ (n : ℕ). (q.0, n)) b
 
 -- the place is a fork, of whose steps one goes the first way and the other doesn't

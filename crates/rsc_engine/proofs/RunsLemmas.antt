@@ -1,14 +1,15 @@
--- Runs in a part of a span; and what a run records is between its first position and its last.
-use Rattle.std.proofs.Common.{◌≡◌, ℕ, suc, ◌+◌, ◌-◌, ◌<◌, ◌≤◌, Bool, true, false, cond, List, [], ◌∷◌, length, get_or, sym, ◌∙◌, arith, slice_get, Option, Some, None, MatchOption, ⊎_elim}
+-- Runs with a place before them, or in a part of a span; and what a run records is between its first position and its last.
+use Rattle.std.proofs.Common.{◌≡◌, ℕ, suc, ◌+◌, ◌-◌, ◌<◌, ◌≤◌, zero, Bool, true, false, cond, List, [], ◌∷◌, length, get_or, refl, sym, ◌∙◌, arith, slice_get, Option, Some, None, MatchOption, ⊎_elim}
 use Rattle.std.proofs.lemmas.Bool.{cases_lt}
 use Rattle.std.proofs.lemmas.List.{get_or_past}
+use Rattle.std.proofs.lemmas.Option.{slice_get_within}
 use Rattle.rsc_nfa.specs.declared.state.State.{State}
 use Rattle.rsc_nfa.specs.declared.state.State.TheVariants.{ByteRange, Assert, Fork, Capture, Accept}
-use Rattle.rsc_nfa.specs.Steps.{place, IsStep, StepsTo, is_capture_of, or_earlier, recorded}
+use Rattle.rsc_nfa.specs.Steps.{place, IsRun, IsStep, StepsTo, is_capture_of, or_earlier, recorded}
 use Rattle.rsc_captures.specs.Captured.{Captured}
 use Rattle.rsc_search.specs.Matches.{Matched}
 use Rattle.rsc_engine.specs.Searches.{Search}
-use Rattle.rsc_engine.specs.Runs.{Leads, IsMatchRun}
+use Rattle.rsc_engine.specs.Runs.{Leads, IsPlace, IsMatchRun}
 use Rattle.rsc_engine.specs.Preferred.{IsOf, MayBegin, HasNone}
 use Rattle.rsc_engine.proofs.WalksLayoutLemmas.{run-rises}
 
@@ -28,6 +29,28 @@ recorded-place states (p ∷ (q ∷ rest)) slot i h =
     go (Some j) here found is = let f = found is in (suc f.0, omega (arith, f.1), f.2)
     go None true found is = (0, omega arith, some_same p.1 i is)
     go None false found is = absurd (cc)
+
+-- a state from which a step leads is there
+pub step-within : (e : Search) (p q : ℕ × ℕ) → Leads e p q → p.0 < length e.states
+step-within e p q l = go (slice_get e.states p.0) refl l
+  where
+    go : (o : Option State) → slice_get e.states p.0 ≡ o → MatchOption o ⊥ (λ (state : State). StepsTo state e.terminator e.words e.haystack e.end p.1 q)
+        → p.0 < length e.states
+    go None is x = absurd x
+    go (Some state) is x = slice_get_within e.states p.0 state is
+
+-- a place from which a step leads to a run, before it
+pub run-before : (e : Search) (p : ℕ × ℕ) (run : List (ℕ × ℕ)) → IsPlace e p → (0 < length run → Leads e p (place run 0))
+    → IsRun e.states e.terminator e.words e.haystack e.start e.end run → IsRun e.states e.terminator e.words e.haystack e.start e.end (p ∷ run)
+run-before e p run there leads r = record { places = places; steps = steps }
+  where
+    places : (k : ℕ) → k < length (p ∷ run) → IsPlace e (place (p ∷ run) k)
+    places zero l = there
+    places (suc k) l = r.places k (omega (arith, l))
+
+    steps : (k : ℕ) → k + 1 < length (p ∷ run) → Leads e (place (p ∷ run) k) (place (p ∷ run) (k + 1))
+    steps zero l = leads (omega (arith, l))
+    steps (suc k) l = let one : suc k + 1 ≡ suc (k + 1) = omega arith in rw one (r.steps k (omega (arith, l)))
 
 -- a step up to an earlier end is one
 step-wider : (e : Search) (n : ℕ) (p q : ℕ × ℕ) → n ≤ e.end → IsStep e.states e.terminator e.words e.haystack n p q → Leads e p q

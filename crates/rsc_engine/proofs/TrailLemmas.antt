@@ -21,29 +21,29 @@ trail-some states [] some = absurd (omega (arith, some))
 trail-some states (v ∷ rest) some = omega arith
 
 -- where turns begin
-turns_begin : (states : List State) (fork class exit start n : ℕ) (rest : List Stop) (p : ℕ × ℕ) (o : Option ℕ) → slice_get states fork ≡ Some (Fork class exit)
+turns_begin : (states : List State) (fork body exit start n : ℕ) (rest : List Stop) (p : ℕ × ℕ) (o : Option ℕ) → slice_get states fork ≡ Some (Fork body exit)
     → p.1 ≡ start + n → (get_or (map (λ (s : Stop). s.0) (turns_of states fork start n ++ (p, o) ∷ rest)) 0 (0, 0)).1 ≡ start
-turns_begin states fork class exit start zero rest p o is at = omega (arith, at)
-turns_begin states fork class exit start (suc n) rest p o is at =
+turns_begin states fork body exit start zero rest p o is at = omega (arith, at)
+turns_begin states fork body exit start (suc n) rest p o is at =
     ap (λ (x : List Stop). (get_or (map (λ (s : Stop). s.0) x) 0 (0, 0)).1) (longer ∙ append_assoc (turns_of states fork start n) turn ((p, o) ∷ rest))
-    ∙ turns_begin states fork class exit start n (stops_from states class (start + n) ++ (p, o) ∷ rest) (fork, start + n) (Some exit) is refl
+    ∙ turns_begin states fork body exit start n (stops_from states body (start + n) ++ (p, o) ∷ rest) (fork, start + n) (Some exit) is refl
   where
     turn : List Stop
-    turn = ((fork, start + n), Some exit) ∷ stops_from states class (start + n)
+    turn = ((fork, start + n), Some exit) ∷ stops_from states body (start + n)
 
     longer : turns_of states fork start (suc n) ++ (p, o) ∷ rest ≡ turns_of states fork start n ++ turn ++ (p, o) ∷ rest
     longer = rw is refl
 
 -- a trail that begins with turns begins where they do
-pub begin-turns : (states : List State) (trail : List Visit) (v : Visit) (class exit : ℕ) → 0 < length trail → v ≡ get_or trail 0 v → v.start < v.at
-    → slice_get states v.sid ≡ Some (Fork class exit) → v.start ≡ (place (run_of states trail) 0).1
-begin-turns states [] v class exit some here up fork = absurd (omega (arith, some))
-begin-turns states (w ∷ rest) v class exit some here up fork =
+pub begin-turns : (states : List State) (trail : List Visit) (v : Visit) (body exit : ℕ) → 0 < length trail → v ≡ get_or trail 0 v → v.start < v.at
+    → slice_get states v.sid ≡ Some (Fork body exit) → v.start ≡ (place (run_of states trail) 0).1
+begin-turns states [] v body exit some here up fork = absurd (omega (arith, some))
+begin-turns states (w ∷ rest) v body exit some here up fork =
     let begin : v.at - (v.at - v.start) ≡ v.start = omega (arith, up) in
     let count : v.at ≡ v.at - (v.at - v.start) + (v.at - v.start) = omega (arith, up) in
     sym (ap (λ (u : Visit). (place (run_of states (u ∷ rest)) 0).1) (sym here)
     ∙ ap (λ (x : List Stop). (get_or (map (λ (s : Stop). s.0) x) 0 (0, 0)).1) (append_assoc turns (((v.sid, v.at), v.other) ∷ []) (all_stops states rest))
-    ∙ turns_begin states v.sid class exit (v.at - (v.at - v.start)) (v.at - v.start) (all_stops states rest) (v.sid, v.at) v.other fork count
+    ∙ turns_begin states v.sid body exit (v.at - (v.at - v.start)) (v.at - v.start) (all_stops states rest) (v.sid, v.at) v.other fork count
     ∙ begin)
   where
     turns : List Stop

@@ -30,10 +30,10 @@ stops-from_start states sid start at n other is =
     rw (count, begin) refl
 
 -- a turn more
-pub stops-more : (states : List State) (fork class exit start at : ℕ) (other : Option ℕ) → start ≤ at → slice_get states fork ≡ Some (Fork class exit)
+pub stops-more : (states : List State) (fork body exit start at : ℕ) (other : Option ℕ) → start ≤ at → slice_get states fork ≡ Some (Fork body exit)
     → stops_of states fork start (at + 1) other
-    ≡ stops_of states fork start at (Some exit) ++ (stops_from states class at ++ ((fork, at + 1), other) ∷ [])
-stops-more states fork class exit start at other up is =
+    ≡ stops_of states fork start at (Some exit) ++ (stops_from states body at ++ ((fork, at + 1), other) ∷ [])
+stops-more states fork body exit start at other up is =
     let there : at ≡ start + (at - start) = omega (arith, up) in
     let after : at + 1 ≡ start + suc (at - start) = omega (arith, up) in
     let here : start + (at - start) ≡ at = omega (arith, up) in
@@ -43,9 +43,9 @@ stops-more states fork class exit start at other up is =
       here,
       is,
     )
-    (append_assoc (turns_of states fork start (at - start)) (((fork, at), Some exit) ∷ stops_from states class at) (((fork, at + 1), other) ∷ [])
+    (append_assoc (turns_of states fork start (at - start)) (((fork, at), Some exit) ∷ stops_from states body at) (((fork, at + 1), other) ∷ [])
     ∙ sym (append_assoc (turns_of states fork start (at - start)) (((fork, at), Some exit) ∷ [])
-    (stops_from states class at ++ ((fork, at + 1), other) ∷ [])))
+    (stops_from states body at ++ ((fork, at + 1), other) ∷ [])))
 
 -- ---- the stops of a trail
 
@@ -238,30 +238,30 @@ back-other e from seen trail n b v last here way t x =
         ∙ sym (append_assoc (all_stops e.states (take n trail)) turns (((v.sid, v.at), None) ∷ []))
 
 -- its last turn is given up, but for the loop's exit
-pub back-turn : (e : Search) (from : ℕ × ℕ) (seen : ℕ × ℕ → Bool) (trail : List Visit) (n class exit : ℕ) (v : Visit) → n + 1 ≡ length trail
-    → v ≡ get_or trail n v → v.other ≡ None → v.start < v.at → slice_get e.states v.sid ≡ Some (Fork class exit)
+pub back-turn : (e : Search) (from : ℕ × ℕ) (seen : ℕ × ℕ → Bool) (trail : List Visit) (n body exit : ℕ) (v : Visit) → n + 1 ≡ length trail
+    → v ≡ get_or trail n v → v.other ≡ None → v.start < v.at → slice_get e.states v.sid ≡ Some (Fork body exit)
     → IsTrail e from (run_of e.states trail) (others_of e.states trail)
     → IsExplored e from seen (run_of e.states trail) (others_of e.states trail) None
     → IsCut e from seen (run_of e.states (set trail n (record v { at = v.at - 1; other = Some exit })))
     (others_of e.states (set trail n (record v { at = v.at - 1; other = Some exit }))) (others_of e.states trail)
-back-turn e from seen trail n class exit v last here none up fork t x =
+back-turn e from seen trail n body exit v last here none up fork t x =
     subst (λ (a : List Stop). IsCut e from seen (map (λ (s : Stop). s.0) a) (map (λ (s : Stop). s.1) a) (others_of e.states trail)) (sym after)
     (stops_cut e from seen (all_stops e.states trail) (all_stops e.states (take n trail) ++ stops) dropped before
-    (omega (arith, length-append (stops_from e.states class (v.at - 1)) (((v.sid, v.at), None) ∷ [])))
-    (tried (states_from e.states class (slice_get e.states class)) (v.at - 1) (v.sid, v.at)) t x)
+    (omega (arith, length-append (stops_from e.states body (v.at - 1)) (((v.sid, v.at), None) ∷ [])))
+    (tried (states_from e.states body (slice_get e.states body)) (v.at - 1) (v.sid, v.at)) t x)
   where
     stops : List Stop
     stops = stops_of e.states v.sid v.start (v.at - 1) (Some exit)
 
     dropped : List Stop
-    dropped = stops_from e.states class (v.at - 1) ++ ((v.sid, v.at), None) ∷ []
+    dropped = stops_from e.states body (v.at - 1) ++ ((v.sid, v.at), None) ∷ []
 
     longer : stops_of e.states v.sid v.start v.at None ≡ stops ++ dropped
     longer =
         let same : v.at - 1 + 1 ≡ v.at = omega (arith, up) in
         ap (λ (i : ℕ). stops_of e.states v.sid v.start i None) (sym same)
-        ∙ stops-more e.states v.sid class exit v.start (v.at - 1) None (omega (arith, up)) fork
-        ∙ ap (λ (i : ℕ). stops ++ (stops_from e.states class (v.at - 1) ++ ((v.sid, i), None) ∷ [])) same
+        ∙ stops-more e.states v.sid body exit v.start (v.at - 1) None (omega (arith, up)) fork
+        ∙ ap (λ (i : ℕ). stops ++ (stops_from e.states body (v.at - 1) ++ ((v.sid, i), None) ∷ [])) same
 
     before : all_stops e.states trail ≡ all_stops e.states (take n trail) ++ stops ++ dropped
     before = all-last e.states trail n v last here

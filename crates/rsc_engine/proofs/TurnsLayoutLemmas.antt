@@ -173,19 +173,19 @@ turned-three v one two three a b c n some first second third in_a in_b in_c =
 -- ---- what the turns do
 
 -- what that many turns from a position on read, whose flags are in the same blocks
-pub record AreFree (e : Search) (v : List Bool) (fork class range first last i nc nr nf n : ℕ) : Type 0 where
+pub record AreFree (e : Search) (v : List Bool) (fork body range first last i nc nr nf n : ℕ) : Type 0 where
   pub bytes : (k : ℕ) → k < n → (first ≤ get_or e.haystack (i + k) 0) × (get_or e.haystack (i + k) 0 ≤ last)
   pub end : e.end ≤ length e.haystack
   pub from : e.start ≤ i
   pub in_block : n ≤ (e.end - i) % 64
   pub room : HasFlags e v
-  pub class_there : class < length e.states
+  pub body_there : body < length e.states
   pub range_there : range < length e.states
   pub fork_there : fork < length e.states
-  pub class_at : nc ≡ number_in e (class, i)
+  pub body_at : nc ≡ number_in e (body, i)
   pub range_at : nr ≡ number_in e (range, i)
   pub fork_at : nf ≡ number_in e (fork, i + 1)
-  pub no_class : (k : ℕ) → k < n → get_or v (nc - k) false ≡ false
+  pub no_body : (k : ℕ) → k < n → get_or v (nc - k) false ≡ false
   pub no_range : (k : ℕ) → k < n → get_or v (nr - k) false ≡ false
   pub no_fork : (k : ℕ) → k < n → get_or v (nf - k) false ≡ false
 
@@ -196,12 +196,12 @@ number_later e s i n k at le =
     let same : (e.end - (i + k)) / 64 * length e.states ≡ (e.end - i) / 64 * length e.states = ap (λ (g : ℕ). g * length e.states) group in
     omega (arith, at, le, same)
 
--- a loop's fork is neither its range nor its class
-fork_apart : (e : Search) (fork class range exit first last i : ℕ) → IsLoop e.states fork class range first last → IsMove e (fork, i) (Forks class exit)
-    → (class ≢ fork) × (range ≢ fork)
-fork_apart e fork class range exit first last i l m = (no_class, no_range)
+-- a loop's fork is neither its range nor its body
+fork_apart : (e : Search) (fork body range exit first last i : ℕ) → IsLoop e.states fork body range first last → IsMove e (fork, i) (Forks body exit)
+    → (body ≢ fork) × (range ≢ fork)
+fork_apart e fork body range exit first last i l m = (no_body, no_range)
   where
-    is_fork : slice_get e.states fork ≡ Some (Fork class exit)
+    is_fork : slice_get e.states fork ≡ Some (Fork body exit)
     is_fork = m.6
 
     kinds : (a b s t : ℕ) → Some (ByteRange a b fork) ≡ Some (Fork s t) → ⊥
@@ -211,20 +211,20 @@ fork_apart e fork class range exit first last i l m = (no_class, no_range)
     firsts a b c d h = cc
 
     no_range : range ≢ fork
-    no_range same = kinds first last class exit (sym l.back ∙ ap (λ (s : ℕ). slice_get e.states s) same ∙ is_fork)
+    no_range same = kinds first last body exit (sym l.back ∙ ap (λ (s : ℕ). slice_get e.states s) same ∙ is_fork)
 
-    no_class : class ≢ fork
-    no_class same = ⊎_elim
-        (λ (one : class ≡ range). no_range (sym one ∙ same))
-        (λ (h : (rest : ℕ) × (slice_get e.states class ≡ Some (Fork range rest)) × IsApart e.states first last rest).
-        no_range (sym (firsts class exit range h.0 (sym is_fork ∙ ap (λ (s : ℕ). slice_get e.states s) (sym same) ∙ h.1)) ∙ same))
+    no_body : body ≢ fork
+    no_body same = ⊎_elim
+        (λ (one : body ≡ range). no_range (sym one ∙ same))
+        (λ (h : (rest : ℕ) × (slice_get e.states body ≡ Some (Fork range rest)) × IsApart e.states first last rest).
+        no_range (sym (firsts body exit range h.0 (sym is_fork ∙ ap (λ (s : ℕ). slice_get e.states s) (sym same) ∙ h.1)) ∙ same))
         l.leads
 
 -- what a turn after others reads
-free_later : (e : Search) (v : List Bool) (fork class range first last i nc nr nf n k : ℕ) → AreFree e v fork class range first last i nc nr nf n
-    → class ≢ fork → range ≢ fork → k < n
-    → IsFree e (turned_flags v nc nr nf k) fork class range first last (i + k) (nc - k) (nr - k) (nf - k)
-free_later e v fork class range first last i nc nr nf n k f no_class no_range l = record {
+free_later : (e : Search) (v : List Bool) (fork body range first last i nc nr nf n k : ℕ) → AreFree e v fork body range first last i nc nr nf n
+    → body ≢ fork → range ≢ fork → k < n
+    → IsFree e (turned_flags v nc nr nf k) fork body range first last (i + k) (nc - k) (nr - k) (nf - k)
+free_later e v fork body range first last i nc nr nf n k f no_body no_range l = record {
   byte = get_or e.haystack (i + k) 0;
   there = slice_get-get_or e.haystack (i + k) 0 (omega (arith, f.end, inside k l));
   low = (f.bytes k l).0;
@@ -232,31 +232,31 @@ free_later e v fork class range first last i nc nr nf n k f no_class no_range l 
   from = omega (arith, f.from);
   within = inside k l;
   room = rw (turned-length v nc nr nf k) f.room;
-  class_there = f.class_there;
+  body_there = f.body_there;
   range_there = f.range_there;
   fork_there = f.fork_there;
-  class_at = class_number k l;
+  body_at = body_number k l;
   range_at = range_number k l;
   fork_at = fork_number k l;
-  no_class = turned-other v nc nr nf k (nc - k) (λ j h. (
-    (λ same. different class class (i + k) (i + j) (nc - k) (nc - j) f.class_there f.class_there (here k l) (here j (omega (arith, h, l)))
-        (class_number k l) (class_number j (omega (arith, h, l))) (omega (arith, h)) same),
-    (λ same. different class range (i + k) (i + j) (nc - k) (nr - j) f.class_there f.range_there (here k l) (here j (omega (arith, h, l)))
-        (class_number k l) (range_number j (omega (arith, h, l))) (omega (arith, h)) same),
-    (λ same. no_class (apart_at e class fork (i + k) (i + j + 1) (nc - k) (nf - j) f.class_there f.fork_there (here k l).0 (here k l).1
-        (omega (arith, f.from)) (after j (omega (arith, h, l))).1 (class_number k l) (fork_number j (omega (arith, h, l))) same).0),
-  )) ∙ f.no_class k l;
+  no_body = turned-other v nc nr nf k (nc - k) (λ j h. (
+    (λ same. different body body (i + k) (i + j) (nc - k) (nc - j) f.body_there f.body_there (here k l) (here j (omega (arith, h, l)))
+        (body_number k l) (body_number j (omega (arith, h, l))) (omega (arith, h)) same),
+    (λ same. different body range (i + k) (i + j) (nc - k) (nr - j) f.body_there f.range_there (here k l) (here j (omega (arith, h, l)))
+        (body_number k l) (range_number j (omega (arith, h, l))) (omega (arith, h)) same),
+    (λ same. no_body (apart_at e body fork (i + k) (i + j + 1) (nc - k) (nf - j) f.body_there f.fork_there (here k l).0 (here k l).1
+        (omega (arith, f.from)) (after j (omega (arith, h, l))).1 (body_number k l) (fork_number j (omega (arith, h, l))) same).0),
+  )) ∙ f.no_body k l;
   no_range = turned-other v nc nr nf k (nr - k) (λ j h. (
-    (λ same. different range class (i + k) (i + j) (nr - k) (nc - j) f.range_there f.class_there (here k l) (here j (omega (arith, h, l)))
-        (range_number k l) (class_number j (omega (arith, h, l))) (omega (arith, h)) same),
+    (λ same. different range body (i + k) (i + j) (nr - k) (nc - j) f.range_there f.body_there (here k l) (here j (omega (arith, h, l)))
+        (range_number k l) (body_number j (omega (arith, h, l))) (omega (arith, h)) same),
     (λ same. different range range (i + k) (i + j) (nr - k) (nr - j) f.range_there f.range_there (here k l) (here j (omega (arith, h, l)))
         (range_number k l) (range_number j (omega (arith, h, l))) (omega (arith, h)) same),
     (λ same. no_range (apart_at e range fork (i + k) (i + j + 1) (nr - k) (nf - j) f.range_there f.fork_there (here k l).0 (here k l).1
         (omega (arith, f.from)) (after j (omega (arith, h, l))).1 (range_number k l) (fork_number j (omega (arith, h, l))) same).0),
   )) ∙ f.no_range k l;
   no_fork = turned-other v nc nr nf k (nf - k) (λ j h. (
-    (λ same. different fork class (i + k + 1) (i + j) (nf - k) (nc - j) f.fork_there f.class_there (after k l) (here j (omega (arith, h, l)))
-        (fork_number k l) (class_number j (omega (arith, h, l))) (omega (arith, h)) same),
+    (λ same. different fork body (i + k + 1) (i + j) (nf - k) (nc - j) f.fork_there f.body_there (after k l) (here j (omega (arith, h, l)))
+        (fork_number k l) (body_number j (omega (arith, h, l))) (omega (arith, h)) same),
     (λ same. different fork range (i + k + 1) (i + j) (nf - k) (nr - j) f.fork_there f.range_there (after k l) (here j (omega (arith, h, l)))
         (fork_number k l) (range_number j (omega (arith, h, l))) (omega (arith, h)) same),
     (λ same. different fork fork (i + k + 1) (i + j + 1) (nf - k) (nf - j) f.fork_there f.fork_there (after k l) (after j (omega (arith, h, l)))
@@ -273,8 +273,8 @@ free_later e v fork class range first last i nc nr nf n k f no_class no_range l 
     after : (j : ℕ) → j < n → (e.start ≤ i + j + 1) × (i + j + 1 ≤ e.end)
     after j h = (omega (arith, f.from), omega (arith, inside j h))
 
-    class_number : (j : ℕ) → j < n → nc - j ≡ number_in e (class, i + j)
-    class_number j h = number_later e class i nc j f.class_at (omega (arith, f.in_block, h))
+    body_number : (j : ℕ) → j < n → nc - j ≡ number_in e (body, i + j)
+    body_number j h = number_later e body i nc j f.body_at (omega (arith, f.in_block, h))
 
     range_number : (j : ℕ) → j < n → nr - j ≡ number_in e (range, i + j)
     range_number j h = number_later e range i nr j f.range_at (omega (arith, f.in_block, h))
@@ -289,15 +289,15 @@ free_later e v fork class range first last i nc nr nf n k f no_class no_range l 
     different s t p q a b s_there t_there at_p at_q is_a is_b less same =
         absurd (omega (arith, less, (apart_at e s t p q a b s_there t_there at_p.0 at_p.1 at_q.0 at_q.1 is_a is_b same).1))
 
-pub turned-many : (e : Search) (old v : List Bool) (fork class range exit first last start i nc nr nf n k : ℕ) → start ≤ i
-    → IsLoop e.states fork class range first last → IsMove e (fork, start) (Forks class exit) → AreFree e v fork class range first last i nc nr nf n
-    → k ≤ n → IsTurned e old v (fork, start) (Forks class exit) i
-    → IsTurned e old (turned_flags v nc nr nf k) (fork, start) (Forks class exit) (i + k)
-turned-many e old v fork class range exit first last start i nc nr nf n zero up l m f le t =
+pub turned-many : (e : Search) (old v : List Bool) (fork body range exit first last start i nc nr nf n k : ℕ) → start ≤ i
+    → IsLoop e.states fork body range first last → IsMove e (fork, start) (Forks body exit) → AreFree e v fork body range first last i nc nr nf n
+    → k ≤ n → IsTurned e old v (fork, start) (Forks body exit) i
+    → IsTurned e old (turned_flags v nc nr nf k) (fork, start) (Forks body exit) (i + k)
+turned-many e old v fork body range exit first last start i nc nr nf n zero up l m f le t =
     let same : i + zero ≡ i = omega arith in rw same t
-turned-many e old v fork class range exit first last start i nc nr nf n (suc k) up l m f le t =
+turned-many e old v fork body range exit first last start i nc nr nf n (suc k) up l m f le t =
     let same : i + suc k ≡ i + k + 1 = omega arith in
-    let apart = fork_apart e fork class range exit first last start l m in
-    rw same (turned-more e old (turned_flags v nc nr nf k) fork class range exit first last start (i + k) (nc - k) (nr - k) (nf - k) (omega (arith, up))
-    l f.fork_there f.range_there m (free_later e v fork class range first last i nc nr nf n k f apart.0 apart.1 (omega (arith, le)))
-    (turned-many e old v fork class range exit first last start i nc nr nf n k up l m f (omega (arith, le)) t))
+    let apart = fork_apart e fork body range exit first last start l m in
+    rw same (turned-more e old (turned_flags v nc nr nf k) fork body range exit first last start (i + k) (nc - k) (nr - k) (nf - k) (omega (arith, up))
+    l f.fork_there f.range_there m (free_later e v fork body range first last i nc nr nf n k f apart.0 apart.1 (omega (arith, le)))
+    (turned-many e old v fork body range exit first last start i nc nr nf n k up l m f (omega (arith, le)) t))

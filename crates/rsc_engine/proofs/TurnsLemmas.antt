@@ -35,9 +35,9 @@ loop_range e fork range first last i x back there within is low high = (
     no_fork : (a b : ℕ) → Some (ByteRange first last fork) ≡ Some (Fork a b) → ⊥
     no_fork a b h = absurd (cc)
 
-loop_class : (e : Search) (class range rest first last i x : ℕ) → slice_get e.states class ≡ Some (Fork range rest) → range < length e.states → i ≤ e.end
-    → IsApart e.states first last rest → slice_get e.haystack i ≡ Some x → first ≤ x → x ≤ last → IsMove e (class, i) (Goes range i)
-loop_class e class range rest first last i x there in_states within apart is low high = (
+loop_body : (e : Search) (body range rest first last i x : ℕ) → slice_get e.states body ≡ Some (Fork range rest) → range < length e.states → i ≤ e.end
+    → IsApart e.states first last rest → slice_get e.haystack i ≡ Some x → first ≤ x → x ≤ last → IsMove e (body, i) (Goes range i)
+loop_body e body range rest first last i x there in_states within apart is low high = (
   rw there refl,
   in_states,
   within,
@@ -54,8 +54,8 @@ loop_class e class range rest first last i x there in_states within apart is low
     first_of_fork : (a b c d : ℕ) → Some (Fork a b) ≡ Some (Fork c d) → a ≡ c
     first_of_fork a b c d h = cc
 
-fork_again : (e : Search) (fork class exit i j : ℕ) → IsMove e (fork, i) (Forks class exit) → IsMove e (fork, j) (Forks class exit)
-fork_again e fork class exit i j m = (
+fork_again : (e : Search) (fork body exit i j : ℕ) → IsMove e (fork, i) (Forks body exit) → IsMove e (fork, j) (Forks body exit)
+fork_again e fork body exit i j m = (
   m.0,
   m.1,
   m.2,
@@ -84,15 +84,15 @@ stand_more e from v run others p n step room at none m s =
 
 -- a turn that begins at a position, and the fork after it
 abbrev stops_on : Search → ℕ → ℕ → ℕ → ℕ → List Stop
-stops_on e fork class exit i = stops_from e.states class i ++ ((fork, i + 1), Some exit) ∷ []
+stops_on e fork body exit i = stops_from e.states body i ++ ((fork, i + 1), Some exit) ∷ []
 
 abbrev StandsTurned : Search → ℕ × ℕ → List Bool → List (ℕ × ℕ) → List (Option ℕ) → ℕ → ℕ → ℕ → ℕ → Type 0
-StandsTurned e from flags run others fork class exit i =
-    StandsAfter e from (fork, i + 1) (is_flagged e flags) (run ++ map (λ (s : Stop). s.0) (stops_on e fork class exit i))
-    (others ++ map (λ (s : Stop). s.1) (stops_on e fork class exit i)) (Forks class exit)
+StandsTurned e from flags run others fork body exit i =
+    StandsAfter e from (fork, i + 1) (is_flagged e flags) (run ++ map (λ (s : Stop). s.0) (stops_on e fork body exit i))
+    (others ++ map (λ (s : Stop). s.1) (stops_on e fork body exit i)) (Forks body exit)
 
 -- what a turn reads: the byte at its position, and that the flags of its places aren't set
-pub record IsFree (e : Search) (v : List Bool) (fork class range first last i nc nr nf : ℕ) : Type 0 where
+pub record IsFree (e : Search) (v : List Bool) (fork body range first last i nc nr nf : ℕ) : Type 0 where
   pub byte : ℕ
   pub there : slice_get e.haystack i ≡ Some byte
   pub low : first ≤ byte
@@ -100,13 +100,13 @@ pub record IsFree (e : Search) (v : List Bool) (fork class range first last i nc
   pub from : e.start ≤ i
   pub within : i < e.end
   pub room : HasFlags e v
-  pub class_there : class < length e.states
+  pub body_there : body < length e.states
   pub range_there : range < length e.states
   pub fork_there : fork < length e.states
-  pub class_at : nc ≡ number_in e (class, i)
+  pub body_at : nc ≡ number_in e (body, i)
   pub range_at : nr ≡ number_in e (range, i)
   pub fork_at : nf ≡ number_in e (fork, i + 1)
-  pub no_class : get_or v nc false ≡ false
+  pub no_body : get_or v nc false ≡ false
   pub no_range : get_or v nr false ≡ false
   pub no_fork : get_or v nf false ≡ false
 
@@ -124,14 +124,14 @@ after_set v n m apart none = get_or-set_other v n m true false apart ∙ none
 room_set : (e : Search) (v : List Bool) (n : ℕ) → HasFlags e v → HasFlags e (set v n true)
 room_set e v n room = rw (length-set v n true) room
 
-class_in : (e : Search) (v : List Bool) (fork class range first last i nc nr nf : ℕ) → IsFree e v fork class range first last i nc nr nf → nc < length v
-class_in e v fork class range first last i nc nr nf f = flag_there e v class i nc f.room f.class_there f.from (omega (arith, f.within)) f.class_at
+body_in : (e : Search) (v : List Bool) (fork body range first last i nc nr nf : ℕ) → IsFree e v fork body range first last i nc nr nf → nc < length v
+body_in e v fork body range first last i nc nr nf f = flag_there e v body i nc f.room f.body_there f.from (omega (arith, f.within)) f.body_at
 
-range_in : (e : Search) (v : List Bool) (fork class range first last i nc nr nf : ℕ) → IsFree e v fork class range first last i nc nr nf → nr < length v
-range_in e v fork class range first last i nc nr nf f = flag_there e v range i nr f.room f.range_there f.from (omega (arith, f.within)) f.range_at
+range_in : (e : Search) (v : List Bool) (fork body range first last i nc nr nf : ℕ) → IsFree e v fork body range first last i nc nr nf → nr < length v
+range_in e v fork body range first last i nc nr nf f = flag_there e v range i nr f.room f.range_there f.from (omega (arith, f.within)) f.range_at
 
-fork_in : (e : Search) (v : List Bool) (fork class range first last i nc nr nf : ℕ) → IsFree e v fork class range first last i nc nr nf → nf < length v
-fork_in e v fork class range first last i nc nr nf f =
+fork_in : (e : Search) (v : List Bool) (fork body range first last i nc nr nf : ℕ) → IsFree e v fork body range first last i nc nr nf → nf < length v
+fork_in e v fork body range first last i nc nr nf f =
     flag_there e v fork (i + 1) nf f.room f.fork_there (omega (arith, f.from)) (omega (arith, f.within)) f.fork_at
 
 -- flags of places at different positions have different numbers
@@ -141,15 +141,15 @@ apart_at e s t i j n m s_there t_there low high from to at other same =
     let equal : (s, i) ≡ (t, j) = one_number e (t, j) (s, i) (t_there, from, to) (s_there, low, high) (sym at ∙ same ∙ other) in
     (ap (λ (p : ℕ × ℕ). p.0) equal, ap (λ (p : ℕ × ℕ). p.1) equal)
 
-apart_fork : (e : Search) (v : List Bool) (fork class range first last i nc nr nf : ℕ) → IsFree e v fork class range first last i nc nr nf → nf ≡ nc → ⊥
-apart_fork e v fork class range first last i nc nr nf f same = absurd (omega (
+apart_fork : (e : Search) (v : List Bool) (fork body range first last i nc nr nf : ℕ) → IsFree e v fork body range first last i nc nr nf → nf ≡ nc → ⊥
+apart_fork e v fork body range first last i nc nr nf f same = absurd (omega (
   arith,
-  (apart_at e fork class (i + 1) i nf nc f.fork_there f.class_there (omega (arith, f.from)) (omega (arith, f.within)) f.from (omega (arith, f.within))
-      f.fork_at f.class_at same).1,
+  (apart_at e fork body (i + 1) i nf nc f.fork_there f.body_there (omega (arith, f.from)) (omega (arith, f.within)) f.from (omega (arith, f.within))
+      f.fork_at f.body_at same).1,
 ))
 
-apart_fork_range : (e : Search) (v : List Bool) (fork class range first last i nc nr nf : ℕ) → IsFree e v fork class range first last i nc nr nf → nf ≡ nr → ⊥
-apart_fork_range e v fork class range first last i nc nr nf f same = absurd (omega (
+apart_fork_range : (e : Search) (v : List Bool) (fork body range first last i nc nr nf : ℕ) → IsFree e v fork body range first last i nc nr nf → nf ≡ nr → ⊥
+apart_fork_range e v fork body range first last i nc nr nf f same = absurd (omega (
   arith,
   (apart_at e fork range (i + 1) i nf nr f.fork_there f.range_there (omega (arith, f.from)) (omega (arith, f.within)) f.from (omega (arith, f.within))
       f.fork_at f.range_at same).1,
@@ -158,11 +158,11 @@ apart_fork_range e v fork class range first last i nc nr nf f same = absurd (ome
 no_range_is_fork : (first last fork range rest : ℕ) → Some (ByteRange first last fork) ≡ Some (Fork range rest) → ⊥
 no_range_is_fork first last fork range rest h = absurd (cc)
 
-apart_class : (e : Search) (v : List Bool) (fork class range first last i nc nr nf rest : ℕ) → IsFree e v fork class range first last i nc nr nf
-    → slice_get e.states range ≡ Some (ByteRange first last fork) → slice_get e.states class ≡ Some (Fork range rest) → nr ≡ nc → ⊥
-apart_class e v fork class range first last i nc nr nf rest f back there same =
-    let one : range ≡ class = (apart_at e range class i i nr nc f.range_there f.class_there f.from (omega (arith, f.within)) f.from
-    (omega (arith, f.within)) f.range_at f.class_at same).0 in
+apart_body : (e : Search) (v : List Bool) (fork body range first last i nc nr nf rest : ℕ) → IsFree e v fork body range first last i nc nr nf
+    → slice_get e.states range ≡ Some (ByteRange first last fork) → slice_get e.states body ≡ Some (Fork range rest) → nr ≡ nc → ⊥
+apart_body e v fork body range first last i nc nr nf rest f back there same =
+    let one : range ≡ body = (apart_at e range body i i nr nc f.range_there f.body_there f.from (omega (arith, f.within)) f.from
+    (omega (arith, f.within)) f.range_at f.body_at same).0 in
     no_range_is_fork first last fork range rest (sym back ∙ ap (λ (s : ℕ). slice_get e.states s) one ∙ there)
 
 -- ---- a turn by a range alone
@@ -170,7 +170,7 @@ apart_class e v fork class range first last i nc nr nf rest f back there same =
 same_flags : (e : Search) (v : List Bool) (fork range first last i nc nr nf : ℕ) → IsFree e v fork range range first last i nc nr nf
     → set (set v nc true) nr true ≡ set v nc true
 same_flags e v fork range first last i nc nr nf f =
-    let same : nr ≡ nc = f.range_at ∙ sym f.class_at in
+    let same : nr ≡ nc = f.range_at ∙ sym f.body_at in
     ap (λ (n : ℕ). set (set v nc true) n true) same ∙ set-set v nc true true
 
 range_stops : (e : Search) (fork range exit first last i : ℕ) → slice_get e.states range ≡ Some (ByteRange first last fork)
@@ -183,7 +183,7 @@ turn_range : (e : Search) (from : ℕ × ℕ) (v : List Bool) (run : List (ℕ �
     → StandsTurned e from (set (set (set v nc true) nr true) nf true) run others fork range exit i
 turn_range e from v run others fork range exit first last i nc nr nf back there m f s =
     let over = loop_range e fork range first last i f.byte back there f.within f.there f.low f.high in
-    let one = stand_more e from v run others (range, i) nc (Goes fork (i + 1)) f.room f.class_at f.no_class over s in
+    let one = stand_more e from v run others (range, i) nc (Goes fork (i + 1)) f.room f.body_at f.no_body over s in
     let two = stand_more e from (set v nc true) (run ++ (range, i) ∷ []) (others ++ None ∷ []) (fork, i + 1) nf (Forks range exit)
     (room_set e v nc f.room) f.fork_at (after_set v nc nf (apart_fork e v fork range range first last i nc nr nf f) f.no_fork)
     (fork_again e fork range exit i (i + 1) m) one in
@@ -196,50 +196,50 @@ turn_range e from v run others fork range exit first last i nc nr nf back there 
 
 -- ---- a turn by a fork and its range
 
-class_stops : (e : Search) (fork class range rest exit first last i : ℕ) → slice_get e.states range ≡ Some (ByteRange first last fork)
-    → slice_get e.states class ≡ Some (Fork range rest)
-    → stops_on e fork class exit i ≡ ((class, i), None) ∷ (((range, i), None) ∷ (((fork, i + 1), Some exit) ∷ []))
-class_stops e fork class range rest exit first last i back there = rw (there, back) refl
+body_stops : (e : Search) (fork body range rest exit first last i : ℕ) → slice_get e.states range ≡ Some (ByteRange first last fork)
+    → slice_get e.states body ≡ Some (Fork range rest)
+    → stops_on e fork body exit i ≡ ((body, i), None) ∷ (((range, i), None) ∷ (((fork, i + 1), Some exit) ∷ []))
+body_stops e fork body range rest exit first last i back there = rw (there, back) refl
 
-turn_class : (e : Search) (from : ℕ × ℕ) (v : List Bool) (run : List (ℕ × ℕ)) (others : List (Option ℕ)) (fork class range rest exit first last i nc nr nf : ℕ)
-    → slice_get e.states range ≡ Some (ByteRange first last fork) → slice_get e.states class ≡ Some (Fork range rest)
-    → IsApart e.states first last rest → fork < length e.states → range < length e.states → IsMove e (fork, i) (Forks class exit)
-    → IsFree e v fork class range first last i nc nr nf → StandsAfter e from (fork, i) (is_flagged e v) run others (Forks class exit)
-    → StandsTurned e from (set (set (set v nc true) nr true) nf true) run others fork class exit i
-turn_class e from v run others fork class range rest exit first last i nc nr nf back there apart in_states range_there m f s =
-    let to = loop_class e class range rest first last i f.byte there range_there (omega (arith, f.within)) apart f.there f.low f.high in
+turn_body : (e : Search) (from : ℕ × ℕ) (v : List Bool) (run : List (ℕ × ℕ)) (others : List (Option ℕ)) (fork body range rest exit first last i nc nr nf : ℕ)
+    → slice_get e.states range ≡ Some (ByteRange first last fork) → slice_get e.states body ≡ Some (Fork range rest)
+    → IsApart e.states first last rest → fork < length e.states → range < length e.states → IsMove e (fork, i) (Forks body exit)
+    → IsFree e v fork body range first last i nc nr nf → StandsAfter e from (fork, i) (is_flagged e v) run others (Forks body exit)
+    → StandsTurned e from (set (set (set v nc true) nr true) nf true) run others fork body exit i
+turn_body e from v run others fork body range rest exit first last i nc nr nf back there apart in_states range_there m f s =
+    let to = loop_body e body range rest first last i f.byte there range_there (omega (arith, f.within)) apart f.there f.low f.high in
     let over = loop_range e fork range first last i f.byte back in_states f.within f.there f.low f.high in
-    let one = stand_more e from v run others (class, i) nc (Goes range i) f.room f.class_at f.no_class to s in
-    let two = stand_more e from (set v nc true) (run ++ (class, i) ∷ []) (others ++ None ∷ []) (range, i) nr (Goes fork (i + 1))
+    let one = stand_more e from v run others (body, i) nc (Goes range i) f.room f.body_at f.no_body to s in
+    let two = stand_more e from (set v nc true) (run ++ (body, i) ∷ []) (others ++ None ∷ []) (range, i) nr (Goes fork (i + 1))
     (room_set e v nc f.room) f.range_at
-    (after_set v nc nr (apart_class e v fork class range first last i nc nr nf rest f back there) f.no_range) over one in
-    let three = stand_more e from (set (set v nc true) nr true) (run ++ (class, i) ∷ [] ++ (range, i) ∷ []) (others ++ None ∷ [] ++ None ∷ [])
-    (fork, i + 1) nf (Forks class exit) (room_set e (set v nc true) nr (room_set e v nc f.room)) f.fork_at
-    (after_set (set v nc true) nr nf (apart_fork_range e v fork class range first last i nc nr nf f)
-    (after_set v nc nf (apart_fork e v fork class range first last i nc nr nf f) f.no_fork))
-    (fork_again e fork class exit i (i + 1) m) two in
+    (after_set v nc nr (apart_body e v fork body range first last i nc nr nf rest f back there) f.no_range) over one in
+    let three = stand_more e from (set (set v nc true) nr true) (run ++ (body, i) ∷ [] ++ (range, i) ∷ []) (others ++ None ∷ [] ++ None ∷ [])
+    (fork, i + 1) nf (Forks body exit) (room_set e (set v nc true) nr (room_set e v nc f.room)) f.fork_at
+    (after_set (set v nc true) nr nf (apart_fork_range e v fork body range first last i nc nr nf f)
+    (after_set v nc nf (apart_fork e v fork body range first last i nc nr nf f) f.no_fork))
+    (fork_again e fork body exit i (i + 1) m) two in
     rw (
-      class_stops e fork class range rest exit first last i back there,
-      ← append_assoc run ((class, i) ∷ []) ((range, i) ∷ ((fork, i + 1) ∷ [])),
-      ← append_assoc (run ++ (class, i) ∷ []) ((range, i) ∷ []) ((fork, i + 1) ∷ []),
+      body_stops e fork body range rest exit first last i back there,
+      ← append_assoc run ((body, i) ∷ []) ((range, i) ∷ ((fork, i + 1) ∷ [])),
+      ← append_assoc (run ++ (body, i) ∷ []) ((range, i) ∷ []) ((fork, i + 1) ∷ []),
       ← append_assoc others (None ∷ []) (None ∷ (Some exit ∷ [])),
       ← append_assoc (others ++ None ∷ []) (None ∷ []) (Some exit ∷ []),
     ) three
 
 -- ---- a turn of either kind
 
-turn_once : (e : Search) (from : ℕ × ℕ) (v : List Bool) (run : List (ℕ × ℕ)) (others : List (Option ℕ)) (fork class range exit first last i nc nr nf : ℕ)
-    → IsLoop e.states fork class range first last → fork < length e.states → range < length e.states → IsMove e (fork, i) (Forks class exit)
-    → IsFree e v fork class range first last i nc nr nf → StandsAfter e from (fork, i) (is_flagged e v) run others (Forks class exit)
-    → StandsTurned e from (set (set (set v nc true) nr true) nf true) run others fork class exit i
-turn_once e from v run others fork class range exit first last i nc nr nf l fork_there range_there m f s = ⊎_elim
-    (λ (same : class ≡ range).
+turn_once : (e : Search) (from : ℕ × ℕ) (v : List Bool) (run : List (ℕ × ℕ)) (others : List (Option ℕ)) (fork body range exit first last i nc nr nf : ℕ)
+    → IsLoop e.states fork body range first last → fork < length e.states → range < length e.states → IsMove e (fork, i) (Forks body exit)
+    → IsFree e v fork body range first last i nc nr nf → StandsAfter e from (fork, i) (is_flagged e v) run others (Forks body exit)
+    → StandsTurned e from (set (set (set v nc true) nr true) nf true) run others fork body exit i
+turn_once e from v run others fork body range exit first last i nc nr nf l fork_there range_there m f s = ⊎_elim
+    (λ (same : body ≡ range).
     subst (λ (c : ℕ). IsMove e (fork, i) (Forks c exit) → IsFree e v fork c range first last i nc nr nf
     → StandsAfter e from (fork, i) (is_flagged e v) run others (Forks c exit)
     → StandsTurned e from (set (set (set v nc true) nr true) nf true) run others fork c exit i)
     (sym same) (turn_range e from v run others fork range exit first last i nc nr nf l.back fork_there) m f s)
-    (λ (h : (rest : ℕ) × (slice_get e.states class ≡ Some (Fork range rest)) × IsApart e.states first last rest).
-    turn_class e from v run others fork class range h.0 exit first last i nc nr nf l.back h.1 h.2 fork_there range_there m f s)
+    (λ (h : (rest : ℕ) × (slice_get e.states body ≡ Some (Fork range rest)) × IsApart e.states first last rest).
+    turn_body e from v run others fork body range h.0 exit first last i nc nr nf l.back h.1 h.2 fork_there range_there m f s)
     l.leads
 
 -- one flag more and one stop more
@@ -247,21 +247,21 @@ less_one : (v : List Bool) (n : ℕ) (others : List (Option ℕ)) (other : Optio
     → left_to_do (set v n true) (others ++ other ∷ []) < left_to_do v others
 less_one v n others other l none = IsLess-flags v n others other (Goes 0 0) l none
 
-less_once : (e : Search) (v : List Bool) (others : List (Option ℕ)) (fork class range exit first last i nc nr nf : ℕ)
-    → IsLoop e.states fork class range first last → IsFree e v fork class range first last i nc nr nf
-    → left_to_do (set (set (set v nc true) nr true) nf true) (others ++ map (λ (s : Stop). s.1) (stops_on e fork class exit i)) ≤ left_to_do v others
-less_once e v others fork class range exit first last i nc nr nf l f = ⊎_elim
-    (λ (same : class ≡ range).
+less_once : (e : Search) (v : List Bool) (others : List (Option ℕ)) (fork body range exit first last i nc nr nf : ℕ)
+    → IsLoop e.states fork body range first last → IsFree e v fork body range first last i nc nr nf
+    → left_to_do (set (set (set v nc true) nr true) nf true) (others ++ map (λ (s : Stop). s.1) (stops_on e fork body exit i)) ≤ left_to_do v others
+less_once e v others fork body range exit first last i nc nr nf l f = ⊎_elim
+    (λ (same : body ≡ range).
     subst (λ (c : ℕ). IsFree e v fork c range first last i nc nr nf
     → left_to_do (set (set (set v nc true) nr true) nf true) (others ++ map (λ (s : Stop). s.1) (stops_on e fork c exit i)) ≤ left_to_do v others)
     (sym same) by_range f)
-    (λ (h : (rest : ℕ) × (slice_get e.states class ≡ Some (Fork range rest)) × IsApart e.states first last rest). by_class h.0 h.1)
+    (λ (h : (rest : ℕ) × (slice_get e.states body ≡ Some (Fork range rest)) × IsApart e.states first last rest). by_body h.0 h.1)
     l.leads
   where
     by_range : IsFree e v fork range range first last i nc nr nf
         → left_to_do (set (set (set v nc true) nr true) nf true) (others ++ map (λ (s : Stop). s.1) (stops_on e fork range exit i)) ≤ left_to_do v others
     by_range g =
-        let one = less_one v nc others None (class_in e v fork range range first last i nc nr nf g) g.no_class in
+        let one = less_one v nc others None (body_in e v fork range range first last i nc nr nf g) g.no_body in
         let two = less_one (set v nc true) nf (others ++ None ∷ []) (Some exit)
         (rw (length-set v nc true) (fork_in e v fork range range first last i nc nr nf g))
         (after_set v nc nf (apart_fork e v fork range range first last i nc nr nf g) g.no_fork) in
@@ -271,19 +271,19 @@ less_once e v others fork class range exit first last i nc nr nf l f = ⊎_elim
           ← append_assoc others (None ∷ []) (Some exit ∷ []),
         ) (omega (arith, one, two))
 
-    by_class : (rest : ℕ) → slice_get e.states class ≡ Some (Fork range rest)
-        → left_to_do (set (set (set v nc true) nr true) nf true) (others ++ map (λ (s : Stop). s.1) (stops_on e fork class exit i)) ≤ left_to_do v others
-    by_class rest there =
-        let one = less_one v nc others None (class_in e v fork class range first last i nc nr nf f) f.no_class in
-        let two = less_one (set v nc true) nr (others ++ None ∷ []) None (rw (length-set v nc true) (range_in e v fork class range first last i nc nr nf f))
-        (after_set v nc nr (apart_class e v fork class range first last i nc nr nf rest f l.back there) f.no_range) in
+    by_body : (rest : ℕ) → slice_get e.states body ≡ Some (Fork range rest)
+        → left_to_do (set (set (set v nc true) nr true) nf true) (others ++ map (λ (s : Stop). s.1) (stops_on e fork body exit i)) ≤ left_to_do v others
+    by_body rest there =
+        let one = less_one v nc others None (body_in e v fork body range first last i nc nr nf f) f.no_body in
+        let two = less_one (set v nc true) nr (others ++ None ∷ []) None (rw (length-set v nc true) (range_in e v fork body range first last i nc nr nf f))
+        (after_set v nc nr (apart_body e v fork body range first last i nc nr nf rest f l.back there) f.no_range) in
         let three = less_one (set (set v nc true) nr true) nf (others ++ None ∷ [] ++ None ∷ []) (Some exit)
         (rw (length-set (set v nc true) nr true, length-set v nc true)
-        (fork_in e v fork class range first last i nc nr nf f))
-        (after_set (set v nc true) nr nf (apart_fork_range e v fork class range first last i nc nr nf f)
-        (after_set v nc nf (apart_fork e v fork class range first last i nc nr nf f) f.no_fork)) in
+        (fork_in e v fork body range first last i nc nr nf f))
+        (after_set (set v nc true) nr nf (apart_fork_range e v fork body range first last i nc nr nf f)
+        (after_set v nc nf (apart_fork e v fork body range first last i nc nr nf f) f.no_fork)) in
         rw (
-          class_stops e fork class range rest exit first last i l.back there,
+          body_stops e fork body range rest exit first last i l.back there,
           ← append_assoc others (None ∷ []) (None ∷ (Some exit ∷ [])),
           ← append_assoc (others ++ None ∷ []) (None ∷ []) (Some exit ∷ []),
         ) (omega (arith, one, two, three))
@@ -298,50 +298,50 @@ turned-none e v p step = record {
 }
 
 -- the turns of the fork whose step was made
-pub turned-at : (e : Search) (old new : List Bool) (fork other class other_class from to exit : ℕ) (step : Move) → other ≡ fork → other_class ≡ class
-    → step ≡ Forks class exit → IsMove e (fork, from) step
-    → ((x : ℕ) → IsMove e (other, from) (Forks other_class x) → IsTurned e old new (other, from) (Forks other_class x) to)
+pub turned-at : (e : Search) (old new : List Bool) (fork other body other_body from to exit : ℕ) (step : Move) → other ≡ fork → other_body ≡ body
+    → step ≡ Forks body exit → IsMove e (fork, from) step
+    → ((x : ℕ) → IsMove e (other, from) (Forks other_body x) → IsTurned e old new (other, from) (Forks other_body x) to)
     → IsTurned e old new (fork, from) step to
-turned-at e old new fork other class other_class from to exit step same same_class is m t =
+turned-at e old new fork other body other_body from to exit step same same_body is m t =
     subst (λ (s : Move). IsTurned e old new (fork, from) s to) (sym is)
-    (subst (λ (f : ℕ). IsTurned e old new (f, from) (Forks class exit) to) same
-    (subst (λ (c : ℕ). IsTurned e old new (other, from) (Forks c exit) to) same_class
-    (t exit (subst (λ (c : ℕ). IsMove e (other, from) (Forks c exit)) (sym same_class)
-    (subst (λ (f : ℕ). IsMove e (f, from) (Forks class exit)) (sym same)
+    (subst (λ (f : ℕ). IsTurned e old new (f, from) (Forks body exit) to) same
+    (subst (λ (c : ℕ). IsTurned e old new (other, from) (Forks c exit) to) same_body
+    (t exit (subst (λ (c : ℕ). IsMove e (other, from) (Forks c exit)) (sym same_body)
+    (subst (λ (f : ℕ). IsMove e (f, from) (Forks body exit)) (sym same)
     (subst (λ (s : Move). IsMove e (fork, from) s) is m))))))
 
 -- what follows the stops of turns up to a position, after one more
-firsts_more : (e : Search) (run : List (ℕ × ℕ)) (fork class exit start i : ℕ) → start ≤ i → slice_get e.states fork ≡ Some (Fork class exit)
+firsts_more : (e : Search) (run : List (ℕ × ℕ)) (fork body exit start i : ℕ) → start ≤ i → slice_get e.states fork ≡ Some (Fork body exit)
     → run ++ map (λ (s : Stop). s.0) (stops_of e.states fork start (i + 1) (Some exit))
-    ≡ run ++ map (λ (s : Stop). s.0) (stops_of e.states fork start i (Some exit)) ++ map (λ (s : Stop). s.0) (stops_on e fork class exit i)
-firsts_more e run fork class exit start i up is =
-    ap (λ (x : List Stop). run ++ map (λ (s : Stop). s.0) x) (stops-more e.states fork class exit start i (Some exit) up is)
-    ∙ ap (λ (x : List (ℕ × ℕ)). run ++ x) (map-append (λ (s : Stop). s.0) (stops_of e.states fork start i (Some exit)) (stops_on e fork class exit i))
-    ∙ sym (append_assoc run (map (λ (s : Stop). s.0) (stops_of e.states fork start i (Some exit))) (map (λ (s : Stop). s.0) (stops_on e fork class exit i)))
+    ≡ run ++ map (λ (s : Stop). s.0) (stops_of e.states fork start i (Some exit)) ++ map (λ (s : Stop). s.0) (stops_on e fork body exit i)
+firsts_more e run fork body exit start i up is =
+    ap (λ (x : List Stop). run ++ map (λ (s : Stop). s.0) x) (stops-more e.states fork body exit start i (Some exit) up is)
+    ∙ ap (λ (x : List (ℕ × ℕ)). run ++ x) (map-append (λ (s : Stop). s.0) (stops_of e.states fork start i (Some exit)) (stops_on e fork body exit i))
+    ∙ sym (append_assoc run (map (λ (s : Stop). s.0) (stops_of e.states fork start i (Some exit))) (map (λ (s : Stop). s.0) (stops_on e fork body exit i)))
 
-seconds_more : (e : Search) (others : List (Option ℕ)) (fork class exit start i : ℕ) → start ≤ i → slice_get e.states fork ≡ Some (Fork class exit)
+seconds_more : (e : Search) (others : List (Option ℕ)) (fork body exit start i : ℕ) → start ≤ i → slice_get e.states fork ≡ Some (Fork body exit)
     → others ++ map (λ (s : Stop). s.1) (stops_of e.states fork start (i + 1) (Some exit))
-    ≡ others ++ map (λ (s : Stop). s.1) (stops_of e.states fork start i (Some exit)) ++ map (λ (s : Stop). s.1) (stops_on e fork class exit i)
-seconds_more e others fork class exit start i up is =
-    ap (λ (x : List Stop). others ++ map (λ (s : Stop). s.1) x) (stops-more e.states fork class exit start i (Some exit) up is)
-    ∙ ap (λ (x : List (Option ℕ)). others ++ x) (map-append (λ (s : Stop). s.1) (stops_of e.states fork start i (Some exit)) (stops_on e fork class exit i))
-    ∙ sym (append_assoc others (map (λ (s : Stop). s.1) (stops_of e.states fork start i (Some exit))) (map (λ (s : Stop). s.1) (stops_on e fork class exit i)))
+    ≡ others ++ map (λ (s : Stop). s.1) (stops_of e.states fork start i (Some exit)) ++ map (λ (s : Stop). s.1) (stops_on e fork body exit i)
+seconds_more e others fork body exit start i up is =
+    ap (λ (x : List Stop). others ++ map (λ (s : Stop). s.1) x) (stops-more e.states fork body exit start i (Some exit) up is)
+    ∙ ap (λ (x : List (Option ℕ)). others ++ x) (map-append (λ (s : Stop). s.1) (stops_of e.states fork start i (Some exit)) (stops_on e fork body exit i))
+    ∙ sym (append_assoc others (map (λ (s : Stop). s.1) (stops_of e.states fork start i (Some exit))) (map (λ (s : Stop). s.1) (stops_on e fork body exit i)))
 
-pub turned-more : (e : Search) (old v : List Bool) (fork class range exit first last start i nc nr nf : ℕ) → start ≤ i
-    → IsLoop e.states fork class range first last → fork < length e.states → range < length e.states → IsMove e (fork, start) (Forks class exit)
-    → IsFree e v fork class range first last i nc nr nf → IsTurned e old v (fork, start) (Forks class exit) i
-    → IsTurned e old (set (set (set v nc true) nr true) nf true) (fork, start) (Forks class exit) (i + 1)
-turned-more e old v fork class range exit first last start i nc nr nf up l fork_there range_there m f t = record {
+pub turned-more : (e : Search) (old v : List Bool) (fork body range exit first last start i nc nr nf : ℕ) → start ≤ i
+    → IsLoop e.states fork body range first last → fork < length e.states → range < length e.states → IsMove e (fork, start) (Forks body exit)
+    → IsFree e v fork body range first last i nc nr nf → IsTurned e old v (fork, start) (Forks body exit) i
+    → IsTurned e old (set (set (set v nc true) nr true) nf true) (fork, start) (Forks body exit) (i + 1)
+turned-more e old v fork body range exit first last start i nc nr nf up l fork_there range_there m f t = record {
   stands = λ from run others s.
-      rw (firsts_more e run fork class exit start i up m.6, seconds_more e others fork class exit start i up m.6)
+      rw (firsts_more e run fork body exit start i up m.6, seconds_more e others fork body exit start i up m.6)
       (turn_once e from v (run ++ map (λ (s : Stop). s.0) (stops_of e.states fork start i (Some exit)))
-      (others ++ map (λ (s : Stop). s.1) (stops_of e.states fork start i (Some exit))) fork class range exit first last i nc nr nf l fork_there range_there
-      (fork_again e fork class exit start i m) f (t.stands from run others s));
-  less = λ others. rw (seconds_more e others fork class exit start i up m.6)
+      (others ++ map (λ (s : Stop). s.1) (stops_of e.states fork start i (Some exit))) fork body range exit first last i nc nr nf l fork_there range_there
+      (fork_again e fork body exit start i m) f (t.stands from run others s));
+  less = λ others. rw (seconds_more e others fork body exit start i up m.6)
       (omega (
         arith,
         t.less others,
         less_once e v (others ++ map (λ (s : Stop). s.1) (stops_of e.states fork start i (Some exit)))
-            fork class range exit first last i nc nr nf l f,
+            fork body range exit first last i nc nr nf l f,
       ));
 }

@@ -1,7 +1,7 @@
 -- At which state the matches of a pattern, or of several, begin.
-use Rattle.std.specs.Prelude.{◌≡◌, ℕ, ◌+◌, ◌*◌, ◌≤◌, List, [], ◌∷◌, slice_get, Some}
+use Rattle.std.specs.Prelude.{◌≡◌, ◌≢◌, ℕ, ◌+◌, ◌*◌, ◌<◌, ◌≤◌, ◌⊎◌, List, [], ◌∷◌, slice_get, Some}
 use Rattle.rsc_nfa.specs.declared.state.State.{State}
-use Rattle.rsc_nfa.specs.declared.state.State.TheVariants.{Accept}
+use Rattle.rsc_nfa.specs.declared.state.State.TheVariants.{Fork, Accept}
 use Rattle.rsc_nfa.specs.Steps.{IsStep, recorded}
 use Rattle.rsc_engine.specs.Patterns.{Pattern, Subject, Goes}
 use Rattle.rsc_engine.specs.LinksLayout.{Aim, Ends, HasEnd}
@@ -22,11 +22,25 @@ pub record RecordsFrom (states : List State) (first : ℕ) : Type 0 where
       slice_get states (last_place p rest).0 ≡ Some (Accept number) →
       (recorded states (p ∷ rest) (2 * number) ≡ Some p.1) × (recorded states (p ∷ rest) (2 * number + 1) ≡ Some (last_place p rest).1)
 
--- from the state `first` exactly the matches that are looked for are found, and their ends are recorded
+-- of two lists of steps from a place: they go together up to a fork, at which the one goes the first way and the other doesn't
+abbrev pub IsBefore : List State → ℕ × ℕ → List (ℕ × ℕ) → List (ℕ × ℕ) → Type 0
+IsBefore states p [] other = ⊥
+IsBefore states p (q ∷ one) [] = ⊥
+IsBefore states p (q ∷ one) (r ∷ other) =
+    ((a : ℕ) × (b : ℕ) × (slice_get states p.0 ≡ Some (Fork a b)) × (q.0 ≡ a) × (r.0 ≢ a)) ⊎ ((q ≡ r) × IsBefore states q one other)
+
+-- of steps from the state `first` to matches of two patterns, those to the lesser pattern's are before the others
+pub record PrefersFrom (states : List State) (first : ℕ) : Type 0 where
+  pub before : (x : Subject) (end m n : ℕ) (p : ℕ × ℕ) (one other : List (ℕ × ℕ)) → p.0 ≡ first → p.1 ≤ end →
+      AreSteps states x end p one → AreSteps states x end p other → slice_get states (last_place p one).0 ≡ Some (Accept m) →
+      slice_get states (last_place p other).0 ≡ Some (Accept n) → m < n → IsBefore states p one other
+
+-- from the state `first` exactly the matches that are looked for are found, their ends are recorded, and lesser patterns are preferred
 pub record Begins (states : List State) (first : ℕ) (IsSought : Aim → ℕ → Type 0) : Type 0 where
   pub sound : (a : Aim) (n i : ℕ) → Ends states a n first i → IsSought a i
   pub complete : (a : Aim) (i : ℕ) → IsSought a i → a.position ≤ a.end → HasEnd states a first i
   pub records : RecordsFrom states first
+  pub prefers : PrefersFrom states first
 
 -- the match is of this pattern, with this number
 abbrev pub IsOfOne : ℕ → Pattern → Aim → ℕ → Type 0

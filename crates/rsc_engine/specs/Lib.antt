@@ -12,6 +12,7 @@ pub mod TrailsLayout  -- a trail: which places each of its visits stands for, an
 pub mod TurnsLayout  -- the flags of a loop's turns, and what turns do
 pub mod Patterns  -- what a pattern matches, and which programs match it
 pub mod GroupEnds  -- the group of the whole match: what runs record in its slots
+pub mod PatternOrder  -- which of two patterns is preferred
 pub mod Parts  -- which pattern a part is, and which groups it has
 pub mod EnclosesLayout  -- where the states of a part lead, and in which slots they record
 pub mod NamesLayout  -- what the states of a part or of patterns name, and whether a range of theirs is reversed

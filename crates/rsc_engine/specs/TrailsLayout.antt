@@ -17,22 +17,22 @@ Stop = (ℕ × ℕ) × Option ℕ
 -- ---- a turn of a loop: from its fork by the fork's first way, a range or a fork that leads first to a range, over a byte
 
 abbrev pub states_to : ℕ → ℕ → Option State → List ℕ
-states_to class range (Some (ByteRange a b next)) = class ∷ range ∷ []
-states_to class range _ = []
+states_to body range (Some (ByteRange a b next)) = body ∷ range ∷ []
+states_to body range _ = []
 
 -- the states after the fork
 abbrev pub states_from : List State → ℕ → Option State → List ℕ
-states_from states class (Some (ByteRange a b next)) = class ∷ []
-states_from states class (Some (Fork range rest)) = states_to class range (slice_get states range)
-states_from states class _ = []
+states_from states body (Some (ByteRange a b next)) = body ∷ []
+states_from states body (Some (Fork range rest)) = states_to body range (slice_get states range)
+states_from states body _ = []
 
 -- the stops after the fork
 abbrev pub stops_from : List State → ℕ → ℕ → List Stop
-stops_from states class i = map (λ (s : ℕ). ((s, i), None)) (states_from states class (slice_get states class))
+stops_from states body i = map (λ (s : ℕ). ((s, i), None)) (states_from states body (slice_get states body))
 
 -- the stops of a turn at the position
 abbrev pub turn_of : List State → ℕ → ℕ → Option State → List Stop
-turn_of states fork i (Some (Fork class exit)) = ((fork, i), Some exit) ∷ stops_from states class i
+turn_of states fork i (Some (Fork body exit)) = ((fork, i), Some exit) ∷ stops_from states body i
 turn_of states fork i _ = []
 
 -- the stops of turns, that many, from the position on
@@ -87,10 +87,10 @@ left_with states flags trail = left_to_do flags (others_of states trail)
 pub record IsApart (states : List State) (first last sid : ℕ) : Type 0 where
   pub futile : (e : Search) (i x : ℕ) → e.states ≡ states → slice_get e.haystack i ≡ Some x → first ≤ x → x ≤ last → IsFutile e (sid, i)
 
--- the fork leads first to the class, that to the range or it's the range, and the range over bytes from first to last back to the fork
-pub record IsLoop (states : List State) (fork class range first last : ℕ) : Type 0 where
+-- the fork leads first to the body, which is the range or leads first to it, and the range over bytes from first to last back to the fork
+pub record IsLoop (states : List State) (fork body range first last : ℕ) : Type 0 where
   pub back : slice_get states range ≡ Some (ByteRange first last fork)
-  pub leads : (class ≡ range) ⊎ ((rest : ℕ) × (slice_get states class ≡ Some (Fork range rest)) × IsApart states first last rest)
+  pub leads : (body ≡ range) ⊎ ((rest : ℕ) × (slice_get states body ≡ Some (Fork range rest)) × IsApart states first last rest)
 
 -- the step at a place was made, and if it's a loop's, turns after it, to a position
 pub record IsTurned (e : Search) (old new : List Bool) (p : ℕ × ℕ) (step : Move) (to : ℕ) : Type 0 where

@@ -1,10 +1,10 @@
 //! A backtracker that visits no place, a state at a position, twice: places from which no match is reached stay visited from one search to the next.
-ghost use Rattle.std.specs.Prelude.{◌≡◌, ◌+◌, ◌-◌, ◌<◌, ◌≤◌, ℕ, [], ◌∷◌, ◌++◌, OnOk, IfOk, IfErr, IfSome, IfNone, Some, None, false, true, length, slice_index_or, count_by, is_some};
+ghost use Rattle.std.specs.Prelude.{◌≡◌, ◌+◌, ◌-◌, ◌<◌, ◌≤◌, ℕ, [], ◌∷◌, ◌++◌, OnOk, IfOk, IfErr, IfSome, Some, None, false, true, length, slice_index_or, count_by, is_some};
 ghost use Rattle.rsc_nfa.specs.Steps.{place};
 ghost use Rattle.rsc_search.specs.declared.anchored.Anchored.TheVariants.{No};
 ghost use Rattle.rsc_engine.specs.declared.error.Error.TheVariants.{OutOfMemory};
 ghost use Rattle.rsc_engine.specs.declared.moves.Move.TheVariants.{Accepts};
-ghost use Rattle.rsc_engine.specs.Searches.{Search, search_in, FailsFor};
+ghost use Rattle.rsc_engine.specs.Searches.{Search, search_in};
 ghost use Rattle.rsc_engine.specs.Runs.{HasNoMatch};
 ghost use Rattle.rsc_engine.specs.Ends.{BeginsFrom};
 ghost use Rattle.rsc_engine.specs.StartsLayout.{AreStarts};
@@ -14,7 +14,7 @@ ghost use Rattle.rsc_engine.specs.TrailsLayout.{run_of, others_of, ends_at, HasT
 
 use crate::flags::{BITS, Flags};
 use crate::moves::{Move, move_of, other_way};
-use crate::numbers::{first_block, flags_needed, number_of};
+use crate::numbers::{first_block, number_of};
 use crate::starts::Starts;
 use crate::trail::{Visit, exit_of};
 use crate::turns::go_round;
@@ -304,29 +304,6 @@ impl Walk {
         }
         None
     }
-}
-
-/// A walk that has the leftmost-first run in the input's span, in which no match begins before a position; `None` if no match begins where one
-/// may.
-pub fn first_run<W: WordClass>(
-    alloc: Global,
-    program: &Program<W>,
-    input: &Input<'_>,
-    from: usize,
-) -> Result<Option<Walk>, Error>
-    requires { BeginsFrom (search_in W.word_chars program.now input.now) from }
-    ensures found { IfOk result (λ found. IfSome found (λ walk.
-        IsLeftmostFirst (search_in W.word_chars program.now input.now) (run_of program.now.automaton.states walk.trail.items))) }
-    ensures none { IfOk result (λ found. IfNone found (HasNone (search_in W.word_chars program.now input.now))) }
-    ensures refused { IfErr result (FailsFor (search_in W.word_chars program.now input.now)) }
-{
-    let starts = Starts::new(alloc, program)?;
-    let mut walk = Walk::new(alloc, program.start());
-    walk.open(alloc, flags_needed(program, input)?)?;
-    if !walk.search(program, input, &starts, from)? {
-        return Ok(None);
-    }
-    Ok(Some(walk))
 }
 
 // The last position at which a match may begin.

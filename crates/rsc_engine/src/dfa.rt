@@ -7,7 +7,6 @@ ghost use Rattle.rsc_search.specs.declared.anchored.Anchored.TheVariants.{No};
 ghost use Rattle.rsc_engine.specs.declared.error.Error.TheVariants.{OutOfMemory};
 ghost use Rattle.rsc_engine.specs.Searches.{search_in, FailsFor};
 ghost use Rattle.rsc_engine.specs.Preferred.{HasNone, IsFirstMatch, IsCleared};
-ghost use Rattle.rsc_nfa.specs.Steps.{place};
 ghost use Rattle.rsc_engine.specs.Ends.{IsAnswer, IsLeftmostEnd, BeginsFrom};
 ghost use Rattle.rsc_engine.specs.RowsLayout.{machine, IsPlan, IsNeverEntered};
 ghost use Rattle.rsc_engine.specs.TablesLayout.{IsExact};
@@ -19,9 +18,9 @@ mod plan;
 mod successor;
 mod table;
 
-use crate::backtrack::first_run;
-use crate::trail::last_place;
-use crate::{AsciiWords, Error, Program, first};
+use crate::first::{end_from, find_from, is_match_by, is_match_by_walk};
+use crate::starts::Starts;
+use crate::{AsciiWords, Error, Program};
 use entries::Step;
 use lawful::steps_are_lawful;
 use needed::Needed;
@@ -123,7 +122,7 @@ impl<'p, W: WordClass + AsciiWords> Dfa<'p, W> {
             start,
             end: start + NEAR,
         });
-        match is_match_by_walk(self.alloc, self.plan.program, &near) {
+        match is_match_by(self.alloc, self.plan.program, &near, &Starts::any(self.alloc)) {
             Ok(found) => found,
             Err(_) => false,
         }
@@ -232,7 +231,7 @@ impl<'p, W: WordClass + AsciiWords> Dfa<'p, W> {
         let Some(from) = self.begin(input)? else {
             return Ok(None);
         };
-        first::find_from(self.alloc, self.plan.program, input, captures, from)
+        find_from(self.alloc, self.plan.program, input, captures, from)
     }
 
     /// The position at which the leftmost-first match in an input's span ends; `None` if no match begins where one may. The DFA tells from
@@ -260,41 +259,6 @@ pub(crate) fn is_long(input: &Input<'_>) -> bool
     ensures anywhere { result ≡ true → input.now.anchored ≡ No }
 {
     !input.get_anchored().is_anchored() && input.end().saturating_sub(input.start()) >= LONG
-}
-
-// Where the leftmost-first match ends, if no match begins before a position in the span.
-fn end_from<W: WordClass>(
-    alloc: Global,
-    program: &Program<W>,
-    input: &Input<'_>,
-    from: usize,
-) -> Result<Option<usize>, Error>
-    requires { BeginsFrom (search_in W.word_chars program.now input.now) from }
-    ensures found { IfOk result (λ found. IfSome found (IsLeftmostEnd (search_in W.word_chars program.now input.now))) }
-    ensures none { IfOk result (λ found. IfNone found (HasNone (search_in W.word_chars program.now input.now))) }
-    ensures refused { IfErr result (FailsFor (search_in W.word_chars program.now input.now)) }
-{
-    match first_run(alloc, program, input, from)? {
-        None => Ok(None),
-        Some(walk) => Ok(Some(last_place(walk.trail.as_slice()).1)),
-    }
-}
-
-// Whether a match begins where one may, as the backtracker answers it.
-fn is_match_by_walk<W: WordClass>(
-    alloc: Global,
-    program: &Program<W>,
-    input: &Input<'_>,
-) -> Result<bool, Error>
-    ensures some { IfOk result (λ found. found ≡ true → ¬ (HasNone (search_in W.word_chars program.now input.now))) }
-    ensures none { IfOk result (λ found. found ≡ false → HasNone (search_in W.word_chars program.now input.now)) }
-    ensures refused { IfErr result (FailsFor (search_in W.word_chars program.now input.now)) }
-{
-    crate::laws::there_is_one_first_match();
-    let Some(_) = first_run(alloc, program, input, input.start())? else {
-        return Ok(false);
-    };
-    Ok(true)
 }
 
 // The answer of `earliest_end` by a table, and a position before which no match begins: as late as the rows tell, if it's wanted.

@@ -1,12 +1,17 @@
-//! The first match.
-ghost use Rattle.std.specs.Prelude.{◌≡◌, ◌≤◌, IfOk, IfErr, IfSome, IfNone, OnErr, length};
+//! The first match, where it ends, and whether there is one.
+ghost use Rattle.std.specs.Prelude.{◌≡◌, ◌≤◌, IfOk, IfErr, IfSome, IfNone, OnErr, true, false, length};
 ghost use Rattle.rsc_engine.specs.Searches.{search_in, FailsFor};
-ghost use Rattle.rsc_engine.specs.Preferred.{IsFirstMatch, HasNone, IsCleared};
-ghost use Rattle.rsc_engine.specs.Ends.{BeginsFrom};
+ghost use Rattle.rsc_engine.specs.Preferred.{IsLeftmostFirst, IsFirstMatch, HasNone, IsCleared};
+ghost use Rattle.rsc_engine.specs.Ends.{BeginsFrom, IsLeftmostEnd};
+ghost use Rattle.rsc_engine.specs.StartsLayout.{AreStarts};
+ghost use Rattle.rsc_engine.specs.TrailsLayout.{run_of};
 
-use crate::backtrack::first_run;
+use crate::backtrack::Walk;
 use crate::dfa::{MOST_ROWS, is_long};
 use crate::groups::write_match;
+use crate::numbers::flags_needed;
+use crate::starts::Starts;
+use crate::trail::last_place;
 use crate::{AsciiWords, Dfa, Error, Program};
 use rsc_captures::Captures;
 use rsc_look::WordClass;
@@ -68,4 +73,96 @@ pub(crate) fn find_from<W: WordClass>(
         None => Ok(None),
         Some(walk) => Ok(Some(write_match(program, input, walk.trail.as_slice(), captures))),
     }
+}
+
+/// Where the leftmost-first match ends, if no match begins before a position in the span.
+pub(crate) fn end_from<W: WordClass>(
+    alloc: Global,
+    program: &Program<W>,
+    input: &Input<'_>,
+    from: usize,
+) -> Result<Option<usize>, Error>
+    requires { BeginsFrom (search_in W.word_chars program.now input.now) from }
+    ensures found { IfOk result (λ found. IfSome found (IsLeftmostEnd (search_in W.word_chars program.now input.now))) }
+    ensures none { IfOk result (λ found. IfNone found (HasNone (search_in W.word_chars program.now input.now))) }
+    ensures refused { IfErr result (FailsFor (search_in W.word_chars program.now input.now)) }
+{
+    match first_run(alloc, program, input, from)? {
+        None => Ok(None),
+        Some(walk) => Ok(Some(last_place(walk.trail.as_slice()).1)),
+    }
+}
+
+/// Whether a match begins where one may.
+pub(crate) fn is_match_by_walk<W: WordClass>(
+    alloc: Global,
+    program: &Program<W>,
+    input: &Input<'_>,
+) -> Result<bool, Error>
+    ensures some { IfOk result (λ found. found ≡ true → ¬ (HasNone (search_in W.word_chars program.now input.now))) }
+    ensures none { IfOk result (λ found. found ≡ false → HasNone (search_in W.word_chars program.now input.now)) }
+    ensures refused { IfErr result (FailsFor (search_in W.word_chars program.now input.now)) }
+{
+    let starts = Starts::new(alloc, program)?;
+    is_match_by(alloc, program, input, &starts)
+}
+
+/// The same, where it's known with which bytes a match may begin.
+pub(crate) fn is_match_by<W: WordClass>(
+    alloc: Global,
+    program: &Program<W>,
+    input: &Input<'_>,
+    starts: &Starts,
+) -> Result<bool, Error>
+    requires { starts.now.known ≡ true → AreStarts program.now.automaton.states program.now.start starts.now.marks.items starts.now.bytes.items }
+    ensures some { IfOk result (λ found. found ≡ true → ¬ (HasNone (search_in W.word_chars program.now input.now))) }
+    ensures none { IfOk result (λ found. found ≡ false → HasNone (search_in W.word_chars program.now input.now)) }
+    ensures refused { IfErr result (FailsFor (search_in W.word_chars program.now input.now)) }
+{
+    crate::laws::there_is_one_first_match();
+    let Some(_) = run_by(alloc, program, input, starts, input.start())? else {
+        return Ok(false);
+    };
+    Ok(true)
+}
+
+// A walk that has the leftmost-first run in the input's span, in which no match begins before a position; `None` if no match begins where one
+// may.
+fn first_run<W: WordClass>(
+    alloc: Global,
+    program: &Program<W>,
+    input: &Input<'_>,
+    from: usize,
+) -> Result<Option<Walk>, Error>
+    requires { BeginsFrom (search_in W.word_chars program.now input.now) from }
+    ensures found { IfOk result (λ found. IfSome found (λ walk.
+        IsLeftmostFirst (search_in W.word_chars program.now input.now) (run_of program.now.automaton.states walk.trail.items))) }
+    ensures none { IfOk result (λ found. IfNone found (HasNone (search_in W.word_chars program.now input.now))) }
+    ensures refused { IfErr result (FailsFor (search_in W.word_chars program.now input.now)) }
+{
+    let starts = Starts::new(alloc, program)?;
+    run_by(alloc, program, input, &starts, from)
+}
+
+// The same, where it's known with which bytes a match may begin.
+fn run_by<W: WordClass>(
+    alloc: Global,
+    program: &Program<W>,
+    input: &Input<'_>,
+    starts: &Starts,
+    from: usize,
+) -> Result<Option<Walk>, Error>
+    requires from { BeginsFrom (search_in W.word_chars program.now input.now) from }
+    requires starts { starts.now.known ≡ true → AreStarts program.now.automaton.states program.now.start starts.now.marks.items starts.now.bytes.items }
+    ensures found { IfOk result (λ found. IfSome found (λ walk.
+        IsLeftmostFirst (search_in W.word_chars program.now input.now) (run_of program.now.automaton.states walk.trail.items))) }
+    ensures none { IfOk result (λ found. IfNone found (HasNone (search_in W.word_chars program.now input.now))) }
+    ensures refused { IfErr result (FailsFor (search_in W.word_chars program.now input.now)) }
+{
+    let mut walk = Walk::new(alloc, program.start());
+    walk.open(alloc, flags_needed(program, input)?)?;
+    if !walk.search(program, input, starts, from)? {
+        return Ok(None);
+    }
+    Ok(Some(walk))
 }

@@ -10,6 +10,7 @@ ghost use Rattle.rsc_engine.specs.Preferred.{IsPreferred, IsLeftmostFirst, IsFir
 ghost use Rattle.rsc_engine.specs.NextMatches.{IsNext, IsOver, IsNextMatch, IsOpen, IsRepeated, IsSplitAt, Left, AreAll};
 ghost use Rattle.rsc_engine.specs.Ends.{IsEarliestEnd, IsLeftmostEnd};
 ghost use Rattle.rsc_engine.specs.GroupEnds.{RecordsEnds};
+ghost use Rattle.rsc_engine.specs.PatternOrder.{PrefersLesser};
 
 use rsc_look::WordClass;
 
@@ -68,6 +69,18 @@ pub fn a_next_match_is_of_a_pattern<W: WordClass>()
         Recognizes W.word_chars program patterns → IsOver (search_in W.word_chars program input) last →
         IsOpen (search_in W.word_chars program input) last other.span.start → IsMatchIn patterns (search_in W.word_chars program input) other →
         IsRepeated (search_in W.word_chars program input) last other.span.start ⊎ IsSplitAt (search_in W.word_chars program input) other.span.start }
+{}
+
+/// Which of several patterns matches, where more than one does from the start of a first or next match: the one with the least number.
+pub fn a_match_is_of_the_least_pattern<W: WordClass>()
+    ensures first { (program : Compiled W) (patterns : List Pattern) (input : InputParts) (captures : Captured) (found other : Matched) →
+        Recognizes W.word_chars program patterns → PrefersLesser W.word_chars program →
+        IsFirstMatch (search_in W.word_chars program input) captures found → IsMatchIn patterns (search_in W.word_chars program input) other →
+        other.span.start ≡ found.span.start → found.pattern ≤ other.pattern }
+    ensures next { (program : Compiled W) (patterns : List Pattern) (input : InputParts) (last : Option ℕ) (captures : Captured) (found other : Matched) →
+        Recognizes W.word_chars program patterns → PrefersLesser W.word_chars program →
+        IsNextMatch (search_in W.word_chars program input) last captures found → IsMatchIn patterns (search_in W.word_chars program input) other →
+        other.span.start ≡ found.span.start → found.pattern ≤ other.pattern }
 {}
 
 /// What the earliest end of a program of patterns is: the end of a match of one of them, before which no match of theirs ends that begins where one may.

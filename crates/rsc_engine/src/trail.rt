@@ -28,7 +28,7 @@ pub struct Visit {
 pub fn exit_of<W: WordClass>(program: &Program<W>, visit: &Visit) -> Option<StateID>
     requires { visit.now.sid < length program.now.automaton.states }
     ensures exit { IfSome result (λ exit. (visit.now.start < visit.now.at)
-        × (class : ℕ) × (slice_get program.now.automaton.states visit.now.sid ≡ Some (Fork class exit))) }
+        × (body : ℕ) × (slice_get program.now.automaton.states visit.now.sid ≡ Some (Fork body exit))) }
     ensures none { IfNone result (stops_of program.now.automaton.states visit.now.sid visit.now.start visit.now.at visit.now.other
         ≡ ((visit.now.sid, visit.now.at), visit.now.other) ∷ []) }
 {

@@ -25,12 +25,14 @@ struct Bytes {
     last: u8,
 }
 
-// A loop over bytes: its fork leads first to a range, or to a fork that leads first to a range, and the range leads back.
+// The states of a loop over bytes: its fork leads first to the body, which is a range or a fork that leads first to one, and the range leads back.
 #[derive(Clone, Copy)]
 struct Loop {
     fork: StateID,
-    class: StateID,
+    body: StateID,
+    // The same state as the body, unless that is a fork.
     range: StateID,
+    // Those of the range.
     bytes: Bytes,
 }
 
@@ -52,8 +54,8 @@ pub fn go_round<W: WordClass>(
     ensures stays { step.now ≡ Accepts → (visited.new ≡ visited.old) × (result ≡ from) }
 {
     match *step {
-        Move::Forks(class, _) => {
-            match loop_at(program, input, fork, class, from) {
+        Move::Forks(body, _) => {
+            match loop_at(program, input, fork, body, from) {
                 Some(looped) => turn(visited, program, input, looped, from),
                 None => from,
             }
@@ -73,11 +75,11 @@ fn turn<W: WordClass>(
 ) -> usize
     requires room { HasFlags (search_in W.word_chars program.now input.now) visited.old }
     requires there { IsPlace (search_in W.word_chars program.now input.now) (looped.fork, from) }
-    requires class { looped.class < length program.now.automaton.states }
+    requires body { looped.body < length program.now.automaton.states }
     requires range { looped.range < length program.now.automaton.states }
-    requires looped { IsLoop program.now.automaton.states looped.fork looped.class looped.range looped.bytes.first looped.bytes.last }
-    ensures turned { (exit : ℕ) → IsMove (search_in W.word_chars program.now input.now) (looped.fork, from) (Forks looped.class exit)
-        → IsTurned (search_in W.word_chars program.now input.now) visited.old visited.new (looped.fork, from) (Forks looped.class exit) result }
+    requires looped { IsLoop program.now.automaton.states looped.fork looped.body looped.range looped.bytes.first looped.bytes.last }
+    ensures turned { (exit : ℕ) → IsMove (search_in W.word_chars program.now input.now) (looped.fork, from) (Forks looped.body exit)
+        → IsTurned (search_in W.word_chars program.now input.now) visited.old visited.new (looped.fork, from) (Forks looped.body exit) result }
     ensures size { length visited.new ≡ length visited.old }
 {
     let end = input.end();
@@ -92,8 +94,8 @@ fn turn<W: WordClass>(
     at
 }
 
-// Makes turns at a position, if there are any, and answers where the fork is then: those that have their flags in the same blocks, if none of these flags is
-// set, or else one.
+// Makes turns at a position, if there are any, and answers where the fork is then: all whose flags are in the same blocks, if none of these flags is set,
+// or else one.
 #[inline(always)]
 fn turn_some<W: WordClass>(
     visited: &mut Flags,
@@ -105,30 +107,30 @@ fn turn_some<W: WordClass>(
     requires room { HasFlags (search_in W.word_chars program.now input.now) visited.old }
     requires there { IsPlace (search_in W.word_chars program.now input.now) (looped.now.fork, at) }
     requires within { at < input.now.span.end }
-    requires class { looped.now.class < length program.now.automaton.states }
+    requires body { looped.now.body < length program.now.automaton.states }
     requires range { looped.now.range < length program.now.automaton.states }
-    requires looped { IsLoop program.now.automaton.states looped.now.fork looped.now.class looped.now.range looped.now.bytes.first looped.now.bytes.last }
+    requires looped { IsLoop program.now.automaton.states looped.now.fork looped.now.body looped.now.range looped.now.bytes.first looped.now.bytes.last }
     ensures on { at ≤ result }
     ensures within { result ≤ input.now.span.end }
-    ensures turned { TurnsOn (search_in W.word_chars program.now input.now) visited.old visited.new looped.now.fork looped.now.class at result }
+    ensures turned { TurnsOn (search_in W.word_chars program.now input.now) visited.old visited.new looped.now.fork looped.now.body at result }
     ensures size { length visited.new ≡ length visited.old }
 {
     let haystack = input.haystack();
     let states = program.len();
     let before = input.end() - at;
-    let class = number_of(looped.class, before, states, visited.len());
+    let body = number_of(looped.body, before, states, visited.len());
     let range = number_of(looped.range, before, states, visited.len());
     let fork = number_of(looped.fork, before - 1, states, visited.len());
     let most = before % BITS;
-    if are_free(visited, class, range, fork, most) {
+    if are_free(visited, body, range, fork, most) {
         let count = count_of(haystack, at, most, looped.bytes);
-        set_all(visited, class, range, fork, count);
+        set_all(visited, body, range, fork, count);
         return at + count;
     }
     if !has_byte(input, at, looped.bytes) {
         return at;
     }
-    if !visited.take(class, range, fork) {
+    if !visited.take(body, range, fork) {
         return at;
     }
     at + 1
@@ -136,12 +138,12 @@ fn turn_some<W: WordClass>(
 
 // Whether the flags of that many turns are clear, and there is one. These three are the first turn's; each turn after it has the flags before.
 #[inline(always)]
-fn are_free(visited: &Flags, class: usize, range: usize, fork: usize, count: usize) -> bool
-    requires class { (class < length visited.now) × (class % 64 ≡ count) }
+fn are_free(visited: &Flags, body: usize, range: usize, fork: usize, count: usize) -> bool
+    requires body { (body < length visited.now) × (body % 64 ≡ count) }
     requires range { (range < length visited.now) × (range % 64 ≡ count) }
     requires fork { (fork < length visited.now) × (0 < count → fork % 64 + 1 ≡ count) }
     ensures some { result ≡ true → 0 < count }
-    ensures class { result ≡ true → (k : ℕ) → k < count → slice_index_or visited.now (class - k) false ≡ false }
+    ensures body { result ≡ true → (k : ℕ) → k < count → slice_index_or visited.now (body - k) false ≡ false }
     ensures range { result ≡ true → (k : ℕ) → k < count → slice_index_or visited.now (range - k) false ≡ false }
     ensures fork { result ≡ true → (k : ℕ) → k < count → slice_index_or visited.now (fork - k) false ≡ false }
 {
@@ -149,25 +151,25 @@ fn are_free(visited: &Flags, class: usize, range: usize, fork: usize, count: usi
         return false;
     }
     let before = count - 1;
-    visited.are_free(class - before, count)
+    visited.are_free(body - before, count)
         && visited.are_free(range - before, count)
         && visited.are_free(fork - before, count)
 }
 
 // Sets the flags of that many turns.
 #[inline(always)]
-fn set_all(visited: &mut Flags, class: usize, range: usize, fork: usize, count: usize)
-    requires class { (class < length visited.old) × (count ≤ class % 64) }
+fn set_all(visited: &mut Flags, body: usize, range: usize, fork: usize, count: usize)
+    requires body { (body < length visited.old) × (count ≤ body % 64) }
     requires range { (range < length visited.old) × (count ≤ range % 64) }
     requires fork { (fork < length visited.old) × (count ≤ fork % 64 + 1) }
     requires fewer { count < 64 }
-    ensures { visited.new ≡ turned_flags visited.old class range fork count }
+    ensures { visited.new ≡ turned_flags visited.old body range fork count }
 {
     if count == 0 {
         return;
     }
     let before = count - 1;
-    visited.set_all(class - before, count);
+    visited.set_all(body - before, count);
     visited.set_all(range - before, count);
     visited.set_all(fork - before, count);
 }
@@ -196,22 +198,22 @@ fn loop_at<W: WordClass>(
     program: &Program<W>,
     input: &Input<'_>,
     fork: StateID,
-    class: StateID,
+    body: StateID,
     at: usize,
 ) -> Option<Loop>
-    requires { class < length program.now.automaton.states }
-    ensures looped { IfSome result (λ l. IsLoop program.now.automaton.states l.fork l.class l.range l.bytes.first l.bytes.last) }
+    requires { body < length program.now.automaton.states }
+    ensures looped { IfSome result (λ l. IsLoop program.now.automaton.states l.fork l.body l.range l.bytes.first l.bytes.last) }
     ensures fork { IfSome result (λ l. l.fork ≡ fork) }
-    ensures class { IfSome result (λ l. l.class ≡ class) }
+    ensures body { IfSome result (λ l. l.body ≡ body) }
     ensures range { IfSome result (λ l. l.range < length program.now.automaton.states) }
 {
-    match program.state(class) {
+    match program.state(body) {
         State::ByteRange { .. } => {
-            let bytes = bytes_back(program, fork, class)?;
+            let bytes = bytes_back(program, fork, body)?;
             Some(Loop {
                 fork,
-                class,
-                range: class,
+                body,
+                range: body,
                 bytes,
             })
         }
@@ -220,7 +222,7 @@ fn loop_at<W: WordClass>(
             if has_byte(input, at, bytes) && is_apart(program, b, bytes) {
                 Some(Loop {
                     fork,
-                    class,
+                    body,
                     range: a,
                     bytes,
                 })

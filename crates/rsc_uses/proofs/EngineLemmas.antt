@@ -46,11 +46,11 @@ pub room_for_first : (lists : GroupLists) (groups : Groups) (captures : Captured
 room_for_first lists groups captures is made =
     omega (arith, ap (λ (c : Captured). length c.offsets) made, length-replicate {A = Option ℕ} (2 * all_groups lists) None, ap all_groups is)
 
--- and where it goes is a match
-pub match_of : {W : Type 0} (chars : W → ℕ → Bool) (program : Compiled W) (words : W) (p : Pattern) (haystack : List ℕ) (i j : ℕ)
+-- and where it goes is a match; it may be the first of several
+pub match_of : {W : Type 0} (chars : W → ℕ → Bool) (program : Compiled W) (words : W) (p : Pattern) (others : List Pattern) (haystack : List ℕ) (i j : ℕ)
     → program.automaton.matcher ≡ (10, words) → j ≤ length haystack → Goes (text haystack (chars words)) p i j
-    → IsMatchIn (p ∷ []) (search_in chars program (whole haystack)) (record { pattern = 0; span = record { start = i; end = j } })
-match_of {W = W} chars program words p haystack i j matcher within g = record {
+    → IsMatchIn (p ∷ others) (search_in chars program (whole haystack)) (record { pattern = 0; span = record { start = i; end = j } })
+match_of {W = W} chars program words p others haystack i j matcher within g = record {
   pattern = p;
   its = refl;
   wanted = refl;

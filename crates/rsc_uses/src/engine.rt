@@ -216,6 +216,29 @@ pub fn one_of_two<'n>(
     builder.one_of(parts)
 }
 
+/// The first match of two parts, of which the first is preferred: the match is of the other one only if the first goes nowhere from its start.
+pub fn first_of_two<'n, W: WordClass + AsciiWords>(
+    alloc: Global,
+    words: W,
+    one: Part<'n>,
+    other: Part<'n>,
+    haystack: &[u8],
+) -> Result<Option<Match>, Error>
+    ensures { IfOk result (λ found. IfSome found (λ m. m.pattern ≡ 1 → (j : ℕ) → j ≤ length haystack.now →
+        ¬ (Goes (record { haystack = haystack.now; terminator = 10; words = W.word_chars words }) (pattern_of one.entry) m.span.start j))) }
+{
+    laws::a_match_is_of_the_least_pattern::<W>();
+    let mut builder = Builder::new(alloc);
+    builder.pattern(one)?;
+    let program = builder.build(words, true, other)?;
+    let mut captures = program.captures(alloc)?;
+    let input = Input::new(haystack);
+    match find(alloc, &program, &input, &mut captures)? {
+        None => Ok(None),
+        Some(found) => Ok(Some(found)),
+    }
+}
+
 /// Where the first match of an iteration is: the part goes there.
 pub fn first_of_iteration<W: WordClass + AsciiWords>(
     alloc: Global,

@@ -3,7 +3,7 @@ ghost use Rattle.std.specs.Prelude.{IsTrue};
 
 use rsc_alphabet::ByteClasses;
 use rsc_captures::{Captures, GroupInfo};
-use rsc_engine::{Dfa, Matches, Program};
+use rsc_engine::{Cache, Dfa, Matches, Program};
 use rsc_look::{LookMatcher, UnicodeWord};
 use rsc_nfa::Nfa;
 use rsc_search::{Input, PatternSet};
@@ -27,6 +27,7 @@ pub fn are_shared_by_threads() -> bool
         && is_send_and_sync::<Input<'static>>()
         && is_send_and_sync::<Nfa<UnicodeWord>>()
         && is_send_and_sync::<Program<UnicodeWord>>()
+        && is_send_and_sync::<Cache<'static, UnicodeWord>>()
         && is_send_and_sync::<Dfa<'static, UnicodeWord>>()
         && is_send_and_sync::<Matches<'static, 'static, UnicodeWord>>()
 }

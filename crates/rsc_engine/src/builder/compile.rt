@@ -48,6 +48,7 @@ impl Slots {
         let Some((start, end)) = self.groups.get(group).copied() else {
             return Err(Error::TooLarge);
         };
+        // Neither test fails: a group's slots come after those of the whole match, and the group info counts them. They give the prover the bounds.
         if start.as_usize() <= self.end.as_usize() || end.as_usize() <= self.end.as_usize() {
             return Err(Error::TooLarge);
         }

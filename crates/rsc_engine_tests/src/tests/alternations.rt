@@ -1,4 +1,4 @@
-//! Several patterns, as an alternation of Python's `re` has them: of those that match from the leftmost position the first is taken, however long
+//! Several patterns, as an alternation of Python's `re` has them: of all that match from the leftmost position the first is taken, however long
 //! the others' matches are.
 
 use rsc_engine::{Builder, Error, Matches, Program};

@@ -118,10 +118,20 @@ fn a_repeated_part_has_its_groups_once(rt: HostRuntime) -> Result<(), Fail> {
     Ok(())
 }
 
-// `(?:^|a)*` of lines: what is repeated can match nothing.
-fn repeated_nothing(alloc: Global) -> Result<Program<AsciiWord>, Error> {
-    let builder = Builder::new(alloc);
+// `^` of lines, by its number: the assertion, after no byte, or in a list of one.
+fn line_start<'n>(alloc: Global, builder: &Builder<'n>, number: usize) -> Result<Part<'n>, Error> {
     let start = builder.look(Look::StartLF);
+    match number {
+        0 => Ok(start),
+        1 => builder.then(builder.literal(b"")?, start),
+        _ => builder.concat(vec![in alloc; start]?),
+    }
+}
+
+// `(?:^|a)*` of lines: what is repeated can match nothing.
+fn repeated_nothing(alloc: Global, number: usize) -> Result<Program<AsciiWord>, Error> {
+    let builder = Builder::new(alloc);
+    let start = line_start(alloc, &builder, number)?;
     let a = builder.literal(b"a")?;
     let either = builder.either(start, a)?;
     let whole = builder.star(either)?;
@@ -141,9 +151,13 @@ fn repeated_list(alloc: Global) -> Result<Program<AsciiWord>, Error> {
 #[test]
 fn a_star_of_what_can_be_empty_is_a_plus_or_nothing(rt: HostRuntime) -> Result<(), Fail> {
     let ends = [(0, 0), (1, 1), (2, 2), (3, 5), (6, 6)];
-    for program in [repeated_nothing(rt.alloc())?, repeated_list(rt.alloc())?] {
-        assert!(rt; finds(rt.alloc(), &program, Input::new(b"a\naaa\n"), &ends)?);
+    let text = b"a\naaa\n";
+    for number in 0..3_usize {
+        let program = repeated_nothing(rt.alloc(), number)?;
+        assert!(rt; finds(rt.alloc(), &program, Input::new(text), &ends)?, "{number}");
     }
+    let program = repeated_list(rt.alloc())?;
+    assert!(rt; finds(rt.alloc(), &program, Input::new(text), &ends)?);
     Ok(())
 }
 

@@ -210,7 +210,7 @@ fn no_line_starts_or_ends_within_a_crlf_pair(rt: HostRuntime) {
     assert!(rt; hold == [false, false, true]);
 }
 
-// Whether those that hold at a position are those for which `matches` says so.
+// Whether the assertions that hold at a position are the ones for which `matches` says so.
 fn holding_agrees(matcher: &LookMatcher<UnicodeWord>, haystack: &[u8], at: usize) -> bool {
     if at > haystack.len() {
         return false;

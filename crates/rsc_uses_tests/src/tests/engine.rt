@@ -56,6 +56,20 @@ fn answers_are_of_parts(rt: HostRuntime) -> Result<(), Fail> {
 }
 
 #[test]
+fn the_first_of_two_parts_is_preferred(rt: HostRuntime) -> Result<(), Fail> {
+    let builder = Builder::new(rt.alloc());
+    let word = builder.plus(builder.range(b'a', b'z'))?;
+    let keyword = builder.literal(b"if")?;
+    let found = engine::first_of_two(rt.alloc(), AsciiWord, keyword, word, b"- if")?;
+    assert!(rt; found.is_some_and(|it| it.pattern() == PatternID::ZERO && it.start() == 2));
+    let word = builder.plus(builder.range(b'a', b'z'))?;
+    let keyword = builder.literal(b"if")?;
+    let found = engine::first_of_two(rt.alloc(), AsciiWord, keyword, word, b"- it")?;
+    assert!(rt; found.is_some_and(|it| it.pattern().as_usize() == 1 && it.start() == 2));
+    Ok(())
+}
+
+#[test]
 fn groups_of_both_parts(rt: HostRuntime) -> Result<(), Fail> {
     let builder = Builder::new(rt.alloc());
     let one = builder.group(Some("a"), builder.range(b'a', b'z'))?;

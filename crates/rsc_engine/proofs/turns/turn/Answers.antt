@@ -12,7 +12,7 @@ turns-init g c =
       low = omega arith;
       high = omega (arith, c.requires.there.2, c.end-end.ensures.end);
       size = refl;
-      turned = λ exit m. turned-none e c.args.visited.now (c.args.looped.fork, c.args.from) (Forks c.args.looped.class exit);
+      turned = λ exit m. turned-none e c.args.visited.now (c.args.looped.fork, c.args.from) (Forks c.args.looped.body exit);
     }
 
 pub turns-preserved : goal.turns-preserved
@@ -26,6 +26,6 @@ turns-preserved g c = record {
 pub returns-then-next-at-clause-turned : goal.returns-then-next-at-clause-turned
 returns-then-next-at-clause-turned g c = λ exit m.
     let e = search_in g.W.WordClass.word_chars c.args.program.now c.args.input.now in
-    subst (λ (k : ℕ). IsTurned e c.args.visited.now c.turn_some-next.new.visited (c.args.looped.fork, c.args.from) (Forks c.args.looped.class exit) k)
+    subst (λ (k : ℕ). IsTurned e c.args.visited.now c.turn_some-next.new.visited (c.args.looped.fork, c.args.from) (Forks c.args.looped.body exit) k)
     c.if-next-at.true
     (c.turn_some-next.ensures.turned c.args.visited.now c.args.from exit c.turns.invariant.low m (c.turns.invariant.turned exit m))

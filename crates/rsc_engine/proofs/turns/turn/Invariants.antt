@@ -12,8 +12,8 @@ invariant-turns g l =
       low : l.from ≤ l.at;
       high : l.at ≤ l.end;
       size : length l.visited ≡ length l.initial.visited;
-      turned : (exit : ℕ) → IsMove e (l.looped.fork, l.from) (Forks l.looped.class exit)
-          → IsTurned e l.initial.visited l.visited (l.looped.fork, l.from) (Forks l.looped.class exit) l.at;
+      turned : (exit : ℕ) → IsMove e (l.looped.fork, l.from) (Forks l.looped.body exit)
+          → IsTurned e l.initial.visited l.visited (l.looped.fork, l.from) (Forks l.looped.body exit) l.at;
     }
 
 abbrev pub decreases-turns : goal.decreases-turns

@@ -5,6 +5,7 @@ use Rattle.rsc_engine.specs.Refusals.{has_a_reversed_range}
 use Rattle.rsc_engine.specs.Parts.{pattern_of, patterns_of, groups_of_pattern, lists_of}
 use Rattle.rsc_engine.proofs.BeginsLayoutLemmas.{Recognizes-built}
 use Rattle.rsc_engine.proofs.GroupEndsLemmas.{RecordsEnds-built}
+use Rattle.rsc_engine.proofs.PatternOrderLemmas.{PrefersLesser-built}
 use Rattle.rsc_engine.proofs.NamesLayoutLemmas.{sound-faulty}
 use Rattle.rsc_engine.proofs.RefusalsLemmas.{faulty-refused}
 use Rattle.rsc_engine.proofs.builder.Builder.build_with.Goals as goal
@@ -22,6 +23,13 @@ returns-clause-ends g c =
     (RecordsEnds-built _ _
     (rw (c.in_ok-nfa.ensures.made, c.deref.ensures.value)
     (rw c.as_slice-2.ensures.value at c.in_ok-states.ensures.0).records))
+
+pub returns-clause-prefers : goal.returns-clause-prefers
+returns-clause-prefers g c =
+    rw c.in-Some.ensures.made
+    (PrefersLesser-built _ _
+    (rw (c.in_ok-nfa.ensures.made, c.deref.ensures.value)
+    (rw c.as_slice-2.ensures.value at c.in_ok-states.ensures.0).prefers))
 
 pub returns-in_err-nfa-clause-refused : goal.returns-in_err-nfa-clause-refused
 returns-in_err-nfa-clause-refused g c =

@@ -1,0 +1,307 @@
+-- Of the matches from a position that of the pattern with the least number is preferred.
+use Rattle.std.proofs.Common.{◌≡◌, ◌≢◌, ℕ, zero, suc, ◌+◌, ◌-◌, ◌<◌, ◌≤◌, ◌⊎◌, inl, inr, ⊎_elim, Bool, List, [], ◌∷◌, length, slice_get, refl, sym, ap, ◌∙◌, subst, arith, Option, Some, None, MatchOption, true}
+use Rattle.std.proofs.lemmas.Bool.{cases_lt, cases_eq}
+use Rattle.std.proofs.lemmas.Option.{slice_get_within}
+use Rattle.rsc_nfa.specs.declared.state.State.{State}
+use Rattle.rsc_nfa.specs.declared.state.State.TheVariants.{ByteRange, Assert, Fork, Capture, Accept}
+use Rattle.rsc_nfa.specs.Steps.{StepsTo, IsStep, IsRun, place}
+use Rattle.rsc_search.specs.Matches.{Matched}
+use Rattle.rsc_engine.specs.Searches.{Search, Compiled, search_in}
+use Rattle.rsc_engine.specs.Runs.{IsPlace, accepts, IsMatchRun, IsMatchOf}
+use Rattle.rsc_engine.specs.Preferred.{IsOnce, IsPreferredTo, IsPreferred}
+use Rattle.rsc_engine.specs.Patterns.{Pattern, Subject, subject_of, HasRunOf}
+use Rattle.rsc_engine.specs.PatternOrder.{PrefersLesser}
+use Rattle.rsc_engine.specs.LinksLayout.{Aim, Ends}
+use Rattle.rsc_engine.specs.BeginsLayout.{AreSteps, last_place, IsBefore, PrefersFrom, Begins, IsOfOne}
+use Rattle.rsc_engine.proofs.GroupEndsLemmas.{step_of, steps_of, last_is}
+use Rattle.rsc_engine.proofs.PreferredLemmas.{same_place}
+use Rattle.rsc_engine.proofs.RunsLemmas.{run-before, step-within}
+use Rattle.rsc_engine.proofs.WalksLayoutLemmas.{leads-rises}
+
+-- ---- from steps to a way to a match
+
+step_end : (state : State) (x : Subject) (end i : ℕ) (q : ℕ × ℕ) → StepsTo state x.terminator x.words x.haystack end i q → i ≤ end → q.1 ≤ end
+step_end (ByteRange a b next) x end i q s l = omega (arith, s.0, s.3)
+step_end (Assert look next) x end i q s l = omega (arith, l, s.2)
+step_end (Fork a b) x end i q s l = omega (arith, l, s.1)
+step_end (Capture slot next) x end i q s l = omega (arith, l, s.1)
+step_end (Accept p) x end i q s l = absurd s
+
+-- a step from a position up to the end leads to another
+leads_end : (states : List State) (x : Subject) (end : ℕ) (p q : ℕ × ℕ) → IsStep states x.terminator x.words x.haystack end p q → p.1 ≤ end → q.1 ≤ end
+leads_end states x end p q step l = go (slice_get states p.0) step
+  where
+    go : (o : Option State) → MatchOption o ⊥ (λ (state : State). StepsTo state x.terminator x.words x.haystack end p.1 q) → q.1 ≤ end
+    go None s = absurd s
+    go (Some state) s = step_end state x end p.1 q s l
+
+abbrev aim_at : Subject → ℕ → ℕ → ℕ × ℕ → Aim
+aim_at x end m p = record { text = x; end = end; pattern = m; position = p.1 }
+
+way_of : (states : List State) (x : Subject) (end m : ℕ) (p : ℕ × ℕ) (rest : List (ℕ × ℕ)) → p.1 ≤ end → AreSteps states x end p rest
+    → slice_get states (last_place p rest).0 ≡ Some (Accept m) → Ends states (aim_at x end m (last_place p rest)) (length rest) p.0 p.1
+way_of states x end m p [] l steps at = (at, refl, l)
+way_of states x end m p (q ∷ rest) l steps at =
+    (l, q.0, q.1, steps.0, way_of states x end m q rest (leads_end states x end p q steps.0 l) steps.1 at)
+
+-- where the state is known
+way_from : (states : List State) (x : Subject) (end m first : ℕ) (p : ℕ × ℕ) (rest : List (ℕ × ℕ)) → p.0 ≡ first → p.1 ≤ end → AreSteps states x end p rest
+    → slice_get states (last_place p rest).0 ≡ Some (Accept m) → Ends states (aim_at x end m (last_place p rest)) (length rest) first p.1
+way_from states x end m first p rest same l steps at =
+    subst (λ (s : ℕ). Ends states (aim_at x end m (last_place p rest)) (length rest) s p.1) same (way_of states x end m p rest l steps at)
+
+-- ---- one pattern, and a fork between patterns
+
+pub PrefersFrom-one : (states : List State) (first number : ℕ) (p : Pattern) → ((a : Aim) (n i : ℕ) → Ends states a n first i → IsOfOne number p a i)
+    → PrefersFrom states first
+PrefersFrom-one states first number p sound = record {
+  before = λ x end m n at one other same l steps others is also lt.
+      let here = sound (aim_at x end m (last_place at one)) (length one) at.1 (way_from states x end m first at one same l steps is) in
+      let there = sound (aim_at x end n (last_place at other)) (length other) at.1 (way_from states x end n first at other same l others also) in
+      absurd (omega (arith, lt, here.0, there.0));
+}
+
+pub PrefersFrom-fork : (states : List State) (s one other : ℕ) (P Q : Aim → ℕ → Type 0) → slice_get states s ≡ Some (Fork one other)
+    → Begins states one P → Begins states other Q → ((a b : Aim) (i j : ℕ) → P a i → Q b j → a.pattern < b.pattern) → PrefersFrom states s
+PrefersFrom-fork states s one other P Q is b c apart = record { before = each }
+  where
+    no_fork : (q : ℕ) → Some (Fork one other) ≡ Some (Accept q) → ⊥
+    no_fork q e = absurd (cc)
+
+    not_there : (p : ℕ × ℕ) (m : ℕ) → p.0 ≡ s → slice_get states p.0 ≡ Some (Accept m) → ⊥
+    not_there p m same at = no_fork m (sym is ∙ (ap (λ (t : ℕ). slice_get states t) (sym same) ∙ at))
+
+    second : (q : ℕ × ℕ) → (q.0 ≡ one) ⊎ (q.0 ≡ other) → (q.0 ≡ one → ⊥) → q.0 ≡ other
+    second q way apart = ⊎_elim (λ (h : q.0 ≡ one). absurd (apart h)) (λ (h : q.0 ≡ other). h) way
+
+    -- both go the same way
+    both : (x : Subject) (end m n first : ℕ) (p q r : ℕ × ℕ) (here there : List (ℕ × ℕ)) → PrefersFrom states first → q.0 ≡ first → r.0 ≡ first
+        → q.1 ≡ p.1 → r.1 ≡ p.1 → q.1 ≤ end → AreSteps states x end q here → AreSteps states x end r there
+        → slice_get states (last_place q here).0 ≡ Some (Accept m) → slice_get states (last_place r there).0 ≡ Some (Accept n) → m < n
+        → IsBefore states p (q ∷ here) (r ∷ there)
+    both x end m n first p q r here there f qf rf qp rp l hs ts hat tat lt =
+        let eq : q ≡ r = same_place q r (qf ∙ sym rf) (qp ∙ sym rp) in
+        inr (
+          eq,
+          f.before x end m n q here there qf l hs (subst (λ (z : ℕ × ℕ). AreSteps states x end z there) (sym eq) ts) hat
+              (subst (λ (z : ℕ × ℕ). slice_get states (last_place z there).0 ≡ Some (Accept n)) (sym eq) tat) lt,
+        )
+
+    each : (x : Subject) (end m n : ℕ) (p : ℕ × ℕ) (here there : List (ℕ × ℕ)) → p.0 ≡ s → p.1 ≤ end → AreSteps states x end p here
+        → AreSteps states x end p there → slice_get states (last_place p here).0 ≡ Some (Accept m)
+        → slice_get states (last_place p there).0 ≡ Some (Accept n) → m < n → IsBefore states p here there
+    each x end m n p [] there same l hs ts hat tat lt = absurd (not_there p m same hat)
+    each x end m n p (q ∷ here) [] same l hs ts hat tat lt = absurd (not_there p n same tat)
+    each x end m n p (q ∷ here) (r ∷ there) same l hs ts hat tat lt =
+        let to_q : ((q.0 ≡ one) ⊎ (q.0 ≡ other)) × (q.1 ≡ p.1) = step_of states x end s p q (Fork one other) same is hs.0 in
+        let to_r : ((r.0 ≡ one) ⊎ (r.0 ≡ other)) × (r.1 ≡ p.1) = step_of states x end s p r (Fork one other) same is ts.0 in
+        let q_in : q.1 ≤ end = omega (arith, l, to_q.1) in
+        let r_in : r.1 ≤ end = omega (arith, l, to_r.1) in
+        ⊎_elim
+        (λ (q_one : q.0 ≡ one). ⊎_elim
+        (λ (r_one : r.0 ≡ one). both x end m n one p q r here there b.prefers q_one r_one to_q.1 to_r.1 q_in hs.1 ts.1 hat tat lt)
+        (λ (r_not : (r.0 ≡ one) → ⊥). inl (one, other, ap (λ (t : ℕ). slice_get states t) same ∙ is, q_one, r_not))
+        (cases_eq r.0 one))
+        (λ (q_not : (q.0 ≡ one) → ⊥). ⊎_elim
+        (λ (r_one : r.0 ≡ one).
+        let less = apart (aim_at x end n (last_place r there)) (aim_at x end m (last_place q here)) r.1 q.1
+        (b.sound (aim_at x end n (last_place r there)) (length there) r.1 (way_from states x end n one r there r_one r_in ts.1 tat))
+        (c.sound (aim_at x end m (last_place q here)) (length here) q.1
+        (way_from states x end m other q here (second q to_q.0 q_not) q_in hs.1 hat)) in
+        absurd (omega (arith, less, lt)))
+        (λ (r_not : (r.0 ≡ one) → ⊥).
+        both x end m n other p q r here there c.prefers (second q to_q.0 q_not) (second r to_r.0 r_not) to_q.1 to_r.1 q_in hs.1 ts.1 hat tat lt)
+        (cases_eq r.0 one))
+        (cases_eq q.0 one)
+
+-- ---- runs of a search
+
+-- a place before both
+before_more : (e : Search) (p : ℕ × ℕ) (one other : List (ℕ × ℕ)) → IsPreferredTo e one other → IsPreferredTo e (p ∷ one) (p ∷ other)
+before_more e p one other x = record {
+  at = suc x.at;
+  a = x.a;
+  b = x.b;
+  within = omega (arith, x.within);
+  other_within = omega (arith, x.other_within);
+  together = together;
+  fork = x.fork;
+  first = rw next x.first;
+  apart = rw next x.apart;
+}
+  where
+    next : suc x.at + 1 ≡ suc (x.at + 1)
+    next = omega arith
+
+    together : (k : ℕ) → k ≤ suc x.at → place (p ∷ one) k ≡ place (p ∷ other) k
+    together zero l = refl
+    together (suc k) l = x.together k (omega (arith, l))
+
+before_is : (e : Search) (p : ℕ × ℕ) (one other : List (ℕ × ℕ)) → IsBefore e.states p one other → IsPreferredTo e (p ∷ one) (p ∷ other)
+before_is e p [] other b = absurd b
+before_is e p (q ∷ one) [] b = absurd b
+before_is e p (q ∷ one) (r ∷ other) (inl f) = record {
+  at = 0;
+  a = f.0;
+  b = f.1;
+  within = omega arith;
+  other_within = omega arith;
+  together = λ k l. let none : k ≡ 0 = omega (arith, l) in rw none refl;
+  fork = f.2;
+  first = f.3;
+  apart = f.4;
+}
+before_is e p (q ∷ one) (r ∷ other) (inr s) =
+    subst (λ (z : ℕ × ℕ). IsPreferredTo e (p ∷ (q ∷ one)) (p ∷ (z ∷ other))) s.0
+    (before_more e p (q ∷ one) (q ∷ other) (before_is e q one other s.1))
+
+lesser_of : (e : Search) (one other : List (ℕ × ℕ)) (found beaten : Matched) → PrefersFrom e.states e.first
+    → IsMatchRun e (e.first, found.span.start) one → IsMatchOf e one found → IsMatchRun e (e.first, found.span.start) other → IsMatchOf e other beaten
+    → found.pattern < beaten.pattern → IsPreferredTo e one other
+lesser_of e [] other found beaten b m f n g l = absurd (omega (arith, m.some))
+lesser_of e (p ∷ one) [] found beaten b m f n g l = absurd (omega (arith, n.some))
+lesser_of e (p ∷ one) (q ∷ other) found beaten b m f n g l =
+    let same : p ≡ q = m.begins ∙ sym n.begins in
+    subst (λ (z : ℕ × ℕ). IsPreferredTo e (p ∷ one) (z ∷ other)) same
+    (before_is e p one other
+    (b.before (subject_of e) e.end found.pattern beaten.pattern p one other (ap (λ (z : ℕ × ℕ). z.0) m.begins) ((m.is_run.places 0 m.some).2)
+    (steps_of e p one m.is_run)
+    (subst (λ (z : ℕ × ℕ). AreSteps e.states (subject_of e) e.end z other) (sym same) (steps_of e q other n.is_run))
+    (ap (λ (z : ℕ × ℕ). slice_get e.states z.0) (sym (last_is p one)) ∙ f.pattern)
+    (subst (λ (z : ℕ × ℕ). slice_get e.states (last_place z other).0 ≡ Some (Accept beaten.pattern)) (sym same)
+    (ap (λ (z : ℕ × ℕ). slice_get e.states z.0) (sym (last_is q other)) ∙ g.pattern))
+    l))
+
+pub PrefersLesser-built : {W : Type 0} (chars : W → ℕ → Bool) (program : Compiled W) → PrefersFrom program.automaton.states program.start
+    → PrefersLesser chars program
+PrefersLesser-built chars program b = record {
+  lesser = λ input one other found beaten m f n g l. lesser_of (search_in chars program input) one other found beaten b m f n g l;
+}
+
+-- ---- a run that comes to no place twice
+
+-- the place is one of these
+abbrev IsAmong : ℕ × ℕ → List (ℕ × ℕ) → Type 0
+IsAmong p [] = ⊥
+IsAmong p (q ∷ rest) = (p ≡ q) ⊎ IsAmong p rest
+
+-- none of these places is there twice
+abbrev AreDistinct : List (ℕ × ℕ) → Type 0
+AreDistinct [] = Unit {0}
+AreDistinct (p ∷ rest) = (IsAmong p rest → ⊥) × AreDistinct rest
+
+same_or_not : (p q : ℕ × ℕ) → (p ≡ q) ⊎ (p ≡ q → ⊥)
+same_or_not p q = ⊎_elim
+    (λ (a : p.0 ≡ q.0). ⊎_elim
+    (λ (b : p.1 ≡ q.1). inl (same_place p q a b))
+    (λ (no : (p.1 ≡ q.1) → ⊥). inr (λ e. no (ap (λ (z : ℕ × ℕ). z.1) e)))
+    (cases_eq p.1 q.1))
+    (λ (no : (p.0 ≡ q.0) → ⊥). inr (λ e. no (ap (λ (z : ℕ × ℕ). z.0) e)))
+    (cases_eq p.0 q.0)
+
+among_or_not : (p : ℕ × ℕ) (rest : List (ℕ × ℕ)) → IsAmong p rest ⊎ (IsAmong p rest → ⊥)
+among_or_not p [] = inr (λ h. h)
+among_or_not p (q ∷ rest) = ⊎_elim
+    (λ (e : p ≡ q). inl (inl e))
+    (λ (no : p ≡ q → ⊥). ⊎_elim
+    (λ (h : IsAmong p rest). inl (inr h))
+    (λ (none : IsAmong p rest → ⊥). inr (λ h. ⊎_elim (λ (e : p ≡ q). no e) (λ (y : IsAmong p rest). none y) h))
+    (among_or_not p rest))
+    (same_or_not p q)
+
+among : (k : ℕ) (rest : List (ℕ × ℕ)) → k < length rest → IsAmong (place rest k) rest
+among k [] l = absurd (omega (arith, l))
+among zero (q ∷ rest) l = inl refl
+among (suc k) (q ∷ rest) l = inr (among k rest (omega (arith, l)))
+
+once_of : (run : List (ℕ × ℕ)) → AreDistinct run → (j k : ℕ) → j < k → k < length run → place run j ≡ place run k → ⊥
+once_of [] d j k l h e = absurd (omega (arith, h))
+once_of (p ∷ rest) d j zero l h e = absurd (omega (arith, l))
+once_of (p ∷ rest) d zero (suc k) l h e = d.0 (subst (λ (z : ℕ × ℕ). IsAmong z rest) (sym e) (among k rest (omega (arith, h))))
+once_of (p ∷ rest) d (suc j) (suc k) l h e = once_of rest d.1 j k (omega (arith, l)) (omega (arith, h)) e
+
+-- steps from a place to another, which come to no place twice
+record Short (states : List State) (x : Subject) (end : ℕ) (p last : ℕ × ℕ) : Type 0 where
+  rest : List (ℕ × ℕ)
+  steps : AreSteps states x end p rest
+  ends : last_place p rest ≡ last
+  once : AreDistinct (p ∷ rest)
+
+-- of such steps those from a place on
+cut : (states : List State) (x : Subject) (end : ℕ) (p q last : ℕ × ℕ) (rest : List (ℕ × ℕ)) → AreSteps states x end q rest → last_place q rest ≡ last
+    → AreDistinct (q ∷ rest) → IsAmong p (q ∷ rest) → Short states x end p last
+cut states x end p q last rest steps ends once (inl e) =
+    subst (λ (z : ℕ × ℕ). Short states x end z last) (sym e) (record { rest = rest; steps = steps; ends = ends; once = once })
+cut states x end p q last [] steps ends once (inr h) = absurd h
+cut states x end p q last (r ∷ rest) steps ends once (inr h) = cut states x end p r last rest steps.1 ends once.1 h
+
+shorten : (states : List State) (x : Subject) (end : ℕ) (p : ℕ × ℕ) (rest : List (ℕ × ℕ)) → AreSteps states x end p rest
+    → Short states x end p (last_place p rest)
+shorten states x end p [] steps = record { rest = []; steps = tt; ends = refl; once = (λ h. h, tt) }
+shorten states x end p (q ∷ rest) steps =
+    let s = shorten states x end q rest steps.1 in
+    ⊎_elim
+    (λ (h : IsAmong p (q ∷ s.rest)). cut states x end p q (last_place q rest) s.rest s.steps s.ends s.once h)
+    (λ (no : IsAmong p (q ∷ s.rest) → ⊥).
+    record { rest = q ∷ s.rest; steps = (steps.0, s.steps); ends = s.ends; once = (no, s.once) })
+    (among_or_not p (q ∷ s.rest))
+
+is_run_of : (e : Search) (p : ℕ × ℕ) (rest : List (ℕ × ℕ)) → (last_place p rest).0 < length e.states → e.start ≤ p.1 → p.1 ≤ e.end
+    → AreSteps e.states (subject_of e) e.end p rest → IsRun e.states e.terminator e.words e.haystack e.start e.end (p ∷ rest)
+is_run_of e p [] there low high steps = run-before e p [] (there, low, high) (λ l. absurd (omega (arith, l)))
+    (record { places = λ k l. absurd (omega (arith, l)); steps = λ k l. absurd (omega (arith, l)) })
+is_run_of e p (q ∷ rest) there low high steps = run-before e p (q ∷ rest) (step-within e p q steps.0, low, high) (λ l. steps.0)
+    (is_run_of e q rest there (omega (arith, low, leads-rises e p q steps.0)) (leads_end e.states (subject_of e) e.end p q steps.0 high) steps.1)
+
+-- a run to a match that comes to no place twice
+record Once (e : Search) (found : Matched) : Type 0 where
+  run : List (ℕ × ℕ)
+  is_match : IsMatchRun e (e.first, found.span.start) run
+  makes : IsMatchOf e run found
+  once : IsOnce run
+
+once_run : (e : Search) (found : Matched) (run : List (ℕ × ℕ)) → IsMatchRun e (e.first, found.span.start) run → IsMatchOf e run found → Once e found
+once_run e found [] m f = absurd (omega (arith, m.some))
+once_run e found (p ∷ rest) m f = record {
+  run = p ∷ s.rest;
+  is_match = record {
+    is_run = is_run_of e p s.rest (slice_get_within e.states (last_place p s.rest).0 (Accept found.pattern) at) ((m.is_run.places 0 m.some).1)
+        ((m.is_run.places 0 m.some).2) s.steps;
+    some = omega arith;
+    begins = m.begins;
+    ends = subst (λ (z : ℕ × ℕ). accepts e z ≡ true) last m.ends;
+  };
+  makes = record {
+    pattern = ap (λ (z : ℕ × ℕ). slice_get e.states z.0) (sym last) ∙ f.pattern;
+    start = f.start;
+    end = f.end ∙ ap (λ (z : ℕ × ℕ). z.1) last;
+  };
+  once = λ j k l h e. once_of (p ∷ s.rest) s.once j k l h e;
+}
+  where
+    s : Short e.states (subject_of e) e.end p (last_place p rest)
+    s = shorten e.states (subject_of e) e.end p rest (steps_of e p rest m.is_run)
+
+    last : place (p ∷ rest) (length (p ∷ rest) - 1) ≡ place (p ∷ s.rest) (length (p ∷ s.rest) - 1)
+    last = last_is p rest ∙ (sym s.ends ∙ sym (last_is p s.rest))
+
+    at : slice_get e.states (last_place p s.rest).0 ≡ Some (Accept found.pattern)
+    at = ap (λ (z : ℕ × ℕ). slice_get e.states z.0) (s.ends ∙ sym (last_is p rest)) ∙ f.pattern
+
+-- ---- the least pattern
+
+-- in the search, of runs from one place to matches of two patterns, the lesser pattern's is preferred
+abbrev Prefers : Search → Type 0
+Prefers e = (one other : List (ℕ × ℕ)) (found beaten : Matched) → IsMatchRun e (e.first, found.span.start) one → IsMatchOf e one found
+    → IsMatchRun e (e.first, found.span.start) other → IsMatchOf e other beaten → found.pattern < beaten.pattern → IsPreferredTo e one other
+
+pub is_least : (e : Search) (run : List (ℕ × ℕ)) (found other : Matched) → Prefers e → IsPreferred e (e.first, (place run 0).1) run
+    → IsMatchOf e run found → HasRunOf e other → other.span.start ≡ found.span.start → found.pattern ≤ other.pattern
+is_least e run found other prefers first f h same = ⊎_elim
+    (λ (l : other.pattern < found.pattern).
+    let o = once_run e other h.run h.is_match h.makes in
+    let start : other.span.start ≡ (place run 0).1 = same ∙ f.start in
+    absurd (first.first o.run (subst (λ (i : ℕ). IsMatchRun e (e.first, i) o.run) start o.is_match) o.once
+    (prefers o.run run other found o.is_match o.makes (subst (λ (i : ℕ). IsMatchRun e (e.first, i) run) (sym start) first.is_match) f l)))
+    (λ (le : found.pattern ≤ other.pattern). le)
+    (cases_lt other.pattern found.pattern)
