@@ -18,8 +18,7 @@ mod plan;
 mod successor;
 mod table;
 
-use crate::first::{end_from, find_from, is_match_by, is_match_by_walk};
-use crate::starts::Starts;
+use crate::first::{end_from, find_from, is_match_by_walk};
 use crate::{AsciiWords, Error, Program};
 use entries::Step;
 use lawful::steps_are_lawful;
@@ -122,7 +121,7 @@ impl<'p, W: WordClass + AsciiWords> Dfa<'p, W> {
             start,
             end: start + NEAR,
         });
-        match is_match_by(self.alloc, self.plan.program, &near, &Starts::any(self.alloc)) {
+        match is_match_by_walk(self.alloc, self.plan.program, &near) {
             Ok(found) => found,
             Err(_) => false,
         }

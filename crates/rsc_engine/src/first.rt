@@ -3,7 +3,6 @@ ghost use Rattle.std.specs.Prelude.{◌≡◌, ◌≤◌, IfOk, IfErr, IfSome, I
 ghost use Rattle.rsc_engine.specs.Searches.{search_in, FailsFor};
 ghost use Rattle.rsc_engine.specs.Preferred.{IsLeftmostFirst, IsFirstMatch, HasNone, IsCleared};
 ghost use Rattle.rsc_engine.specs.Ends.{BeginsFrom, IsLeftmostEnd};
-ghost use Rattle.rsc_engine.specs.StartsLayout.{AreStarts};
 ghost use Rattle.rsc_engine.specs.TrailsLayout.{run_of};
 
 use crate::backtrack::Walk;
@@ -103,24 +102,8 @@ pub(crate) fn is_match_by_walk<W: WordClass>(
     ensures none { IfOk result (λ found. found ≡ false → HasNone (search_in W.word_chars program.now input.now)) }
     ensures refused { IfErr result (FailsFor (search_in W.word_chars program.now input.now)) }
 {
-    let starts = Starts::new(alloc, program)?;
-    is_match_by(alloc, program, input, &starts)
-}
-
-/// The same, where it's known with which bytes a match may begin.
-pub(crate) fn is_match_by<W: WordClass>(
-    alloc: Global,
-    program: &Program<W>,
-    input: &Input<'_>,
-    starts: &Starts,
-) -> Result<bool, Error>
-    requires { starts.now.known ≡ true → AreStarts program.now.automaton.states program.now.start starts.now.marks.items starts.now.bytes.items }
-    ensures some { IfOk result (λ found. found ≡ true → ¬ (HasNone (search_in W.word_chars program.now input.now))) }
-    ensures none { IfOk result (λ found. found ≡ false → HasNone (search_in W.word_chars program.now input.now)) }
-    ensures refused { IfErr result (FailsFor (search_in W.word_chars program.now input.now)) }
-{
     crate::laws::there_is_one_first_match();
-    let Some(_) = run_by(alloc, program, input, starts, input.start())? else {
+    let Some(_) = first_run(alloc, program, input, input.start())? else {
         return Ok(false);
     };
     Ok(true)
@@ -141,27 +124,9 @@ fn first_run<W: WordClass>(
     ensures refused { IfErr result (FailsFor (search_in W.word_chars program.now input.now)) }
 {
     let starts = Starts::new(alloc, program)?;
-    run_by(alloc, program, input, &starts, from)
-}
-
-// The same, where it's known with which bytes a match may begin.
-fn run_by<W: WordClass>(
-    alloc: Global,
-    program: &Program<W>,
-    input: &Input<'_>,
-    starts: &Starts,
-    from: usize,
-) -> Result<Option<Walk>, Error>
-    requires from { BeginsFrom (search_in W.word_chars program.now input.now) from }
-    requires starts { starts.now.known ≡ true → AreStarts program.now.automaton.states program.now.start starts.now.marks.items starts.now.bytes.items }
-    ensures found { IfOk result (λ found. IfSome found (λ walk.
-        IsLeftmostFirst (search_in W.word_chars program.now input.now) (run_of program.now.automaton.states walk.trail.items))) }
-    ensures none { IfOk result (λ found. IfNone found (HasNone (search_in W.word_chars program.now input.now))) }
-    ensures refused { IfErr result (FailsFor (search_in W.word_chars program.now input.now)) }
-{
     let mut walk = Walk::new(alloc, program.start());
     walk.open(alloc, flags_needed(program, input)?)?;
-    if !walk.search(program, input, starts, from)? {
+    if !walk.search(program, input, &starts, from)? {
         return Ok(None);
     }
     Ok(Some(walk))

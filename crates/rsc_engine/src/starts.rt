@@ -25,17 +25,6 @@ pub struct Starts {
 }
 
 impl Starts {
-    /// Any bytes: nothing is looked for, and a match may begin anywhere.
-    pub fn any(alloc: Global) -> Starts
-        ensures { result.known ≡ false }
-    {
-        Starts {
-            marks: Vec::new(alloc),
-            bytes: Vec::new(alloc),
-            known: false,
-        }
-    }
-
     /// The bytes with which a match of the program may begin.
     pub fn new<W: WordClass>(alloc: Global, program: &Program<W>) -> Result<Starts, Error>
         ensures starts { IfOk result (λ s. s.known ≡ true → AreStarts program.now.automaton.states program.now.start s.marks.items s.bytes.items) }

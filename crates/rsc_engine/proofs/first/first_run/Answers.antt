@@ -1,5 +1,5 @@
 use Rattle.rsc_engine.specs.Searches.{search_in}
-use Rattle.rsc_engine.proofs.first.run_by.Goals as goal
+use Rattle.rsc_engine.proofs.first.first_run.Goals as goal
 
 pub search-requires-clause-closed : goal.search-requires-clause-closed
 search-requires-clause-closed g c =
