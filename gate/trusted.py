@@ -39,7 +39,7 @@ def tokens(text):
     return set(re.findall(r"[^\s(){}\[\],;.]+", re.sub(r"--.*", "", text)))
 
 
-# The main statement: the clauses of these functions, what the two choices of word characters mean, and what a clause sees of a value.
+# The main statement: the clauses of these functions, what the two word predicates mean, and what a clause sees of a value.
 MAIN = {"classes_of": "rsc_look/src/boundaries.rt", "matches": "rsc_look/src/matcher.rt"}
 MEANT = (("rsc_look/src/word.rt", r"ghost word_chars = .*?;"), ("rsc_look/src/matcher.rt", r"impl<W: WordClass> Model for .*?^\}"),
          ("rsc_alphabet/src/byte_classes.rt", r"impl Model for ByteClasses .*?^\}"))

@@ -3,7 +3,7 @@ use Rattle.std.proofs.Common.{◌≡◌, true, ℕ, ◌+◌, ◌<◌, ◌≤◌,
 use Rattle.std.proofs.lemmas.Bool.{cases_lt, cases_eq, cases_order}
 use Rattle.rsc_nfa.specs.Steps.{place}
 use Rattle.rsc_captures.specs.Captured.{Captured}
-use Rattle.rsc_primitives.specs.Decoding.{IsBoundary}
+use Rattle.rsc_primitives.specs.Decoding.{IsCharBoundary}
 use Rattle.rsc_search.specs.Inputs.{InputParts}
 use Rattle.rsc_search.specs.Matches.{Matched}
 use Rattle.rsc_search.specs.declared.anchored.Anchored.TheVariants.{No}
@@ -147,21 +147,21 @@ no_repeat_run e last run m ends apart r =
     apart empty (r.there ∙ ap (λ (n : ℕ). Some n) here)
 
 split_run : (e f : Search) (run : List (ℕ × ℕ)) (m : Matched) → IsMatchOf f run m
-    → (e.utf8 ≡ true) × (m.span.start ≡ m.span.end) × (¬ (IsBoundary e.haystack m.span.end)) → IsSplit e run
+    → (e.utf8 ≡ true) × (m.span.start ≡ m.span.end) × (¬ (IsCharBoundary e.haystack m.span.end)) → IsSplit e run
 split_run e f run m ends s =
     let here : m.span.end ≡ (place run 0).1 = sym s.1 ∙ ends.start in
     record {
       utf8 = s.0;
       empty = sym here ∙ ends.end;
-      within = subst (λ (n : ℕ). ¬ (IsBoundary e.haystack n)) here s.2;
+      within = subst (λ (n : ℕ). ¬ (IsCharBoundary e.haystack n)) here s.2;
     }
 
 no_split_run : (e f : Search) (run : List (ℕ × ℕ)) (m : Matched) → IsMatchOf f run m
-    → (e.utf8 ≡ true → m.span.start ≡ m.span.end → IsBoundary e.haystack m.span.end) → ¬ (IsSplit e run)
+    → (e.utf8 ≡ true → m.span.start ≡ m.span.end → IsCharBoundary e.haystack m.span.end) → ¬ (IsSplit e run)
 no_split_run e f run m ends whole s =
     let empty : m.span.start ≡ m.span.end = ends.start ∙ s.empty ∙ sym ends.end in
     let here : (place run 0).1 ≡ m.span.end = sym ends.start ∙ empty in
-    subst (λ (n : ℕ). ¬ (IsBoundary e.haystack n)) here s.within (whole s.utf8 empty)
+    subst (λ (n : ℕ). ¬ (IsCharBoundary e.haystack n)) here s.within (whole s.utf8 empty)
 
 -- a start is set again
 on_more : (input now next : InputParts) (a b : ℕ) → now ≡ from_start input a → next ≡ from_start now b → next ≡ from_start input next.span.start
@@ -206,11 +206,11 @@ module _ {W : Type 0} (chars : W → ℕ → Bool) (p q : Compiled W) (input now
     }
 
     pub turn_next : (m.span.start ≡ m.span.end → ¬ (ended ≡ Some m.span.end))
-        → (after.utf8 ≡ true → m.span.start ≡ m.span.end → IsBoundary mid.haystack m.span.end) → IsNext (search_in chars p input) last run
+        → (after.utf8 ≡ true → m.span.start ≡ m.span.end → IsCharBoundary mid.haystack m.span.end) → IsNext (search_in chars p input) last run
     turn_next apart whole =
         next_is (search_in chars p input) now.span.start input.span.start last run t.moved first_there (not_again apart)
         (no_split_run (search_in chars p input) (search_in chars q now) run m is_of.ends
-        (λ text empty. subst (λ (x : List ℕ). IsBoundary x m.span.end) (ap (λ (x : InputParts). x.haystack) same_parts)
+        (λ text empty. subst (λ (x : List ℕ). IsCharBoundary x m.span.end) (ap (λ (x : InputParts). x.haystack) same_parts)
         (whole (ap (λ x. x.utf8) (kept ∙ t.program) ∙ text) empty)))
 
     pub turn_repeat : (next : InputParts) → (m.span.start ≡ m.span.end) × (ended ≡ Some m.span.end) → next ≡ from_start mid (m.span.end + 1)
@@ -221,7 +221,7 @@ module _ {W : Type 0} (chars : W → ℕ → Bool) (p q : Compiled W) (input now
         (rw here (moved_repeat (search_in chars p input) now.span.start input.span.start last run t.moved first_there
         (repeat_run (search_in chars q now) last run m is_of.ends (r.0, sym t.last_end ∙ sym same ∙ r.1))))
 
-    pub turn_split : (next : InputParts) (b : ℕ) → (after.utf8 ≡ true) × (m.span.start ≡ m.span.end) × (¬ (IsBoundary mid.haystack m.span.end))
+    pub turn_split : (next : InputParts) (b : ℕ) → (after.utf8 ≡ true) × (m.span.start ≡ m.span.end) × (¬ (IsCharBoundary mid.haystack m.span.end))
         → (m.span.start ≡ m.span.end → ¬ (ended ≡ Some m.span.end))
         → (¬ (mid.anchored ≡ No) → b ≡ mid.span.end + 1) → (mid.anchored ≡ No → b ≡ m.span.end + 1) → next ≡ from_start mid b
         → IsTurn chars p after input next last ended
@@ -234,7 +234,7 @@ module _ {W : Type 0} (chars : W → ℕ → Bool) (p q : Compiled W) (input now
         splits = split_run (search_in chars p input) (search_in chars q now) run m is_of.ends (
           sym (ap (λ x. x.utf8) (kept ∙ t.program)) ∙ s.0,
           s.1,
-          subst (λ (x : List ℕ). ¬ (IsBoundary x m.span.end)) (ap (λ (x : InputParts). x.haystack) same_parts) s.2,
+          subst (λ (x : List ℕ). ¬ (IsCharBoundary x m.span.end)) (ap (λ (x : InputParts). x.haystack) same_parts) s.2,
         )
 
         go : (input.anchored ≡ No) ⊎ (¬ (input.anchored ≡ No)) → IsMoved (search_in chars p input) last b

@@ -1,7 +1,7 @@
 -- Which match is next; `last` is where the last one ended, if there was one.
 use Rattle.std.specs.Prelude.{◌≡◌, ℕ, ◌-◌, ◌<◌, ◌≤◌, ◌⊎◌, Bool, true, List, [], ◌∷◌, length, Option, Some}
 use Rattle.rsc_nfa.specs.Steps.{place}
-use Rattle.rsc_primitives.specs.Decoding.{IsBoundary}
+use Rattle.rsc_primitives.specs.Decoding.{IsCharBoundary}
 use Rattle.rsc_search.specs.declared.anchored.Anchored.TheVariants.{No}
 use Rattle.rsc_search.specs.Inputs.{InputParts}
 use Rattle.rsc_search.specs.Matches.{Matched}
@@ -23,7 +23,7 @@ pub record IsRepeat (last : Option ℕ) (run : List (ℕ × ℕ)) : Type 0 where
 pub record IsSplit (e : Search) (run : List (ℕ × ℕ)) : Type 0 where
   pub utf8 : e.utf8 ≡ true
   pub empty : IsEmpty run
-  pub within : ¬ (IsBoundary e.haystack (place run 0).1)
+  pub within : ¬ (IsCharBoundary e.haystack (place run 0).1)
 
 -- the preferred match from the position is a repeat
 pub record IsRepeated (e : Search) (last : Option ℕ) (at : ℕ) : Type 0 where

@@ -36,7 +36,7 @@ pub record Search : Type 0 where
   pub end : ℕ
   pub mode : Anchored
 
--- the search of an input by a program; chars are the word characters of a choice of them
+-- the search of an input by a program; chars gives the word characters of a predicate
 abbrev pub search_in : {W : Type 0} → (W → ℕ → Bool) → Compiled W → InputParts → Search
 search_in chars p input = record {
   states = p.automaton.states;

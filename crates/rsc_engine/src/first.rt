@@ -20,6 +20,8 @@ use std::alloc::Global;
 /// The leftmost-first match in an input's span: of the matches that begin first, the one that the forks prefer. Its groups are in
 /// the captures afterwards; without a match, and after an error, no slot is set.
 ///
+/// The match may be empty, and then within a character: only an iteration leaves such matches out.
+///
 /// An anchored input's match begins at the span's start, and with `Anchored::Pattern` only that pattern may match.
 ///
 /// # Errors

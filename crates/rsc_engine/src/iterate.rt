@@ -2,7 +2,7 @@
 ghost use Rattle.std.specs.Prelude.{◌≡◌, ◌+◌, ◌<◌, ◌≤◌, ℕ, IfOk, IfErr, IfSome, IfNone, OnErr, MatchOption, None, Some, false, true, length, slice_index_or};
 ghost use Rattle.std.specs.Option.{ForSome};
 ghost use Rattle.rsc_search.specs.declared.anchored.Anchored.TheVariants.{No};
-ghost use Rattle.rsc_primitives.specs.Decoding.{IsBoundary};
+ghost use Rattle.rsc_primitives.specs.Decoding.{IsCharBoundary};
 ghost use Rattle.rsc_engine.specs.declared.error.Error.TheVariants.{OutOfMemory, TooLarge};
 ghost use Rattle.rsc_engine.specs.Searches.{search_in, FailsFor};
 ghost use Rattle.rsc_engine.specs.GroupsLayout.{IsInSpan};
@@ -260,9 +260,9 @@ impl<'p, 'h, W: WordClass + AsciiWords> Rest<'p, 'h, W> {
     // Whether the program is in UTF-8 mode, and a match is empty and within a character.
     fn splits(&self, found: &Match) -> bool
         ensures yes { result ≡ true → (self.now.program.now.utf8 ≡ true) × (found.now.span.start ≡ found.now.span.end)
-            × (¬ (IsBoundary self.now.input.haystack found.now.span.end)) }
+            × (¬ (IsCharBoundary self.now.input.haystack found.now.span.end)) }
         ensures no { result ≡ false → self.now.program.now.utf8 ≡ true → found.now.span.start ≡ found.now.span.end →
-            IsBoundary self.now.input.haystack found.now.span.end }
+            IsCharBoundary self.now.input.haystack found.now.span.end }
     {
         self.program.is_utf8() && found.is_empty() && !self.input.is_char_boundary(found.end())
     }

@@ -7,7 +7,7 @@ use Rattle.std.proofs.lemmas.List.{take_all, take_more}
 use Rattle.std.proofs.lemmas.List.Folds.{list_any-append}
 use Rattle.std.proofs.Math.Bool.{or-false}
 use Rattle.rsc_look.proofs.Prelude.{HasBoundariesOf, Numbers, boundaries_of_range, class_map, contains-joined, contains-boundaries_of_range, class_map_same, Look, Start, End, StartLF, EndLF, StartCRLF, EndCRLF, is_word_byte, WordAscii, WordAsciiNegate, WordStartAscii, WordEndAscii, WordStartHalfAscii, WordEndHalfAscii, byte_before, is_byte, is_word_neighbor, holds_at_bytes, Together, AreInterchanged}
-use Rattle.rsc_look.specs.Boundaries.{word_boundaries, boundaries_of, boundaries_of_each}
+use Rattle.rsc_look.specs.Boundaries.{word_byte_boundaries, boundaries_of, boundaries_of_each}
 use Rattle.std.proofs.lemmas.Bool.Decides.{nat_tests}
 use Rattle.std.proofs.lemmas.Option.{slice_get-get_or, slice_get_past}
 use Rattle.std.proofs.lemmas.Bool.{or_left, or_right, cases_lt}
@@ -19,12 +19,12 @@ abbrev pub is_boundary_of_byte : ℕ → ℕ → Bool
 is_boundary_of_byte t b = (nat_lt 0 t && nat_eq (t - 1) b) || (nat_lt t 255 && nat_eq t b)
 
 -- the boundaries of the word bytes
-abbrev pub word_boundary_numbers : List ℕ
-word_boundary_numbers = 0x2F ∷ 0x39 ∷ 0x40 ∷ 0x5A ∷ 0x5E ∷ 0x5F ∷ 0x60 ∷ 0x7A ∷ []
+abbrev pub word_byte_boundary_numbers : List ℕ
+word_byte_boundary_numbers = 0x2F ∷ 0x39 ∷ 0x40 ∷ 0x5A ∷ 0x5E ∷ 0x5F ∷ 0x60 ∷ 0x7A ∷ []
 
 -- whether a word byte and another are next to each other
-abbrev pub is_word_boundary : ℕ → Bool
-is_word_boundary b = list_any (λ x. nat_eq x b) word_boundary_numbers
+abbrev pub is_word_byte_boundary : ℕ → Bool
+is_word_byte_boundary b = list_any (λ x. nat_eq x b) word_byte_boundary_numbers
 
 -- the boundaries of an assertion, and of a list of assertions
 abbrev pub is_boundary_of : Look → ℕ → ℕ → Bool
@@ -34,16 +34,16 @@ is_boundary_of StartLF t b = is_boundary_of_byte t b
 is_boundary_of EndLF t b = is_boundary_of_byte t b
 is_boundary_of StartCRLF t b = is_boundary_of_byte 13 b || is_boundary_of_byte 10 b
 is_boundary_of EndCRLF t b = is_boundary_of_byte 13 b || is_boundary_of_byte 10 b
-is_boundary_of _ t b = is_word_boundary b
+is_boundary_of _ t b = is_word_byte_boundary b
 
 -- the boundaries of a list's assertions as a test
 abbrev pub is_boundary_of_each : List Look → ℕ → ℕ → Bool
 is_boundary_of_each looks t b = list_any (λ l. is_boundary_of l t b) looks
 
 -- the tests agree with the sets that the definitions name
-pub contains-word_boundaries : (b : ℕ) → sets.contains word_boundaries b ≡ is_word_boundary b
-unfolding word_boundaries
-contains-word_boundaries b = contains-from_list_nat word_boundary_numbers b
+pub contains-word_byte_boundaries : (b : ℕ) → sets.contains word_byte_boundaries b ≡ is_word_byte_boundary b
+unfolding word_byte_boundaries
+contains-word_byte_boundaries b = contains-from_list_nat word_byte_boundary_numbers b
 
 crlf : (b : ℕ) → sets.contains (sets.union (boundaries_of_range (13, 13)) (boundaries_of_range (10, 10))) b ≡
     (is_boundary_of_byte 13 b || is_boundary_of_byte 10 b)
@@ -58,7 +58,7 @@ contains-boundaries_of StartLF t b = contains-boundaries_of_range t t b
 contains-boundaries_of EndLF t b = contains-boundaries_of_range t t b
 contains-boundaries_of StartCRLF t b = crlf b
 contains-boundaries_of EndCRLF t b = crlf b
-contains-boundaries_of _ t b = contains-word_boundaries b
+contains-boundaries_of _ t b = contains-word_byte_boundaries b
 
 -- the test of a list tells the boundaries of its members
 pub contains-boundaries_of_each : (looks : List Look) (t b : ℕ) → sets.contains (boundaries_of_each looks t) b ≡ is_boundary_of_each looks t b
@@ -126,9 +126,9 @@ is_word_byte-between : (a : ℕ)
 is_word_byte-between a = rw (above 0x2F a, above 0x40 a, above 0x60 a, at_low_line a)
 
 -- bytes that are together are both word bytes, or neither is
-pub Together-is_word_byte : (p : ℕ → Bool) (a b : ℕ) → HasBoundariesOf p is_word_boundary → Together p a b → is_word_byte a ≡ is_word_byte b
+pub Together-is_word_byte : (p : ℕ → Bool) (a b : ℕ) → HasBoundariesOf p is_word_byte_boundary → Together p a b → is_word_byte a ≡ is_word_byte b
 Together-is_word_byte p a b s h =
-    let go : (x : ℕ) → x < 255 → is_word_boundary x ≡ true → leb a x ≡ leb b x = λ x l m. Together-leb-boundary p is_word_boundary a b x s h l m in
+    let go : (x : ℕ) → x < 255 → is_word_byte_boundary x ≡ true → leb a x ≡ leb b x = λ x l m. Together-leb-boundary p is_word_byte_boundary a b x s h l m in
     let e1 = go 0x2F (omega arith) refl in
     let e2 = go 0x39 (omega arith) refl in
     let e3 = go 0x40 (omega arith) refl in
@@ -170,7 +170,7 @@ same_byte p None None t s h = refl
 same_byte p (Some a) (Some b) t s h = Together-eqb p a b t h.0 h.1 s h.2
 same_byte p _ _ t s h = absurd h
 
-same_word : (p : ℕ → Bool) (a b : Option ℕ) → HasBoundariesOf p is_word_boundary → TogetherAt p a b → is_word_neighbor a ≡ is_word_neighbor b
+same_word : (p : ℕ → Bool) (a b : Option ℕ) → HasBoundariesOf p is_word_byte_boundary → TogetherAt p a b → is_word_neighbor a ≡ is_word_neighbor b
 same_word p None None s h = refl
 same_word p (Some a) (Some b) s h = Together-is_word_byte p a b s h.2
 same_word p _ _ s h = absurd h

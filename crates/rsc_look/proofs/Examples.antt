@@ -49,8 +49,8 @@ boundary_before_last = contains-boundaries_of EndLF 255 254
 no_boundary_after_last : sets.contains (boundaries_of EndLF 255) 255 ≡ false
 no_boundary_after_last = contains-boundaries_of EndLF 255 255
 
-word_boundary : sets.contains (boundaries_of WordAscii 10) 0x5E ≡ true
-word_boundary = contains-boundaries_of WordAscii 10 0x5E
+word_byte_boundary : sets.contains (boundaries_of WordAscii 10) 0x5E ≡ true
+word_byte_boundary = contains-boundaries_of WordAscii 10 0x5E
 
 -- the set of all assertions
 bits_of_all : bits_of (sets.from_list every_look) ≡ 262143

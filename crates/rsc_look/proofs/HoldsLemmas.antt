@@ -3,7 +3,7 @@ use Rattle.std.specs.Bool.{beq}
 use Rattle.std.proofs.Common.{cond, not, ◌&&◌, ap₂, ◌≡◌, ◌↔◌, ℕ, ◌-◌, ◌<◌, ◌≤◌, Bool, true, false, List, length, get_or, refl, sym, ap, ◌∙◌, subst, arith, inl, inr, ⊎_elim, true≢false, IsTrue}
 use Rattle.std.proofs.lemmas.Bool.{cases_eq, cases_Bool, false_from_ne_true}
 use Rattle.rsc_look.proofs.Prelude.{HasBoundariesOf, is_word_byte, BeginsAt, EndsAt, EncodedFrom, AgreePastAscii, EncodedFrom-agree, BeginsAt-same, EndsAt-same, Look, Side, Absent, Invalid, Word, Other, IsBefore, IsAfter, HoldsAtSides, holds_at_sides, exactly_one, is_invalid, is_word_side, is_absent_or_other, Holds, WordUnicode, WordUnicodeNegate, WordStartUnicode, WordEndUnicode, WordStartHalfUnicode, WordEndHalfUnicode, BeginsAt-decided, EndsAt-decided, IsSideOf, is_unicode, AreInterchanged, DifferInAscii, AgreesWithAscii, IsInside, IsInside-begins, IsInside-ends}
-use Rattle.rsc_look.proofs.BoundariesLemmas.{is_word_boundary, Together-is_word_byte}
+use Rattle.rsc_look.proofs.BoundariesLemmas.{is_word_byte_boundary, Together-is_word_byte}
 
 -- an encoding has some bytes, so no character ends at the start and none begins at the end
 some_bytes : (h : List ℕ) (i j c : ℕ) → EncodedFrom h i j c → j ≤ i → ⊥
@@ -134,7 +134,7 @@ HoldsAtSides-moves l W h k i s p =
     }
 
 -- interchanged haystacks have it in common
-pub Interchange-from : (p : ℕ → Bool) (W : ℕ → Bool) (h k : List ℕ) → AgreesWithAscii W → HasBoundariesOf p is_word_boundary → AreInterchanged p h k
+pub Interchange-from : (p : ℕ → Bool) (W : ℕ → Bool) (h k : List ℕ) → AgreesWithAscii W → HasBoundariesOf p is_word_byte_boundary → AreInterchanged p h k
     → DifferInAscii h k → Interchange W h k
 Interchange-from p W h k a m s d =
     record {

@@ -2,8 +2,8 @@
 use Rattle.std.proofs.Common.{◌≡◌, ℕ, zero, suc, ◌+◌, ◌<◌, ◌≤◌, Bool, true, false, ◌&&◌, ◌||◌, eqb, nat_eq, nat_lt, cond, List, [], ◌∷◌, refl, sym, ap, ◌∙◌, arith, ◌⊎◌, inl, inr, true≢false, not, ltb, ◌↔◌, subst, slice_index, length, Contains, nat_cmp}
 use Rattle.std.specs.List.{list_any, list_all}
 use Rattle.std.proofs.lemmas.Bool.Decides.{nat_tests}
-use Rattle.rsc_look.proofs.Prelude.{HasBoundariesOf, is_word_byte, EncodedFrom, Look, Start, End, StartLF, EndLF, StartCRLF, EndCRLF, WordUnicode, WordUnicodeNegate, WordEndAscii, WordStartUnicode, WordEndUnicode, WordStartHalfAscii, WordStartHalfUnicode, WordEndHalfUnicode, Side, Absent, Word, Other, exactly_one, byte_before, byte_after, holds_at_bytes, IsBefore, IsAfter, holds_at_sides, is_unicode, AgreesWithAscii, Tells, Numbers, is_boundary_of_set, contains-joined, word_boundaries, Together, class_map, Holds, boundaries_of_each, IsHaystack, AreInterchanged, DifferInAscii, Keeps, IsCoarsest, AgreesWhereAsked, IsNeeded, IsCoarsestMap, alike_alone, not_told, IsExactFor, boundaries_of, same_as_only, is_its_member}
-use Rattle.rsc_look.proofs.BoundariesLemmas.{is_boundary_of_byte, word_boundary_numbers, is_word_boundary, is_boundary_of, contains-word_boundaries, is_boundary_of_each, contains-boundaries_of_each, contains-boundaries_of, TogetherAt-slice_get, TogetherAt-before, holds_at_bytes-same}
+use Rattle.rsc_look.proofs.Prelude.{HasBoundariesOf, is_word_byte, EncodedFrom, Look, Start, End, StartLF, EndLF, StartCRLF, EndCRLF, WordUnicode, WordUnicodeNegate, WordEndAscii, WordStartUnicode, WordEndUnicode, WordStartHalfAscii, WordStartHalfUnicode, WordEndHalfUnicode, Side, Absent, Word, Other, exactly_one, byte_before, byte_after, holds_at_bytes, IsBefore, IsAfter, holds_at_sides, is_unicode, AgreesWithAscii, Tells, Numbers, is_boundary_of_set, contains-joined, word_byte_boundaries, Together, class_map, Holds, boundaries_of_each, IsHaystack, AreInterchanged, DifferInAscii, Keeps, IsCoarsest, AgreesWhereAsked, IsNeeded, IsCoarsestMap, alike_alone, not_told, IsExactFor, boundaries_of, same_as_only, is_its_member}
+use Rattle.rsc_look.proofs.BoundariesLemmas.{is_boundary_of_byte, word_byte_boundary_numbers, is_word_byte_boundary, is_boundary_of, contains-word_byte_boundaries, is_boundary_of_each, contains-boundaries_of_each, contains-boundaries_of, TogetherAt-slice_get, TogetherAt-before, holds_at_bytes-same}
 use Rattle.rsc_look.proofs.HoldsLemmas.{at_sides, Holds-bytes, Holds-sides, side_is, side_is_after, HoldsAtSides-moves, Interchange, Interchange-from, Interchange-sym}
 use Rattle.std.proofs.lemmas.Bool.{agree_below_at, eqb-true, true_from_ne_false, or_right}
 use Rattle.std.specs.Cmp.{nat_cmp_total}
@@ -92,20 +92,20 @@ each_passes test xs b m h =
     ap test (sym (found.3 ∙ eqb-true found.1 b found.4)) ∙ AllPass-from_list_all test xs h found.0 found.1 found.2
 
 -- a boundary of the word bytes lies below 127
-pub below_127 : (b : ℕ) → is_word_boundary b ≡ true → b + 1 < 128
-below_127 b m = let e = each_passes (λ x. nat_lt (x + 1) 128) word_boundary_numbers b m refl in grind (arith, nat_tests)
+pub below_127 : (b : ℕ) → is_word_byte_boundary b ≡ true → b + 1 < 128
+below_127 b m = let e = each_passes (λ x. nat_lt (x + 1) 128) word_byte_boundary_numbers b m refl in grind (arith, nat_tests)
 
 tells_word_bytes : (l : Look) (t : ℕ) (W : ℕ → Bool) (b : ℕ) → is_unicode l ≡ false
-    → list_all (λ x. exactly_one (alone_at_bytes l t x) (alone_at_bytes l t (x + 1))) word_boundary_numbers ≡ true → is_word_boundary b ≡ true
+    → list_all (λ x. exactly_one (alone_at_bytes l t x) (alone_at_bytes l t (x + 1))) word_byte_boundary_numbers ≡ true → is_word_byte_boundary b ≡ true
     → Tells l t W (b ∷ []) ((b + 1) ∷ []) (told_at l)
 tells_word_bytes l t W b e h m =
-    tells_bytes l t W b e (each_passes (λ x. exactly_one (alone_at_bytes l t x) (alone_at_bytes l t (x + 1))) word_boundary_numbers b m h)
+    tells_bytes l t W b e (each_passes (λ x. exactly_one (alone_at_bytes l t x) (alone_at_bytes l t (x + 1))) word_byte_boundary_numbers b m h)
 
 tells_word_sides : (l : Look) (t : ℕ) (W : ℕ → Bool) (b : ℕ) → is_unicode l ≡ true → AgreesWithAscii W
-    → list_all (λ x. exactly_one (alone_at_sides l x) (alone_at_sides l (x + 1))) word_boundary_numbers ≡ true → is_word_boundary b ≡ true
+    → list_all (λ x. exactly_one (alone_at_sides l x) (alone_at_sides l (x + 1))) word_byte_boundary_numbers ≡ true → is_word_byte_boundary b ≡ true
     → Tells l t W (b ∷ []) ((b + 1) ∷ []) (told_at l)
 tells_word_sides l t W b e a h m = tells_sides l t W b e a (below_127 b m)
-    (each_passes (λ x. exactly_one (alone_at_sides l x) (alone_at_sides l (x + 1))) word_boundary_numbers b m h)
+    (each_passes (λ x. exactly_one (alone_at_sides l x) (alone_at_sides l (x + 1))) word_byte_boundary_numbers b m h)
 
 tells_line : (t b : ℕ) → is_boundary_of_byte t b ≡ true → exactly_one (eqb b t) (eqb (b + 1) t) ≡ true
 tells_line t b m = grind (arith, nat_tests)
@@ -140,11 +140,11 @@ abbrev pub differs : ℕ → Bool
 differs b = exactly_one (is_word_byte b) (is_word_byte (b + 1))
 
 -- below 255 a change is a boundary, and there is no boundary above
-pub differs-is_word_boundary : (b : ℕ) → (ltb b 255 && differs b) ≡ is_word_boundary b
-differs-is_word_boundary b = go (ltb b 255) (is_word_boundary b) refl refl
+pub differs-is_word_byte_boundary : (b : ℕ) → (ltb b 255 && differs b) ≡ is_word_byte_boundary b
+differs-is_word_byte_boundary b = go (ltb b 255) (is_word_byte_boundary b) refl refl
   where
-    go : (x y : Bool) → ltb b 255 ≡ x → is_word_boundary b ≡ y → (x && differs b) ≡ y
-    go true y e f = agree_below_at differs is_word_boundary 255 b refl (grind (arith, nat_tests)) ∙ f
+    go : (x y : Bool) → ltb b 255 ≡ x → is_word_byte_boundary b ≡ y → (x && differs b) ≡ y
+    go true y e f = agree_below_at differs is_word_byte_boundary 255 b refl (grind (arith, nat_tests)) ∙ f
     go false false e f = refl
     go false true e f = absurd (let s = below_127 b f in grind (arith, nat_tests))
 
@@ -159,16 +159,16 @@ is_boundary_of_set-is bytes same b = rw (same b, same (b + 1)) (ap (λ x. ltb b 
     by_cases _ _ = refl
 
 -- what `add_set` of the word bytes leaves of a set of boundaries
-pub word_boundaries_added : (old new bytes : Numbers) → ((b : ℕ) → sets.contains bytes b ≡ is_word_byte b)
-    → ((b : ℕ) → sets.contains new b ≡ (sets.contains old b || is_boundary_of_set bytes b)) → new ≡ sets.union old word_boundaries
-word_boundaries_added old new bytes same added = same_set nat_cmp_total nat_cmp-IsAntisymmetric new (sets.union old word_boundaries) (λ b.
-    added b ∙ ap (λ x. sets.contains old b || x) (is_boundary_of_set-is bytes same b ∙ differs-is_word_boundary b ∙ sym (contains-word_boundaries b))
-    ∙ sym (contains-joined old word_boundaries b))
+pub word_byte_boundaries_added : (old new bytes : Numbers) → ((b : ℕ) → sets.contains bytes b ≡ is_word_byte b)
+    → ((b : ℕ) → sets.contains new b ≡ (sets.contains old b || is_boundary_of_set bytes b)) → new ≡ sets.union old word_byte_boundaries
+word_byte_boundaries_added old new bytes same added = same_set nat_cmp_total nat_cmp-IsAntisymmetric new (sets.union old word_byte_boundaries) (λ b.
+    added b ∙ ap (λ x. sets.contains old b || x) (is_boundary_of_set-is bytes same b ∙ differs-is_word_byte_boundary b ∙ sym (contains-word_byte_boundaries b))
+    ∙ sym (contains-joined old word_byte_boundaries b))
 
 -- ---- the boundaries of a list's members make the coarsest partition that keeps them
 
 -- the six have the boundaries of the word bytes
-pub is_boundary_of-unicode : (l : Look) (t b : ℕ) → is_unicode l ≡ true → is_boundary_of l t b ≡ is_word_boundary b
+pub is_boundary_of-unicode : (l : Look) (t b : ℕ) → is_unicode l ≡ true → is_boundary_of l t b ≡ is_word_byte_boundary b
 is_boundary_of-unicode Start t b e = cc
 is_boundary_of-unicode _ t b e = cc
 
@@ -191,7 +191,7 @@ pub kept_at_characters : (p : ℕ → Bool) (l : Look) (t : ℕ) (W : ℕ → Bo
     → is_unicode l ≡ true → (h k : List ℕ)
     → AreInterchanged p h k → DifferInAscii h k → (i : ℕ) → Holds l t W h i ↔ Holds l t W k i
 kept_at_characters p l t W ascii m e h k s d i =
-    let words : HasBoundariesOf p is_word_boundary = λ b q x. m b q (is_boundary_of-unicode l t b e ∙ x) in
+    let words : HasBoundariesOf p is_word_byte_boundary = λ b q x. m b q (is_boundary_of-unicode l t b e ∙ x) in
     let w : Interchange W h k = Interchange-from p W h k ascii words s d in
     let a = Holds-sides l t W h i e in
     let b = Holds-sides l t W k i e in

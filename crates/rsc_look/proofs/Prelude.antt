@@ -8,7 +8,7 @@ pub use Rattle.rsc_alphabet.specs.BytesLaws.{from_to_parts, filter_none, filter_
 pub use Rattle.rsc_alphabet.specs.Partitions.{Together, HasBoundariesOf, class_map, boundaries_of_range, is_boundary_of_set}
 pub use Rattle.rsc_alphabet.specs.PartitionsLaws.{contains-joined, contains-boundaries_of_range, class_map_same, union_none, union_assoc}
 pub use Rattle.rsc_alphabet.specs.SameMembers.{same_members, same_bools, same_from, same_to}
-pub use Rattle.rsc_look.specs.Boundaries.{boundaries_of_each, boundaries_of, word_boundaries}
+pub use Rattle.rsc_look.specs.Boundaries.{boundaries_of_each, boundaries_of, word_byte_boundaries}
 pub use Rattle.rsc_look.specs.Holds.{byte_before, is_byte, is_word_neighbor, holds_at_bytes, byte_after, Holds, IsBefore, IsAfter, holds_at_sides, exactly_one, is_invalid, is_word_side, HoldsAtSides, is_absent_or_other}
 pub use Rattle.rsc_look.specs.Keeping.{AreInterchanged, IsHaystack, DifferInAscii, Keeps, IsCoarsest, AgreesWithAscii, AgreesWhereAsked, Tells, IsNeeded, IsCoarsestMap, IsExactFor}
 pub use Rattle.rsc_look.specs.KeepingLaws.{alike_alone, not_told, same_as_only, is_its_member}

@@ -8,8 +8,8 @@ use Rattle.rsc_look.specs.declared.assertion.Look.TheVariants.{Start, End, Start
 use Rattle.rsc_look.specs.Looks.{line_feed, carriage_return}
 
 -- where word bytes and other bytes meet: at the ends of `0-9`, `A-Z`, `_` and `a-z`
-unfoldable pub word_boundaries : Numbers
-word_boundaries = sets.from_list (0x2F ∷ 0x39 ∷ 0x40 ∷ 0x5A ∷ 0x5E ∷ 0x5F ∷ 0x60 ∷ 0x7A ∷ [])
+unfoldable pub word_byte_boundaries : Numbers
+word_byte_boundaries = sets.from_list (0x2F ∷ 0x39 ∷ 0x40 ∷ 0x5A ∷ 0x5E ∷ 0x5F ∷ 0x60 ∷ 0x7A ∷ [])
 
 -- the boundaries of an assertion, for the line terminator t
 abbrev pub boundaries_of : Look → ℕ → Numbers
@@ -19,7 +19,7 @@ boundaries_of StartLF t = boundaries_of_range (t, t)
 boundaries_of EndLF t = boundaries_of_range (t, t)
 boundaries_of StartCRLF t = sets.union (boundaries_of_range (carriage_return, carriage_return)) (boundaries_of_range (line_feed, line_feed))
 boundaries_of EndCRLF t = sets.union (boundaries_of_range (carriage_return, carriage_return)) (boundaries_of_range (line_feed, line_feed))
-boundaries_of _ t = word_boundaries
+boundaries_of _ t = word_byte_boundaries
 
 -- the boundaries of all members of a list
 abbrev pub boundaries_of_each : List Look → ℕ → Numbers

@@ -94,6 +94,6 @@ pub record HoldsAtSides (l : Look) (W : ℕ → Bool) (h : List ℕ) (i : ℕ) :
 abbrev pub Holds : Look → ℕ → (ℕ → Bool) → List ℕ → ℕ → Type 0
 Holds l t W h i = MatchBool (is_unicode l) (HoldsAtSides l W h i) (IsTrue (holds_at_bytes l t (byte_before h i) (byte_after h i)))
 
--- the same for a matcher m: its line terminator, and its choice of word characters, of which `word_chars` says which they are
+-- the same for a matcher m: its line terminator, and its word predicate, of which `word_chars` says which they are
 abbrev pub HoldsFor : {C : Type 0} → (C → ℕ → Bool) → Look → ℕ × C → List ℕ → ℕ → Type 0
 HoldsFor word_chars l m h i = Holds l m.0 (word_chars m.1) h i

@@ -1,4 +1,4 @@
--- Partitions and haystacks of one byte, lists of one assertion, and the two choices of word characters.
+-- Partitions and haystacks of one byte, lists of one assertion, and the two word predicates.
 use Rattle.std.proofs.Common.{[], ◌≡◌, ◌↔◌, ℕ, zero, suc, ◌+◌, ◌<◌, Bool, true, false, ◌∷◌, refl, sym, ap, ◌∙◌, arith, ◌⊎◌, ⊎_elim, true≢false, ltb}
 use Rattle.std.specs.Prelude.{slice_index}
 use Rattle.std.specs.List.{Contains}
@@ -44,6 +44,6 @@ is_its_member l = (0, omega arith, refl)
 below : (c : ℕ) → c < 128 → ltb c 128 ≡ true
 below c l = grind (arith, nat_tests)
 
--- both choices of word characters agree with the word bytes below 128
+-- both word predicates agree with the word bytes below 128
 pub is_unicode_word-AgreesWithAscii : AgreesWithAscii is_unicode_word
 is_unicode_word-AgreesWithAscii c l = let e = below c l in rw e

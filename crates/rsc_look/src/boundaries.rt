@@ -9,7 +9,7 @@ ghost use Rattle.std.specs.Int.{is_in_range};
 ghost use Rattle.rsc_primitives.specs.Utf8.{is_word_byte};
 ghost use Rattle.rsc_alphabet.specs.Partitions.{LastClassIsGreatest, class_map};
 ghost use Rattle.rsc_look.specs.Looks.{is_unicode};
-ghost use Rattle.rsc_look.specs.Boundaries.{word_boundaries, boundaries_of, boundaries_of_each};
+ghost use Rattle.rsc_look.specs.Boundaries.{word_byte_boundaries, boundaries_of, boundaries_of_each};
 ghost use Rattle.rsc_look.specs.Keeping.{AgreesWithAscii, AgreesWhereAsked, IsCoarsestMap, IsExactFor};
 
 use crate::matcher::{CARRIAGE_RETURN, LINE_FEED};
@@ -136,13 +136,13 @@ fn add_boundaries(line_terminator: u8, look: Look, set: &mut ByteClassSet)
         | Look::WordStartHalfAscii
         | Look::WordEndHalfAscii
         | Look::WordStartHalfUnicode
-        | Look::WordEndHalfUnicode => add_word_boundaries(set),
+        | Look::WordEndHalfUnicode => add_word_byte_boundaries(set),
     }
 }
 
 // Adds the boundaries of the four runs of word bytes.
-fn add_word_boundaries(set: &mut ByteClassSet)
-    ensures { set.new ≡ sets.union set.old word_boundaries }
+fn add_word_byte_boundaries(set: &mut ByteClassSet)
+    ensures { set.new ≡ sets.union set.old word_byte_boundaries }
 {
     set.add_set(&word_bytes());
 }

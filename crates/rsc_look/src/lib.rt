@@ -1,7 +1,7 @@
 //! Assertions about the position between two bytes of a haystack, and the classes of bytes that they can't tell apart.
 //!
 //! An assertion such as `^`, `$` or `\b` holds at a position or doesn't, and takes no byte. [`Look`] has the eighteen of them, [`LookSet`] is a set of
-//! them in 32 bits, and [`LookMatcher`] decides them, for a line terminator and a choice of word characters.
+//! them in 32 bits, and [`LookMatcher`] decides them, for a line terminator and a word predicate.
 //!
 //! A haystack need not be UTF-8. A Unicode assertion asks for the character on each side; if bytes are there but no character, the side is invalid.
 //! `\B` must not hold between two bytes of one character, or an empty match would split it, so it doesn't hold next to an invalid side.

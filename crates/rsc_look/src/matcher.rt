@@ -19,7 +19,7 @@ pub(crate) const LINE_FEED: u8 = b'\n';
 
 pub(crate) const CARRIAGE_RETURN: u8 = b'\r';
 
-/// Tests assertions at the positions of a haystack, for a line terminator and a choice of word characters.
+/// Tests assertions at the positions of a haystack, for a line terminator and a word predicate.
 ///
 /// A haystack is any list of bytes, UTF-8 or not. Every call that takes a position needs it to be at most the haystack's
 /// length. A contract sees a matcher as the pair of its line terminator and its [`WordClass`].
@@ -70,7 +70,7 @@ impl<W: WordClass> LookMatcher<W> {
         }
     }
 
-    /// A matcher with the same line terminator, and a clone of the choice of word characters.
+    /// A matcher with the same line terminator, and a clone of the word predicate.
     ///
     /// # Errors
     ///

@@ -15,5 +15,5 @@ DecodesLastTo h (Some (Ok c)) = EndsAt h (length h) c
 DecodesLastTo h (Some (Err b)) = (0 < length h) × (slice_get h (length h - 1) ≡ Some b) × ((c : ℕ) → EndsAt h (length h) c → ⊥)
 
 -- i is a character boundary: the end of the bytes, or a byte is there that is no UTF8-tail
-abbrev pub IsBoundary : List ℕ → ℕ → Type 0
-IsBoundary h i = (i ≡ length h) ⊎ ((i < length h) × ((slice_index h i ≤ 0x7F) ⊎ (0xC0 ≤ slice_index h i)))
+abbrev pub IsCharBoundary : List ℕ → ℕ → Type 0
+IsCharBoundary h i = (i ≡ length h) ⊎ ((i < length h) × ((slice_index h i ≤ 0x7F) ⊎ (0xC0 ≤ slice_index h i)))

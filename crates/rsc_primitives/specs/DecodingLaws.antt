@@ -5,7 +5,7 @@ use Rattle.std.specs.Prelude.{slice_range}
 use Rattle.std.proofs.lemmas.Option.{slice_get_within}
 use Rattle.std.proofs.lemmas.List.{drop-take, take_rest, get_or_append_left}
 use Rattle.rsc_primitives.specs.Utf8.{EncodedFrom, BeginsAt, EndsAt, IsTail, OpensThree, OpensFour, Encodes, EncodesAll}
-use Rattle.rsc_primitives.specs.Decoding.{DecodesTo, DecodesLastTo, IsBoundary}
+use Rattle.rsc_primitives.specs.Decoding.{DecodesTo, DecodesLastTo, IsCharBoundary}
 use Rattle.rsc_primitives.specs.Utf8Laws.{length-slice, slice_from_start, length-Encodes-len_utf8, IsExtent-from, Encodes-rest, with_suffix, with_prefix}
 use Rattle.std.specs.Int.{IsInRange}
 use Rattle.std.proofs.lemmas.Bool.{cases_lt}
@@ -133,17 +133,17 @@ abbrev pub BeginsOrEnds : List ℕ → ℕ → Type 0
 BeginsOrEnds h i = ((c : ℕ) × BeginsAt h i c) ⊎ (i ≡ length h)
 
 -- where a character begins is a character boundary, in any bytes
-pub IsBoundary-begins : (h : List ℕ) (i c : ℕ) → BeginsAt h i c → IsBoundary h i
-IsBoundary-begins h i c b = let p = IsExtent-from h i b.0 c b.1 in grind (arith, p.some, p.within, p.head)
+pub IsCharBoundary-begins : (h : List ℕ) (i c : ℕ) → BeginsAt h i c → IsCharBoundary h i
+IsCharBoundary-begins h i c b = let p = IsExtent-from h i b.0 c b.1 in grind (arith, p.some, p.within, p.head)
 
 pub BeginsAt-with_prefix : (e t : List ℕ) (k : ℕ) → BeginsOrEnds t k → BeginsOrEnds (e ++ t) (length e + k)
 BeginsAt-with_prefix e t k b =
     ⊎_elim (λ p. inl (p.0, (length e + p.1.0, with_prefix e t k p.1.0 p.0 p.1.1))) (λ q. inr (rw q (sym (length-append e t)))) b
 
-boundary_behind : (e t : List ℕ) (k : ℕ) → IsBoundary (e ++ t) (length e + k) → IsBoundary t k
+boundary_behind : (e t : List ℕ) (k : ℕ) → IsCharBoundary (e ++ t) (length e + k) → IsCharBoundary t k
 boundary_behind e t k b = grind (arith, length-append e t, get_or-append-add e t k 0)
 
-first_encoded : (e t : List ℕ) (c i : ℕ) → Encodes e c → ((k : ℕ) → IsBoundary t k → BeginsOrEnds t k) → IsBoundary (e ++ t) i → BeginsOrEnds (e ++ t) i
+first_encoded : (e t : List ℕ) (c i : ℕ) → Encodes e c → ((k : ℕ) → IsCharBoundary t k → BeginsOrEnds t k) → IsCharBoundary (e ++ t) i → BeginsOrEnds (e ++ t) i
 first_encoded e t c zero p later b = inl (c, (length e, with_suffix e t c p))
 first_encoded e t c (suc i) p later b =
     ⊎_elim
@@ -154,12 +154,12 @@ first_encoded e t c (suc i) p later b =
     rw q at (BeginsAt-with_prefix e t (suc i - length e) (later (suc i - length e) (boundary_behind e t (suc i - length e) (rw q b)))))
     (cases_lt (suc i) (length e))
 
-EncodesAll-boundary : (h cs : List ℕ) (i : ℕ) → EncodesAll h cs → IsBoundary h i → BeginsOrEnds h i
+EncodesAll-boundary : (h cs : List ℕ) (i : ℕ) → EncodesAll h cs → IsCharBoundary h i → BeginsOrEnds h i
 EncodesAll-boundary h [] i p b = subst (λ (x : List ℕ). BeginsOrEnds x i) (sym p)
-    (⊎_elim (λ q. inr q) (λ q. absurd (omega arith)) (subst (λ (x : List ℕ). IsBoundary x i) p b))
+    (⊎_elim (λ q. inr q) (λ q. absurd (omega arith)) (subst (λ (x : List ℕ). IsCharBoundary x i) p b))
 EncodesAll-boundary h (c ∷ cs) i p b =
     subst (λ (x : List ℕ). BeginsOrEnds x i) (sym p.2)
-    (first_encoded p.0 p.1 c i p.3 (λ k. EncodesAll-boundary p.1 cs k p.4) (subst (λ (x : List ℕ). IsBoundary x i) p.2 b))
+    (first_encoded p.0 p.1 c i p.3 (λ k. EncodesAll-boundary p.1 cs k p.4) (subst (λ (x : List ℕ). IsCharBoundary x i) p.2 b))
 
-pub IsBoundary-EncodesAll : (h cs : List ℕ) (i : ℕ) → EncodesAll h cs → IsBoundary h i ↔ BeginsOrEnds h i
-IsBoundary-EncodesAll h cs i p = (EncodesAll-boundary h cs i p, λ b. ⊎_elim (λ q. IsBoundary-begins h i q.0 q.1) (λ q. inl q) b)
+pub IsCharBoundary-EncodesAll : (h cs : List ℕ) (i : ℕ) → EncodesAll h cs → IsCharBoundary h i ↔ BeginsOrEnds h i
+IsCharBoundary-EncodesAll h cs i p = (EncodesAll-boundary h cs i p, λ b. ⊎_elim (λ q. IsCharBoundary-begins h i q.0 q.1) (λ q. inl q) b)

@@ -8,7 +8,7 @@ ghost use Rattle.std.specs.Ordering.{nat_cmp};
 ghost use Rattle.rsc_primitives.specs.declared.escape.DebugByte.{DebugByte as ADebugByte};
 ghost use Rattle.rsc_primitives.specs.Indices.{IsIndex, checked_index, max_index};
 ghost use Rattle.rsc_primitives.specs.Utf8.{Encodes, EncodesAll, BeginsAt, EndsAt, IsInside};
-ghost use Rattle.rsc_primitives.specs.Decoding.{IsBoundary};
+ghost use Rattle.rsc_primitives.specs.Decoding.{IsCharBoundary};
 
 use crate::escape::DebugByte;
 use crate::{
@@ -178,5 +178,5 @@ pub fn none_begins_or_ends_inside()
 /// In the encoding of a list of characters the character boundaries are the positions where a character begins, and the end.
 #[tactic(auto, using(crate::proofs::CitedLaws::is_boundary_encoded))]
 pub fn boundaries_of_encoded_text()
-    ensures { (h cs : List ℕ) (i : ℕ) → EncodesAll h cs → IsBoundary h i ↔ (((c : ℕ) × BeginsAt h i c) ⊎ (i ≡ length h)) }
+    ensures { (h cs : List ℕ) (i : ℕ) → EncodesAll h cs → IsCharBoundary h i ↔ (((c : ℕ) × BeginsAt h i c) ⊎ (i ≡ length h)) }
 {}

@@ -3,7 +3,7 @@ ghost use Rattle.std.specs.Prelude.{◌≡◌, ◌==◌, ◌↔◌, ◌⊎◌, �
 ghost use Rattle.std.specs.Char.{len_utf8};
 ghost use Rattle.std.specs.Int.{IsInRange, bit_at};
 ghost use Rattle.rsc_primitives.specs.Utf8.{is_word_byte, IsTail};
-ghost use Rattle.rsc_primitives.specs.Decoding.{DecodesTo, DecodesLastTo, IsBoundary};
+ghost use Rattle.rsc_primitives.specs.Decoding.{DecodesTo, DecodesLastTo, IsCharBoundary};
 ghost use Rattle.rsc_primitives.specs.Utf8Layout.{IsLongNumber, EndsLongNumber, BeginsLong, EndsLong};
 
 // The word bytes from 00 to 7F: bit b stands for the byte b.
@@ -52,7 +52,7 @@ fn has_bit(number: u64, bit: u8) -> bool
 /// ```
 #[inline(always)]
 pub fn is_boundary(bytes: &[u8], at: usize) -> bool
-    ensures { IsTrue result ↔ IsBoundary bytes.now at }
+    ensures { IsTrue result ↔ IsCharBoundary bytes.now at }
 {
     match bytes.get(at) {
         None => at == bytes.len(),

@@ -6,7 +6,7 @@ use Rattle.rsc_search.specs.declared.anchored.Anchored.TheVariants.{Pattern}
 use Rattle.rsc_search.specs.declared.error.MatchErrorKind.TheVariants.{Quit, UnsupportedAnchored}
 use Rattle.rsc_search.specs.Inputs.{span_between}
 use Rattle.rsc_search.specs.PatternSets.{no_patterns, with_member, same_patterns}
-use Rattle.rsc_search.specs.Spans.{cut, cut_text, is_boundary}
+use Rattle.rsc_search.specs.Spans.{cut, cut_text, is_char_boundary}
 use Rattle.rsc_search.specs.Texts.{error_text, refused_insertion_text}
 
 zero_and_two : with_member (with_member (no_patterns 3) 2) 0 ≡ record { capacity = 3; members = 0 ∷ 2 ∷ [] }
@@ -46,13 +46,13 @@ inside_at_the_end = refl
 inside_at_the_start : cut_text (0xC3 ∷ 0xA9 ∷ []) (record { start = 1; end = 2 }) ≡ None
 inside_at_the_start = refl
 
-boundary_past_the_end : is_boundary (0xF0 ∷ 0x9D ∷ 0x9B ∷ 0x83 ∷ []) 5 ≡ false
+boundary_past_the_end : is_char_boundary (0xF0 ∷ 0x9D ∷ 0x9B ∷ 0x83 ∷ []) 5 ≡ false
 boundary_past_the_end = refl
 
-boundary_inside : is_boundary (0xF0 ∷ 0x9D ∷ 0x9B ∷ 0x83 ∷ []) 1 ≡ false
+boundary_inside : is_char_boundary (0xF0 ∷ 0x9D ∷ 0x9B ∷ 0x83 ∷ []) 1 ≡ false
 boundary_inside = refl
 
-boundary_at_the_end : is_boundary (0xF0 ∷ 0x9D ∷ 0x9B ∷ 0x83 ∷ []) 4 ≡ true
+boundary_at_the_end : is_char_boundary (0xF0 ∷ 0x9D ∷ 0x9B ∷ 0x83 ∷ []) 4 ≡ true
 boundary_at_the_end = refl
 
 quit_text : error_text (Quit 0xFF 3) ≡ codes "quit search after observing byte \\xFF at offset 3"

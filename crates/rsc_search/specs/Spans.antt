@@ -8,8 +8,8 @@ abbrev pub same_span : Span → Span → Bool
 same_span s t = s.start == t.start && s.end == t.end
 
 -- the position is a character boundary: the end of the text, or a byte is there that continues no character
-abbrev pub is_boundary : List ℕ → ℕ → Bool
-is_boundary text i = i == length text || (nat_lt i (length text) && (nat_le (slice_index text i) 0x7F || nat_le 0xC0 (slice_index text i)))
+abbrev pub is_char_boundary : List ℕ → ℕ → Bool
+is_char_boundary text i = i == length text || (nat_lt i (length text) && (nat_le (slice_index text i) 0x7F || nat_le 0xC0 (slice_index text i)))
 
 -- the bytes from the span's start to its end, where these are positions of the haystack in this order
 abbrev pub cut : List ℕ → Span → Option (List ℕ)
@@ -17,7 +17,7 @@ cut haystack s = if nat_le s.start s.end && nat_le s.end (length haystack) then 
 
 -- the same of a text, where both ends are also character boundaries
 abbrev pub cut_text : List ℕ → Span → Option (List ℕ)
-cut_text text s = if is_boundary text s.start && is_boundary text s.end then cut text s else None
+cut_text text s = if is_char_boundary text s.start && is_char_boundary text s.end then cut text s else None
 
 -- the text of a span
 abbrev pub span_text : Span → List ℕ

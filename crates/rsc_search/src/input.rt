@@ -2,7 +2,7 @@
 ghost use Rattle.std.specs.Prelude.{◌≡◌, ◌+◌, ◌^◌, ◌<◌, ◌≤◌, ◌↔◌, ◌⊎◌, ℕ, List, IsTrue, length};
 ghost use Rattle.rsc_search.specs.Inputs.{whole, IsSpanWithin, span_between};
 ghost use Rattle.rsc_primitives.specs.Utf8.{BeginsAt, EncodesAll};
-ghost use Rattle.rsc_primitives.specs.Decoding.{IsBoundary};
+ghost use Rattle.rsc_primitives.specs.Decoding.{IsCharBoundary};
 
 use crate::{Anchored, Span};
 use rsc_primitives::escape::DebugHaystack;
@@ -263,7 +263,7 @@ impl<'h> Input<'h> {
     /// character begins and at the end.
     #[inline]
     pub fn is_char_boundary(&self, at: usize) -> bool
-        ensures boundary { IsTrue result ↔ IsBoundary self.now.haystack at }
+        ensures boundary { IsTrue result ↔ IsCharBoundary self.now.haystack at }
         ensures valid { (chars : List ℕ) → EncodesAll self.now.haystack chars →
             IsTrue result ↔ (((c : ℕ) × BeginsAt self.now.haystack at c) ⊎ (at ≡ length self.now.haystack)) }
     {

@@ -3,11 +3,11 @@ ghost use Rattle.std.specs.Prelude.{◌≡◌, ◌↔◌, ◌+◌, ◌++◌, ◌
 ghost use Rattle.std.specs.Hash as fed;
 ghost use Rattle.std.specs.List.{Contains};
 ghost use Rattle.std.specs.List.Sorted.{IsStrictlyIncreasing};
-ghost use Rattle.rsc_primitives.specs.Decoding.{IsBoundary};
+ghost use Rattle.rsc_primitives.specs.Decoding.{IsCharBoundary};
 ghost use Rattle.rsc_search.specs.Inputs.{InputParts};
 ghost use Rattle.rsc_search.specs.Matches.{HalfMatched, Matched};
 ghost use Rattle.rsc_search.specs.PatternSets.{Patterns, RefusedInsertion, IsSet, has_member, with_member};
-ghost use Rattle.rsc_search.specs.Spans.{is_boundary};
+ghost use Rattle.rsc_search.specs.Spans.{is_char_boundary};
 ghost use Rattle.rsc_search.specs.declared.anchored.Anchored as modes;
 ghost use Rattle.rsc_search.specs.declared.anchored.MatchKind as kinds;
 ghost use Rattle.rsc_search.specs.declared.anchored.MatchKind.TheVariants.{LeftmostFirst};
@@ -32,7 +32,7 @@ pub fn insertion_adds_one_member()
 
 /// Cuts of a text test both their ends for being character boundaries.
 pub fn boundary_is_tested()
-    ensures { (text : List ℕ) (i : ℕ) → IsTrue (is_boundary text i) ↔ IsBoundary text i }
+    ensures { (text : List ℕ) (i : ℕ) → IsTrue (is_char_boundary text i) ↔ IsCharBoundary text i }
 {}
 
 /// The test of membership is true exactly for the elements that std's `Contains` finds. The first member is the least.

@@ -5,7 +5,7 @@ use Rattle.rsc_show.specs.declared.choices.Color.TheVariants.{Auto, Always, Neve
 use Rattle.rsc_show.specs.declared.choices.Words.{Words}
 use Rattle.rsc_show.specs.declared.choices.Words.TheVariants.{Ascii, Unicode}
 
--- the name of a choice of word characters
+-- the name of a word predicate
 abbrev pub words_name : Words → List ℕ
 words_name Ascii = codes "ascii"
 words_name Unicode = codes "unicode"

@@ -1,4 +1,4 @@
-//! Classes of assertions, and choices of word characters, one of them of the tests' own.
+//! Classes of assertions, and word predicates, one of them of the tests' own.
 ghost use Rattle.std.specs.Prelude.{◌≡◌, true};
 ghost use Rattle.rsc_look.specs.Keeping.{IsCoarsestMap};
 ghost use Rattle.rsc_look.specs.Words.{is_unicode_word};

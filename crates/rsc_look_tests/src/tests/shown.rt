@@ -107,7 +107,7 @@ fn traits_of_each_type(_rt: HostRuntime) {
     is_matcher::<LookMatcher<UnicodeWord>>();
 }
 
-// A choice of word characters whose clones are counted, and whose second clone is refused.
+// A word predicate whose clones are counted, and whose second clone is refused.
 #[derive(Drop)]
 struct OnceCloned<'a> {
     clones: &'a Cell<u8>,
