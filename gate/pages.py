@@ -39,7 +39,6 @@ from typed import LIBRARIES
 MOST_COLUMNS = 160
 # The forms that are asked for, however plain another is: a source, and a text that stands in it once. docs/DECISIONS.md names them.
 FORMS = (
-    ("rsc_alphabet/src/byte_class_set.rt", "// Each class is counted by itself: there is no running number."),
     ("rsc_alphabet/src/byte_class_set.rt", "classes.set(byte, self.ends.count_below(byte));"),
     ("rsc_alphabet/src/byte_set.rt", "    low: u128,\n"),
     ("rsc_alphabet/src/byte_set.rt", "    high: u128,\n"),

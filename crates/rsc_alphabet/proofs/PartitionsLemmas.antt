@@ -11,7 +11,7 @@ use Rattle.rsc_alphabet.proofs.ByteSetsLemmas.{for_runs_from, runs_from, parts_n
 use Rattle.std.proofs.lemmas.List.Elements.{All-head, All-tail}
 use Rattle.rsc_alphabet.proofs.RangesLemmas.{are_alike_is, boundary_if_unlike}
 
--- ---- the boundaries that calls of a class set leave, and the boundary 255, which separates nothing
+-- ---- the boundaries that calls of a class set leave, and the end 255, after which there is no byte
 
 -- what `set_range` leaves of the flags: `before` has the boundary before the first byte, if there is one
 pub boundaries_set : (ends before : Numbers) (s e : ℕ) → s ≤ e → e < 256
@@ -25,7 +25,7 @@ pub no_boundaries : sets.remove (sets.empty {K = ℕ} {R = nat_cmp}) 255 ≡ set
 no_boundaries = same_set nat_cmp_total nat_cmp-IsAntisymmetric _ _
     (λ q. contains-removed sets.empty 255 q ∙ rw (contains-empty nat_cmp q) (grind (arith, nat_tests)))
 
--- ---- the boundary 255, which separates nothing
+-- ---- the end 255, after which there is no byte
 
 inner_boundary : (ends : Numbers) (b : ℕ) → b < 255 → sets.contains ends b ≡ sets.contains (sets.remove ends 255) b
 inner_boundary ends b l = sym (contains-removed ends 255 b ∙ rw (ne_eqb b 255 (λ e. omega arith)) refl)

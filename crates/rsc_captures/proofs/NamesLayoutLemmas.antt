@@ -16,8 +16,8 @@ use Rattle.rsc_captures.proofs.FaultsLemmas.{some_group, before_more}
 
 module _ (text more : List ℕ) where
   -- where the text may be cut, the longer text may be
-  boundary_stays : (i : ℕ) → IsUtf8 more → IsCharBoundary text i → IsCharBoundary (text ++ more) i
-  boundary_stays i utf8 boundary =
+  char_boundary_stays : (i : ℕ) → IsUtf8 more → IsCharBoundary text i → IsCharBoundary (text ++ more) i
+  char_boundary_stays i utf8 boundary =
       ⊎_elim
       (λ (lt : i < length text). let same : get_or (text ++ more) i 0 ≡ get_or text i 0 = get_or_append_left text more 0 i lt in
       (rw length-append (omega (arith, lt)), λ _ high. rw same (boundary.1 lt (rw same at high))))
@@ -26,7 +26,7 @@ module _ (text more : List ℕ) where
       (cases_lt i (length text))
 
   cut_stays : (p : Entry) → IsUtf8 more → IsCut text p → IsCut (text ++ more) p
-  cut_stays p utf8 cut = record { start = boundary_stays p.start utf8 cut.start; end = boundary_stays (p.start + p.length) utf8 cut.end }
+  cut_stays p utf8 cut = record { start = char_boundary_stays p.start utf8 cut.start; end = char_boundary_stays (p.start + p.length) utf8 cut.end }
 
   -- where an entry says, the longer text has the same bytes
   part_stays : (p : Entry) → IsCut text p → slice_range (text ++ more) p.start (p.start + p.length) ≡ slice_range text p.start (p.start + p.length)

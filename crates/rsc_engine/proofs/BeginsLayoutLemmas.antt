@@ -37,7 +37,8 @@ same_pattern p q e = cc
 at_accept : (states : List State) (a : Aim) (n s i q : ℕ) → slice_get states s ≡ Some (Accept q) → Ends states a n s i → (a.pattern ≡ q) × (i ≡ a.position)
 at_accept states a zero s i q is e = (same_pattern a.pattern q (sym e.0 ∙ is), e.1)
 at_accept states a (suc n) s i q is e =
-    absurd (subst (λ (o : Option State). MatchOption o ⊥ (λ (x : State). StepsTo x a.text.terminator a.text.words a.text.haystack a.end i (e.1, e.2))) is e.3)
+    absurd (subst (λ (o : Option State). MatchOption o ⊥ (λ (x : State).
+    StepsTo x a.text.terminator a.text.word_chars a.text.haystack a.end i (e.1, e.2))) is e.3)
 
 Begins-one : (states : List State) (number low high accept after body first : ℕ) (p : Pattern)
     → IsWhole states number low high accept after body first → Realizes states body after p → Begins states first (IsOfOne number p)
@@ -247,7 +248,7 @@ aim_of e found = record { text = subject_of e; end = e.end; pattern = found.patt
 -- ---- from a run to a way
 
 -- the places of a run from k on are a way to its match, if n steps are left
-way_from : (e : Search) (found : Matched) (run : List (ℕ × ℕ)) → IsRun e.states e.terminator e.words e.haystack e.start e.end run
+way_from : (e : Search) (found : Matched) (run : List (ℕ × ℕ)) → IsRun e.states e.terminator e.word_chars e.haystack e.start e.end run
     → IsMatchOf e run found → (n k : ℕ) → k + n + 1 ≡ length run → Ends e.states (aim_of e found) n (place run k).0 (place run k).1
 way_from e found run r m zero k last =
     let same : length run - 1 ≡ k = omega (arith, last) in
@@ -267,7 +268,7 @@ way_from e found run r m (suc n) k last = (
 -- a run to the match from a place
 record Run (e : Search) (found : Matched) (s i : ℕ) : Type 0 where
   run : List (ℕ × ℕ)
-  is_run : IsRun e.states e.terminator e.words e.haystack e.start e.end run
+  is_run : IsRun e.states e.terminator e.word_chars e.haystack e.start e.end run
   some : 0 < length run
   begins : place run 0 ≡ (s, i)
   pattern : slice_get e.states (place run (length run - 1)).0 ≡ Some (Accept found.pattern)

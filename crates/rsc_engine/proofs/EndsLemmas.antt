@@ -21,7 +21,8 @@ use Rattle.rsc_engine.proofs.RowsLayoutLemmas.{Reaches-start, start_of, none_end
 step_over : (e : Search) (p q : ℕ × ℕ) → IsNeverEntered (machine_of e) → Leads e p q → q.1 ≡ p.1 + 1 → ¬ (q.0 ≡ e.first)
 step_over e p q never l on first = go (slice_get e.states p.0) refl l
   where
-    go : (o : Option State) → slice_get e.states p.0 ≡ o → MatchOption o ⊥ (λ (state : State). StepsTo state e.terminator e.words e.haystack e.end p.1 q) → ⊥
+    go : (o : Option State) → slice_get e.states p.0 ≡ o
+        → MatchOption o ⊥ (λ (state : State). StepsTo state e.terminator e.word_chars e.haystack e.end p.1 q) → ⊥
     go None is l = l
     go (Some (ByteRange a b next)) is l = never p.0 a b next is (sym l.2 ∙ first)
     go (Some (Assert look next)) is l = absurd (omega (arith, l.2, on))
@@ -70,7 +71,7 @@ none_before_row w e i set row free never is at low early run m =
         (only_one e.first (place run (k + 1)).0 (subst (λ (x : List ℕ). Contains x (place run (k + 1)).0) is
         (row.all run starts (k + 1) h (omega (arith, here, on.0, before)) (λ j e. let j_is : j ≡ k = omega (arith, e) in rw j_is before))))))
         (cases_lt (place run (k + 1)).1 i))
-        (w.position e.states e.terminator e.words e.haystack e.end (place run k) (place run (k + 1)) (m.is_run.steps k h)))
+        (w.position e.states e.terminator e.word_chars e.haystack e.end (place run k) (place run (k + 1)) (m.is_run.steps k h)))
 
 -- if the row has no state, no match begins where one may
 pub no_state_row : Lawful → (e : Search) (i : ℕ) (set : List ℕ) → IsRowAt e i set → set ≡ [] → e.first < length e.states → e.start ≤ i → i ≤ e.end
@@ -112,4 +113,4 @@ no_state_row w e i set row is there low high = none_ends e none
             on k h before here = ⊎_elim
                 (λ (stays : (place x.run (k + 1)).1 ≡ (place x.run k).1). omega (arith, stays, before, here))
                 (λ (over : ((place x.run (k + 1)).1 ≡ (place x.run k).1 + 1) × ((place x.run k).1 < e.end)). omega (arith, over.0, before, here))
-                (w.position e.states e.terminator e.words e.haystack e.end (place x.run k) (place x.run (k + 1)) (x.is_match.is_run.steps k h))
+                (w.position e.states e.terminator e.word_chars e.haystack e.end (place x.run k) (place x.run (k + 1)) (x.is_match.is_run.steps k h))

@@ -51,7 +51,7 @@ silent P slot s (Capture c next) l x = ne_eqb c s (λ e. absurd (omega (arith, e
 silent P slot s (Accept p) l x = refl
 
 leads_on_way : (P : ℕ → Type 0) (slot : ℕ) (state : State) (x : Subject) (end i : ℕ) (to : ℕ × ℕ) → StaysOnWay P slot state
-    → StepsTo state x.terminator x.words x.haystack end i to → P to.0
+    → StepsTo state x.terminator x.word_chars x.haystack end i to → P to.0
 leads_on_way P slot (ByteRange a b next) x end i to h step = subst (λ (s : ℕ). P s) (sym step.2) h
 leads_on_way P slot (Assert look next) x end i to h step = subst (λ (s : ℕ). P s) (sym step.1) h
 leads_on_way P slot (Fork a b) x end i to h step =
@@ -64,11 +64,11 @@ record Leaves (states : List State) (slot low high next : ℕ) (p q : ℕ × ℕ
   silent : (s : ℕ) → s ≤ slot → is_capture_of s (slice_get states p.0) ≡ false
 
 step_within : (states : List State) (x : Subject) (end slot low high first next : ℕ) (p q : ℕ × ℕ) → Encloses slot low high first next states
-    → low ≤ p.0 → p.0 < high → IsStep states x.terminator x.words x.haystack end p q → Leaves states slot low high next p q
+    → low ≤ p.0 → p.0 < high → IsStep states x.terminator x.word_chars x.haystack end p q → Leaves states slot low high next p q
 step_within states x end slot low high first next p q e l h step = go (slice_get states p.0) refl step
   where
     go : (o : Option State) → slice_get states p.0 ≡ o
-        → MatchOption o ⊥ (λ (state : State). StepsTo state x.terminator x.words x.haystack end p.1 q) → Leaves states slot low high next p q
+        → MatchOption o ⊥ (λ (state : State). StepsTo state x.terminator x.word_chars x.haystack end p.1 q) → Leaves states slot low high next p q
     go None is y = absurd y
     go (Some state) is y =
         let stays = e.stays p.0 state l h is in
@@ -100,9 +100,9 @@ one_pattern p q e = cc
 
 -- where a step leads from a state that is known
 pub step_of : (states : List State) (x : Subject) (end s : ℕ) (p q : ℕ × ℕ) (state : State) → p.0 ≡ s → slice_get states s ≡ Some state
-    → IsStep states x.terminator x.words x.haystack end p q → StepsTo state x.terminator x.words x.haystack end p.1 q
+    → IsStep states x.terminator x.word_chars x.haystack end p q → StepsTo state x.terminator x.word_chars x.haystack end p.1 q
 step_of states x end s p q state same is step =
-    subst (λ (o : Option State). MatchOption o ⊥ (λ (y : State). StepsTo y x.terminator x.words x.haystack end p.1 q))
+    subst (λ (o : Option State). MatchOption o ⊥ (λ (y : State). StepsTo y x.terminator x.word_chars x.haystack end p.1 q))
     (ap (λ (t : ℕ). slice_get states t) same ∙ is) step
 
 -- a state that records does so in its slot, and in no other
@@ -200,8 +200,8 @@ RecordsFrom-fork states s one other is b c = record { ends = each }
 
 -- ---- runs of a search
 
-rest_is_run : (e : Search) (p q : ℕ × ℕ) (rest : List (ℕ × ℕ)) → IsRun e.states e.terminator e.words e.haystack e.start e.end (p ∷ (q ∷ rest))
-    → IsRun e.states e.terminator e.words e.haystack e.start e.end (q ∷ rest)
+rest_is_run : (e : Search) (p q : ℕ × ℕ) (rest : List (ℕ × ℕ)) → IsRun e.states e.terminator e.word_chars e.haystack e.start e.end (p ∷ (q ∷ rest))
+    → IsRun e.states e.terminator e.word_chars e.haystack e.start e.end (q ∷ rest)
 rest_is_run e p q rest r = record {
   places = λ k l. r.places (suc k) (omega (arith, l));
   steps = λ k l.
@@ -209,7 +209,7 @@ rest_is_run e p q rest r = record {
       rw one at (r.steps (suc k) (omega (arith, l)));
 }
 
-pub steps_of : (e : Search) (p : ℕ × ℕ) (rest : List (ℕ × ℕ)) → IsRun e.states e.terminator e.words e.haystack e.start e.end (p ∷ rest)
+pub steps_of : (e : Search) (p : ℕ × ℕ) (rest : List (ℕ × ℕ)) → IsRun e.states e.terminator e.word_chars e.haystack e.start e.end (p ∷ rest)
     → AreSteps e.states (subject_of e) e.end p rest
 steps_of e p [] r = tt
 steps_of e p (q ∷ rest) r = (r.steps 0 (omega arith), steps_of e q rest (rest_is_run e p q rest r))

@@ -184,16 +184,16 @@ IsStep-stay states t W h k end last i j s u holds x = go (slice_get states s) x
 module _ (w : Lawful) (classes : List ℕ) (m : Machine) (width : ℕ) (unicode : Bool) (plan : IsPlan m classes width unicode) where
   stays : (h k : List ℕ) (end last i j s u : ℕ) → i ≤ length h → j ≤ length k → byte_before h i ≡ byte_before k j → byte_after h i ≡ byte_after k j
       → IsPlainUnit m (byte_before h i) → IsPlainUnit m (byte_after h i)
-      → IsStep m.states m.terminator m.words h end (s, i) (u, i) → IsStep m.states m.terminator m.words k last (s, j) (u, j)
+      → IsStep m.states m.terminator m.word_chars h end (s, i) (u, i) → IsStep m.states m.terminator m.word_chars k last (s, j) (u, j)
   stays h k end last i j s u low within before after a b x = go (has_unicode m.states) refl
     where
-      go : (c : Bool) → has_unicode m.states ≡ c → IsStep m.states m.terminator m.words k last (s, j) (u, j)
-      go false q = w.stays m.states m.terminator m.words h k end last i j s u q before after x
-      go true q = IsStep-stay m.states m.terminator m.words h k end last i j s u (λ l holds.
-          (w.ascii l m.terminator m.words k j within plan.agreed (subst (λ (o : Option ℕ). IfSome o (λ b. b < 128)) before (a q))
+      go : (c : Bool) → has_unicode m.states ≡ c → IsStep m.states m.terminator m.word_chars k last (s, j) (u, j)
+      go false q = w.stays m.states m.terminator m.word_chars h k end last i j s u q before after x
+      go true q = IsStep-stay m.states m.terminator m.word_chars h k end last i j s u (λ l holds.
+          (w.ascii l m.terminator m.word_chars k j within plan.agreed (subst (λ (o : Option ℕ). IfSome o (λ b. b < 128)) before (a q))
           (subst (λ (o : Option ℕ). IfSome o (λ b. b < 128)) after (b q))).1
-          (Holds-plain (ascii_of l) m.terminator m.words h k i j (ascii_of-bytes l) before after
-          ((w.ascii l m.terminator m.words h i low plan.agreed (a q) (b q)).0 holds))) x
+          (Holds-plain (ascii_of l) m.terminator m.word_chars h k i j (ascii_of-bytes l) before after
+          ((w.ascii l m.terminator m.word_chars h i low plan.agreed (a q) (b q)).0 holds))) x
 
   alike : (p q n o : Option ℕ) → Alike classes p q → Alike classes n o → IsPlainUnit m p → IsPlainUnit m q → IsPlainUnit m n → IsPlainUnit m o
       → AreInterchangedBy classes (has_unicode m.states) (around p n) (around q o)
@@ -209,25 +209,25 @@ module _ (w : Lawful) (classes : List ℕ) (m : Machine) (width : ℕ) (unicode 
 
   -- a step on the one is a step on the other
   step_alike : (p q n o : Option ℕ) (s u i : ℕ) → Alike classes p q → Alike classes n o → IsPlainUnit m p → IsPlainUnit m q → IsPlainUnit m n
-      → IsPlainUnit m o → IsStep m.states m.terminator m.words (around p n) (length (around p n)) (s, middle p) (u, i)
-      → IsStep m.states m.terminator m.words (around q o) (length (around q o)) (s, middle p) (u, i)
+      → IsPlainUnit m o → IsStep m.states m.terminator m.word_chars (around p n) (length (around p n)) (s, middle p) (u, i)
+      → IsStep m.states m.terminator m.word_chars (around q o) (length (around q o)) (s, middle p) (u, i)
   step_alike p q n o s u i a b pp pq pn po x =
       let same = alike p q n o a b pp pq pn po in
-      subst (λ (end : ℕ). IsStep m.states m.terminator m.words (around q o) end (s, middle p) (u, i)) same.same_length
-      ((w.kept classes m.states m.terminator m.words (around p n) (around q o) (length (around p n)) (s, middle p) (u, i) plan.keeps same
+      subst (λ (end : ℕ). IsStep m.states m.terminator m.word_chars (around q o) end (s, middle p) (u, i)) same.same_length
+      ((w.kept classes m.states m.terminator m.word_chars (around p n) (around q o) (length (around p n)) (s, middle p) (u, i) plan.keeps same
       (omega arith) (around-least p n)
-      (w.to plan.groups m.states m.terminator m.words (around p n) (length (around p n)) (s, middle p) (u, i) plan.faultless x)).0 x)
+      (w.to plan.groups m.states m.terminator m.word_chars (around p n) (length (around p n)) (s, middle p) (u, i) plan.faultless x)).0 x)
 
   follows_alike : (p q n o : Option ℕ) (s u : ℕ) → Alike classes p q → Alike classes n o → IsPlainUnit m p → IsPlainUnit m q → IsPlainUnit m n
       → IsPlainUnit m o → Follows m (around p n) (middle p) s u → Follows m (around q o) (middle q) s u
   follows_alike p q n o s u a b pp pq pn po x =
-      subst (λ (at : ℕ). IsStep m.states m.terminator m.words (around q o) (length (around q o)) (s, at) (u, at)) (Alike-middle classes p q a)
+      subst (λ (at : ℕ). IsStep m.states m.terminator m.word_chars (around q o) (length (around q o)) (s, at) (u, at)) (Alike-middle classes p q a)
       (step_alike p q n o s u (middle p) a b pp pq pn po x)
 
   moves_alike : (p q n o : Option ℕ) (s u : ℕ) → Alike classes p q → Alike classes n o → IsPlainUnit m p → IsPlainUnit m q → IsPlainUnit m n
       → IsPlainUnit m o → Moves m (around p n) (middle p) s u → Moves m (around q o) (middle q) s u
   moves_alike p q n o s u a b pp pq pn po x =
-      subst (λ (at : ℕ). IsStep m.states m.terminator m.words (around q o) (length (around q o)) (s, at) (u, at + 1)) (Alike-middle classes p q a)
+      subst (λ (at : ℕ). IsStep m.states m.terminator m.word_chars (around q o) (length (around q o)) (s, at) (u, at + 1)) (Alike-middle classes p q a)
       (step_alike p q n o s u (middle p + 1) a b pp pq pn po x)
 
 -- ---- bytes of the neighbours' classes stand for a position
@@ -256,7 +256,7 @@ IsNear-from w classes e width unicode i q o plan within low a b pp pn pq po = re
     n : Option ℕ
     n = byte_after e.haystack i
 
-    follows : (s u : ℕ) → IsStep e.states e.terminator e.words e.haystack e.end (s, i) (u, i) ↔ Follows (machine_of e) (around q o) (middle q) s u
+    follows : (s u : ℕ) → IsStep e.states e.terminator e.word_chars e.haystack e.end (s, i) (u, i) ↔ Follows (machine_of e) (around q o) (middle q) s u
     follows s u = (
       λ x. follows_alike w classes m width unicode plan p q n o s u a b pp pq pn po
           (stays w classes m width unicode plan h (around p n) e.end (length (around p n)) i (middle p) s u (omega (arith, low, within))
@@ -268,12 +268,13 @@ IsNear-from w classes e width unicode i q o plan within low a b pp pn pq po = re
           (follows_alike w classes m width unicode plan q p o n s u (Alike-sym classes p q a) (Alike-sym classes n o b) pq pp po pn x),
     )
 
-    moves : (s u : ℕ) → i < e.end → IsStep e.states e.terminator e.words e.haystack e.end (s, i) (u, i + 1) ↔ Moves (machine_of e) (around q o) (middle q) s u
+    moves : (s u : ℕ) → i < e.end → IsStep e.states e.terminator e.word_chars e.haystack e.end (s, i) (u, i + 1)
+        ↔ Moves (machine_of e) (around q o) (middle q) s u
     moves s u l = (
       λ x. moves_alike w classes m width unicode plan p q n o s u a b pp pq pn po
-          (w.advances m.states m.terminator m.words h (around p n) e.end (length (around p n)) i (middle p) s u
+          (w.advances m.states m.terminator m.word_chars h (around p n) e.end (length (around p n)) i (middle p) s u
           (sym (around-after p n)) (λ _. room_after h i p (omega (arith, l, within))) x),
-      λ x. w.advances m.states m.terminator m.words (around p n) h (length (around p n)) e.end (middle p) i s u
+      λ x. w.advances m.states m.terminator m.word_chars (around p n) h (length (around p n)) e.end (middle p) i s u
           (around-after p n) (λ _. l)
           (moves_alike w classes m width unicode plan q p o n s u (Alike-sym classes p q a) (Alike-sym classes n o b) pq pp po pn x),
     )

@@ -11,7 +11,7 @@ use Rattle.rsc_engine.specs.LinksLayout.{Aim, Ends, HasEnd, GoesOn, Realizes, Is
 -- ---- steps of one state
 
 abbrev Leads : Aim → State → ℕ → ℕ × ℕ → Type 0
-Leads a state i to = StepsTo state a.text.terminator a.text.words a.text.haystack a.end i to
+Leads a state i to = StepsTo state a.text.terminator a.text.word_chars a.text.haystack a.end i to
 
 abbrev may_accept : Option State → Bool
 may_accept (Some (Accept q)) = true

@@ -36,7 +36,7 @@ module _ (e : Search) (a b : ℕ × ℕ) (needed : NeedsPair (machine_of e) a b)
       to_next next state position m = rw (state, position) m
 
       go : (o : Option State) → slice_get e.states p.0 ≡ o
-          → MatchOption o ⊥ (λ (state : State). StepsTo state e.terminator e.words e.haystack e.end p.1 q) → Marked q
+          → MatchOption o ⊥ (λ (state : State). StepsTo state e.terminator e.word_chars e.haystack e.end p.1 q) → Marked q
       go None is l = absurd l
       go (Some (ByteRange low high next)) is l =
           let byte = between low high (slice_get e.haystack p.1) l.1 in

@@ -20,7 +20,7 @@ use Rattle.rsc_engine.proofs.WalksLayoutLemmas.{leads-rises}
 
 -- ---- from steps to a way to a match
 
-step_end : (state : State) (x : Subject) (end i : ℕ) (q : ℕ × ℕ) → StepsTo state x.terminator x.words x.haystack end i q → i ≤ end → q.1 ≤ end
+step_end : (state : State) (x : Subject) (end i : ℕ) (q : ℕ × ℕ) → StepsTo state x.terminator x.word_chars x.haystack end i q → i ≤ end → q.1 ≤ end
 step_end (ByteRange a b next) x end i q s l = omega (arith, s.0, s.3)
 step_end (Assert look next) x end i q s l = omega (arith, l, s.2)
 step_end (Fork a b) x end i q s l = omega (arith, l, s.1)
@@ -28,10 +28,10 @@ step_end (Capture slot next) x end i q s l = omega (arith, l, s.1)
 step_end (Accept p) x end i q s l = absurd s
 
 -- a step from a position up to the end leads to another
-leads_end : (states : List State) (x : Subject) (end : ℕ) (p q : ℕ × ℕ) → IsStep states x.terminator x.words x.haystack end p q → p.1 ≤ end → q.1 ≤ end
+leads_end : (states : List State) (x : Subject) (end : ℕ) (p q : ℕ × ℕ) → IsStep states x.terminator x.word_chars x.haystack end p q → p.1 ≤ end → q.1 ≤ end
 leads_end states x end p q step l = go (slice_get states p.0) step
   where
-    go : (o : Option State) → MatchOption o ⊥ (λ (state : State). StepsTo state x.terminator x.words x.haystack end p.1 q) → q.1 ≤ end
+    go : (o : Option State) → MatchOption o ⊥ (λ (state : State). StepsTo state x.terminator x.word_chars x.haystack end p.1 q) → q.1 ≤ end
     go None s = absurd s
     go (Some state) s = step_end state x end p.1 q s l
 
@@ -247,7 +247,7 @@ shorten states x end p (q ∷ rest) steps =
     (among_or_not p (q ∷ s.rest))
 
 is_run_of : (e : Search) (p : ℕ × ℕ) (rest : List (ℕ × ℕ)) → (last_place p rest).0 < length e.states → e.start ≤ p.1 → p.1 ≤ e.end
-    → AreSteps e.states (subject_of e) e.end p rest → IsRun e.states e.terminator e.words e.haystack e.start e.end (p ∷ rest)
+    → AreSteps e.states (subject_of e) e.end p rest → IsRun e.states e.terminator e.word_chars e.haystack e.start e.end (p ∷ rest)
 is_run_of e p [] there low high steps = run-before e p [] (there, low, high) (λ l. absurd (omega (arith, l)))
     (record { places = λ k l. absurd (omega (arith, l)); steps = λ k l. absurd (omega (arith, l)) })
 is_run_of e p (q ∷ rest) there low high steps = run-before e p (q ∷ rest) (step-within e p q steps.0, low, high) (λ l. steps.0)

@@ -20,7 +20,7 @@ accepts_stops : (e : Search) (p q : ℕ × ℕ) → accepts e p ≡ true → Lea
 accepts_stops e p q accepted leads = go (slice_get e.states p.0) accepted leads
   where
     go : (o : Option State) → is_accepting (pattern_of_mode e.mode) o ≡ true
-        → MatchOption o ⊥ (λ (state : State). StepsTo state e.terminator e.words e.haystack e.end p.1 q) → ⊥
+        → MatchOption o ⊥ (λ (state : State). StepsTo state e.terminator e.word_chars e.haystack e.end p.1 q) → ⊥
     go None h x = x
     go (Some (ByteRange a b next)) h x = true≢false (sym h)
     go (Some (Assert l next)) h x = true≢false (sym h)
@@ -41,8 +41,8 @@ unfolding IsForkOf
 two_steps e p q r x y = go (slice_get e.states p.0) refl x y
   where
     go : (o : Option State) → slice_get e.states p.0 ≡ o
-        → MatchOption o ⊥ (λ (state : State). StepsTo state e.terminator e.words e.haystack e.end p.1 q)
-        → MatchOption o ⊥ (λ (state : State). StepsTo state e.terminator e.words e.haystack e.end p.1 r)
+        → MatchOption o ⊥ (λ (state : State). StepsTo state e.terminator e.word_chars e.haystack e.end p.1 q)
+        → MatchOption o ⊥ (λ (state : State). StepsTo state e.terminator e.word_chars e.haystack e.end p.1 r)
         → (q ≡ r) ⊎ (IsForkOf e p q r ⊎ IsForkOf e p r q)
     go None is x y = absurd x
     go (Some (ByteRange a b next)) is x y = inl (same_place q r (x.2 ∙ sym y.2) (x.3 ∙ sym y.3))

@@ -22,7 +22,7 @@ use Rattle.rsc_engine.proofs.WalksLayoutLemmas.{place-before, place-after}
 run_more : Lawful → (e : Search) (run : List (ℕ × ℕ)) (p : ℕ × ℕ) → IsStartRun e run → p.0 < length e.states
     → Leads e (place run (length run - 1)) p → IsStartRun e (run ++ p ∷ [])
 run_more w e run p r there leads = record {
-  is_run = w.more e.states e.terminator e.words e.haystack e.start e.end run p r.is_run r.some there leads;
+  is_run = w.more e.states e.terminator e.word_chars e.haystack e.start e.end run p r.is_run r.some there leads;
   some = omega (arith, length-append run (p ∷ []));
   begins = rw (place-before run p 0 r.some) r.begins;
   at_start = λ a. rw (place-before run p 0 r.some) (r.at_start a);
@@ -49,7 +49,7 @@ unfoldable pub Reaches-start : Lawful → (e : Search) (i : ℕ) → e.first < l
 Reaches-start w e i there low high a = record {
   run = (e.first, i) ∷ [];
   from_start = record {
-    is_run = w.one e.states e.terminator e.words e.haystack e.start e.end (e.first, i) (there, low, high);
+    is_run = w.one e.states e.terminator e.word_chars e.haystack e.start e.end (e.first, i) (there, low, high);
     some = omega arith;
     begins = refl;
     at_start = a;
@@ -98,7 +98,7 @@ closure_all w e i near at set closure row is_near c run r zero l here =
     c.has _ (row.all run r zero l here (λ j none. absurd (omega (arith, none))))
 closure_all w e i near at set closure row is_near c run r (suc k) l here =
     go (λ there. closure_all w e i near at set closure row is_near c run r k (omega (arith, l)) there)
-    (w.position e.states e.terminator e.words e.haystack e.end (place run k) (place run (k + 1)) (r.is_run.steps k (omega (arith, l))))
+    (w.position e.states e.terminator e.word_chars e.haystack e.end (place run k) (place run (k + 1)) (r.is_run.steps k (omega (arith, l))))
   where
     step : Leads e (place run k) (place run (k + 1))
     step = r.is_run.steps k (omega (arith, l))
@@ -212,7 +212,7 @@ next_row w e i near at set next row is_near start there low high s = record { on
         first (inl a) = absurd (omega (arith, r.at_start a, here, low))
         first (inr f) = subst (λ (y : ℕ). Contains next y) (sym r.begins) ((s.next refl).first e.first f)
     all run r (suc k) l here enters =
-        go (w.position e.states e.terminator e.words e.haystack e.end (place run k) (place run (k + 1)) step)
+        go (w.position e.states e.terminator e.word_chars e.haystack e.end (place run k) (place run (k + 1)) step)
       where
         step : Leads e (place run k) (place run (k + 1))
         step = r.is_run.steps k (omega (arith, l))

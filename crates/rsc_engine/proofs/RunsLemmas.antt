@@ -34,14 +34,14 @@ recorded-place states (p ∷ (q ∷ rest)) slot i h =
 pub step-within : (e : Search) (p q : ℕ × ℕ) → Leads e p q → p.0 < length e.states
 step-within e p q l = go (slice_get e.states p.0) refl l
   where
-    go : (o : Option State) → slice_get e.states p.0 ≡ o → MatchOption o ⊥ (λ (state : State). StepsTo state e.terminator e.words e.haystack e.end p.1 q)
+    go : (o : Option State) → slice_get e.states p.0 ≡ o → MatchOption o ⊥ (λ (state : State). StepsTo state e.terminator e.word_chars e.haystack e.end p.1 q)
         → p.0 < length e.states
     go None is x = absurd x
     go (Some state) is x = slice_get_within e.states p.0 state is
 
 -- a place from which a step leads to a run, before it
 pub run-before : (e : Search) (p : ℕ × ℕ) (run : List (ℕ × ℕ)) → IsPlace e p → (0 < length run → Leads e p (place run 0))
-    → IsRun e.states e.terminator e.words e.haystack e.start e.end run → IsRun e.states e.terminator e.words e.haystack e.start e.end (p ∷ run)
+    → IsRun e.states e.terminator e.word_chars e.haystack e.start e.end run → IsRun e.states e.terminator e.word_chars e.haystack e.start e.end (p ∷ run)
 run-before e p run there leads r = record { places = places; steps = steps }
   where
     places : (k : ℕ) → k < length (p ∷ run) → IsPlace e (place (p ∷ run) k)
@@ -53,11 +53,11 @@ run-before e p run there leads r = record { places = places; steps = steps }
     steps (suc k) l = let one : suc k + 1 ≡ suc (k + 1) = omega arith in rw one (r.steps k (omega (arith, l)))
 
 -- a step up to an earlier end is one
-step-wider : (e : Search) (n : ℕ) (p q : ℕ × ℕ) → n ≤ e.end → IsStep e.states e.terminator e.words e.haystack n p q → Leads e p q
+step-wider : (e : Search) (n : ℕ) (p q : ℕ × ℕ) → n ≤ e.end → IsStep e.states e.terminator e.word_chars e.haystack n p q → Leads e p q
 step-wider e n p q le s = go (slice_get e.states p.0) s
   where
-    go : (o : Option State) → MatchOption o ⊥ (λ (state : State). StepsTo state e.terminator e.words e.haystack n p.1 q)
-        → MatchOption o ⊥ (λ (state : State). StepsTo state e.terminator e.words e.haystack e.end p.1 q)
+    go : (o : Option State) → MatchOption o ⊥ (λ (state : State). StepsTo state e.terminator e.word_chars e.haystack n p.1 q)
+        → MatchOption o ⊥ (λ (state : State). StepsTo state e.terminator e.word_chars e.haystack e.end p.1 q)
     go None x = x
     go (Some (ByteRange a b next)) x = (omega (arith, x.0, le), x.1, x.2, x.3)
     go (Some (Assert l next)) x = x

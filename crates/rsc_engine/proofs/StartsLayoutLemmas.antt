@@ -42,7 +42,7 @@ step : (e : Search) (marks bytes : List Bool) → AreStarts e.states e.first mar
 step e marks bytes x at off p q here marked l = go (slice_get e.states p.0) refl l
   where
     go : (o : Option State) → slice_get e.states p.0 ≡ o
-        → MatchOption o ⊥ (λ (state : State). StepsTo state e.terminator e.words e.haystack e.end p.1 q) → (q.1 ≡ at) × IsMarked marks q.0
+        → MatchOption o ⊥ (λ (state : State). StepsTo state e.terminator e.word_chars e.haystack e.end p.1 q) → (q.1 ≡ at) × IsMarked marks q.0
     go None is l = absurd l
     go (Some (ByteRange a b next)) is l =
         let byte = between a b (slice_get e.haystack p.1) l.1 in

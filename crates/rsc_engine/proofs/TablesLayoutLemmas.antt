@@ -116,8 +116,8 @@ column_alike classes (Some u) (Some v) bounded a b e = (a, b, e)
 column_alike classes None (Some v) bounded a b e = absurd (omega (arith, e, bounded.within v b))
 column_alike classes (Some u) None bounded a b e = absurd (omega (arith, e, bounded.within u a))
 
-one_place : (width k row c d : ℕ) → c < width → d < width → k * width + c ≡ row * width + d → (k ≡ row) × (c ≡ d)
-one_place width k row c d l h e = (
+one_entry : (width k row c d : ℕ) → c < width → d < width → k * width + c ≡ row * width + d → (k ≡ row) × (c ≡ d)
+one_entry width k row c d l h e = (
   sym (div-mul-add k width c l) ∙ ap (λ (x : ℕ). x / width) e ∙ div-mul-add row width d h,
   sym (mod-mul-add k width c l) ∙ ap (λ (x : ℕ). x % width) e ∙ mod-mul-add row width d h,
 )
@@ -150,29 +150,29 @@ IsExact-push m classes width rows leads row x sound room = record {
       (λ step s. IsStepTo-grown m classes rows (rows ++ row ∷ []) k unit step (IsGrown-push rows row) s) (x.each k unit b);
 }
 
-pub IsExact-set : (m : Machine) (classes : List ℕ) (width : ℕ) (rows : List Row) (leads : List Lead) (row place : ℕ) (unit : Option ℕ) (step : Step)
+pub IsExact-set : (m : Machine) (classes : List ℕ) (width : ℕ) (rows : List Row) (leads : List Lead) (row entry : ℕ) (unit : Option ℕ) (step : Step)
     (lead : Lead) → IsExact m classes width rows leads → width ≡ symbol_count classes → LastClassIsGreatest classes → IfSome unit (λ b. b < 256)
-    → IsStepTo m classes rows rows row unit step → (step_of lead ≡ None) ⊎ (step_of lead ≡ Some step) → place ≡ row * width + column classes unit
-    → place < length leads → IsExact m classes width rows (set leads place lead)
-IsExact-set m classes width rows leads row place unit step lead x columns bounded byte s says at below = record {
+    → IsStepTo m classes rows rows row unit step → (step_of lead ≡ None) ⊎ (step_of lead ≡ Some step) → entry ≡ row * width + column classes unit
+    → entry < length leads → IsExact m classes width rows (set leads entry lead)
+IsExact-set m classes width rows leads row entry unit step lead x columns bounded byte s says at below = record {
   sound = x.sound;
-  room = rw (length-set leads place lead) x.room;
+  room = rw (length-set leads entry lead) x.room;
   each = each;
 }
   where
     each : (k : ℕ) (u : Option ℕ) → IfSome u (λ b. b < 256)
-        → IfSome (step_of (get_or (set leads place lead) (k * width + column classes u) Unknown)) (IsStepTo m classes rows rows k u)
+        → IfSome (step_of (get_or (set leads entry lead) (k * width + column classes u) Unknown)) (IsStepTo m classes rows rows k u)
     each k u b = ⊎_elim
-        (λ (same : k * width + column classes u ≡ place).
-        let one = one_place width k row (column classes u) (column classes unit) (column_below classes width u columns bounded b)
+        (λ (same : k * width + column classes u ≡ entry).
+        let one = one_entry width k row (column classes u) (column classes unit) (column_below classes width u columns bounded b)
         (column_below classes width unit columns bounded byte) (same ∙ at) in
-        rw (get_or-set_at leads place (k * width + column classes u) lead Unknown same below)
+        rw (get_or-set_at leads entry (k * width + column classes u) lead Unknown same below)
         (written_so (step_of lead) step (IsStepTo m classes rows rows k u) says
         (IsStepTo-alike m classes rows rows k u unit step (column_alike classes u unit bounded b byte one.1)
         (subst (λ (r : ℕ). IsStepTo m classes rows rows r unit step) (sym one.0) s))))
-        (λ (apart : (k * width + column classes u ≡ place) → ⊥).
-        rw (get_or-set_other leads place (k * width + column classes u) lead Unknown apart) (x.each k u b))
-        (cases_eq (k * width + column classes u) place)
+        (λ (apart : (k * width + column classes u ≡ entry) → ⊥).
+        rw (get_or-set_other leads entry (k * width + column classes u) lead Unknown apart) (x.each k u b))
+        (cases_eq (k * width + column classes u) entry)
 
 -- ---- what is made
 

@@ -72,7 +72,8 @@ visit-among states trail k v l here = record {
     turns = turns_of states v.sid (v.at - (v.at - v.start)) (v.at - v.start)
 
 -- its state is there, and its position in the span
-pub visit-there : (e : Search) (trail : List Visit) (k : ℕ) (v : Visit) → IsRun e.states e.terminator e.words e.haystack e.start e.end (run_of e.states trail)
+pub visit-there : (e : Search) (trail : List Visit) (k : ℕ) (v : Visit)
+    → IsRun e.states e.terminator e.word_chars e.haystack e.start e.end (run_of e.states trail)
     → k < length trail → v ≡ get_or trail k v → IsPlace e (v.sid, v.at)
 visit-there e trail k v r l here =
     let among = visit-among e.states trail k v l here in

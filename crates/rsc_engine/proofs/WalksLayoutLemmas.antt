@@ -22,9 +22,9 @@ place-after run p k e =
 
 -- ---- a place more
 
-run_more : (e : Search) (from : ℕ × ℕ) (run : List (ℕ × ℕ)) (p : ℕ × ℕ) → IsRun e.states e.terminator e.words e.haystack e.start e.end run
+run_more : (e : Search) (from : ℕ × ℕ) (run : List (ℕ × ℕ)) (p : ℕ × ℕ) → IsRun e.states e.terminator e.word_chars e.haystack e.start e.end run
     → IsOnward e from run p
-    → IsRun e.states e.terminator e.words e.haystack e.start e.end (run ++ p ∷ [])
+    → IsRun e.states e.terminator e.word_chars e.haystack e.start e.end (run ++ p ∷ [])
 run_more e from run p r n = record {
   places = λ k l. ⊎_elim
       (λ (h : k < length run). rw (place-before run p k h) (r.places k h))
@@ -140,7 +140,7 @@ IsOnward-back e from run others k b t last at = record {
 pub leads-rises : (e : Search) (p q : ℕ × ℕ) → Leads e p q → p.1 ≤ q.1
 leads-rises e p q l = go (slice_get e.states p.0) l
   where
-    go : (o : Option State) → MatchOption o ⊥ (λ (state : State). StepsTo state e.terminator e.words e.haystack e.end p.1 q) → p.1 ≤ q.1
+    go : (o : Option State) → MatchOption o ⊥ (λ (state : State). StepsTo state e.terminator e.word_chars e.haystack e.end p.1 q) → p.1 ≤ q.1
     go None x = absurd x
     go (Some (ByteRange a b next)) x = omega (arith, x.3)
     go (Some (Assert l next)) x = omega (arith, x.2)
@@ -149,7 +149,7 @@ leads-rises e p q l = go (slice_get e.states p.0) l
     go (Some (Accept pattern)) x = absurd x
 
 -- the positions of a run never fall
-run_rises : (e : Search) (run : List (ℕ × ℕ)) (j m : ℕ) → IsRun e.states e.terminator e.words e.haystack e.start e.end run → j + m < length run
+run_rises : (e : Search) (run : List (ℕ × ℕ)) (j m : ℕ) → IsRun e.states e.terminator e.word_chars e.haystack e.start e.end run → j + m < length run
     → (place run j).1 ≤ (place run (j + m)).1
 run_rises e run j zero r l = let same : j + zero ≡ j = omega arith in rw same (omega arith)
 run_rises e run j (suc m) r l =
@@ -157,7 +157,7 @@ run_rises e run j (suc m) r l =
     let step = r.steps (j + m) (omega (arith, l)) in
     rw same (omega (arith, run_rises e run j m r (omega (arith, l)), leads-rises e (place run (j + m)) (place run (j + m + 1)) step))
 
-pub run-rises : (e : Search) (run : List (ℕ × ℕ)) (j k : ℕ) → IsRun e.states e.terminator e.words e.haystack e.start e.end run → j ≤ k → k < length run
+pub run-rises : (e : Search) (run : List (ℕ × ℕ)) (j k : ℕ) → IsRun e.states e.terminator e.word_chars e.haystack e.start e.end run → j ≤ k → k < length run
     → (place run j).1 ≤ (place run k).1
 run-rises e run j k r le l =
     let same : j + (k - j) ≡ k = omega (arith, le) in

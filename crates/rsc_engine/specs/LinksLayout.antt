@@ -19,7 +19,7 @@ pub record Aim : Type 0 where
 abbrev pub Ends : List State → Aim → ℕ → ℕ → ℕ → Type 0
 Ends states a zero s i = (slice_get states s ≡ Some (Accept a.pattern)) × (i ≡ a.position) × (i ≤ a.end)
 Ends states a (suc n) s i =
-    (i ≤ a.end) × (t : ℕ) × (k : ℕ) × IsStep states a.text.terminator a.text.words a.text.haystack a.end (s, i) (t, k) × Ends states a n t k
+    (i ≤ a.end) × (t : ℕ) × (k : ℕ) × IsStep states a.text.terminator a.text.word_chars a.text.haystack a.end (s, i) (t, k) × Ends states a n t k
 
 -- n steps lead from the state s at i to the match: m of them from the state `next`, to which the pattern goes
 pub record GoesOn (states : List State) (a : Aim) (next : ℕ) (p : Pattern) (n i : ℕ) : Type 0 where

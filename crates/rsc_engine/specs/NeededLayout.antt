@@ -1,4 +1,4 @@
--- Two bytes that stand side by side in every match. These serve the proof of `dfa`, whose public contracts cite `Ends` and `Preferred` alone.
+-- Two bytes that stand side by side in every match. These serve the proof of `dfa`, whose public contracts cite `Ends`, `Preferred` and `Searches` alone.
 use Rattle.std.specs.Prelude.{◌≡◌, ℕ, ◌+◌, ◌-◌, ◌*◌, ◌<◌, ◌≤◌, ◌&&◌, nat_le, Bool, true, false, List, length, slice_get, slice_index, Some, if◌then◌else◌}
 use Rattle.rsc_nfa.specs.declared.state.State.{State}
 use Rattle.rsc_nfa.specs.declared.state.State.TheVariants.{ByteRange, Assert, Fork, Capture, Accept}

@@ -43,7 +43,7 @@ one_of (p ∷ (q ∷ rest)) = Either p (one_of (q ∷ rest))
 pub record Subject : Type 0 where
   pub haystack : List ℕ
   pub terminator : ℕ
-  pub words : ℕ → Bool
+  pub word_chars : ℕ → Bool
 
 -- these bytes are in the haystack from the position i to j
 abbrev pub AreBytes : List ℕ → List ℕ → ℕ → ℕ → Type 0
@@ -66,14 +66,14 @@ Goes x Empty i j = i ≡ j
 Goes x Never i j = ⊥
 Goes x (Class ranges) i j = IsTrue (list_any (λ r. is_between r.0 r.1 (slice_get x.haystack i)) ranges) × (j ≡ i + 1)
 Goes x (Literal bytes) i j = AreBytes x.haystack bytes i j
-Goes x (Assertion look) i j = Holds look x.terminator x.words x.haystack i × (i ≡ j)
+Goes x (Assertion look) i j = Holds look x.terminator x.word_chars x.haystack i × (i ≡ j)
 Goes x (Then a b) i j = (k : ℕ) × Goes x a i k × Goes x b k j
 Goes x (Either a b) i j = Goes x a i j ⊎ Goes x b i j
 Goes x (Repeat min max a) i j = (n : ℕ) × (min ≤ n) × IsAtMost min max n × Times (Goes x a) n i j
 
 -- the subject of a search
 abbrev pub subject_of : Search → Subject
-subject_of e = record { haystack = e.haystack; terminator = e.terminator; words = e.words }
+subject_of e = record { haystack = e.haystack; terminator = e.terminator; word_chars = e.word_chars }
 
 -- the match is in the search's span, of a pattern that may match, and that pattern goes from its start to its end
 pub record IsMatchIn (patterns : List Pattern) (e : Search) (found : Matched) : Type 0 where

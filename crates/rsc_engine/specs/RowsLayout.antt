@@ -1,4 +1,4 @@
--- The rows of a DFA, and where a byte leads from one. These serve the proof of `dfa`, whose public contracts cite `Ends` and `Preferred` alone.
+-- The rows of a DFA, and where a byte leads from one. These serve the proof of `dfa`, whose public contracts cite `Ends`, `Preferred` and `Searches` alone.
 use Rattle.std.specs.Prelude.{◌≡◌, ◌↔◌, ◌⊎◌, ℕ, ◌+◌, ◌-◌, ◌<◌, Bool, true, false, List, [], ◌∷◌, ◌++◌, length, slice_get, slice_index, slice_index_or, Option, Some, None, IfSome}
 use Rattle.std.specs.List.{All, Contains}
 use Rattle.rsc_look.specs.Keeping.{AgreesWithAscii}
@@ -21,19 +21,19 @@ use Rattle.rsc_engine.specs.Ends.{IsMatchEnd}
 pub record Machine : Type 0 where
   pub states : List State
   pub terminator : ℕ
-  pub words : ℕ → Bool
+  pub word_chars : ℕ → Bool
   pub first : ℕ
 
 abbrev pub machine : {W : Type 0} → (W → ℕ → Bool) → Compiled W → Machine
 machine chars p = record {
   states = p.automaton.states;
   terminator = p.automaton.matcher.0;
-  words = chars p.automaton.matcher.1;
+  word_chars = chars p.automaton.matcher.1;
   first = p.start;
 }
 
 abbrev pub machine_of : Search → Machine
-machine_of e = record { states = e.states; terminator = e.terminator; words = e.words; first = e.first }
+machine_of e = record { states = e.states; terminator = e.terminator; word_chars = e.word_chars; first = e.first }
 
 -- the byte before a position and the byte after it as a haystack, and the position in it
 abbrev pub around : Option ℕ → Option ℕ → List ℕ
@@ -48,10 +48,10 @@ middle (Some p) = 1
 
 -- a step with no byte leads from a state to another, at a position of a small haystack; or a step over a byte does
 abbrev pub Follows : Machine → List ℕ → ℕ → ℕ → ℕ → Type 0
-Follows m near at s u = IsStep m.states m.terminator m.words near (length near) (s, at) (u, at)
+Follows m near at s u = IsStep m.states m.terminator m.word_chars near (length near) (s, at) (u, at)
 
 abbrev pub Moves : Machine → List ℕ → ℕ → ℕ → ℕ → Type 0
-Moves m near at s u = IsStep m.states m.terminator m.words near (length near) (s, at) (u, at + 1)
+Moves m near at s u = IsStep m.states m.terminator m.word_chars near (length near) (s, at) (u, at + 1)
 
 -- each state of the list is of the set, or an earlier one of the list leads to it with no byte
 pub record AreLed (m : Machine) (near : List ℕ) (at : ℕ) (set closure : List ℕ) : Type 0 where
@@ -117,7 +117,7 @@ AddsSome old (Some s) new = AddsOne old s new
 
 -- a run from the start state that begins where a match may
 pub record IsStartRun (e : Search) (run : List (ℕ × ℕ)) : Type 0 where
-  pub is_run : IsRun e.states e.terminator e.words e.haystack e.start e.end run
+  pub is_run : IsRun e.states e.terminator e.word_chars e.haystack e.start e.end run
   pub some : 0 < length run
   pub begins : (place run 0).0 ≡ e.first
   pub at_start : ¬ (e.mode ≡ No) → (place run 0).1 ≡ e.start
@@ -138,8 +138,8 @@ pub record IsRowAt (e : Search) (i : ℕ) (set : List ℕ) : Type 0 where
 
 -- the small haystack stands for the position: the same steps are there
 pub record IsNear (e : Search) (i : ℕ) (near : List ℕ) (at : ℕ) : Type 0 where
-  pub follows : (s u : ℕ) → IsStep e.states e.terminator e.words e.haystack e.end (s, i) (u, i) ↔ Follows (machine_of e) near at s u
-  pub moves : (s u : ℕ) → i < e.end → IsStep e.states e.terminator e.words e.haystack e.end (s, i) (u, i + 1) ↔ Moves (machine_of e) near at s u
+  pub follows : (s u : ℕ) → IsStep e.states e.terminator e.word_chars e.haystack e.end (s, i) (u, i) ↔ Follows (machine_of e) near at s u
+  pub moves : (s u : ℕ) → i < e.end → IsStep e.states e.terminator e.word_chars e.haystack e.end (s, i) (u, i + 1) ↔ Moves (machine_of e) near at s u
 
 -- both are no byte, or both bytes of one class
 abbrev pub Alike : List ℕ → Option ℕ → Option ℕ → Type 0
@@ -161,8 +161,8 @@ pub record IsPlan (m : Machine) (classes : List ℕ) (width : ℕ) (unicode : Bo
   pub faultless : AreFaultless groups m.states
   pub there : m.first < length m.states
   pub looks : unicode ≡ has_unicode m.states
-  pub keeps : KeepsRuns classes m.states m.terminator m.words
-  pub agreed : AgreesWithAscii m.words
+  pub keeps : KeepsRuns classes m.states m.terminator m.word_chars
+  pub agreed : AgreesWithAscii m.word_chars
   pub parted : has_unicode m.states ≡ true → (b c : ℕ) → b < 128 → c < 256 → slice_index classes b ≡ slice_index classes c → c < 128
   pub columns : width ≡ symbol_count classes
   pub bounded : LastClassIsGreatest classes

@@ -9,7 +9,7 @@ use Rattle.rsc_engine.specs.Searches.{Search}
 
 -- a step leads from the one state and position to the other
 abbrev pub Leads : Search → ℕ × ℕ → ℕ × ℕ → Type 0
-Leads e p q = IsStep e.states e.terminator e.words e.haystack e.end p q
+Leads e p q = IsStep e.states e.terminator e.word_chars e.haystack e.end p q
 
 -- the state is there, and the position is in the span
 abbrev pub IsPlace : Search → ℕ × ℕ → Type 0
@@ -30,7 +30,7 @@ accepts e p = is_accepting (pattern_of_mode e.mode) (slice_get e.states p.0)
 
 -- the list is a run from a place to a match
 pub record IsMatchRun (e : Search) (from : ℕ × ℕ) (run : List (ℕ × ℕ)) : Type 0 where
-  pub is_run : IsRun e.states e.terminator e.words e.haystack e.start e.end run
+  pub is_run : IsRun e.states e.terminator e.word_chars e.haystack e.start e.end run
   pub some : 0 < length run
   pub begins : place run 0 ≡ from
   pub ends : accepts e (place run (length run - 1)) ≡ true

@@ -28,7 +28,7 @@ IsStateOf groups n (Accept p) = p < length groups
 pub record Search : Type 0 where
   pub states : List State
   pub terminator : ℕ
-  pub words : ℕ → Bool
+  pub word_chars : ℕ → Bool
   pub first : ℕ
   pub utf8 : Bool
   pub haystack : List ℕ
@@ -41,7 +41,7 @@ abbrev pub search_in : {W : Type 0} → (W → ℕ → Bool) → Compiled W → 
 search_in chars p input = record {
   states = p.automaton.states;
   terminator = p.automaton.matcher.0;
-  words = chars p.automaton.matcher.1;
+  word_chars = chars p.automaton.matcher.1;
   first = p.start;
   utf8 = p.utf8;
   haystack = input.haystack;

@@ -1,4 +1,4 @@
--- The table of a DFA. It serves the proof of `dfa`, whose public contracts cite `Ends` and `Preferred` alone.
+-- The table of a DFA. It serves the proof of `dfa`, whose public contracts cite `Ends`, `Preferred` and `Searches` alone.
 use Rattle.std.specs.Prelude.{◌≡◌, ℕ, ◌+◌, ◌*◌, ◌<◌, ◌≤◌, true, false, List, [], length, slice_get, slice_index, slice_index_or, Option, Some, None, IfSome}
 use Rattle.std.specs.List.{All}
 use Rattle.rsc_search.specs.declared.anchored.Anchored.{Anchored}

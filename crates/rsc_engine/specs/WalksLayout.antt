@@ -13,7 +13,7 @@ use Rattle.rsc_engine.specs.declared.moves.Move.TheVariants.{Fails, Goes, Forks,
 -- the list is a run from the place, or is empty; at each place another way may be left to try
 pub record IsTrail (e : Search) (from : ℕ × ℕ) (run : List (ℕ × ℕ)) (others : List (Option ℕ)) : Type 0 where
   pub as_many : length others ≡ length run
-  pub is_run : IsRun e.states e.terminator e.words e.haystack e.start e.end run
+  pub is_run : IsRun e.states e.terminator e.word_chars e.haystack e.start e.end run
   pub begins : 0 < length run → place run 0 ≡ from
   pub ways : (k b : ℕ) → k < length others → slice_index_or others k None ≡ Some b → (b < length e.states) × Leads e (place run k) (b, (place run k).1)
 

@@ -1,4 +1,7 @@
 //! A backtracker that visits no place, a state at a position, twice: places from which no match is reached stay visited from one search to the next.
+//!
+//! A step leads from a place to the next, and at a fork to either of two: the other way is left to try. The trail has the run so far in visits, of one place or
+//! of turns of a loop and a place. A place's flag is set where it's visited, which clauses call flagged and lemmas seen.
 ghost use Rattle.std.specs.Prelude.{◌≡◌, ◌+◌, ◌-◌, ◌<◌, ◌≤◌, ℕ, [], ◌∷◌, ◌++◌, OnOk, IfOk, IfErr, IfSome, Some, None, false, true, length, slice_index_or, count_by, is_some};
 ghost use Rattle.rsc_nfa.specs.Steps.{place};
 ghost use Rattle.rsc_search.specs.declared.anchored.Anchored.TheVariants.{No};
@@ -31,7 +34,7 @@ pub struct Walk {
     from: (StateID, usize),
     /// The run so far, and the other ways that are left to try at its places.
     pub trail: Vec<Visit>,
-    /// A flag for each state and position: no match was found from there, or it's on the run.
+    /// A flag for each state and position: no match was found from there, or it's on the run, or on that of a match before, where no search begins again.
     pub visited: Flags,
 }
 
@@ -241,7 +244,7 @@ impl Walk {
         Ok((step, at))
     }
 
-    // Takes the places at a position out of the visited ones.
+    // Takes the places at a position out of the visited ones: that of a match's end, from which the next search goes on.
     fn forget<W: WordClass>(&mut self, program: &Program<W>, input: &Input<'_>, position: usize)
         requires room { HasFlags (search_in W.word_chars program.now input.now) self.old.visited }
         requires start { input.now.span.start ≤ position }

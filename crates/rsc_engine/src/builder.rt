@@ -23,12 +23,14 @@ use std::alloc::Global;
 
 /// A part of a pattern.
 ///
-/// Parts nest as the calls that made them, but for `literal` and `concat`, which stay flat: to build or drop a part takes stack for each level.
+/// Parts nest as the calls that made them, but for `literal`, `class`, `concat` and `one_of`, which stay flat: to build or drop a part takes stack for each
+/// level.
 #[derive(Drop)]
 pub struct Part<'n> {
     tree: Tree,
     // The names of its groups, in the order in which they open.
     names: Vec<Option<&'n str>>,
+    // Whether it can match nothing. No clause speaks of it: it decides which match a loop over the part prefers, as tests of `build` and `loops` show.
     may_be_empty: bool,
 }
 

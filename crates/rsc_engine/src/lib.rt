@@ -4,7 +4,8 @@
 //!
 //! `builder` makes parts and compiles them to the automaton of a `program`. `first`, `iterate` and `cache` have the searches: `starts` and `dfa` tell where no
 //! match begins, `backtrack` follows runs by the `moves` of states and the `turns` of loops, over the `flags` of places and a `trail`, and `groups` writes the
-//! match that a run makes.
+//! match that a run makes. `numbers` has the numbers of flags, `words` which word predicates a search takes, `error` why there is no answer.
+//! `find` stands above `dfa`, the rest of `first` below it.
 #![tactic(auto)]
 
 mod backtrack;

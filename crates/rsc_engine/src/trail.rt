@@ -1,4 +1,4 @@
-//! A run in visits: a visit stands for one place, or for many turns of a loop.
+//! A run in visits: a visit stands for turns of a loop, if there are any, and then a place.
 ghost use Rattle.std.specs.Prelude.{◌≡◌, ◌-◌, ◌<◌, ℕ, List, [], ◌∷◌, length, slice_get, slice_index_or, IfSome, IfNone, Some};
 ghost use Rattle.rsc_nfa.specs.declared.state.State.{State};
 ghost use Rattle.rsc_nfa.specs.declared.state.State.TheVariants.{Fork};

@@ -18,7 +18,7 @@ pub fn run(alloc: Global, request: Request<'_>) -> Result<u64, AllocError> {
         WORD_BYTES => repeat(reps, |sum| word_bytes(data, sum)),
         DECODE => repeat(reps, |sum| decoded(data, sum)),
         DECODE_LAST => repeat(reps, |sum| decoded_last(data, sum)),
-        BOUNDARIES => repeat(reps, |sum| boundaries(data, sum)),
+        BOUNDARIES => repeat(reps, |sum| char_boundaries(data, sum)),
         HAYSTACK_TEXT => repeat(reps, |sum| text_of_haystack(alloc, data, sum)),
         BYTE_TEXT => repeat(reps, |sum| texts_of_bytes(alloc, data, sum)),
         SMALL_NEW => {
@@ -110,7 +110,7 @@ fn encoded_length(c: char) -> usize
 
 // How many positions are character boundaries.
 #[inline(never)]
-fn boundaries(data: &[u8], sum: u64) -> u64 {
+fn char_boundaries(data: &[u8], sum: u64) -> u64 {
     let mut sum = sum;
     for at in 0..data.len() {
         sum = sum.wrapping_add(u64::from(is_boundary(data, at)));

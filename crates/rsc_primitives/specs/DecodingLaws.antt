@@ -140,8 +140,8 @@ pub BeginsAt-with_prefix : (e t : List ℕ) (k : ℕ) → BeginsOrEnds t k → B
 BeginsAt-with_prefix e t k b =
     ⊎_elim (λ p. inl (p.0, (length e + p.1.0, with_prefix e t k p.1.0 p.0 p.1.1))) (λ q. inr (rw q (sym (length-append e t)))) b
 
-boundary_behind : (e t : List ℕ) (k : ℕ) → IsCharBoundary (e ++ t) (length e + k) → IsCharBoundary t k
-boundary_behind e t k b = grind (arith, length-append e t, get_or-append-add e t k 0)
+char_boundary_behind : (e t : List ℕ) (k : ℕ) → IsCharBoundary (e ++ t) (length e + k) → IsCharBoundary t k
+char_boundary_behind e t k b = grind (arith, length-append e t, get_or-append-add e t k 0)
 
 first_encoded : (e t : List ℕ) (c i : ℕ) → Encodes e c → ((k : ℕ) → IsCharBoundary t k → BeginsOrEnds t k) → IsCharBoundary (e ++ t) i → BeginsOrEnds (e ++ t) i
 first_encoded e t c zero p later b = inl (c, (length e, with_suffix e t c p))
@@ -151,15 +151,15 @@ first_encoded e t c (suc i) p later b =
     absurd (grind (arith, length-append e t, get_or_append_left e t 0 (suc i) l, Encodes-rest e c p (suc i) (omega arith) l)))
     (λ (l : length e ≤ suc i).
     let q : length e + (suc i - length e) ≡ suc i = omega arith in
-    rw q at (BeginsAt-with_prefix e t (suc i - length e) (later (suc i - length e) (boundary_behind e t (suc i - length e) (rw q b)))))
+    rw q at (BeginsAt-with_prefix e t (suc i - length e) (later (suc i - length e) (char_boundary_behind e t (suc i - length e) (rw q b)))))
     (cases_lt (suc i) (length e))
 
-EncodesAll-boundary : (h cs : List ℕ) (i : ℕ) → EncodesAll h cs → IsCharBoundary h i → BeginsOrEnds h i
-EncodesAll-boundary h [] i p b = subst (λ (x : List ℕ). BeginsOrEnds x i) (sym p)
+EncodesAll-char_boundary : (h cs : List ℕ) (i : ℕ) → EncodesAll h cs → IsCharBoundary h i → BeginsOrEnds h i
+EncodesAll-char_boundary h [] i p b = subst (λ (x : List ℕ). BeginsOrEnds x i) (sym p)
     (⊎_elim (λ q. inr q) (λ q. absurd (omega arith)) (subst (λ (x : List ℕ). IsCharBoundary x i) p b))
-EncodesAll-boundary h (c ∷ cs) i p b =
+EncodesAll-char_boundary h (c ∷ cs) i p b =
     subst (λ (x : List ℕ). BeginsOrEnds x i) (sym p.2)
-    (first_encoded p.0 p.1 c i p.3 (λ k. EncodesAll-boundary p.1 cs k p.4) (subst (λ (x : List ℕ). IsCharBoundary x i) p.2 b))
+    (first_encoded p.0 p.1 c i p.3 (λ k. EncodesAll-char_boundary p.1 cs k p.4) (subst (λ (x : List ℕ). IsCharBoundary x i) p.2 b))
 
 pub IsCharBoundary-EncodesAll : (h cs : List ℕ) (i : ℕ) → EncodesAll h cs → IsCharBoundary h i ↔ BeginsOrEnds h i
-IsCharBoundary-EncodesAll h cs i p = (EncodesAll-boundary h cs i p, λ b. ⊎_elim (λ q. IsCharBoundary-begins h i q.0 q.1) (λ q. inl q) b)
+IsCharBoundary-EncodesAll h cs i p = (EncodesAll-char_boundary h cs i p, λ b. ⊎_elim (λ q. IsCharBoundary-begins h i q.0 q.1) (λ q. inl q) b)

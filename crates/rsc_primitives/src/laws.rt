@@ -176,7 +176,7 @@ pub fn none_begins_or_ends_inside()
 {}
 
 /// In the encoding of a list of characters the character boundaries are the positions where a character begins, and the end.
-#[tactic(auto, using(crate::proofs::CitedLaws::is_boundary_encoded))]
-pub fn boundaries_of_encoded_text()
+#[tactic(auto, using(crate::proofs::CitedLaws::is_char_boundary_encoded))]
+pub fn char_boundaries_of_encoded_text()
     ensures { (h cs : List ℕ) (i : ℕ) → EncodesAll h cs → IsCharBoundary h i ↔ (((c : ℕ) × BeginsAt h i c) ⊎ (i ≡ length h)) }
 {}

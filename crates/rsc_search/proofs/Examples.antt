@@ -46,14 +46,14 @@ inside_at_the_end = refl
 inside_at_the_start : cut_text (0xC3 ∷ 0xA9 ∷ []) (record { start = 1; end = 2 }) ≡ None
 inside_at_the_start = refl
 
-boundary_past_the_end : is_char_boundary (0xF0 ∷ 0x9D ∷ 0x9B ∷ 0x83 ∷ []) 5 ≡ false
-boundary_past_the_end = refl
+char_boundary_past_the_end : is_char_boundary (0xF0 ∷ 0x9D ∷ 0x9B ∷ 0x83 ∷ []) 5 ≡ false
+char_boundary_past_the_end = refl
 
-boundary_inside : is_char_boundary (0xF0 ∷ 0x9D ∷ 0x9B ∷ 0x83 ∷ []) 1 ≡ false
-boundary_inside = refl
+char_boundary_inside : is_char_boundary (0xF0 ∷ 0x9D ∷ 0x9B ∷ 0x83 ∷ []) 1 ≡ false
+char_boundary_inside = refl
 
-boundary_at_the_end : is_char_boundary (0xF0 ∷ 0x9D ∷ 0x9B ∷ 0x83 ∷ []) 4 ≡ true
-boundary_at_the_end = refl
+char_boundary_at_the_end : is_char_boundary (0xF0 ∷ 0x9D ∷ 0x9B ∷ 0x83 ∷ []) 4 ≡ true
+char_boundary_at_the_end = refl
 
 quit_text : error_text (Quit 0xFF 3) ≡ codes "quit search after observing byte \\xFF at offset 3"
 unfolding digits

@@ -263,7 +263,7 @@ impl<'h> Input<'h> {
     /// character begins and at the end.
     #[inline]
     pub fn is_char_boundary(&self, at: usize) -> bool
-        ensures boundary { IsTrue result ↔ IsCharBoundary self.now.haystack at }
+        ensures char_boundary { IsTrue result ↔ IsCharBoundary self.now.haystack at }
         ensures valid { (chars : List ℕ) → EncodesAll self.now.haystack chars →
             IsTrue result ↔ (((c : ℕ) × BeginsAt self.now.haystack at c) ⊎ (at ≡ length self.now.haystack)) }
     {

@@ -31,7 +31,7 @@ pub fn insertion_adds_one_member()
 {}
 
 /// Cuts of a text test both their ends for being character boundaries.
-pub fn boundary_is_tested()
+pub fn char_boundary_is_tested()
     ensures { (text : List ℕ) (i : ℕ) → IsTrue (is_char_boundary text i) ↔ IsCharBoundary text i }
 {}
 

@@ -155,13 +155,13 @@ fn inputs_shown(rt: HostRuntime) {
 #[test]
 fn character_boundaries(rt: HostRuntime) {
     let input = Input::new("𝛃".as_bytes());
-    let are_boundaries = [
+    let are_char_boundaries = [
         input.is_char_boundary(0),
         input.is_char_boundary(1),
         input.is_char_boundary(4),
         input.is_char_boundary(5),
     ];
-    assert!(rt; are_boundaries == [true, false, true, false]);
+    assert!(rt; are_char_boundaries == [true, false, true, false]);
 }
 
 #[test]

@@ -133,7 +133,7 @@ fn push_boundary(page: &mut Page, request: &Request, matcher: &LookMatcher<Words
     page.push_str(" and ");
     page.push_digits(byte + 1);
     page.push(':');
-    let (told, boundary) = witnesses(
+    let (told, range) = witnesses(
         matcher,
         request.looks.as_slice(),
         request.ranges.as_slice(),
@@ -144,7 +144,7 @@ fn push_boundary(page: &mut Page, request: &Request, matcher: &LookMatcher<Words
             push_witness(page, matcher, look, position, byte);
         }
     }
-    if let Some((start, end)) = boundary {
+    if let Some((start, end)) = range {
         if told.is_some() {
             page.push('\n');
             page.push_spaces(BETWEEN_WIDTH);

@@ -48,11 +48,11 @@ pub fn witnesses(
         slice_index m byte ≢ slice_index m (byte + 1) → IsSome result.0 ⊎ IsSome result.1 }
 {
     one_class_is_together();
-    (witness(matcher, looks, byte), boundary_at(ranges, byte))
+    (witness(matcher, looks, byte), range_at(ranges, byte))
 }
 
 // The first range that begins after a byte or ends at it.
-fn boundary_at(ranges: &[(u8, u8)], byte: u8) -> Option<(u8, u8)>
+fn range_at(ranges: &[(u8, u8)], byte: u8) -> Option<(u8, u8)>
     requires { byte < 255 }
     ensures range { IfSome result (λ r. Contains ranges.now r × BoundsRange byte r) }
     ensures found { (r : ℕ × ℕ) → Contains ranges.now r → BoundsRange byte r → IsSome result }

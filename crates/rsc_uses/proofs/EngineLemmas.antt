@@ -13,7 +13,7 @@ use Rattle.rsc_engine.specs.Patterns.{Pattern, Subject, Goes, IsMatchIn}
 
 -- a haystack as a text whose lines end by \n
 abbrev pub text : List ℕ → (ℕ → Bool) → Subject
-text haystack chars = record { haystack = haystack; terminator = 10; words = chars }
+text haystack chars = record { haystack = haystack; terminator = 10; word_chars = chars }
 
 its_only : (p q : Pattern) (n : ℕ) → slice_get (p ∷ []) n ≡ Some q → q ≡ p
 its_only p q zero e = cc
@@ -24,8 +24,8 @@ pub goes_of : {W : Type 0} (chars : W → ℕ → Bool) (program : Compiled W) (
     → program.automaton.matcher ≡ (10, words) → IsMatchIn (p ∷ []) (search_in chars program (whole haystack)) found
     → Goes (text haystack (chars words)) p found.span.start found.span.end
 goes_of {W = W} chars program words p haystack found matcher m =
-    subst (λ (x : ℕ × W). Goes (record { haystack = haystack; terminator = x.0; words = chars x.1 }) p found.span.start found.span.end) matcher
-    (subst (λ (q : Pattern). Goes (record { haystack = haystack; terminator = program.automaton.matcher.0; words = chars program.automaton.matcher.1 }) q
+    subst (λ (x : ℕ × W). Goes (record { haystack = haystack; terminator = x.0; word_chars = chars x.1 }) p found.span.start found.span.end) matcher
+    (subst (λ (q : Pattern). Goes (record { haystack = haystack; terminator = program.automaton.matcher.0; word_chars = chars program.automaton.matcher.1 }) q
     found.span.start found.span.end) (its_only p m.pattern found.pattern m.its) m.goes)
 
 -- and it's of pattern 0
@@ -56,7 +56,7 @@ match_of {W = W} chars program words p others haystack i j matcher within g = re
   wanted = refl;
   start = omega arith;
   end = within;
-  goes = subst (λ (x : ℕ × W). Goes (record { haystack = haystack; terminator = x.0; words = chars x.1 }) p i j) (sym matcher) g;
+  goes = subst (λ (x : ℕ × W). Goes (record { haystack = haystack; terminator = x.0; word_chars = chars x.1 }) p i j) (sym matcher) g;
 }
 
 pub may_begin : {W : Type 0} (chars : W → ℕ → Bool) (program : Compiled W) (haystack : List ℕ) (i : ℕ) → i ≤ length haystack

@@ -24,11 +24,11 @@ pub fn find_part<W: WordClass + AsciiWords>(
     haystack: &[u8],
 ) -> Result<Option<(usize, usize)>, Error>
     ensures some { IfOk result (λ found. IfSome found (λ ends.
-        Goes (record { haystack = haystack.now; terminator = 10; words = W.word_chars words }) (pattern_of part.entry) ends.0 ends.1)) }
+        Goes (record { haystack = haystack.now; terminator = 10; word_chars = W.word_chars words }) (pattern_of part.entry) ends.0 ends.1)) }
     ensures first { IfOk result (λ found. IfSome found (λ ends. (i j : ℕ) → i < ends.0 → j ≤ length haystack.now →
-        ¬ (Goes (record { haystack = haystack.now; terminator = 10; words = W.word_chars words }) (pattern_of part.entry) i j))) }
+        ¬ (Goes (record { haystack = haystack.now; terminator = 10; word_chars = W.word_chars words }) (pattern_of part.entry) i j))) }
     ensures none { IfOk result (λ found. IfNone found ((i j : ℕ) → i ≤ length haystack.now → j ≤ length haystack.now →
-        ¬ (Goes (record { haystack = haystack.now; terminator = 10; words = W.word_chars words }) (pattern_of part.entry) i j))) }
+        ¬ (Goes (record { haystack = haystack.now; terminator = 10; word_chars = W.word_chars words }) (pattern_of part.entry) i j))) }
 {
     laws::a_first_match_is_of_a_pattern::<W>();
     let program = Builder::new(alloc).build(words, true, part)?;
@@ -225,7 +225,7 @@ pub fn first_of_two<'n, W: WordClass + AsciiWords>(
     haystack: &[u8],
 ) -> Result<Option<Match>, Error>
     ensures { IfOk result (λ found. IfSome found (λ m. m.pattern ≡ 1 → (j : ℕ) → j ≤ length haystack.now →
-        ¬ (Goes (record { haystack = haystack.now; terminator = 10; words = W.word_chars words }) (pattern_of one.entry) m.span.start j))) }
+        ¬ (Goes (record { haystack = haystack.now; terminator = 10; word_chars = W.word_chars words }) (pattern_of one.entry) m.span.start j))) }
 {
     laws::a_match_is_of_the_least_pattern::<W>();
     let mut builder = Builder::new(alloc);
@@ -247,7 +247,7 @@ pub fn first_of_iteration<W: WordClass + AsciiWords>(
     haystack: &[u8],
 ) -> Result<Option<(usize, usize)>, Error>
     ensures { IfOk result (λ found. IfSome found (λ ends.
-        Goes (record { haystack = haystack.now; terminator = 10; words = W.word_chars words }) (pattern_of part.entry) ends.0 ends.1)) }
+        Goes (record { haystack = haystack.now; terminator = 10; word_chars = W.word_chars words }) (pattern_of part.entry) ends.0 ends.1)) }
 {
     laws::a_next_match_is_of_a_pattern::<W>();
     let program = Builder::new(alloc).build(words, true, part)?;
@@ -268,7 +268,7 @@ pub fn first_end_of_part<W: WordClass + AsciiWords>(
     haystack: &[u8],
 ) -> Result<Option<usize>, Error>
     ensures { IfOk result (λ found. IfSome found (λ end.
-        (i : ℕ) × Goes (record { haystack = haystack.now; terminator = 10; words = W.word_chars words }) (pattern_of part.entry) i end)) }
+        (i : ℕ) × Goes (record { haystack = haystack.now; terminator = 10; word_chars = W.word_chars words }) (pattern_of part.entry) i end)) }
 {
     laws::an_earliest_end_is_of_a_pattern::<W>();
     let program = Builder::new(alloc).build(words, true, part)?;
@@ -288,7 +288,7 @@ pub fn leftmost_end_of_part<W: WordClass + AsciiWords>(
     haystack: &[u8],
 ) -> Result<Option<usize>, Error>
     ensures { IfOk result (λ found. IfSome found (λ end.
-        (i : ℕ) × Goes (record { haystack = haystack.now; terminator = 10; words = W.word_chars words }) (pattern_of part.entry) i end)) }
+        (i : ℕ) × Goes (record { haystack = haystack.now; terminator = 10; word_chars = W.word_chars words }) (pattern_of part.entry) i end)) }
 {
     laws::a_leftmost_end_is_of_a_pattern::<W>();
     let program = Builder::new(alloc).build(words, true, part)?;

@@ -126,8 +126,8 @@ fn look_set_debug(rt: HostRuntime) -> Result<(), Fail> {
     Ok(())
 }
 
-// The bits of a set that is joined with another in place, less what it had before, and then what both have.
-fn bits_in_place(mut set: LookSet, other: LookSet) -> [u32; 3] {
+// The bits of a set to which another is joined, less what it had before, and then what both have.
+fn bits_when_joined(mut set: LookSet, other: LookSet) -> [u32; 3] {
     let before = set;
     set.set_union(other);
     let joined = set.bits();
@@ -149,7 +149,7 @@ fn sets_of_assertions(rt: HostRuntime) {
         lines.subtract(starts).bits(),
         lines.remove(Look::StartLF).bits(),
     ];
-    assert!(rt; bits == [13, 4, 8, 8] && bits_in_place(lines, starts) == [13, 1, 1]);
+    assert!(rt; bits == [13, 4, 8, 8] && bits_when_joined(lines, starts) == [13, 1, 1]);
     let is_empty = LookSet::full().subtract(LookSet::full()).is_empty();
     assert!(rt; is_empty && !LookSet::singleton(Look::Start).is_empty());
     let is_available = LookSet::full().available().is_ok();

@@ -12,6 +12,6 @@ returns-clause-boundary c = λ m coarsest differs.
     let t = c.args.matcher.now.0 in
     let W = chosen_words c.args.matcher.now.1 in
     ⊎_elim (λ (told : IsNeeded c.args.byte looks t W). inl (c.witness.ensures.needed.1 told))
-    (λ (boundary : HasBoundary c.args.byte ranges). inr (c.boundary_at.ensures.found boundary.range boundary.listed boundary.boundary))
+    (λ (boundary : HasBoundary c.args.byte ranges). inr (c.range_at.ensures.found boundary.range boundary.listed boundary.boundary))
     (coarsest.needed c.args.byte c.requires
     (boundary_between m coarsest.boundaries c.args.byte c.one_class_is_together.ensures c.requires coarsest.classes differs))

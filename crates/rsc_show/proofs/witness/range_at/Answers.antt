@@ -2,7 +2,7 @@ use Rattle.std.proofs.Common.{◌≡◌, ◌+◌, arith, get_or, subst, sym, tak
 use Rattle.std.proofs.lemmas.List.{take_all, take_more}
 use Rattle.std.proofs.lemmas.List.Elements.{Contains-push_cases}
 use Rattle.rsc_show.specs.Ranges.{BoundsRange}
-use Rattle.rsc_show.proofs.witness.boundary_at.Goals as goal
+use Rattle.rsc_show.proofs.witness.range_at.Goals as goal
 
 pub loop-start-preserved : goal.loop-start-preserved
 loop-start-preserved c = λ x inside boundary.
