@@ -3,6 +3,7 @@
 
     compare/pairs.py COUNT SEED PAIRS MATCHES     # writes a line for each pair to the file PAIRS, and its matches to MATCHES
     compare/pairs.py COUNT SEED                   # writes them as the stored run crates/rsc_example/runs/pairs.txt has them
+    compare/pairs.py --groups COUNT SEED ..       # only pairs with a match, a group and a choice, in longer texts, as in runs/groups.txt
 
 A line of PAIRS is what `rsc_example calls` reads: the pattern as the builder's calls, a tab, the digits of the text. Its matches are the starts and
 ends of all groups of each match, `- -` for a group that takes no part, or `no match`.
@@ -77,22 +78,29 @@ def spans(found):
     return "".join(" ".join("-" if it < 0 else str(it) for it in found.span(group)) + " " for group in groups) + ";"
 
 
-def pair(numbers):
+def pair(numbers, has_groups):
     """Returns a line that asks for the matches of a pattern in a text, and Python's answer."""
-    calls, source, _ = pattern(numbers, numbers.randint(1, 4))
-    # Python's \B holds nowhere in the empty text, so no text is empty.
-    text = b"".join(numbers.choice([b"a", b"b", b"a", b"b", b"\n", b" ", "é".encode()]) for _ in range(numbers.randint(1, 8)))
-    return f"{' '.join(calls)}\t{text.hex()}", "".join(map(spans, matches(re.compile(source), text))) or "no match"
+    while True:
+        calls, source, _ = pattern(numbers, numbers.randint(3, 6) if has_groups else numbers.randint(1, 4))
+        # Python's \B holds nowhere in the empty text, so no text is empty.
+        length = numbers.randint(1, 24 if has_groups else 8)
+        text = b"".join(numbers.choice([b"a", b"b", b"a", b"b", b"\n", b" ", "é".encode()]) for _ in range(length))
+        found = "".join(map(spans, matches(re.compile(source), text)))
+        is_choice = any(it == "|" or it[0] in "*+?{" and it[:5] != "{1,1}" for it in calls)
+        if not has_groups or found and "(" in calls and is_choice and len(calls) <= 24:
+            return f"{' '.join(calls)}\t{text.hex()}", found or "no match"
 
 
 def main():
-    count, numbers = int(sys.argv[1]), random.Random(int(sys.argv[2]))
-    pairs = [pair(numbers) for _ in range(count)]
-    if len(sys.argv) == 3:
-        print("# What compare/pairs.py writes: the answers are those of Python's `re`.", "$ rsc_example calls", sep="\n")
+    has_groups = sys.argv[1] == "--groups"
+    given = sys.argv[1 + has_groups :]
+    count, numbers = int(given[0]), random.Random(int(given[1]))
+    pairs = [pair(numbers, has_groups) for _ in range(count)]
+    if len(given) == 2:
+        print(f"# What compare/pairs.py{' --groups' * has_groups} writes: the answers are those of Python's `re`.", "$ rsc_example calls", sep="\n")
         print(*(f"@ input {asked}\\n" for asked, _ in pairs), *(answer for _, answer in pairs), sep="\n")
         return
-    for path, lines in zip(sys.argv[3:], zip(*pairs)):
+    for path, lines in zip(given[2:], zip(*pairs)):
         with open(path, "w", encoding="utf-8") as file:
             print(*lines, sep="\n", file=file)
 

@@ -237,7 +237,7 @@ HEAD = """# The public calls
 
 Written by `gate/pages.py --write`. Each row is a public call, or an impl of a trait that promises something, with a link to its source file: the names of the
 clauses of its contract (`ensures` for one without a name), which CALLING.md of the crate quotes; a test whose text makes the call, itself or by a function of
-its crate that it calls; and a wrong body that the prover refuses in that very function (of several the first, with their number), or in one that it calls
+its crate that it calls (it need not be about that call); and a wrong body that the prover refuses in that very function (of several the first, with their number), or in one that it calls
 or that is like it (an accessor, a conversion), which is named then: at one of its goals at least, not at each clause. A law is a public function with an empty body, whose contract is a lemma; its wrong body
 is another statement, or an edit of the constant or the impl that it speaks of.
 

@@ -163,7 +163,8 @@ def engine_trusted():
     count, all_lines = sizes(own)
     calls = "`Builder`'s calls, `Program::captures`, all searches (`find`, `Matches`, `Cache`, `Dfa`), and `Captures::get_group`, which reads a match's groups,"
     lines = [f"The clauses of {calls}", f"reach {count} definitions, {all_lines} lines:", "", "| File | Lines | Definitions |", "|---|---|---|", *rows(own, own)]
-    lines += ["", "What is seen of a value; of a `Builder` and a `Part` clauses see the fields:", "", *views(ENGINE_SEEN)]
+    lines += ["", "What is seen of a value; of a `Builder` and a `Part` clauses see the fields. `lists_held` and `from_le_bytes` say how the code holds lists and numbers, and "
+              "aren't counted: the clauses of `GroupInfo::new` (`groups`) and of `NonMaxUsize::new` and `get` say what a caller sees.", "", *views(ENGINE_SEEN)]
     lines += ["", "They use types of the libraries, and names of the toolchain:", "", "| Module | Names |", "|---|---|"]
     return lines + [f"| `{module}` | {', '.join(f'`{it}`' for it in sorted(names))} |" for module, names in sorted(outside.items())]
 

@@ -21,7 +21,7 @@ LIBRARIES = ("rsc_primitives", "rsc_alphabet", "rsc_look", "rsc_search", "rsc_ca
 # Where a pattern may bind names: in a closure, an arm, `matches!`, `let` and `for`; but not the `let` of one variable.
 PATTERN = re.compile(r"(?<!\|)\|([^|=;]*)\|(?!\|)|^(?=([^\n]*)=>)|\bmatches!\([^,]*(,[^;]*)|\blet (?!(?:mut )?\w+ = )([^=]*)=|\bfor ([^={]*?) in ", flags=re.M)
 CHAIN = re.compile(r"\blet (?:mut )?(\w+) = &?(?:mut )?|(?<![\w.:])(?=[A-Za-z_])")
-PATH = re.compile(r"(?:\w+(?:::<[^<>]*>)?::)*\w+|")
+PATH = re.compile(r"(?:\w+(?:::<[^<>]*>)?::)*\w+(?:::<[^<>]*>(?=\())?|")
 STEP = re.compile(r"\?|\s*\.(\w+)(?:::<[^()]*>)?\(")
 
 

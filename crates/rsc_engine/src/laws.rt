@@ -1,5 +1,5 @@
 //! Laws of matches that a caller can cite: functions whose contracts are the laws.
-ghost use Rattle.std.specs.Prelude.{◌≡◌, ◌+◌, ◌*◌, ◌<◌, ◌≤◌, ◌⊎◌, ℕ, List, length, Option, Some, None, slice_index_or};
+ghost use Rattle.std.specs.Prelude.{true, ◌↔◌, ◌≡◌, ◌+◌, ◌*◌, ◌<◌, ◌≤◌, ◌⊎◌, ℕ, List, length, Option, Some, None, slice_index_or};
 ghost use Rattle.rsc_captures.specs.Groups.{group_count};
 ghost use Rattle.rsc_captures.specs.Captured.{Captured, group_span};
 ghost use Rattle.rsc_search.specs.Inputs.{InputParts};
@@ -10,8 +10,10 @@ ghost use Rattle.rsc_engine.specs.Preferred.{IsPreferred, IsLeftmostFirst, IsFir
 ghost use Rattle.rsc_engine.specs.NextMatches.{IsNext, IsOver, IsNextMatch, IsOpen, IsRepeated, IsSplitAt, Left, AreAll};
 ghost use Rattle.rsc_engine.specs.Ends.{IsEarliestEnd, IsLeftmostEnd};
 ghost use Rattle.rsc_engine.specs.GroupEnds.{RecordsEnds};
+ghost use Rattle.rsc_engine.specs.declared.dfa.Answer.{Answer};
 ghost use Rattle.rsc_engine.specs.PatternOrder.{PrefersLesser};
 
+use crate::Answer;
 use rsc_look::WordClass;
 
 /// From a place there is at most one preferred run; in a search there is at most one leftmost-first run, and none if no match begins
@@ -125,4 +127,15 @@ pub fn the_first_group_is_the_match<W: WordClass>()
     ensures next_group { (program : Compiled W) (input : InputParts) (last : Option ℕ) (captures : Captured) (found : Matched) →
         RecordsEnds W.word_chars program → IsNextMatch (search_in W.word_chars program input) last captures found →
         2 * found.pattern + 1 < length captures.offsets → 0 < group_count captures.groups found.pattern → group_span captures 0 ≡ Some found.span }
+{}
+
+/// A clone of an answer is that answer, and none is refused.
+pub fn clones_are_their_sources()
+    ensures answer { (a b : Answer) → ⟦<Answer as Clone>⟧.is_clone a b → b ≡ a }
+    ensures accepted { (a : Answer) → ⟦<Answer as Clone>⟧.is_infallible a }
+{}
+
+/// Two answers are equal exactly if they are of one kind, with one position.
+pub fn equality_is_of_all_parts()
+    ensures { (a b : Answer) → (⟦<Answer as PartialEq>⟧.eq a b ≡ true) ↔ (a ≡ b) }
 {}

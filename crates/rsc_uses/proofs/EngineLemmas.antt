@@ -1,14 +1,15 @@
 -- Matches of one pattern in a whole haystack.
 use Rattle.std.specs.Option.{ForSome}
-use Rattle.std.proofs.Common.{◌≡◌, ℕ, zero, suc, ◌+◌, ◌-◌, ◌*◌, ◌<◌, ◌≤◌, Option, None, Bool, List, [], ◌∷◌, ◌++◌, length, slice_get, refl, sym, ap, subst, arith, Some}
+use Rattle.std.proofs.Common.{◌≡◌, ℕ, zero, suc, ◌+◌, ◌-◌, ◌*◌, ◌<◌, ◌≤◌, ◌⊎◌, inl, inr, ◌∙◌, true≢false, false, Option, None, Bool, List, [], ◌∷◌, ◌++◌, length, slice_get, refl, sym, ap, subst, arith, Some}
 use Rattle.std.proofs.lemmas.List.{length-replicate}
+use Rattle.rsc_nfa.specs.Steps.{place}
 use Rattle.rsc_search.specs.Inputs.{whole}
 use Rattle.rsc_captures.specs.Groups.{Groups, GroupLists, group_count, all_groups}
 use Rattle.rsc_captures.specs.Captured.{Captured, no_offsets}
 use Rattle.rsc_search.specs.Matches.{Matched}
 use Rattle.rsc_engine.specs.Searches.{Compiled, Search, search_in}
 use Rattle.rsc_engine.specs.Preferred.{MayBegin}
-use Rattle.rsc_engine.specs.NextMatches.{Left, IsNextOf, IsOver, AreAll, after}
+use Rattle.rsc_engine.specs.NextMatches.{Left, IsNextOf, IsOver, IsOpen, IsRepeated, IsSplitAt, AreAll, after}
 use Rattle.rsc_engine.specs.Patterns.{Pattern, Subject, Goes, IsMatchIn}
 
 -- a haystack as a text whose lines end by \n
@@ -62,6 +63,19 @@ match_of {W = W} chars program words p others haystack i j matcher within g = re
 pub may_begin : {W : Type 0} (chars : W → ℕ → Bool) (program : Compiled W) (haystack : List ℕ) (i : ℕ) → i ≤ length haystack
     → MayBegin (search_in chars program (whole haystack)) i
 may_begin chars program haystack i l = record { start = omega arith; end = l; anchored = λ other. absurd (other refl) }
+
+-- the same of a first match of an iteration
+pub is_open : {W : Type 0} (chars : W → ℕ → Bool) (program : Compiled W) (haystack : List ℕ) (i : ℕ) → i ≤ length haystack
+    → IsOpen (search_in chars program (whole haystack)) None i
+is_open chars program haystack i l = record { start = omega arith; end = l; anchored = λ other. absurd (other refl) }
+
+-- where no match came before, and the haystack isn't taken for text, none is left out
+pub none_left_out : (e : Search) (at : ℕ) → e.utf8 ≡ false → IsRepeated e None at ⊎ IsSplitAt e at → ⊥
+none_left_out e at plain (inl r) = none_is_some (place r.run 0).1 r.repeats.there
+  where
+    none_is_some : (i : ℕ) → None ≡ Some i → ⊥
+    none_is_some i h = absurd (cc)
+none_left_out e at plain (inr s) = absurd (true≢false (sym s.splits.utf8 ∙ plain))
 
 -- ---- all matches, one after the other
 

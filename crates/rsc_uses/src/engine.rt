@@ -239,18 +239,23 @@ pub fn first_of_two<'n, W: WordClass + AsciiWords>(
     }
 }
 
-/// Where the first match of an iteration is: the part goes there.
+/// Where the first match of an iteration is: the part goes there, and nowhere from an earlier position; `None` only if it goes nowhere.
 pub fn first_of_iteration<W: WordClass + AsciiWords>(
     alloc: Global,
     words: W,
     part: Part<'_>,
     haystack: &[u8],
 ) -> Result<Option<(usize, usize)>, Error>
-    ensures { IfOk result (λ found. IfSome found (λ ends.
+    ensures some { IfOk result (λ found. IfSome found (λ ends.
         Goes (record { haystack = haystack.now; terminator = 10; word_chars = W.word_chars words }) (pattern_of part.entry) ends.0 ends.1)) }
+    ensures first { IfOk result (λ found. IfSome found (λ ends. (i j : ℕ) → i < ends.0 → j ≤ length haystack.now →
+        ¬ (Goes (record { haystack = haystack.now; terminator = 10; word_chars = W.word_chars words }) (pattern_of part.entry) i j))) }
+    ensures none { IfOk result (λ found. IfNone found ((i j : ℕ) → i ≤ length haystack.now → j ≤ length haystack.now →
+        ¬ (Goes (record { haystack = haystack.now; terminator = 10; word_chars = W.word_chars words }) (pattern_of part.entry) i j))) }
 {
     laws::a_next_match_is_of_a_pattern::<W>();
-    let program = Builder::new(alloc).build(words, true, part)?;
+    // The haystack isn't taken for text, so no match is left out for being within a character.
+    let program = Builder::new(alloc).build(words, false, part)?;
     let mut captures = program.captures(alloc)?;
     let input = Input::new(haystack);
     let mut matches = Matches::new(alloc, &program, input)?;
