@@ -154,7 +154,10 @@ fn a_star_of_what_can_be_empty_is_a_plus_or_nothing(rt: HostRuntime) -> Result<(
     let text = b"a\naaa\n";
     for number in 0..3_usize {
         let program = repeated_nothing(rt.alloc(), number)?;
-        assert!(rt; finds(rt.alloc(), &program, Input::new(text), &ends)?, "{number}");
+        assert!(rt;
+            finds(rt.alloc(), &program, Input::new(text), &ends)?,
+            "{number}"
+        );
     }
     let program = repeated_list(rt.alloc())?;
     assert!(rt; finds(rt.alloc(), &program, Input::new(text), &ends)?);
