@@ -18,7 +18,11 @@ NO_PROMISES = "Value view invariant bytes cut_of laws inverse inverse_ok coded t
 
 
 def promises(text):
-    """Yields each impl of a trait in a file, with the ghost items that say what its methods promise."""
+    """Yields each impl of a trait in a file, with the ghost items that say what its methods promise.
+
+    >>> [*promises("impl PartialEq for Span {\\n    ghost eq = { λ a b. True };\\n}\\n")]
+    [('PartialEq for Span', ['eq = { λ a b. True }'])]
+    """
     for it in source_of(text).owners:
         _, is_impl, of = it.name.rpartition(" for ")
         ghosts = re.findall(r"^    ghost (\w+) = (\{.*?\});$", text[it.start : it.end], flags=re.M | re.S) if is_impl else ()
@@ -37,7 +41,7 @@ def sources(crate):
             yield file.relative_to(ROOT / "crates" / crate / "src"), file.read_text(encoding="utf-8")
 
 
-MARK = re.compile(r"<!-- callers: (\S+) (.*) -->\n")
+MARK = re.compile(r"<!-- callers: (.*) -->\n")
 LAWS = """## Laws, and what else can be cited
 
 A law is a public function of `{crate}::laws` that does nothing, and whose contract is the law. A function whose proof needs it calls it at its beginning, as
@@ -100,7 +104,13 @@ def own_text(lines):
 
 
 def meaning(comment, line, below):
-    """Returns what a definition says: its comment, with a record's fields or a short definition after it, or else how it is defined."""
+    """Returns what a definition says: its comment, with a record's fields or a short definition after it, or else how it is defined.
+
+    >>> meaning("two ends", "pub record Ends : Type 0 where", ["  pub start : ℕ", "  pub end : ℕ", ""])
+    'two ends (a record: `start`, `end`)'
+    >>> meaning("", "abbrev pub two : ℕ", ["two = 2", ""])
+    '`two = 2`'
+    """
     own = own_text(below)
     if " record " in line:
         fields = itertools.takewhile(lambda it: it.startswith("  "), below)
@@ -166,7 +176,7 @@ def items(crate):
 
 
 def callers(path, names):
-    """Returns the section of some functions of rsc_uses, after what they name of the same file, and says which have a proof file."""
+    """Returns what the section on callers says of some functions of a file of rsc_uses, after what they name of the same file, and says which have a proof file."""
     text = (ROOT / "crates/rsc_uses/src" / path).read_text(encoding="utf-8")
     lines = {name: line for line, name in source_of(text).items().items() if text.startswith(("pub fn ", "pub trait "), line)}
     shown = {}
@@ -191,7 +201,7 @@ def callers(path, names):
     first = f"From `crates/rsc_uses/src/{path}`, proved from the contracts below alone. {files}{own}"
     loops = [ROOT / folder / it / "Invariants.antt" for it in shown if (ROOT / folder / it / "Invariants.antt").exists()]
     invariants = "".join(f"\nThe invariant of a loop, `{it.relative_to(ROOT)}`:\n\n```text\n{it.read_text(encoding='utf-8')}```\n" for it in loops)
-    return f"## Callers\n\n{first}\n\n```rust\n{used}\n\n{quoted}\n```\n{invariants}"
+    return f"{first}\n\n```rust\n{used}\n\n{quoted}\n```\n{invariants}"
 
 
 def imports(path, quoted):
@@ -210,7 +220,11 @@ def imports(path, quoted):
 
 
 def mentioned(name):
-    """Returns a pattern of where a name is used: an operator by its first sign, another one as a whole."""
+    """Returns a pattern of where a name is used: an operator by its first sign, another one as a whole.
+
+    >>> [bool(re.search(mentioned(name), "a ≤ length b")) for name in ("◌≤◌", "◌<◌", "length", "leng")]
+    [True, False, True, False]
+    """
     here = name.split(" as ")[-1].strip()
     sign = here.replace("◌", " ").split()[0]
     return re.escape(sign) if here != sign and not sign.isalpha() else rf"(?<!\w){re.escape(sign)}(?!\w)"
@@ -224,13 +238,14 @@ passed. The pages that `rt doc` leads to have the rest.
 def page(crate, text):
     mark = MARK.search(text)
     if not mark:
-        raise ValueError(f"crates/{crate}/CALLING.md lacks a line `<!-- callers: FILE FUNCTION .. -->`")
+        raise ValueError(f"crates/{crate}/CALLING.md lacks a line `<!-- callers: FILE FUNCTION ..; FILE FUNCTION .. -->`")
     laws = (ROOT / "crates" / crate / "src/laws.rt").read_text(encoding="utf-8")
     law = next(iter(source_of(laws).items().values()))
     listed = names_of_specs(crate)
     module, name = re.search(r"^\| `(\w+)\.([^`]+)` \|", listed, flags=re.M).groups()
     cited = LAWS.format(crate=crate, law=law, module=module, name=name)
-    return text[: mark.end()] + "\n" + "\n".join([NOTATION, items(crate), callers(mark[1], mark[2].split()), cited, contracts(crate), listed])
+    quoted = "\n".join(callers(path, names) for path, *names in map(str.split, mark[1].split(";")))
+    return text[: mark.end()] + "\n" + "\n".join([NOTATION, items(crate), "## Callers\n", quoted, cited, contracts(crate), listed])
 
 
 HEAD = """# The public calls

@@ -3,8 +3,8 @@
 
     gate/pages.py [--write]      # without --write it says which pages are out of date, and what they lack; with it, what it can't write
 
-- The lower part of each library's CALLING.md: below the line `<!-- callers: FILE FUNCTION .. -->`, which names the functions of
-  crates/rsc_uses/src/FILE to show, come those callers, the contract of each public call, and the names of specs/ with their comments.
+- The lower part of each library's CALLING.md: below the line `<!-- callers: FILE FUNCTION ..; FILE FUNCTION .. -->`, which names the functions of
+  files of crates/rsc_uses/src to show, come those callers, the contract of each public call, and the names of specs/ with their comments.
 - The first Rust code of a library's README.md: its file in crates/rsc_docs/src/readmes, a test. In the README.md of the repository, the code below each line
   `<!-- quoted: FILE -->`. README.md also gets how many definitions are to be believed and what is proved by hand, docs/TRUSTED.md each of those definitions,
   and docs/CALLS.md each public call.

@@ -7,7 +7,7 @@
 # crates/NAME/must-run/*.snippet is tests of calls whose callers the checker doesn't cover: at the end of the file that the first
 # line names, `// added to: FILE`, they are compiled and run without a proof, and each must pass.
 #
-# This script also makes a repository by own/new-repository.sh and runs its test.
+# This script also makes a repository by own/new-repository.sh and runs its tests.
 set -u
 cd "$(dirname "$0")/.."
 copy=$(mktemp -d)
@@ -72,9 +72,9 @@ for snippet in crates/*/must-run/*.snippet; do
   is_passed "$snippet" "$answer"
   count "$snippet" passed "$answer"
 done
-# The repository of one's own that own/new-repository.sh makes: the test of its first function.
+# The repository of one's own that own/new-repository.sh makes: the tests of its first functions.
 answer=$(own/new-repository.sh "$copy/own" first engine uses && cd "$copy/own/crates/first" && rt try --test 2>&1)
-printf '%s\n' "$answer" | grep -q '^test result: ok. 1 passed'
+printf '%s\n' "$answer" | grep -q '^test result: ok. 2 passed'
 count own/new-repository.sh passed "$answer"
 echo "snippets: $passed passed, $failed failed"
 [ "$failed" -eq 0 ] && [ "$passed" -gt 0 ]

@@ -11,7 +11,11 @@ SEEN = (("rsc_look", "matcher.rt", "LookMatcher"), ("rsc_alphabet", "byte_classe
 
 
 def imports_of(text, ghost):
-    """Returns what the `use` lines of a source or a definition file bring in: each name or sign, with its module and the name there."""
+    """Returns what the `use` lines of a source or a definition file bring in: each name or sign, with its module and the name there.
+
+    >>> imports_of("ghost use Rattle.std.specs.Prelude.{◌≤◌, ℕ};\\nghost use Rattle.low.specs.Sets as sets;\\n", "ghost ")
+    {'≤': ('std.specs.Prelude', '◌≤◌'), 'ℕ': ('std.specs.Prelude', 'ℕ'), 'sets': ('low.specs', 'Sets')}
+    """
     found = {}
     for module, names, alias in re.findall(rf"^\s*{ghost}use Rattle\.([\w.]+?)(?:\.\{{([^}}]*)\}}| as (\w+))", text, flags=re.M):
         if alias:
@@ -22,7 +26,11 @@ def imports_of(text, ghost):
 
 
 def definitions(text):
-    """Returns the definitions of a file of specs/, each with its text."""
+    """Returns the definitions of a file of specs/, each with its text.
+
+    >>> definitions("-- two ends\\npub record Ends : Type 0 where\\n  pub end : ℕ\\n\\nabbrev pub two : ℕ\\ntwo = 2\\n")
+    {'Ends': 'pub record Ends : Type 0 where\\n  pub end : ℕ\\n', 'two': 'abbrev pub two : ℕ\\ntwo = 2\\n'}
+    """
     found, name = {}, None
     for line in text.splitlines():
         begins = re.match(r"(?:  (?=abbrev ))?(?:abbrev |unfoldable )*(?:pub )?(?:record |data |class )?([^\s:({]+)", line)
@@ -69,10 +77,11 @@ def statement(is_quoted):
 
 
 # What rsc_engine promises of a search, and by what its groups are read: the clauses of these functions.
-ENGINE = (("rsc_engine", "first.rt", ("find",)), ("rsc_engine", "iterate.rt", ("new", "next", "into_cache")), ("rsc_engine", "builder.rt", ("range", "class", "literal", "look", "empty", "never", "then", "concat", "one_of", "either", "group", "pattern", "build", "build_with")),
+ENGINE = (("rsc_engine", "first.rt", ("find",)), ("rsc_engine", "iterate.rt", ("new", "next", "into_cache")), ("rsc_engine", "builder.rt", ("new", "range", "class", "literal", "look", "empty", "never", "then", "concat", "one_of", "either", "group", "pattern", "build", "build_with")),
           ("rsc_engine", "builder/repeat.rt", tuple(f"{it}{end}" for it in ("optional", "star", "plus", "repeat") for end in ("", "_lazy"))),
-          ("rsc_engine", "dfa.rt", ("earliest_end", "is_match", "find", "leftmost_end")), ("rsc_engine", "cache.rt", ("new", "find", "matches")),
-          ("rsc_engine", "program.rt", ("captures",)), ("rsc_captures", "captures.rt", ("get_group",)))
+          ("rsc_engine", "dfa.rt", ("new", "earliest_end", "is_match", "find", "leftmost_end")), ("rsc_engine", "cache.rt", ("new", "find", "matches")),
+          ("rsc_engine", "program.rt", ("new", "captures")), ("rsc_captures", "captures.rt", ("get_group",)),
+          ("rsc_search", "input.rt", ("new", "range", "anchored")), ("rsc_engine", "laws.rt", ()))
 ENGINE_MEANT = (("rsc_look/src/word.rt", r"ghost word_chars = .*?;"), ("rsc_engine/src/iterate.rt", r"impl<[^{]*Model for Matches.*?^\}"))
 ENGINE_SEEN = (("rsc_engine", "program.rt", "Program"), ("rsc_engine", "dfa.rt", "Dfa"), ("rsc_engine", "cache.rt", "Cache"),
                ("rsc_engine", "iterate.rt", "Matches"), ("rsc_nfa", "nfa.rt", "Nfa"), ("rsc_look", "matcher.rt", "LookMatcher"), ("rsc_search", "input.rt", "Input"), ("rsc_search", "matches.rt", "Match"),
@@ -86,6 +95,8 @@ def engine_statement():
     for file, pattern in ENGINE_MEANT:
         yield from ((file, it) for it in re.findall(pattern, (ROOT / "crates" / file).read_text(encoding="utf-8"), flags=re.M | re.S))
     for crate, file, names in ENGINE:
+        # Without a name all functions of the file.
+        names = names or re.findall(r"^pub fn (\w+)", (ROOT / "crates" / crate / "src" / file).read_text(encoding="utf-8"), flags=re.M)
         yield from ((f"{crate}/src/{file}", it) for name in names for it in clauses_of(f"{crate}/src/{file}", name)[1:])
 
 
@@ -161,8 +172,8 @@ def engine_trusted():
     """Returns the lines of docs/TRUSTED.md on what the answers of rsc_engine rest on."""
     own, outside = reached(engine_statement())
     count, all_lines = sizes(own)
-    calls = "`Builder`'s calls, `Program::captures`, all searches (`find`, `Matches`, `Cache`, `Dfa`), and `Captures::get_group`, which reads a match's groups,"
-    lines = [f"The clauses of {calls}", f"reach {count} definitions, {all_lines} lines:", "", "| File | Lines | Definitions |", "|---|---|---|", *rows(own, own)]
+    calls = "`Builder`'s calls, `Program::captures`, calls that make an `Input`, all searches (`find`, `Matches`, `Cache`, `Dfa`), `Captures::get_group`, and the"
+    lines = [f"The clauses of {calls}", f"laws (by a list in `gate/trusted.py`, which reads the sources as text) reach {count} definitions, {all_lines} lines:", "", "| File | Lines | Definitions |", "|---|---|---|", *rows(own, own)]
     lines += ["", "What is seen of a value; of a `Builder` and a `Part` clauses see the fields. `lists_held` and `from_le_bytes` say how the code holds lists and numbers, and "
               "aren't counted: the clauses of `GroupInfo::new` (`groups`) and of `NonMaxUsize::new` and `get` say what a caller sees.", "", *views(ENGINE_SEEN)]
     lines += ["", "They use types of the libraries, and names of the toolchain:", "", "| Module | Names |", "|---|---|"]

@@ -98,9 +98,10 @@ def refusals(crate, folder, said):
     >>> said = '''fn low::span::Span::len: no proof: expected answers in a file; `search` did not prove `returns-clause-len`, `returns-clause-room`
     ... fn low::span::Span::get: proved
     ... ./proofs/span/Span/get/Answers.antt:3:9: error: `returns-clause-some`: expected another type
-    ... ./proofs/span/Span/cut/Answers.antt:3:9: error: `returns`: `c.gone` is not in scope'''
+    ... ./proofs/span/Span/cut/Answers.antt:3:9: error: `returns`: `c.gone` is not in scope
+    ... ./proofs/tree/+part/Answers.antt:3:9: error: `group-returns`: expected another type'''
     >>> {function: sorted(goals) for function, goals in refusals("low", "", said).items()}
-    {'span::Span::len': ['returns-clause-len', 'returns-clause-room'], 'span::Span::get': ['returns-clause-some']}
+    {'span::Span::len': ['returns-clause-len', 'returns-clause-room'], 'span::Span::get': ['returns-clause-some'], 'tree::group': ['group-returns']}
     """
     found = collections.defaultdict(set)
     for line in said.splitlines():
@@ -111,7 +112,9 @@ def refusals(crate, folder, said):
         in_file = re.match(r"(?:\./)?(proofs/(.+)/(Answers|Proof)\.antt):(\d+):(\d+): error: `([^`]+)`: (.*)", line)
         if in_file and not re.search(r"has no field|is not in scope|has no `|was not admitted|no module", in_file[7]):
             by_hand = in_file[3] == "Proof" and f"by hand at {name_at(f'{folder}/{in_file[1]}', int(in_file[4]), int(in_file[5]))}"
-            found[in_file[2].replace("/", "::")].add(by_hand or in_file[6])
+            # The file of a cycle of calls has the goals of all its functions, each below the function's name.
+            names = re.sub(r"\+\w+$", in_file[6].partition("-")[0], in_file[2])
+            found[names.replace("/", "::")].add(by_hand or in_file[6])
         # Where a proof file is refused too, the goals of the exits stand in notes of their own.
         at_exit = re.match(r"note: (src/\S+?):(\d+):\d+: it is not proved that [^(]*\(`([^`]+)`\)", line)
         if at_exit:
@@ -136,8 +139,10 @@ def rattle_check(crate, known, folder, functions):
         options += ["-L", f"dependency={path}"]
     options += ["--antt-project", f"{kit}/rattle/logic/antt-project.json", "--logic-built", f"{kit}/logic_built", "--incremental", "out/incremental"]
     options += [it for function in functions for it in ("--only", function)]
+    # The first batch of the largest crate takes longest of all, and the others wait for it.
+    jobs = "2" if len(functions) > 100 else "1"
     root = "src/main.rt" if os.path.exists(f"{folder}/src/main.rt") else "src/lib.rt"
-    ran = subprocess.run([f"{kit}/bin/rattle", "check", "--crate-name", crate, *options, "--jobs", "1", root], cwd=folder, stdin=subprocess.DEVNULL,
+    ran = subprocess.run([f"{kit}/bin/rattle", "check", "--crate-name", crate, *options, "--jobs", jobs, root], cwd=folder, stdin=subprocess.DEVNULL,
                          stdout=subprocess.PIPE, stderr=subprocess.STDOUT, encoding="utf-8", errors="replace")
     return ran.returncode, ran.stdout
 

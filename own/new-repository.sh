@@ -2,7 +2,7 @@
 # Makes a Rattle repository whose crate may call the libraries.
 #   own/new-repository.sh FOLDER CRATE [engine [uses]]
 # FOLDER must not be there yet. It gets the six libraries, docs, crates.txt, HANDLES, and the crate CRATE with a function that calls rsc_look and a test; with
-# 'engine' rsc_engine too, and the search of README.md as src/pairs.rt; with 'uses' also rsc_uses, whose callers and lemmas CALLING.md quotes.
+# 'engine' rsc_engine too, the search of README.md as src/pairs.rt, and a test of it; with 'uses' also rsc_uses, whose callers and lemmas CALLING.md quotes.
 set -euo pipefail
 here=$(cd "$(dirname "${BASH_SOURCE[0]}")/.." && pwd)
 if [ $# -lt 2 ] || [ -e "$1" ] || [[ $2 == rsc_* ]] || [ "${3:-engine}" != engine ] || [ "${4:-uses}" != uses ]; then
@@ -30,6 +30,16 @@ cp "$here/own/first.txt" "$1/crates/$2/src/lib.rt"
 if [ -n "${3:-}" ]; then
   cp "$here/crates/rsc_example/src/pairs.rt" "$1/crates/$2/src"
   sed -i 's/^use rsc_look::{Look, LookMatcher, WordClass};$/&\n\n\/\/\/ A search for two patterns.\npub mod pairs;/' "$1/crates/$2/src/lib.rt"
+  sed -i 's/^    use super::line_starts;$/    use super::line_starts;\n    use super::pairs::{named, pairs};\n    use rsc_engine::{Builder, find};/; s/^    use rsc_look::{AsciiWord, LookMatcher};$/&\n    use rsc_search::Input;/; $d' "$1/crates/$2/src/lib.rt"
+  cat "$here/own/search.txt" >> "$1/crates/$2/src/lib.rt"
 fi
-echo "In $1/crates/$2: 'rt try --test' runs the test without a proof; 'rt check' proves the crate. The first check proves the libraries too, which takes some"
+# Links of pages to what isn't copied become their texts.
+python3 - "$1" << 'END'
+import pathlib, re, sys
+for page in pathlib.Path(sys.argv[1]).rglob("*.md"):
+    def kept(link):
+        return link[0] if "://" in link[2] or (page.parent / link[2].partition("#")[0]).exists() else link[1]
+    page.write_text(re.sub(r"\[([^\]]+)\]\(([^()\s]+)\)", kept, page.read_text(encoding="utf-8")), encoding="utf-8")
+END
+echo "In $1/crates/$2: 'rt try --test' runs its tests without a proof; 'rt check' proves the crate. The first check proves the libraries too, which takes some"
 echo "10 minutes on an idle machine, and 10 more with the engine: start it now and write meanwhile. docs/DEFINITIONS.md explains what contracts say."

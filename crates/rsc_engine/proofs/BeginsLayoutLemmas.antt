@@ -1,5 +1,5 @@
 -- The runs of a program that was built: from the state at which a pattern begins its matches are found, and no others.
-use Rattle.std.proofs.Common.{drop, ◌||◌, map, get_or, option_map, ◌≡◌, ℕ, zero, suc, ◌+◌, ◌-◌, ◌*◌, ◌<◌, ◌≤◌, ◌⊎◌, inl, inr, ⊎_elim, List, [], ◌∷◌, length, slice_get, refl, sym, ap, ◌∙◌, subst, arith, Option, Some, None, MatchOption, Bool}
+use Rattle.std.proofs.Common.{drop, ◌||◌, map, get_or, option_map, ◌≡◌, ℕ, zero, suc, ◌+◌, ◌-◌, ◌*◌, ◌<◌, ◌≤◌, ◌⊎◌, inl, inr, ⊎_elim, List, [], ◌∷◌, length, slice_get, refl, sym, ap, ◌∙◌, subst, arith, Option, Some, MatchOption, Bool}
 use Rattle.std.proofs.lemmas.Bool.{cases_lt, cases_eq}
 use Rattle.std.proofs.lemmas.Option.{slice_get_within, slice_get_read, slice_get-map}
 use Rattle.rsc_nfa.specs.declared.state.State.{State}
@@ -23,7 +23,7 @@ use Rattle.rsc_engine.proofs.GroupEndsLemmas.{IsWhole, RecordsFrom-one, RecordsF
 use Rattle.rsc_search.specs.Matches.{Matched}
 use Rattle.rsc_search.specs.Modes.{pattern_of_mode}
 use Rattle.rsc_engine.specs.Searches.{Search, Compiled, search_in}
-use Rattle.rsc_engine.specs.Runs.{Leads, IsPlace, IsMatchOf, is_accepting, is_wanted}
+use Rattle.rsc_engine.specs.Runs.{Leads, IsMatchOf, is_accepting, is_wanted}
 use Rattle.rsc_engine.proofs.PatternOrderLemmas.{PrefersFrom-one, PrefersFrom-fork}
 use Rattle.rsc_engine.proofs.RunsLemmas.{run-before, step-within}
 use Rattle.rsc_engine.proofs.WalksLayoutLemmas.{leads-rises}
@@ -92,8 +92,8 @@ Adds-pattern groups old middle later last new accept number after start end body
           })
           y.1.0),
       λ l. AreSound-pattern (2 * all_groups groups) (length groups) (has_reversed_range p) (length old) (length later) (length last) (length new) accept number
-          after start end body first end states (omega (arith, l, same)) sw ew a.last (omega (arith, b.last, one)) (omega (arith, two, one)) x.longer c.last
-          (grown last new (Capture start body) first c) y.0.0 y.0.1 y.1.1 y.1.2 z,
+          after start end body first end states (omega (arith, l, same)) starts ends sw ew a.last (omega (arith, b.last, one)) (omega (arith, two, one))
+          x.longer c.last (grown last new (Capture start body) first c) y.0.0 y.0.1 y.1.1 y.1.2 z,
     ))
   where
     Two : List State → Type 0

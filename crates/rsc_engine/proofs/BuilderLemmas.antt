@@ -1,6 +1,7 @@
 -- How lists of states grow, part by part.
-use Rattle.std.proofs.Common.{Bool, true, false, subst, true≢false, drop, drop-cons, get_or, ◌≡◌, ℕ, zero, suc, ◌+◌, ◌-◌, ◌<◌, ◌≤◌, ◌⊎◌, inl, inr, List, [], ◌∷◌, ◌++◌, length, set, slice_get, refl, sym, ap, ◌∙◌, arith, length-append, Some, None}
+use Rattle.std.proofs.Common.{Bool, true, false, subst, true≢false, drop, drop-cons, get_or, ◌≡◌, ℕ, zero, suc, ◌+◌, ◌-◌, ◌*◌, ◌%◌, ◌<◌, ◌≤◌, ◌⊎◌, inl, inr, List, [], ◌∷◌, ◌++◌, length, set, slice_get, refl, sym, ap, ◌∙◌, arith, length-append, Some, None}
 use Rattle.std.proofs.lemmas.List.{length-set}
+use Rattle.std.proofs.Math.Nat.{div-add-mod}
 use Rattle.std.proofs.Math.Seq.{drop-length}
 use Rattle.rsc_look.specs.declared.assertion.Look.{Look}
 use Rattle.rsc_nfa.specs.declared.state.State.{State}
@@ -9,7 +10,7 @@ use Rattle.rsc_engine.specs.Patterns.{Pattern, Empty, Never, Class, Literal, Ass
 use Rattle.rsc_engine.specs.EnclosesLayout.{IsOnWay, StaysOnWay, Encloses}
 use Rattle.rsc_nfa.specs.Classes.{IsOrdered}
 use Rattle.rsc_engine.specs.Refusals.{has_reversed_range}
-use Rattle.rsc_engine.specs.NamesLayout.{RecordsBelow, Names}
+use Rattle.rsc_engine.specs.NamesLayout.{HasClose, RecordsInPairs, Names}
 use Rattle.rsc_engine.proofs.NamesLayoutLemmas.{Names-joined, Names-one, Names-above, Names-choice, Names-loop, or_none, either_back, range-ordered, range-reversed, class-same, literal-same, between-same, star-same, limited-same, unlimited-same}
 use Rattle.rsc_engine.specs.LinksLayout.{Adds, Builds, IsAdded, IsChoice, Realizes, copies, up_to}
 use Rattle.rsc_engine.proofs.LinksLayoutLemmas.{Realizes-never, Realizes-range, Realizes-assert, Realizes-capture, Realizes-is, Realizes-then, Realizes-either, Realizes-choice, Realizes-star, Realizes-plus}
@@ -95,17 +96,21 @@ abbrev IsPart : ℕ × ℕ → ℕ → ℕ → ℕ → ℕ → Pattern → List 
 IsPart slot low high first next p all =
     Realizes all first next p × Encloses slot.0 low high first next all × Names slot.1 (has_reversed_range p) low high all
 
+part-then : (slot : ℕ × ℕ) (low middle high first between next : ℕ) (p q : Pattern) (all : List State) → low ≤ middle → middle ≤ high
+    → IsPart slot low middle between next q all → IsPart slot middle high first between p all → IsPart slot low high first next (Then p q) all
+part-then slot low middle high first between next p q all l h a b = (
+  Realizes-then all first between next p q a.0 b.0,
+  Encloses-then slot.0 low middle high first between next all l h a.1 b.1,
+  Names-joined slot.1 (has_reversed_range (Then p q)) (has_reversed_range q) (has_reversed_range p) low middle high all
+      (either_back (has_reversed_range q) (has_reversed_range p)) l h a.2 b.2,
+)
+
 pub Builds-then : (slot : ℕ × ℕ) (old middle new : List State) (first between next : ℕ) (p q : Pattern) → Builds slot old middle between next q
     → Builds slot middle new first between p → Builds slot old new first next (Then p q)
 Builds-then slot old middle new first between next p q x y =
     Adds-both old middle new (IsPart slot (length old) (length middle) between next q) (IsPart slot (length middle) (length new) first between p)
     (IsPart slot (length old) (length new) first next (Then p q)) x y
-    (λ all a b. (
-      Realizes-then all first between next p q a.0 b.0,
-      Encloses-then slot.0 (length old) (length middle) (length new) first between next all x.longer y.longer a.1 b.1,
-      Names-joined slot.1 (has_reversed_range (Then p q)) (has_reversed_range q) (has_reversed_range p) (length old) (length middle) (length new) all
-          (either_back (has_reversed_range q) (has_reversed_range p)) x.longer y.longer a.2 b.2,
-    ))
+    (λ all a b. part-then slot (length old) (length middle) (length new) first between next p q all x.longer y.longer a b)
 
 -- a part is what goes where it goes
 pub Builds-is : (slot : ℕ × ℕ) (old new : List State) (first next : ℕ) (p q : Pattern) → ((x : Subject) (i j : ℕ) → Goes x p i j → Goes x q i j)
@@ -126,14 +131,15 @@ grown old new state id a = ap length a.added ∙ length-append old (state ∷ []
 
 Builds-state : (slot : ℕ × ℕ) (old new : List State) (state : State) (id next : ℕ) (p : Pattern) → IsAdded old new state id
     → StaysOnWay (λ (s : ℕ). IsOnWay (length old) (length new) next s) slot.0 state
-    → RecordsBelow slot.1 state → (has_reversed_range p ≡ false → IsOrdered state) → (has_reversed_range p ≡ true → IsOrdered state → ⊥)
-    → ((all : List State) → slice_get all id ≡ Some state → Realizes all id next p) → Builds slot old new id next p
+    → ((all : List State) → RecordsInPairs slot.1 all state) → (has_reversed_range p ≡ false → IsOrdered state)
+    → (has_reversed_range p ≡ true → IsOrdered state → ⊥) → ((all : List State) → slice_get all id ≡ Some state → Realizes all id next p)
+    → Builds slot old new id next p
 Builds-state slot old new state id next p a stays below ordered reversed realizes =
     Adds-is old new (λ (all : List State). slice_get all id ≡ Some state) (IsPart slot (length old) (length new) id next p)
     (λ all is. (
       realizes all is,
       Encloses-one slot.0 (length old) (length new) id next all state a.last (grown old new state id a) is stays,
-      Names-one slot.1 (has_reversed_range p) (length old) (length new) id all state a.last (grown old new state id a) is below ordered reversed,
+      Names-one slot.1 (has_reversed_range p) (length old) (length new) id all state a.last (grown old new state id a) is (below all) ordered reversed,
     ))
     (Adds-one old new state id a)
 
@@ -142,26 +148,28 @@ pub Builds-never : (slot : ℕ × ℕ) (old new : List State) (this id next : �
 Builds-never slot old new this id next e a =
     let same : this ≡ id = e ∙ sym a.last in
     let here : IsOnWay (length old) (length new) next this = inl (omega (arith, e), omega (arith, e, grown old new (Fork this this) id a)) in
-    Builds-state slot old new (Fork this this) id next Never a (here, here) tt (λ e. tt) (λ e. absurd (true≢false (sym e)))
+    Builds-state slot old new (Fork this this) id next Never a (here, here) (λ all. tt) (λ e. tt) (λ e. absurd (true≢false (sym e)))
     (λ all is. Realizes-never all id next (is ∙ ap (λ (n : ℕ). Some (Fork n n)) same))
 
 pub Builds-range : (slot : ℕ × ℕ) (old new : List State) (x y id next : ℕ) → IsAdded old new (ByteRange x y next) id
     → Builds slot old new id next (Class ((x, y) ∷ []))
 Builds-range slot old new x y id next a =
-    Builds-state slot old new (ByteRange x y next) id next (Class ((x, y) ∷ [])) a (inr refl) tt (range-ordered x y next) (range-reversed x y next)
+    Builds-state slot old new (ByteRange x y next) id next (Class ((x, y) ∷ [])) a (inr refl) (λ all. tt) (range-ordered x y next) (range-reversed x y next)
     (λ all is. Realizes-range all id x y next is)
 
 pub Builds-assert : (slot : ℕ × ℕ) (old new : List State) (look : Look) (id next : ℕ) → IsAdded old new (Assert look next) id
     → Builds slot old new id next (Assertion look)
 Builds-assert slot old new look id next a =
-    Builds-state slot old new (Assert look next) id next (Assertion look) a (inr refl) tt (λ e. tt) (λ e. absurd (true≢false (sym e)))
+    Builds-state slot old new (Assert look next) id next (Assertion look) a (inr refl) (λ all. tt) (λ e. tt) (λ e. absurd (true≢false (sym e)))
     (λ all is. Realizes-assert all id next look is)
 
-Builds-capture : (slot : ℕ × ℕ) (old new : List State) (c id next : ℕ) → slot.0 < c → c < slot.1
-    → IsAdded old new (Capture c next) id → Builds slot old new id next Empty
-Builds-capture slot old new c id next l m a =
-    Builds-state slot old new (Capture c next) id next Empty a (l, inr refl) m (λ e. tt) (λ e. absurd (true≢false (sym e)))
-    (λ all is. Realizes-capture all id c next is)
+part-capture : (slot : ℕ × ℕ) (low high c id next : ℕ) (all : List State) → id ≡ low → high ≡ low + 1 → slice_get all id ≡ Some (Capture c next)
+    → slot.0 < c → c < slot.1 → ((pair : ℕ) → c ≡ 2 * pair → HasClose all pair next) → IsPart slot low high id next Empty all
+part-capture slot low high c id next all same one is l m closed = (
+  Realizes-capture all id c next is,
+  Encloses-one slot.0 low high id next all (Capture c next) same one is (l, inr refl),
+  Names-one slot.1 false low high id all (Capture c next) same one is (m, closed) (λ e. tt) (λ e. absurd (true≢false (sym e))),
+)
 
 -- ---- states after parts
 
@@ -211,16 +219,46 @@ Builds-byte slot old middle new b first id next rest r a =
     (literal-same b rest)
     (Builds-then slot old middle new id first next (Class ((b, b) ∷ [])) (Literal rest) r (Builds-range slot middle new b b id first a))
 
--- a part between two records
+-- a part between two records, which are in the slots of a pair
 pub Builds-group : (slot : ℕ × ℕ) (old middle last new : List State) (start end body after id next : ℕ) (p : Pattern)
-    → slot.0 < start → start < slot.1 → slot.0 < end → end < slot.1
+    → slot.0 < start → start % 2 ≡ 0 → end ≡ start + 1 → end < slot.1
     → IsAdded old middle (Capture end next) after → Builds slot middle last body after p → IsAdded last new (Capture start body) id
     → Builds slot old new id next p
-Builds-group slot old middle last new start end body after id next p l lw m mw a x b =
+Builds-group slot old middle last new start end body after id next p l even second m a x b =
     Builds-is slot old new id next (Then Empty (Then p Empty)) p (between-is p) (between-back p) (between-same p)
-    (Builds-then slot old last new id body next Empty (Then p Empty)
-    (Builds-then slot old middle last body after next p Empty (Builds-capture slot old middle end after next m mw a) x)
-    (Builds-capture slot last new start id body l lw b))
+    (Adds-both old last new Two (λ (all : List State). slice_get all id ≡ Some (Capture start body))
+    (IsPart slot (length old) (length new) id next (Then Empty (Then p Empty)))
+    (Adds-both old middle last (λ (all : List State). slice_get all after ≡ Some (Capture end next)) (IsPart slot (length middle) (length last) body after p)
+    Two (Adds-one old middle (Capture end next) after a) x (λ all y z. (y, z)))
+    (Adds-one last new (Capture start body) id b)
+    (λ all y is.
+    part-then slot (length old) (length last) (length new) id body next Empty (Then p Empty) all (omega (arith, x.longer, one)) (omega (arith, two))
+    (part-then slot (length old) (length middle) (length last) body after next p Empty all (omega (arith, one)) x.longer
+    (part-capture slot (length old) (length middle) end after next all a.last one y.0 (omega (arith, l, second)) m (λ pair e. absurd (odd pair e))) y.1)
+    (part-capture slot (length last) (length new) start id body all b.last two is l (omega (arith, m, second)) (λ pair e. closed all y pair e))))
+  where
+    Two : List State → Type 0
+    Two all = (slice_get all after ≡ Some (Capture end next)) × IsPart slot (length middle) (length last) body after p all
+
+    one : length middle ≡ length old + 1
+    one = grown old middle (Capture end next) after a
+
+    two : length new ≡ length last + 1
+    two = grown last new (Capture start body) id b
+
+    odd : (pair : ℕ) → end ≡ 2 * pair → ⊥
+    odd pair e = omega (arith, e, second, even, div-add-mod start 2)
+
+    closed : (all : List State) → Two all → (pair : ℕ) → start ≡ 2 * pair → HasClose all pair body
+    closed all y pair e = record {
+      slot = slot.0;
+      low = length middle;
+      high = length last;
+      close = after;
+      next = next;
+      its = y.0 ∙ ap (λ (s : ℕ). Some (Capture s next)) (omega (arith, e, second));
+      encloses = y.1.1;
+    }
 
 -- the part or nothing
 Adds-choice : (last new : List State) (state : State) (one next id : ℕ) → (state ≡ Fork one next) ⊎ (state ≡ Fork next one) → IsAdded last new state id

@@ -24,18 +24,18 @@ or_none None = refl
 or_none (Some i) = refl
 
 -- a step that doesn't record leaves what comes after it
-unrecorded : (states : List State) (p q : ℕ × ℕ) (rest : List (ℕ × ℕ)) (slot : ℕ) → is_capture_of slot (slice_get states p.0) ≡ false
+pub unrecorded : (states : List State) (p q : ℕ × ℕ) (rest : List (ℕ × ℕ)) (slot : ℕ) → is_capture_of slot (slice_get states p.0) ≡ false
     → recorded states (p ∷ (q ∷ rest)) slot ≡ recorded states (q ∷ rest) slot
 unrecorded states p q rest slot e =
     ap (λ (b : Bool). or_earlier (recorded states (q ∷ rest) slot) (cond b (Some p.1) None)) e ∙ or_none (recorded states (q ∷ rest) slot)
 
 -- what is recorded later counts
-kept : (states : List State) (p q : ℕ × ℕ) (rest : List (ℕ × ℕ)) (slot i : ℕ) → recorded states (q ∷ rest) slot ≡ Some i
+pub kept : (states : List State) (p q : ℕ × ℕ) (rest : List (ℕ × ℕ)) (slot i : ℕ) → recorded states (q ∷ rest) slot ≡ Some i
     → recorded states (p ∷ (q ∷ rest)) slot ≡ Some i
 kept states p q rest slot i e = ap (λ (o : Option ℕ). or_earlier o (cond (is_capture_of slot (slice_get states p.0)) (Some p.1) None)) e
 
 -- and else what the step records
-first_recorded : (states : List State) (p q : ℕ × ℕ) (rest : List (ℕ × ℕ)) (slot : ℕ) → is_capture_of slot (slice_get states p.0) ≡ true
+pub first_recorded : (states : List State) (p q : ℕ × ℕ) (rest : List (ℕ × ℕ)) (slot : ℕ) → is_capture_of slot (slice_get states p.0) ≡ true
     → recorded states (q ∷ rest) slot ≡ None → recorded states (p ∷ (q ∷ rest)) slot ≡ Some p.1
 first_recorded states p q rest slot is e =
     ap (λ (o : Option ℕ). or_earlier o (cond (is_capture_of slot (slice_get states p.0)) (Some p.1) None)) e
@@ -59,11 +59,11 @@ leads_on_way P slot (Fork a b) x end i to h step =
 leads_on_way P slot (Capture c next) x end i to h step = subst (λ (s : ℕ). P s) (sym step.0) h.1
 leads_on_way P slot (Accept p) x end i to h step = absurd h
 
-record Leaves (states : List State) (slot low high next : ℕ) (p q : ℕ × ℕ) : Type 0 where
-  to : IsOnWay low high next q.0
-  silent : (s : ℕ) → s ≤ slot → is_capture_of s (slice_get states p.0) ≡ false
+pub record Leaves (states : List State) (slot low high next : ℕ) (p q : ℕ × ℕ) : Type 0 where
+  pub to : IsOnWay low high next q.0
+  pub silent : (s : ℕ) → s ≤ slot → is_capture_of s (slice_get states p.0) ≡ false
 
-step_within : (states : List State) (x : Subject) (end slot low high first next : ℕ) (p q : ℕ × ℕ) → Encloses slot low high first next states
+pub step_within : (states : List State) (x : Subject) (end slot low high first next : ℕ) (p q : ℕ × ℕ) → Encloses slot low high first next states
     → low ≤ p.0 → p.0 < high → IsStep states x.terminator x.word_chars x.haystack end p q → Leaves states slot low high next p q
 step_within states x end slot low high first next p q e l h step = go (slice_get states p.0) refl step
   where
@@ -92,7 +92,7 @@ record Finds (states : List State) (number accepted : ℕ) (p : ℕ × ℕ) (res
   end : recorded states (p ∷ rest) (2 * number + 1) ≡ Some (last_place p rest).1
   none : (s : ℕ) → s < 2 * number + 1 → recorded states (p ∷ rest) s ≡ None
 
-no_capture : (c next q : ℕ) → Some (Capture c next) ≡ Some (Accept q) → ⊥
+pub no_capture : (c next q : ℕ) → Some (Capture c next) ≡ Some (Accept q) → ⊥
 no_capture c next q e = absurd (cc)
 
 one_pattern : (p q : ℕ) → Some (Accept p) ≡ Some (Accept q) → p ≡ q
@@ -106,7 +106,7 @@ step_of states x end s p q state same is step =
     (ap (λ (t : ℕ). slice_get states t) same ∙ is) step
 
 -- a state that records does so in its slot, and in no other
-records_in : (states : List State) (s c next slot : ℕ) (p : ℕ × ℕ) → p.0 ≡ s → slice_get states s ≡ Some (Capture c next) → c ≡ slot
+pub records_in : (states : List State) (s c next slot : ℕ) (p : ℕ × ℕ) → p.0 ≡ s → slice_get states s ≡ Some (Capture c next) → c ≡ slot
     → is_capture_of slot (slice_get states p.0) ≡ true
 records_in states s c next slot p same is e =
     ap (λ (t : ℕ). is_capture_of slot (slice_get states t)) same ∙ (ap (λ (o : Option State). is_capture_of slot o) is ∙ eq-eqb c slot e)

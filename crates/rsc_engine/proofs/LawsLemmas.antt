@@ -1,17 +1,21 @@
 -- What first and next matches and ends are, of a program that recognizes patterns.
-use Rattle.std.proofs.Common.{◌≡◌, ℕ, ◌-◌, ◌<◌, ◌⊎◌, ⊎_elim, List, length, slice_get, refl, sym, ap, subst, arith, Option, Some, None, ◌↔◌, true, true≢false}
+use Rattle.std.proofs.Common.{◌≡◌, ℕ, ◌-◌, ◌<◌, ◌≤◌, ◌⊎◌, ⊎_elim, false, List, length, slice_get, refl, sym, ap, subst, arith, Option, Some, None, ◌↔◌, true, true≢false}
+use Rattle.std.proofs.lemmas.Bool.{cases_lt}
+use Rattle.std.specs.List.{list_any}
 use Rattle.rsc_nfa.specs.declared.state.State.{State}
 use Rattle.rsc_nfa.specs.declared.state.State.TheVariants.{ByteRange, Assert, Fork, Capture, Accept}
 use Rattle.rsc_nfa.specs.Steps.{place}
-use Rattle.rsc_engine.specs.Patterns.{Pattern, IsMatchIn, HasRunOf}
+use Rattle.rsc_engine.specs.Patterns.{Pattern, subject_of, may_be_empty, IsMatchIn, HasRunOf}
 use Rattle.rsc_search.specs.Matches.{Matched}
 use Rattle.rsc_search.specs.Modes.{pattern_of_mode}
+use Rattle.rsc_search.specs.declared.anchored.Anchored.TheVariants.{No}
 use Rattle.rsc_engine.specs.Searches.{Search}
 use Rattle.rsc_engine.specs.Runs.{IsMatchRun, is_accepting}
 use Rattle.rsc_captures.specs.Captured.{Captured}
 use Rattle.rsc_engine.specs.Preferred.{IsFirstMatch, MayBegin, HasNone}
-use Rattle.rsc_engine.specs.NextMatches.{IsRepeated, IsSplitAt, IsPassed, IsNextMatch}
+use Rattle.rsc_engine.specs.NextMatches.{IsEmpty, IsRepeated, IsSplitAt, IsPassed, IsOver, IsNextMatch}
 use Rattle.rsc_engine.specs.Ends.{IsMatchEnd, IsEarliestEnd}
+use Rattle.rsc_engine.proofs.PatternsLemmas.{goes-forward, goes-takes, takes-at}
 
 -- ---- the first match
 
@@ -87,3 +91,43 @@ pub none_ends_before : (e : Search) (patterns : List Pattern) (i : ℕ) (other :
 none_ends_before e patterns i other both h begins l m =
     let r = (both other).1 m in
     h.none_before other.span.end l (record { from = other.span.start; run = r.run; begins = begins; is_match = r.is_match; ends = sym r.makes.end })
+
+-- ---- side by side
+
+-- where no pattern may be empty, no match run is
+not_empty : (e : Search) (patterns : List Pattern) (at : ℕ) (run : List (ℕ × ℕ)) → ((other : Matched) → HasRunOf e other ↔ IsMatchIn patterns e other)
+    → list_any may_be_empty patterns ≡ false → IsMatchRun e (e.first, at) run → IsEmpty run → ⊥
+not_empty e patterns at run both none m empty =
+    let begins : (place run 0).1 ≡ at = ap (λ (p : ℕ × ℕ). p.1) m.begins in
+    let q = accepted (pattern_of_mode e.mode) (slice_get e.states (place run (length run - 1)).0) m.ends in
+    let found : Matched = record { pattern = q.0; span = record { start = at; end = (place run (length run - 1)).1 } } in
+    let r = (both found).0 (record { run = run; is_match = m; makes = record { pattern = q.1; start = sym begins; end = refl } }) in
+    let takes = goes-takes (subject_of e) r.pattern at (place run (length run - 1)).1 (takes-at patterns q.0 r.pattern none r.its) r.goes in
+    omega (arith, takes, begins, empty)
+
+pub next_at_start : (e : Search) (patterns : List Pattern) (last : Option ℕ) (captures : Captured) (found : Matched)
+    → ((other : Matched) → HasRunOf e other ↔ IsMatchIn patterns e other) → list_any may_be_empty patterns ≡ false → (e.mode ≡ No → ⊥)
+    → IsNextMatch e last captures found → found.span.start ≡ e.start
+next_at_start e patterns last captures found both none anchored f =
+    let opens = f.is_next.opens in ⊎_elim
+    (λ (later : e.start < (place f.run 0).1).
+    let r = opens.anchored anchored e.start (omega arith) later in
+    absurd (not_empty e patterns e.start r.run both none r.preferred.is_match r.repeats.empty))
+    (λ (l : (place f.run 0).1 ≤ e.start). omega (arith, l, opens.start, f.is_of.ends.start))
+    (cases_lt e.start (place f.run 0).1)
+
+pub none_at_start : (e : Search) (patterns : List Pattern) (last : Option ℕ) (other : Matched)
+    → ((other : Matched) → HasRunOf e other ↔ IsMatchIn patterns e other) → list_any may_be_empty patterns ≡ false → IsOver e last
+    → other.span.start ≡ e.start → IsMatchIn patterns e other → ⊥
+none_at_start e patterns last other both none over same m =
+    let r = (both other).1 m in
+    let forward = goes-forward (subject_of e) m.pattern other.span.start other.span.end m.goes in
+    let passed = over e.start
+    (record { start = omega arith; end = omega (arith, forward, m.end, same); anchored = λ a earlier l h. absurd (omega (arith, l, h)) }) in
+    ⊎_elim
+    (λ no. no r.run (subst (λ (i : ℕ). IsMatchRun e (e.first, i) r.run) same r.is_match))
+    (λ why. ⊎_elim
+    (λ (x : IsRepeated e last e.start). not_empty e patterns e.start x.run both none x.preferred.is_match x.repeats.empty)
+    (λ (x : IsSplitAt e e.start). not_empty e patterns e.start x.run both none x.preferred.is_match x.splits.empty)
+    why)
+    passed

@@ -25,6 +25,7 @@ pub mod EnclosesLayoutLemmas  -- where the states of parts lead that are made of
 pub mod NamesLayoutLemmas  -- what the states of parts name that are made of parts, and whether a range of theirs is reversed
 pub mod BuilderLemmas  -- how lists of states grow, part by part
 pub mod GroupEndsLemmas  -- what the runs of a program that was built record in the slots of the whole match
+pub mod GroupOrderLemmas  -- a group that begins in a run of a program that was built ends there or later
 pub mod PatternOrderLemmas  -- of the matches from a position that of the pattern with the least number is preferred
 pub mod LawsLemmas  -- what first and next matches and ends are, of a program that recognizes patterns
 pub mod BeginsLayoutLemmas  -- the runs of a program that was built: from the state at which a pattern begins its matches are found, and no others

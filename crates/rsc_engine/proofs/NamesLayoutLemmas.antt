@@ -12,7 +12,7 @@ use Rattle.rsc_engine.specs.Patterns.{Pattern, Empty, Class, Literal, Then, Eith
 use Rattle.rsc_engine.specs.Refusals.{has_reversed_range}
 use Rattle.rsc_engine.specs.EnclosesLayout.{IsOnWay, StaysOnWay, Encloses}
 use Rattle.rsc_engine.specs.LinksLayout.{IsChoice, copies, up_to}
-use Rattle.rsc_engine.specs.NamesLayout.{EachOf, RecordsBelow, HasReversed, Names, LeadsBelow, AreSound}
+use Rattle.rsc_engine.specs.NamesLayout.{EachOf, HasClose, RecordsInPairs, HasReversed, Names, LeadsBelow, AreSound}
 
 -- ---- one list of states after the other
 
@@ -65,7 +65,7 @@ either_back r q =
 pub Names-joined : (most : ℕ) (s r q : Bool) (low middle high : ℕ) (states : List State) → IsEither s r q → low ≤ middle → middle ≤ high
     → Names most r low middle states → Names most q middle high states → Names most s low high states
 Names-joined most s r q low middle high states e l m x y = record {
-  slots = each-joined (RecordsBelow most) low middle high states x.slots y.slots;
+  slots = each-joined (RecordsInPairs most states) low middle high states x.slots y.slots;
   ordered = λ n. each-joined IsOrdered low middle high states (x.ordered (e.neither n).0) (y.ordered (e.neither n).1);
   has = λ o. ⊎_elim
       (λ (z : r ≡ true). wider low middle low high states (omega arith) m (x.has z))
@@ -74,12 +74,12 @@ Names-joined most s r q low middle high states e l m x y = record {
 }
 
 pub Names-one : (most : ℕ) (r : Bool) (low high id : ℕ) (states : List State) (state : State) → id ≡ low → high ≡ low + 1
-    → slice_get states id ≡ Some state → RecordsBelow most state → (r ≡ false → IsOrdered state) → (r ≡ true → IsOrdered state → ⊥)
+    → slice_get states id ≡ Some state → RecordsInPairs most states state → (r ≡ false → IsOrdered state) → (r ≡ true → IsOrdered state → ⊥)
     → Names most r low high states
 Names-one most r low high id states state same one is below ordered reversed =
     let here : slice_get states low ≡ Some state = subst (λ (n : ℕ). slice_get states n ≡ Some state) same is in
     record {
-      slots = each-one (RecordsBelow most) low high states state one here below;
+      slots = each-one (RecordsInPairs most states) low high states state one here below;
       ordered = λ e. each-one IsOrdered low high states state one here (ordered e);
       has = λ e. record { state = low; its = state; from = omega arith; to = omega (arith, one); here = here; reversed = reversed e };
     }
@@ -210,7 +210,7 @@ leads_more high most count (Accept p) l x = x
 
 -- a state without a range above others
 Names-more : (most : ℕ) (r : Bool) (low last high id : ℕ) (states : List State) (state : State) → low ≤ last → id ≡ last → high ≡ last + 1
-    → slice_get states id ≡ Some state → RecordsBelow most state → IsOrdered state → Names most r low last states → Names most r low high states
+    → slice_get states id ≡ Some state → RecordsInPairs most states state → IsOrdered state → Names most r low last states → Names most r low high states
 Names-more most r low last high id states state l same one is below ordered x =
     subst (λ (s : Bool). Names most s low high states) (or_none r)
     (Names-joined most (r || false) r false low last high states (either r false) l (omega (arith, one)) x
@@ -218,12 +218,13 @@ Names-more most r low last high id states state l same one is below ordered x =
 
 -- the states of a pattern: its part is between records of where it ends and begins
 pub AreSound-pattern : (most count : ℕ) (r : Bool) (low later last high accept number after start end body first slot : ℕ) (states : List State)
-    → number < count → start < most → end < most → accept ≡ low → after ≡ low + 1 → later ≡ low + 2 → later ≤ last → first ≡ last → high ≡ last + 1
+    → number < count → start ≡ 2 * number → end ≡ 2 * number + 1 → start < most → end < most → accept ≡ low
+    → after ≡ low + 1 → later ≡ low + 2 → later ≤ last → first ≡ last → high ≡ last + 1
     → slice_get states accept ≡ Some (Accept number) → slice_get states after ≡ Some (Capture end accept)
     → Encloses slot later last body after states → Names most r later last states → slice_get states first ≡ Some (Capture start body)
     → AreSound most count r low high first states
-AreSound-pattern most count r low later last high accept number after start end body first slot states n sm em ea eb el l ef eh is_accept is_after x names
-    is_first =
+AreSound-pattern most count r low later last high accept number after start end body first slot states n starts ends sm em ea eb el l ef eh is_accept is_after x
+    names is_first =
     record {
       from = omega (arith, ef, el, l);
       to = omega (arith, ef, eh);
@@ -236,9 +237,10 @@ AreSound-pattern most count r low later last high accept number after start end 
           (λ k state m h is. leads_below (λ (s : ℕ). IsOnWay later last after s) high count slot state inside (x.stays k state m h is))
           (each-one Below last high states (Capture start body) eh (subst (λ (s : ℕ). slice_get states s ≡ Some (Capture start body)) ef is_first)
           (inside body x.begins))));
-      names = Names-more most r low last high first states (Capture start body) (omega (arith, el, l)) ef eh is_first sm tt
+      names = Names-more most r low last high first states (Capture start body) (omega (arith, el, l)) ef eh is_first (sm, λ pair e. closed pair e) tt
           (Names-joined most r false r low later last states (either false r) (omega (arith, el)) l
-          (Names-more most false low (low + 1) later after states (Capture end accept) (omega arith) eb (omega (arith, el)) is_after em tt
+          (Names-more most false low (low + 1) later after states (Capture end accept) (omega arith) eb (omega (arith, el)) is_after
+          (em, λ pair e. absurd (omega (arith, e, ends))) tt
           (Names-more most false low low (low + 1) accept states (Accept number) (omega arith) ea refl is_accept tt tt
           (Names-none most low low states (omega arith))))
           names);
@@ -246,6 +248,17 @@ AreSound-pattern most count r low later last high accept number after start end 
   where
     Below : State → Type 0
     Below = LeadsBelow high count
+
+    closed : (pair : ℕ) → start ≡ 2 * pair → HasClose states pair body
+    closed pair e = record {
+      slot = slot;
+      low = later;
+      high = last;
+      close = after;
+      next = accept;
+      its = is_after ∙ ap (λ (s : ℕ). Some (Capture s accept)) (omega (arith, e, starts, ends));
+      encloses = x;
+    }
 
     inside : (s : ℕ) → IsOnWay later last after s → s < high
     inside = on_way_below later last high after (omega (arith, eh)) (omega (arith, eb, el, l, eh))
@@ -273,14 +286,14 @@ AreSound-more most count r q low middle last high one other id states l m same m
 no_fault : (n s target : ℕ) → target < n → target_fault n s target ≡ None
 no_fault n s target l = let e : nat_lt target n ≡ true = grind (arith, nat_tests) in rw e refl
 
-state_clear : (groups : GroupLists) (n s : ℕ) (state : State) → LeadsBelow n (length groups) state → RecordsBelow (2 * all_groups groups) state
-    → IsOrdered state → fault_of_state groups n s state ≡ None
-state_clear groups n s (ByteRange a b next) x y z = let e : nat_lt b a ≡ false = grind (arith, nat_tests) in rw (e, no_fault n s next x) refl
-state_clear groups n s (Assert l next) x y z = no_fault n s next x
-state_clear groups n s (Fork a b) x y z = rw (no_fault n s a x.0, no_fault n s b x.1) refl
-state_clear groups n s (Capture slot next) x y z =
-    let e : nat_lt slot (2 * all_groups groups) ≡ true = grind (arith, nat_tests) in rw (no_fault n s next x, e) refl
-state_clear groups n s (Accept p) x y z = let e : nat_lt p (length groups) ≡ true = grind (arith, nat_tests) in rw e refl
+state_clear : (groups : GroupLists) (states : List State) (n s : ℕ) (state : State) → LeadsBelow n (length groups) state
+    → RecordsInPairs (2 * all_groups groups) states state → IsOrdered state → fault_of_state groups n s state ≡ None
+state_clear groups states n s (ByteRange a b next) x y z = let e : nat_lt b a ≡ false = grind (arith, nat_tests) in rw (e, no_fault n s next x) refl
+state_clear groups states n s (Assert l next) x y z = no_fault n s next x
+state_clear groups states n s (Fork a b) x y z = rw (no_fault n s a x.0, no_fault n s b x.1) refl
+state_clear groups states n s (Capture slot next) x y z =
+    let below = y.0 in let e : nat_lt slot (2 * all_groups groups) ≡ true = grind (arith, nat_tests) in rw (no_fault n s next x, e) refl
+state_clear groups states n s (Accept p) x y z = let e : nat_lt p (length groups) ≡ true = grind (arith, nat_tests) in rw e refl
 
 -- they have no fault without a reversed range
 pub sound-faultless : (groups : GroupLists) (states : List State) (r : Bool) (first : ℕ)
@@ -289,7 +302,8 @@ sound-faultless groups states r first x none = λ s l. go s l (slice_get states 
   where
     go : (s : ℕ) → s < length states → (o : Option State) → slice_get states s ≡ o → fault_in groups (length states) s (slice_get states s) ≡ None
     go s l None is = rw is refl
-    go s l (Some state) is = rw is (state_clear groups (length states) s state (x.leads s state (omega arith) l is) (x.names.slots s state (omega arith) l is)
+    go s l (Some state) is = rw is
+        (state_clear groups states (length states) s state (x.leads s state (omega arith) l is) (x.names.slots s state (omega arith) l is)
         (x.names.ordered none s state (omega arith) l is))
 
 clear_ordered : (groups : GroupLists) (n s : ℕ) (state : State) → fault_of_state groups n s state ≡ None → IsOrdered state

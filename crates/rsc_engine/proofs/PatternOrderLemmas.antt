@@ -1,5 +1,5 @@
 -- Of the matches from a position that of the pattern with the least number is preferred.
-use Rattle.std.proofs.Common.{◌≡◌, ◌≢◌, ℕ, zero, suc, ◌+◌, ◌-◌, ◌<◌, ◌≤◌, ◌⊎◌, inl, inr, ⊎_elim, Bool, List, [], ◌∷◌, length, slice_get, refl, sym, ap, ◌∙◌, subst, arith, Option, Some, None, MatchOption, true}
+use Rattle.std.proofs.Common.{◌≡◌, ℕ, zero, suc, ◌+◌, ◌-◌, ◌<◌, ◌≤◌, ◌⊎◌, inl, inr, ⊎_elim, Bool, List, [], ◌∷◌, length, slice_get, refl, sym, ap, ◌∙◌, subst, arith, Option, Some, None, MatchOption, true}
 use Rattle.std.proofs.lemmas.Bool.{cases_lt, cases_eq}
 use Rattle.std.proofs.lemmas.Option.{slice_get_within}
 use Rattle.rsc_nfa.specs.declared.state.State.{State}
@@ -7,7 +7,7 @@ use Rattle.rsc_nfa.specs.declared.state.State.TheVariants.{ByteRange, Assert, Fo
 use Rattle.rsc_nfa.specs.Steps.{StepsTo, IsStep, IsRun, place}
 use Rattle.rsc_search.specs.Matches.{Matched}
 use Rattle.rsc_engine.specs.Searches.{Search, Compiled, search_in}
-use Rattle.rsc_engine.specs.Runs.{IsPlace, accepts, IsMatchRun, IsMatchOf}
+use Rattle.rsc_engine.specs.Runs.{accepts, IsMatchRun, IsMatchOf}
 use Rattle.rsc_engine.specs.Preferred.{IsOnce, IsPreferredTo, IsPreferred}
 use Rattle.rsc_engine.specs.Patterns.{Pattern, Subject, subject_of, HasRunOf}
 use Rattle.rsc_engine.specs.PatternOrder.{PrefersLesser}

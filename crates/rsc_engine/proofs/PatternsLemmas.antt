@@ -3,7 +3,7 @@ use Rattle.std.proofs.Common.{◌≡◌, ℕ, zero, suc, ◌+◌, ◌-◌, ◌<�
 use Rattle.std.specs.List.{list_any}
 use Rattle.std.proofs.lemmas.Bool.{cases_lt, leb-true, le-leb}
 use Rattle.rsc_nfa.specs.Steps.{is_between}
-use Rattle.rsc_engine.specs.Patterns.{Pattern, Empty, Class, Literal, Then, Either, Repeat, Subject, Times, Goes}
+use Rattle.rsc_engine.specs.Patterns.{Pattern, Empty, Never, Class, Literal, Assertion, Then, Either, Repeat, Subject, AreBytes, Times, Goes, may_be_empty}
 use Rattle.rsc_engine.specs.LinksLayout.{copies, up_to}
 
 -- ---- n times
@@ -171,3 +171,68 @@ literal-is b rest x i j g = (
 pub literal-back : (b : ℕ) (rest : List ℕ) (x : Subject) (i j : ℕ) → Goes x (Literal (b ∷ rest)) i j → Goes x (Then (Class ((b, b) ∷ [])) (Literal rest)) i j
 unfolding has
 literal-back b rest x i j g = (i + 1, (or_one (has x i (b, b)) false (itself b (slice_get x.haystack i) g.0), refl), g.1)
+
+-- ---- which patterns take a byte
+
+times-forward : (R : ℕ → ℕ → Type 0) → ((i j : ℕ) → R i j → i ≤ j) → (n i j : ℕ) → Times R n i j → i ≤ j
+times-forward R f zero i j t = omega (arith, t)
+times-forward R f (suc n) i j t = omega (arith, f i t.0 t.1, times-forward R f n t.0 j t.2)
+
+bytes-forward : (h bytes : List ℕ) (i j : ℕ) → AreBytes h bytes i j → i ≤ j
+bytes-forward h [] i j g = omega (arith, g)
+bytes-forward h (b ∷ rest) i j g = omega (arith, bytes-forward h rest (i + 1) j g.1)
+
+pub goes-forward : (x : Subject) (p : Pattern) (i j : ℕ) → Goes x p i j → i ≤ j
+goes-forward x Empty i j g = omega (arith, g)
+goes-forward x Never i j g = absurd g
+goes-forward x (Class ranges) i j g = omega (arith, g.1)
+goes-forward x (Literal bytes) i j g = bytes-forward x.haystack bytes i j g
+goes-forward x (Assertion look) i j g = omega (arith, g.1)
+goes-forward x (Then a b) i j g = omega (arith, goes-forward x a i g.0 g.1, goes-forward x b g.0 j g.2)
+goes-forward x (Either a b) i j g = ⊎_elim (λ h. goes-forward x a i j h) (λ h. goes-forward x b i j h) g
+goes-forward x (Repeat min max a) i j g = times-forward (Goes x a) (goes-forward x a) g.0 i j g.3
+
+times-takes : (R : ℕ → ℕ → Type 0) → ((i j : ℕ) → R i j → i < j) → (n i j : ℕ) → 0 < n → Times R n i j → i < j
+times-takes R f zero i j l t = absurd (omega (arith, l))
+times-takes R f (suc n) i j l t =
+    omega (arith, f i t.0 t.1, times-forward R (λ k m h. let less = f k m h in omega (arith, less)) n t.0 j t.2)
+
+neither_one : (a b : Bool) → (a || b) ≡ false → a ≡ false
+neither_one true b e = absurd (true≢false e)
+neither_one false b e = refl
+
+neither_other : (a b : Bool) → (a || b) ≡ false → b ≡ false
+neither_other true b e = absurd (true≢false e)
+neither_other false b e = e
+
+not_both : (a b : Bool) → (a && b) ≡ false → (a ≡ false) ⊎ (b ≡ false)
+not_both true b e = inr e
+not_both false b e = inl refl
+
+pub goes-takes : (x : Subject) (p : Pattern) (i j : ℕ) → may_be_empty p ≡ false → Goes x p i j → i < j
+goes-takes x Empty i j e g = absurd (true≢false e)
+goes-takes x Never i j e g = absurd g
+goes-takes x (Class ranges) i j e g = omega (arith, g.1)
+goes-takes x (Literal []) i j e g = absurd (true≢false e)
+goes-takes x (Literal (b ∷ rest)) i j e g = omega (arith, bytes-forward x.haystack rest (i + 1) j g.1)
+goes-takes x (Assertion look) i j e g = absurd (true≢false e)
+goes-takes x (Then a b) i j e g = ⊎_elim
+    (λ (n : may_be_empty a ≡ false). omega (arith, goes-takes x a i g.0 n g.1, goes-forward x b g.0 j g.2))
+    (λ (n : may_be_empty b ≡ false). omega (arith, goes-forward x a i g.0 g.1, goes-takes x b g.0 j n g.2))
+    (not_both (may_be_empty a) (may_be_empty b) e)
+goes-takes x (Either a b) i j e g = ⊎_elim
+    (λ h. goes-takes x a i j (neither_one (may_be_empty a) (may_be_empty b) e) h)
+    (λ h. goes-takes x b i j (neither_other (may_be_empty a) (may_be_empty b) e) h)
+    g
+goes-takes x (Repeat zero max a) i j e g = absurd (true≢false e)
+goes-takes x (Repeat (suc min) max a) i j e g = times-takes (Goes x a) (λ k l h. goes-takes x a k l e h) g.0 i j (omega (arith, g.1)) g.3
+
+-- one of a list of patterns of which none may be empty
+pub takes-at : (patterns : List Pattern) (n : ℕ) (p : Pattern) → list_any may_be_empty patterns ≡ false → slice_get patterns n ≡ Some p
+    → may_be_empty p ≡ false
+takes-at [] n p e is = absurd (cc)
+takes-at (q ∷ rest) zero p e is = rw (← same is) (neither_one (may_be_empty q) (list_any may_be_empty rest) e)
+  where
+    same : Some q ≡ Some p → q ≡ p
+    same h = cc
+takes-at (q ∷ rest) (suc n) p e is = takes-at rest n p (neither_other (may_be_empty q) (list_any may_be_empty rest) e) is

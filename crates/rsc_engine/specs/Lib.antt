@@ -1,7 +1,7 @@
 pub mod Searches  -- a program, what a search is over, and why it has no answer
 pub mod Refusals  -- why there is no program
 pub mod Runs  -- runs that are matches
-pub mod GroupsLayout  -- the match that a run makes
+pub mod GroupsLayout  -- slots without a match
 pub mod StartsLayout  -- the bytes with which a match may begin
 pub mod FlagsLayout  -- how the code holds flags: 64 to a block
 pub mod Preferred  -- which match is first
@@ -12,6 +12,7 @@ pub mod TrailsLayout  -- a trail: which places each of its visits stands for, an
 pub mod TurnsLayout  -- the flags of a loop's turns, and what turns do
 pub mod Patterns  -- what a pattern matches, and which programs match it
 pub mod GroupEnds  -- the group of the whole match: what runs record in its slots
+pub mod GroupOrder  -- where groups begin and end
 pub mod PatternOrder  -- which of two patterns is preferred
 pub mod Parts  -- which pattern a part is, and which groups it has
 pub mod EnclosesLayout  -- where the states of a part lead, and in which slots they record

@@ -1,18 +1,29 @@
 -- What the states of a part or of patterns name, and whether a range of theirs is reversed.
-use Rattle.std.specs.Prelude.{◌≡◌, ℕ, ◌*◌, ◌<◌, ◌≤◌, Bool, true, false, List, length, slice_get, Some}
+use Rattle.std.specs.Prelude.{◌≡◌, ℕ, ◌+◌, ◌*◌, ◌<◌, ◌≤◌, Bool, true, false, List, length, slice_get, Some}
 use Rattle.rsc_captures.specs.Groups.{GroupLists, all_groups}
 use Rattle.rsc_nfa.specs.declared.state.State.{State}
 use Rattle.rsc_nfa.specs.declared.state.State.TheVariants.{ByteRange, Assert, Fork, Capture, Accept}
 use Rattle.rsc_nfa.specs.Classes.{IsOrdered}
+use Rattle.rsc_engine.specs.EnclosesLayout.{Encloses}
 
 -- so it is with each state from low on and below high
 abbrev pub EachOf : (State → Type 0) → ℕ → ℕ → List State → Type 0
 EachOf P low high states = (k : ℕ) (state : State) → low ≤ k → k < high → slice_get states k ≡ Some state → P state
 
--- the state records in no slot from `most` on
-abbrev pub RecordsBelow : ℕ → State → Type 0
-RecordsBelow most (Capture slot next) = slot < most
-RecordsBelow most _ = Unit {0}
+-- from the state `first` on all states are enclosed, and are left to a record in the second slot of the pair alone
+pub record HasClose (states : List State) (pair first : ℕ) : Type 0 where
+  pub slot : ℕ
+  pub low : ℕ
+  pub high : ℕ
+  pub close : ℕ
+  pub next : ℕ
+  pub its : slice_get states close ≡ Some (Capture (2 * pair + 1) next)
+  pub encloses : Encloses slot low high first close states
+
+-- the state records in no slot from `most` on, and what it records in the first slot of a pair is closed
+abbrev pub RecordsInPairs : ℕ → List State → State → Type 0
+RecordsInPairs most states (Capture slot next) = (slot < most) × ((pair : ℕ) → slot ≡ 2 * pair → HasClose states pair next)
+RecordsInPairs most states _ = Unit {0}
 
 -- the first byte of some range of these states is above its last
 pub record HasReversed (low high : ℕ) (states : List State) : Type 0 where
@@ -23,9 +34,9 @@ pub record HasReversed (low high : ℕ) (states : List State) : Type 0 where
   pub here : slice_get states state ≡ Some its
   pub reversed : IsOrdered its → ⊥
 
--- these states record in no slot from `most` on, and have a reversed range exactly if it is said
+-- these states record in no slot from `most` on, what they record in the first slot of a pair is closed, and they have a reversed range exactly if it is said
 pub record Names (most : ℕ) (reversed : Bool) (low high : ℕ) (states : List State) : Type 0 where
-  pub slots : EachOf (RecordsBelow most) low high states
+  pub slots : EachOf (RecordsInPairs most states) low high states
   pub ordered : reversed ≡ false → EachOf IsOrdered low high states
   pub has : reversed ≡ true → HasReversed low high states
 

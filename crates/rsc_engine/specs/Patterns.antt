@@ -1,5 +1,5 @@
 -- What a pattern matches, and which programs match it.
-use Rattle.std.specs.Prelude.{◌≡◌, ◌↔◌, ℕ, zero, suc, ◌+◌, ◌≤◌, ◌⊎◌, Bool, true, IsTrue, List, [], ◌∷◌, slice_get, Option, Some, None}
+use Rattle.std.specs.Prelude.{◌≡◌, ◌↔◌, ℕ, zero, suc, ◌+◌, ◌≤◌, ◌⊎◌, ◌||◌, ◌&&◌, Bool, true, false, IsTrue, List, [], ◌∷◌, slice_get, Option, Some, None}
 use Rattle.std.specs.List.{list_any}
 use Rattle.rsc_look.specs.declared.assertion.Look.{Look}
 use Rattle.rsc_look.specs.Holds.{Holds}
@@ -70,6 +70,19 @@ Goes x (Assertion look) i j = Holds look x.terminator x.word_chars x.haystack i 
 Goes x (Then a b) i j = (k : ℕ) × Goes x a i k × Goes x b k j
 Goes x (Either a b) i j = Goes x a i j ⊎ Goes x b i j
 Goes x (Repeat min max a) i j = (n : ℕ) × (min ≤ n) × IsAtMost min max n × Times (Goes x a) n i j
+
+-- the pattern may match no byte: if not, each match of it has a byte
+abbrev pub may_be_empty : Pattern → Bool
+may_be_empty Empty = true
+may_be_empty Never = false
+may_be_empty (Class ranges) = false
+may_be_empty (Literal []) = true
+may_be_empty (Literal (b ∷ rest)) = false
+may_be_empty (Assertion look) = true
+may_be_empty (Then a b) = may_be_empty a && may_be_empty b
+may_be_empty (Either a b) = may_be_empty a || may_be_empty b
+may_be_empty (Repeat zero max a) = true
+may_be_empty (Repeat (suc min) max a) = may_be_empty a
 
 -- the subject of a search
 abbrev pub subject_of : Search → Subject

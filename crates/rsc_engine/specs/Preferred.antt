@@ -3,6 +3,7 @@ use Rattle.std.specs.Prelude.{◌≡◌, ◌≢◌, ℕ, ◌+◌, ◌<◌, ◌�
 use Rattle.rsc_nfa.specs.declared.state.State.TheVariants.{Fork}
 use Rattle.rsc_nfa.specs.Steps.{place}
 use Rattle.rsc_search.specs.declared.anchored.Anchored.TheVariants.{No}
+use Rattle.rsc_search.specs.Inputs.{InputParts}
 use Rattle.rsc_search.specs.Matches.{Matched}
 use Rattle.rsc_captures.specs.Captured.{Captured, no_offsets}
 use Rattle.rsc_engine.specs.Searches.{Search}
@@ -45,6 +46,10 @@ pub record IsLeftmostFirst (e : Search) (run : List (ℕ × ℕ)) : Type 0 where
 -- no match begins where one may
 abbrev pub HasNone : Search → Type 0
 HasNone e = (at : ℕ) → MayBegin e at → HasNoMatch e at
+
+-- the match is in order and in the span
+abbrev pub IsInSpan : InputParts → Matched → Type 0
+IsInSpan input found = (input.span.start ≤ found.span.start) × (found.span.start ≤ found.span.end) × (found.span.end ≤ input.span.end)
 
 -- the match and the captures are those of a run: its ends and pattern, and in each slot what it records
 pub record IsOf (e : Search) (run : List (ℕ × ℕ)) (found : Matched) (captures : Captured) : Type 0 where

@@ -188,11 +188,11 @@ impl Walk {
                     position = here;
                 }
                 Move::Fails => {
-                    let Some((other, before)) = self.turn_back(program, input) else {
+                    let Some((other, back)) = self.turn_back(program, input) else {
                         return Ok(false);
                     };
                     sid = other;
-                    position = before;
+                    position = back;
                 }
             }
         }
@@ -258,10 +258,10 @@ impl Walk {
             (is_flagged (search_in W.word_chars program.now input.now) self.new.visited) }
     {
         let states = program.len();
-        let before = input.end() - position;
-        let first = first_block(before, states, self.visited.len());
+        let to_end = input.end() - position;
+        let first = first_block(to_end, states, self.visited.len());
         self.visited
-            .clear_in_each(first, first + states, before % BITS);
+            .clear_in_each(first, first + states, to_end % BITS);
     }
 
     // Goes back to the last place with another way, and answers where it leads.

@@ -4,6 +4,7 @@ ghost use Rattle.rsc_captures.specs.Groups.{groups_in};
 ghost use Rattle.rsc_engine.specs.declared.error.Error.TheVariants.{OutOfMemory, EmptyClass};
 ghost use Rattle.rsc_engine.specs.Patterns.{Empty, Never, Class, Literal, Assertion, Then, Either, in_order, one_of, Recognizes};
 ghost use Rattle.rsc_engine.specs.GroupEnds.{RecordsEnds};
+ghost use Rattle.rsc_engine.specs.GroupOrder.{ClosesGroups};
 ghost use Rattle.rsc_engine.specs.PatternOrder.{PrefersLesser};
 ghost use Rattle.rsc_engine.specs.Refusals.{FailsToBuild, RefusesNames, RepeatsName, error_of, has_a_reversed_range};
 ghost use Rattle.rsc_engine.specs.Parts.{pattern_of, patterns_of, pattern_in, groups_of_part, groups_of_pattern, lists_of};
@@ -238,6 +239,7 @@ impl<'n> Builder<'n> {
         ensures groups { IfOk result (λ program. program.automaton.groups ≡ lists_of self.entry ++ groups_of_pattern last.entry ∷ []) }
         ensures ends { IfOk result (λ program. RecordsEnds W.word_chars program) }
         ensures prefers { IfOk result (λ program. PrefersLesser W.word_chars program) }
+        ensures closes { IfOk result (λ program. ClosesGroups W.word_chars program) }
         ensures text { IfOk result (λ program. program.utf8 ≡ utf8) }
         ensures matcher { IfOk result (λ program. program.automaton.matcher ≡ (10, words)) }
         ensures names { OnOk result (¬ (RepeatsName (lists_of self.entry ++ groups_of_pattern last.entry ∷ []))) }
@@ -263,6 +265,7 @@ impl<'n> Builder<'n> {
         ensures groups { IfOk result (λ program. program.automaton.groups ≡ lists_of self.entry ++ groups_of_pattern last.entry ∷ []) }
         ensures ends { IfOk result (λ program. RecordsEnds W.word_chars program) }
         ensures prefers { IfOk result (λ program. PrefersLesser W.word_chars program) }
+        ensures closes { IfOk result (λ program. ClosesGroups W.word_chars program) }
         ensures text { IfOk result (λ program. program.utf8 ≡ utf8) }
         ensures matcher { IfOk result (λ program. program.automaton.matcher ≡ matcher) }
         ensures names { OnOk result (¬ (RepeatsName (lists_of self.entry ++ groups_of_pattern last.entry ∷ []))) }

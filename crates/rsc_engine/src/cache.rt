@@ -2,7 +2,7 @@
 ghost use Rattle.std.specs.Prelude.{◌≡◌, ◌≤◌, IfOk, IfErr, IfSome, IfNone, OnErr, None, length};
 ghost use Rattle.rsc_engine.specs.declared.error.Error.TheVariants.{OutOfMemory};
 ghost use Rattle.rsc_engine.specs.Searches.{search_in, FailsFor};
-ghost use Rattle.rsc_engine.specs.Preferred.{HasNone, IsFirstMatch, IsCleared};
+ghost use Rattle.rsc_engine.specs.Preferred.{HasNone, IsFirstMatch, IsCleared, IsInSpan};
 
 use crate::backtrack::Walk;
 use crate::dfa::MOST_ROWS;
@@ -76,8 +76,7 @@ impl<'p, W: WordClass + AsciiWords> Cache<'p, W> {
         ensures slots { length captures.new.offsets ≡ length captures.old.offsets }
         ensures unset { IfOk result (λ found. IfNone found (IsCleared captures.old captures.new)) }
         ensures failed { OnErr result (IsCleared captures.old captures.new) }
-        ensures within { IfOk result (λ found. IfSome found (λ m.
-            (input.now.span.start ≤ m.span.start) × (m.span.start ≤ m.span.end) × (m.span.end ≤ input.now.span.end))) }
+        ensures within { IfOk result (λ found. IfSome found (IsInSpan input.now)) }
         ensures refused { IfErr result (FailsFor (search_in W.word_chars self.old input.now)) }
     {
         captures.clear();

@@ -1,7 +1,7 @@
 //! The first match, where it ends, and whether there is one.
 ghost use Rattle.std.specs.Prelude.{◌≡◌, ◌≤◌, IfOk, IfErr, IfSome, IfNone, OnErr, true, false, length};
 ghost use Rattle.rsc_engine.specs.Searches.{search_in, FailsFor};
-ghost use Rattle.rsc_engine.specs.Preferred.{IsLeftmostFirst, IsFirstMatch, HasNone, IsCleared};
+ghost use Rattle.rsc_engine.specs.Preferred.{IsLeftmostFirst, IsFirstMatch, HasNone, IsCleared, IsInSpan};
 ghost use Rattle.rsc_engine.specs.Ends.{BeginsFrom, IsLeftmostEnd};
 ghost use Rattle.rsc_engine.specs.TrailsLayout.{run_of};
 
@@ -39,8 +39,7 @@ pub fn find<W: WordClass + AsciiWords>(
     ensures slots { length captures.new.offsets ≡ length captures.old.offsets }
     ensures unset { IfOk result (λ found. IfNone found (IsCleared captures.old captures.new)) }
     ensures failed { OnErr result (IsCleared captures.old captures.new) }
-    ensures within { IfOk result (λ found. IfSome found (λ m.
-        (input.now.span.start ≤ m.span.start) × (m.span.start ≤ m.span.end) × (m.span.end ≤ input.now.span.end))) }
+    ensures within { IfOk result (λ found. IfSome found (IsInSpan input.now)) }
     ensures refused { IfErr result (FailsFor (search_in W.word_chars program.now input.now)) }
 {
     if is_long(input) {
@@ -65,8 +64,7 @@ pub(crate) fn find_from<W: WordClass>(
     ensures slots { length captures.new.offsets ≡ length captures.old.offsets }
     ensures unset { IfOk result (λ found. IfNone found (IsCleared captures.old captures.new)) }
     ensures failed { OnErr result (IsCleared captures.old captures.new) }
-    ensures within { IfOk result (λ found. IfSome found (λ m.
-        (input.now.span.start ≤ m.span.start) × (m.span.start ≤ m.span.end) × (m.span.end ≤ input.now.span.end))) }
+    ensures within { IfOk result (λ found. IfSome found (IsInSpan input.now)) }
     ensures refused { IfErr result (FailsFor (search_in W.word_chars program.now input.now)) }
 {
     captures.clear();

@@ -3,8 +3,8 @@ ghost use Rattle.std.specs.Prelude.{◌≡◌, ◌+◌, ◌-◌, ◌<◌, ◌≤
 ghost use Rattle.rsc_nfa.specs.Steps.{is_capture_of, or_earlier};
 ghost use Rattle.rsc_engine.specs.Searches.{search_in};
 ghost use Rattle.rsc_engine.specs.Runs.{IsMatchOf, AreRecords};
-ghost use Rattle.rsc_engine.specs.GroupsLayout.{IsInSpan, AreEmpty};
-ghost use Rattle.rsc_engine.specs.Preferred.{IsOf};
+ghost use Rattle.rsc_engine.specs.GroupsLayout.{AreEmpty};
+ghost use Rattle.rsc_engine.specs.Preferred.{IsInSpan, IsOf};
 ghost use Rattle.rsc_engine.specs.TrailsLayout.{run_of, IsMatchTrail};
 
 use crate::Program;

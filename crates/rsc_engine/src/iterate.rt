@@ -5,8 +5,7 @@ ghost use Rattle.rsc_search.specs.declared.anchored.Anchored.TheVariants.{No};
 ghost use Rattle.rsc_primitives.specs.Decoding.{IsCharBoundary};
 ghost use Rattle.rsc_engine.specs.declared.error.Error.TheVariants.{OutOfMemory, TooLarge};
 ghost use Rattle.rsc_engine.specs.Searches.{search_in, FailsFor};
-ghost use Rattle.rsc_engine.specs.GroupsLayout.{IsInSpan};
-ghost use Rattle.rsc_engine.specs.Preferred.{IsLeftmostFirst, IsOf, HasNone, IsCleared};
+ghost use Rattle.rsc_engine.specs.Preferred.{IsLeftmostFirst, IsOf, HasNone, IsCleared, IsInSpan};
 ghost use Rattle.rsc_engine.specs.NextMatches.{IsNext, IsOver, IsNextMatch, from_start};
 ghost use Rattle.rsc_engine.specs.Ends.{BeginsFrom};
 ghost use Rattle.rsc_engine.specs.StartsLayout.{AreStarts};
@@ -122,8 +121,7 @@ impl<'p, 'h, W: WordClass + AsciiWords> Matches<'p, 'h, W> {
         ensures slots { length captures.new.offsets ≡ length captures.old.offsets }
         ensures unset { IfOk result (λ found. IfNone found (IsCleared captures.old captures.new)) }
         ensures failed { OnErr result (IsCleared captures.old captures.new) }
-        ensures within { IfOk result (λ found. IfSome found (λ m.
-            (self.old.input.span.start ≤ m.span.start) × (m.span.start ≤ m.span.end) × (m.span.end ≤ self.old.input.span.end))) }
+        ensures within { IfOk result (λ found. IfSome found (IsInSpan self.old.input)) }
     {
         self.rest.next(captures)
     }
@@ -172,8 +170,7 @@ impl<'p, 'h, W: WordClass + AsciiWords> Rest<'p, 'h, W> {
         ensures slots { length captures.new.offsets ≡ length captures.old.offsets }
         ensures unset { IfOk result (λ found. IfNone found (IsCleared captures.old captures.new)) }
         ensures failed { OnErr result (IsCleared captures.old captures.new) }
-        ensures within { IfOk result (λ found. IfSome found (λ m.
-            (self.old.input.span.start ≤ m.span.start) × (m.span.start ≤ m.span.end) × (m.span.end ≤ self.old.input.span.end))) }
+        ensures within { IfOk result (λ found. IfSome found (IsInSpan self.old.input)) }
     {
         let start = self.input.start();
         'matches: loop {

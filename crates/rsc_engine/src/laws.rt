@@ -1,15 +1,19 @@
 //! Laws of matches that a caller can cite: functions whose contracts are the laws.
-ghost use Rattle.std.specs.Prelude.{true, ◌↔◌, ◌≡◌, ◌+◌, ◌*◌, ◌<◌, ◌≤◌, ◌⊎◌, ℕ, List, length, Option, Some, None, slice_index_or};
+ghost use Rattle.std.specs.Prelude.{true, false, ◌↔◌, ◌≡◌, ◌+◌, ◌*◌, ◌<◌, ◌≤◌, ◌⊎◌, ℕ, List, length, Option, Some, None, slice_index_or};
+ghost use Rattle.std.specs.List.{list_any};
 ghost use Rattle.rsc_captures.specs.Groups.{group_count};
 ghost use Rattle.rsc_captures.specs.Captured.{Captured, group_span};
 ghost use Rattle.rsc_search.specs.Inputs.{InputParts};
 ghost use Rattle.rsc_search.specs.Matches.{Matched};
+ghost use Rattle.rsc_search.specs.declared.span.Span.{Span};
+ghost use Rattle.rsc_search.specs.declared.anchored.Anchored.TheVariants.{No};
 ghost use Rattle.rsc_engine.specs.Searches.{Search, Compiled, search_in};
-ghost use Rattle.rsc_engine.specs.Patterns.{Pattern, IsMatchIn, Recognizes};
+ghost use Rattle.rsc_engine.specs.Patterns.{Pattern, Subject, Goes, may_be_empty, IsMatchIn, Recognizes};
 ghost use Rattle.rsc_engine.specs.Preferred.{IsPreferred, IsLeftmostFirst, IsFirstMatch, MayBegin, HasNone};
 ghost use Rattle.rsc_engine.specs.NextMatches.{IsNext, IsOver, IsNextMatch, IsOpen, IsRepeated, IsSplitAt, Left, AreAll};
 ghost use Rattle.rsc_engine.specs.Ends.{IsEarliestEnd, IsLeftmostEnd};
 ghost use Rattle.rsc_engine.specs.GroupEnds.{RecordsEnds};
+ghost use Rattle.rsc_engine.specs.GroupOrder.{ClosesGroups};
 ghost use Rattle.rsc_engine.specs.declared.dfa.Answer.{Answer};
 ghost use Rattle.rsc_engine.specs.PatternOrder.{PrefersLesser};
 
@@ -85,6 +89,22 @@ pub fn a_match_is_of_the_least_pattern<W: WordClass>()
         other.span.start ≡ found.span.start → found.pattern ≤ other.pattern }
 {}
 
+/// A match of a pattern that may not be empty has a byte.
+pub fn patterns_take_bytes()
+    ensures { (x : Subject) (p : Pattern) (i j : ℕ) → may_be_empty p ≡ false → Goes x p i j → i < j }
+{}
+
+/// Tokens: in an anchored search for patterns of which none may be empty, the next match begins where the search does, which is where the last one ended.
+/// If there is no next one, no pattern goes on from there, anchored or not.
+pub fn anchored_matches_are_side_by_side<W: WordClass>()
+    ensures next { (program : Compiled W) (patterns : List Pattern) (input : InputParts) (last : Option ℕ) (captures : Captured) (found : Matched) →
+        Recognizes W.word_chars program patterns → list_any may_be_empty patterns ≡ false → ¬ (input.anchored ≡ No) →
+        IsNextMatch (search_in W.word_chars program input) last captures found → found.span.start ≡ input.span.start }
+    ensures over { (program : Compiled W) (patterns : List Pattern) (input : InputParts) (last : Option ℕ) (other : Matched) →
+        Recognizes W.word_chars program patterns → list_any may_be_empty patterns ≡ false → IsOver (search_in W.word_chars program input) last →
+        other.span.start ≡ input.span.start → ¬ (IsMatchIn patterns (search_in W.word_chars program input) other) }
+{}
+
 /// What the earliest end of a program of patterns is: the end of a match of one of them, before which no match of theirs ends that begins where one may.
 pub fn an_earliest_end_is_of_a_pattern<W: WordClass>()
     ensures some { (program : Compiled W) (patterns : List Pattern) (input : InputParts) (end : ℕ) →
@@ -127,6 +147,25 @@ pub fn the_first_group_is_the_match<W: WordClass>()
     ensures next_group { (program : Compiled W) (input : InputParts) (last : Option ℕ) (captures : Captured) (found : Matched) →
         RecordsEnds W.word_chars program → IsNextMatch (search_in W.word_chars program input) last captures found →
         2 * found.pattern + 1 < length captures.offsets → 0 < group_count captures.groups found.pattern → group_span captures 0 ≡ Some found.span }
+{}
+
+/// Where the first slot of a group is set by a match, its second is set too, at that position or after it; so a group's span is in order, and within
+/// the match. The two slots of a group are a pair: 2p and 2p + 1.
+pub fn a_group_that_begins_ends<W: WordClass>()
+    ensures first { (program : Compiled W) (input : InputParts) (captures : Captured) (found : Matched) (pair i : ℕ) → ClosesGroups W.word_chars program →
+        IsFirstMatch (search_in W.word_chars program input) captures found → 2 * pair + 1 < length captures.offsets →
+        slice_index_or captures.offsets (2 * pair) None ≡ Some i →
+        (j : ℕ) × (slice_index_or captures.offsets (2 * pair + 1) None ≡ Some j) × (i ≤ j) }
+    ensures next { (program : Compiled W) (input : InputParts) (last : Option ℕ) (captures : Captured) (found : Matched) (pair i : ℕ) →
+        ClosesGroups W.word_chars program → IsNextMatch (search_in W.word_chars program input) last captures found →
+        2 * pair + 1 < length captures.offsets → slice_index_or captures.offsets (2 * pair) None ≡ Some i →
+        (j : ℕ) × (slice_index_or captures.offsets (2 * pair + 1) None ≡ Some j) × (i ≤ j) }
+    ensures first_span { (program : Compiled W) (input : InputParts) (captures : Captured) (found : Matched) (group : ℕ) (span : Span) →
+        ClosesGroups W.word_chars program → IsFirstMatch (search_in W.word_chars program input) captures found →
+        group_span captures group ≡ Some span → (found.span.start ≤ span.start) × (span.start ≤ span.end) × (span.end ≤ found.span.end) }
+    ensures next_span { (program : Compiled W) (input : InputParts) (last : Option ℕ) (captures : Captured) (found : Matched) (group : ℕ) (span : Span) →
+        ClosesGroups W.word_chars program → IsNextMatch (search_in W.word_chars program input) last captures found →
+        group_span captures group ≡ Some span → (found.span.start ≤ span.start) × (span.start ≤ span.end) × (span.end ≤ found.span.end) }
 {}
 
 /// A clone of an answer is that answer, and none is refused.

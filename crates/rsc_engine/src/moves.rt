@@ -101,7 +101,7 @@ fn is_dead<W: WordClass>(program: &Program<W>, input: &Input<'_>, sid: StateID, 
     }
 }
 
-// The same for a state that is several ranges, to which forks lead.
+// The same for a state that is several ranges, to which forks lead. Rarely run, so it isn't inlined into what each step runs.
 #[inline(never)]
 fn are_dead<W: WordClass>(program: &Program<W>, input: &Input<'_>, sid: StateID, at: usize) -> bool
     requires { sid < length program.now.automaton.states }

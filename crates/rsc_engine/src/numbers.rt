@@ -12,23 +12,23 @@ use rsc_search::Input;
 
 /// The number of a place, that many positions before the end.
 #[inline(always)]
-pub fn number_of(sid: StateID, before: usize, states: usize, len: usize) -> usize
+pub fn number_of(sid: StateID, to_end: usize, states: usize, len: usize) -> usize
     requires sid { sid < states }
-    requires room { 64 * (before / 64 * states + states) ≤ len }
-    ensures value { result ≡ 64 * (before / 64 * states + sid) + before % 64 }
+    requires room { 64 * (to_end / 64 * states + states) ≤ len }
+    ensures value { result ≡ 64 * (to_end / 64 * states + sid) + to_end % 64 }
     ensures within { result < len }
 {
-    BITS * (before / BITS * states + sid.as_usize()) + before % BITS
+    BITS * (to_end / BITS * states + sid.as_usize()) + to_end % BITS
 }
 
 /// The first block that has flags of a position, that many before the end.
 #[inline(always)]
-pub fn first_block(before: usize, states: usize, len: usize) -> usize
-    requires { 64 * (before / 64 * states + states) ≤ len }
-    ensures value { result ≡ before / 64 * states }
+pub fn first_block(to_end: usize, states: usize, len: usize) -> usize
+    requires { 64 * (to_end / 64 * states + states) ≤ len }
+    ensures value { result ≡ to_end / 64 * states }
     ensures within { 64 * (result + states) ≤ len }
 {
-    before / BITS * states
+    to_end / BITS * states
 }
 
 /// How many flags a walk needs: a block for each state and each 64 positions.

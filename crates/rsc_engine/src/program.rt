@@ -33,6 +33,29 @@ impl<W: WordClass> Model for Program<W> {
 impl<W: WordClass> Program<W> {
     /// The program of an automaton whose matches begin at the state, or `None` if it has no such state. If haystacks are text, an
     /// iteration leaves out empty matches within characters.
+    ///
+    /// ```
+    /// // [a-z]
+    /// let info = GroupInfo::new(rt.alloc(), &[&[None]])?;
+    /// let states = [
+    ///     State::ByteRange {
+    ///         start: b'a',
+    ///         end: b'z',
+    ///         next: StateID::must(1),
+    ///     },
+    ///     State::Accept {
+    ///         pattern: PatternID::ZERO,
+    ///     },
+    /// ];
+    /// let nfa = Nfa::new(rt.alloc(), info, LookMatcher::new(AsciiWord), &states)?;
+    /// let made = Program::new(nfa, StateID::ZERO, true);
+    /// assert!(rt; made.is_some());
+    /// if let Some(program) = &made {
+    ///     let mut captures = program.captures(rt.alloc())?;
+    ///     let found = find(rt.alloc(), program, &Input::new(b"-q"), &mut captures)?;
+    ///     assert!(rt; found.is_some_and(|it| it.start() == 1 && it.end() == 2));
+    /// }
+    /// ```
     pub fn new(nfa: Nfa<W>, start: StateID, utf8: bool) -> Option<Program<W>>
         ensures made { IfSome result (λ p. p ≡ record { automaton = nfa; start = start; utf8 = utf8 }) }
         ensures none { IfNone result (length nfa.states ≤ start) }

@@ -64,7 +64,7 @@ pub fn go_round<W: WordClass>(
     }
 }
 
-// Turns a loop as often as the bytes allow, and no place is visited twice.
+// Turns a loop as often as the bytes allow, and no place is visited twice. It isn't inlined into what each step runs.
 #[inline(never)]
 fn turn<W: WordClass>(
     visited: &mut Flags,
@@ -117,11 +117,11 @@ fn turn_some<W: WordClass>(
 {
     let haystack = input.haystack();
     let states = program.len();
-    let before = input.end() - at;
-    let body = number_of(looped.body, before, states, visited.len());
-    let range = number_of(looped.range, before, states, visited.len());
-    let fork = number_of(looped.fork, before - 1, states, visited.len());
-    let most = before % BITS;
+    let to_end = input.end() - at;
+    let body = number_of(looped.body, to_end, states, visited.len());
+    let range = number_of(looped.range, to_end, states, visited.len());
+    let fork = number_of(looped.fork, to_end - 1, states, visited.len());
+    let most = to_end % BITS;
     if are_free(visited, body, range, fork, most) {
         let count = count_of(haystack, at, most, looped.bytes);
         set_all(visited, body, range, fork, count);
@@ -150,10 +150,10 @@ fn are_free(visited: &Flags, body: usize, range: usize, fork: usize, count: usiz
     if count == 0 {
         return false;
     }
-    let before = count - 1;
-    visited.are_free(body - before, count)
-        && visited.are_free(range - before, count)
-        && visited.are_free(fork - before, count)
+    let later = count - 1;
+    visited.are_free(body - later, count)
+        && visited.are_free(range - later, count)
+        && visited.are_free(fork - later, count)
 }
 
 // Sets the flags of that many turns.
@@ -168,10 +168,10 @@ fn set_all(visited: &mut Flags, body: usize, range: usize, fork: usize, count: u
     if count == 0 {
         return;
     }
-    let before = count - 1;
-    visited.set_all(body - before, count);
-    visited.set_all(range - before, count);
-    visited.set_all(fork - before, count);
+    let later = count - 1;
+    visited.set_all(body - later, count);
+    visited.set_all(range - later, count);
+    visited.set_all(fork - later, count);
 }
 
 // How many of the bytes from a position on, at most that many, are one of these in turn.
@@ -265,7 +265,7 @@ fn has_byte(input: &Input<'_>, at: usize, bytes: Bytes) -> bool
     at < input.end() && bytes.first <= haystack[at] && haystack[at] <= bytes.last
 }
 
-// Whether a state, one range or several by forks, leads nowhere over the bytes.
+// Whether a state, one range or several by forks, leads nowhere over the bytes. Run once for a loop, so it isn't inlined.
 #[inline(never)]
 fn is_apart<W: WordClass>(program: &Program<W>, sid: StateID, bytes: Bytes) -> bool
     requires { sid < length program.now.automaton.states }

@@ -5,6 +5,7 @@
 mod patterns;
 mod short;
 mod timed;
+mod tokens;
 
 use patterns::NAMES;
 use short::compare_all;
@@ -12,6 +13,7 @@ use std::env;
 use std::io::Read;
 use std::process::ExitCode;
 use timed::{Fail, time_pattern};
+use tokens::time_tokens;
 
 fn main(rt: HostRuntime) -> ExitCode {
     match time_all(&rt) {
@@ -33,7 +35,7 @@ fn time_all(rt: &HostRuntime) -> Result<(), Fail> {
     for name in NAMES {
         time_pattern(rt, name, text.as_slice())?;
     }
-    Ok(())
+    time_tokens(rt, text.as_slice())
 }
 
 fn compare(rt: &HostRuntime, argument: &str) -> Result<(), Fail> {

@@ -31,16 +31,22 @@ fn all_of_ours(
     text: &[u8],
 ) -> Result<usize, Fail> {
     let from = rt.thread_cpu_time()?;
-    let count = count(rt, program, text)?;
+    let count = count(rt, program, Input::new(text), text.len())?;
     report(rt, name, "matches engine", from)?;
     Ok(count)
 }
 
-fn count(rt: &HostRuntime, program: &Program<AsciiWord>, text: &[u8]) -> Result<usize, Fail> {
+/// How many matches an input of a text of that many bytes has, each found with its groups.
+pub fn count(
+    rt: &HostRuntime,
+    program: &Program<AsciiWord>,
+    input: Input<'_>,
+    length: usize,
+) -> Result<usize, Fail> {
     let mut captures = program.captures(rt.alloc())?;
-    let mut matches = Matches::new(rt.alloc(), program, Input::new(text))?;
+    let mut matches = Matches::new(rt.alloc(), program, input)?;
     let mut count = 0_usize;
-    for _ in 0..=text.len() {
+    for _ in 0..=length {
         if matches.next(&mut captures)?.is_none() {
             break;
         }
@@ -129,7 +135,8 @@ fn lines_of_theirs(
     Ok(count)
 }
 
-fn report(rt: &HostRuntime, name: &str, what: &str, from: Duration) -> Result<(), Fail> {
+/// Says how long something took.
+pub fn report(rt: &HostRuntime, name: &str, what: &str, from: Duration) -> Result<(), Fail> {
     let to = rt.thread_cpu_time()?;
     let micros = to.saturating_sub(from).as_micros();
     eprintln!(rt; "{name} {what} {micros}")?;

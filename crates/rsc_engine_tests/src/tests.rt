@@ -1,10 +1,6 @@
-mod alternations;
-mod build;
 mod cache;
 mod dfa;
 mod first_matches;
-mod loops;
-mod made;
 mod matches;
 mod model;
 mod programs;

@@ -1,6 +1,7 @@
 mod AlphabetLemmas  -- tables that are filled unit by unit
 mod CapturesLemmas  -- the slots that a group was written into give its span
 mod EngineLemmas  -- matches of one pattern in a whole haystack
+mod LexedLemmas  -- matches that stand side by side are tokens
 mod ListedLemmas  -- how such a list is made, number by number
 mod LookLemmas  -- slices of bytes as lists of numbers below 256
 mod PrimitivesLemmas  -- how many bytes a character takes

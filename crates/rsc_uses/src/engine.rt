@@ -1,12 +1,14 @@
 //! Searches by an engine, and what its answers say of one another.
-ghost use Rattle.std.specs.Prelude.{◌≡◌, ◌<◌, ◌≤◌, ◌⊎◌, ◌++◌, [], ◌∷◌, ℕ, Some, None, false, IfOk, IfSome, IfNone, length, slice_index_or};
+ghost use Rattle.std.specs.Prelude.{◌≡◌, ◌<◌, ◌≤◌, ◌⊎◌, ◌++◌, [], ◌∷◌, ℕ, Some, None, false, IfOk, OnOk, IfSome, IfNone, length, slice_index_or};
 ghost use Rattle.rsc_search.specs.Matches.{Matched};
 ghost use Rattle.rsc_captures.specs.Captured.{group_span};
 ghost use Rattle.rsc_engine.specs.Searches.{search_in};
 ghost use Rattle.rsc_engine.specs.NextMatches.{AreAll};
+ghost use Rattle.rsc_engine.specs.declared.dfa.Answer.TheVariants.{End};
 ghost use Rattle.rsc_engine.specs.Preferred.{HasNone, IsFirstMatch};
 ghost use Rattle.rsc_engine.specs.Patterns.{Goes, Either, Literal};
-ghost use Rattle.rsc_engine.specs.Parts.{pattern_of, groups_of_part};
+ghost use Rattle.rsc_engine.specs.Parts.{pattern_of, groups_of_part, groups_of_pattern};
+ghost use Rattle.rsc_engine.specs.Refusals.{RepeatsName, has_a_reversed_range};
 
 use rsc_captures::Captures;
 use rsc_engine::{
@@ -160,7 +162,7 @@ pub fn all_matches<W: WordClass + AsciiWords>(
     Ok(all_over(alloc, cache, &mut captures, input)?.0)
 }
 
-/// The same over a cache, which comes back.
+/// All matches in an input over a cache, which comes back for the next input.
 pub fn all_over<'p, 'h, W: WordClass + AsciiWords>(
     alloc: Global,
     cache: Cache<'p, W>,
@@ -265,24 +267,22 @@ pub fn first_of_iteration<W: WordClass + AsciiWords>(
     }
 }
 
-/// The least position to which a part goes, where the DFA finds it.
+/// The least position to which a part goes, unless the DFA quits before it: at a byte above 7F, if an assertion of the part looks at characters.
 pub fn first_end_of_part<W: WordClass + AsciiWords>(
     alloc: Global,
     words: W,
     part: Part<'_>,
     haystack: &[u8],
-) -> Result<Option<usize>, Error>
-    ensures { IfOk result (λ found. IfSome found (λ end.
-        (i : ℕ) × Goes (record { haystack = haystack.now; terminator = 10; word_chars = W.word_chars words }) (pattern_of part.entry) i end)) }
+) -> Result<Answer, Error>
+    ensures { IfOk result (λ answer. (end : ℕ) → answer ≡ End end →
+        (i : ℕ) × Goes (record { haystack = haystack.now; terminator = 10; word_chars = W.word_chars words }) (pattern_of part.entry) i end) }
 {
     laws::an_earliest_end_is_of_a_pattern::<W>();
     let program = Builder::new(alloc).build(words, true, part)?;
     let input = Input::new(haystack);
     let mut dfa = Dfa::new(alloc, &program, 100);
-    match dfa.earliest_end(&input)? {
-        Answer::End(end) => Ok(Some(end)),
-        Answer::NoMatch | Answer::Quit(_) => Ok(None),
-    }
+    let answer = dfa.earliest_end(&input)?;
+    Ok(answer)
 }
 
 /// The position to which the first match of a part goes.
@@ -317,4 +317,17 @@ pub fn program_of_two<W: WordClass>(
     let builder = Builder::new(alloc);
     let both = builder.then(one, other)?;
     builder.build(words, true, both)
+}
+
+/// The program of a part. If there is one, the part has no name twice, and no reversed range where it may occur.
+pub fn program_of_part<W: WordClass>(
+    alloc: Global,
+    words: W,
+    part: Part<'_>,
+) -> Result<Program<W>, Error>
+    ensures names { OnOk result (¬ (RepeatsName (groups_of_pattern part.entry ∷ []))) }
+    ensures ordered { OnOk result (has_a_reversed_range (pattern_of part.entry ∷ []) ≡ false) }
+{
+    let program = Builder::new(alloc).build(words, true, part)?;
+    Ok(program)
 }

@@ -5,6 +5,7 @@
 pub mod alphabet;
 pub mod captures;
 pub mod engine;
+pub mod lexer;
 pub mod look;
 pub mod nfa;
 pub mod primitives;

@@ -1,5 +1,5 @@
 //! From parts to states. The walk goes from the end of a pattern to its start, so that what comes after a part has its state first.
-ghost use Rattle.std.specs.Prelude.{◌≡◌, ℕ, ◌+◌, ◌*◌, ◌<◌, ◌≤◌, ◌++◌, [], ◌∷◌, map, length, IfOk, IfErr, MatchResult};
+ghost use Rattle.std.specs.Prelude.{◌≡◌, ℕ, ◌+◌, ◌*◌, ◌%◌, ◌<◌, ◌≤◌, ◌++◌, [], ◌∷◌, map, length, IfOk, IfErr, MatchResult};
 ghost use Rattle.rsc_nfa.specs.declared.state.State.TheVariants.{Fork};
 ghost use Rattle.rsc_engine.specs.Patterns.{Never, Class, Literal, in_order, one_of};
 ghost use Rattle.rsc_engine.specs.Parts.{pattern_of, pattern_in};
@@ -41,19 +41,19 @@ impl Slots {
     // The slots of a group of a part. They come after those of the whole match.
     fn of_group(&self, group: usize) -> Result<(SmallIndex, SmallIndex), Error>
         ensures start { IfOk result (λ slots. self.now.end < slots.0) }
-        ensures end { IfOk result (λ slots. self.now.end < slots.1) }
-        ensures start_within { IfOk result (λ slots. slots.0 < self.now.limit) }
-        ensures end_within { IfOk result (λ slots. slots.1 < self.now.limit) }
+        ensures even { IfOk result (λ slots. slots.0 % 2 ≡ 0) }
+        ensures end { IfOk result (λ slots. slots.1 ≡ slots.0 + 1) }
+        ensures within { IfOk result (λ slots. slots.1 < self.now.limit) }
         ensures refused { IfErr result RunsOut }
     {
         let Some((start, end)) = self.groups.get(group).copied() else {
             return Err(Error::TooLarge);
         };
-        // Neither test fails: a group's slots come after those of the whole match, and the group info counts them. They give the prover the bounds.
-        if start.as_usize() <= self.end.as_usize() || end.as_usize() <= self.end.as_usize() {
+        // No test fails: a group's slots are a pair, they come after those of the whole match, and the group info counts them. They tell the prover so.
+        if start.as_usize() % 2 != 0 || end.as_usize() != start.as_usize() + 1 {
             return Err(Error::TooLarge);
         }
-        if self.limit <= start.as_usize() || self.limit <= end.as_usize() {
+        if start.as_usize() <= self.end.as_usize() || self.limit <= end.as_usize() {
             return Err(Error::TooLarge);
         }
         Ok((start, end))

@@ -74,11 +74,11 @@ impl Needed {
         mark(&mut marks, start, true);
         mark(&mut marks, start, false);
         for _ in 0..MOST_STATES {
-            let before = marks;
+            let marked = marks;
             if self.are_passed(program, &mut marks) {
                 return true;
             }
-            if marks == before {
+            if marks == marked {
                 return false;
             }
         }

@@ -56,6 +56,7 @@ impl Table {
 
     /// Follows the entries from a row as far as they are known, at most to the end: the row there, its position, and a position before which
     /// no match begins. If it's wanted, that is as late as the rows tell.
+    // Not inlined, so that the loop over known entries has registers of its own.
     #[inline(never)]
     pub fn follow<W: WordClass>(
         &self,

@@ -1,5 +1,5 @@
 //! Searches one after the other over what a cache keeps.
-use super::made::{captures_of, span};
+use crate::made::{captures_of, span};
 use rsc_captures::Captures;
 use rsc_engine::{Builder, Cache, Error, Matches, Part, Program};
 use rsc_look::AsciiWord;

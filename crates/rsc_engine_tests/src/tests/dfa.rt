@@ -1,6 +1,6 @@
 //! The DFA beside the backtracker, for 22 programs over all texts of up to three of six bytes.
-use super::made::captures_of;
 use super::programs::program_of;
+use crate::made::captures_of;
 use rsc_captures::Captures;
 use rsc_engine::{Answer, AsciiWords, Builder, Dfa, Error, Program, find};
 use rsc_look::{AsciiWord, Look, UnicodeWord, WordClass};

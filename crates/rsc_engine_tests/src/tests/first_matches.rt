@@ -1,5 +1,5 @@
 //! Examples of `find`.
-use super::made::{
+use crate::made::{
     accept, assertion, byte, capture, captures_of, first, first_of_patterns, fork, program, span,
 };
 use rsc_engine::Program;

@@ -1,5 +1,5 @@
 //! The rule on empty matches, and the end of an iteration.
-use super::made::{accept, byte, finds, fork, no_captures, program};
+use crate::made::{accept, byte, finds, fork, no_captures, program};
 use rsc_engine::Matches;
 use rsc_nfa::State;
 use rsc_search::{Anchored, Input, Span};

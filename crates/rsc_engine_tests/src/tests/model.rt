@@ -1,5 +1,5 @@
 //! A slow reader of the definition beside `find`, over all texts of up to four bytes of five.
-use super::made::{accept, assertion, byte, first, fork, program, range};
+use crate::made::{accept, assertion, byte, first, fork, program, range};
 use rsc_engine::{Error, Program};
 use rsc_look::{AsciiWord, Look};
 use rsc_nfa::State;

@@ -96,12 +96,17 @@ fn no_states(rt: HostRuntime) -> Result<(), Fail> {
     Ok(())
 }
 
-#[test]
-fn a_line(rt: HostRuntime) -> Result<(), Fail> {
-    let nfa = built(
-        rt.alloc(),
+// `(?m)^a`
+fn line(alloc: Global) -> Result<Nfa<UnicodeWord>, Fail> {
+    built(
+        alloc,
         &[assertion(Look::StartLF), range(0x61, 0x61, 2), accept()],
-    )?;
+    )
+}
+
+#[test]
+fn a_line_has_six_classes(rt: HostRuntime) -> Result<(), Fail> {
+    let nfa = line(rt.alloc())?;
     let classes = nfa.classes();
     assert_eq!(rt; classes.alphabet_len(), 6);
     for (byte, class) in [
@@ -114,10 +119,23 @@ fn a_line(rt: HostRuntime) -> Result<(), Fail> {
     ] {
         assert_eq!(rt; classes.get(byte), class);
     }
+    Ok(())
+}
+
+#[test]
+fn a_line(rt: HostRuntime) -> Result<(), Fail> {
+    let nfa = line(rt.alloc())?;
     let run = [at(0, 1), at(1, 1), at(2, 2)];
     assert!(rt; nfa.check_run(&Input::new(b"\na"), &run));
     assert!(rt; !nfa.check_run(&Input::new(b"ba"), &run));
     assert!(rt; !nfa.check_run(&Input::new(b"\na"), &[at(2, 2), at(2, 2)]));
+    Ok(())
+}
+
+#[test]
+fn a_line_in_a_span(rt: HostRuntime) -> Result<(), Fail> {
+    let nfa = line(rt.alloc())?;
+    let run = [at(0, 1), at(1, 1), at(2, 2)];
     let part = Input::new(b"\na").span(Span { start: 1, end: 2 });
     assert!(rt; nfa.check_run(&part, &run));
     assert!(rt; !nfa.check_run(&part, &[at(0, 0)]));

@@ -1,27 +1,53 @@
 //! The callers of the engine, run on values.
-use rsc_engine::{Builder, Cache, Dfa, Matches};
+use rsc_engine::{Answer, Builder, Cache, Dfa, Error, Matches, Program};
 use rsc_look::AsciiWord;
 use rsc_primitives::PatternID;
 use rsc_search::Input;
-use rsc_uses::engine;
+use rsc_uses::{engine, lexer};
+use std::alloc::Global;
 use std::test::Fail;
 
-#[test]
-fn callers_of_the_engine_find_matches(rt: HostRuntime) -> Result<(), Fail> {
-    let builder = Builder::new(rt.alloc());
+// `[a-z]`
+fn a_letter(alloc: Global) -> Result<Program<AsciiWord>, Error> {
+    let builder = Builder::new(alloc);
     let whole = builder.range(b'a', b'z');
+    builder.build(AsciiWord, true, whole)
+}
+
+#[test]
+fn a_part_is_found(rt: HostRuntime) -> Result<(), Fail> {
+    let whole = Builder::new(rt.alloc()).range(b'a', b'z');
     let found = engine::find_part(rt.alloc(), AsciiWord, whole, b"-a b")?;
     assert!(rt; found == Some((1, 2)));
-    let whole = builder.range(b'a', b'z');
-    let program = builder.build(AsciiWord, true, whole)?;
+    Ok(())
+}
+
+#[test]
+fn the_first_match_has_a_span(rt: HostRuntime) -> Result<(), Fail> {
+    let program = a_letter(rt.alloc())?;
     let mut captures = program.captures(rt.alloc())?;
     let input = Input::new(b"-a b");
     let first = engine::first_span(rt.alloc(), &program, &input, &mut captures)?;
     assert!(rt; first.is_some_and(|span| span.start == 1 && span.end == 2));
+    Ok(())
+}
+
+#[test]
+fn a_match_is_found_twice(rt: HostRuntime) -> Result<(), Fail> {
+    let program = a_letter(rt.alloc())?;
+    let mut captures = program.captures(rt.alloc())?;
+    let input = Input::new(b"-a b");
     let mut dfa = Dfa::new(rt.alloc(), &program, 4);
     let found = engine::has_match_twice(rt.alloc(), &program, &mut dfa, &input, &mut captures)?;
     assert!(rt; found.0 && found.1);
-    let mut matches = Matches::new(rt.alloc(), &program, input)?;
+    Ok(())
+}
+
+#[test]
+fn two_matches_end_in_turn(rt: HostRuntime) -> Result<(), Fail> {
+    let program = a_letter(rt.alloc())?;
+    let mut captures = program.captures(rt.alloc())?;
+    let mut matches = Matches::new(rt.alloc(), &program, Input::new(b"-a b"))?;
     assert!(rt; engine::next_two_ends(&mut matches, &mut captures)? == Some((2, 4)));
     assert!(rt; engine::next_two_ends(&mut matches, &mut captures)?.is_none());
     Ok(())
@@ -29,9 +55,7 @@ fn callers_of_the_engine_find_matches(rt: HostRuntime) -> Result<(), Fail> {
 
 #[test]
 fn ends_agree(rt: HostRuntime) -> Result<(), Fail> {
-    let builder = Builder::new(rt.alloc());
-    let whole = builder.range(b'a', b'z');
-    let program = builder.build(AsciiWord, true, whole)?;
+    let program = a_letter(rt.alloc())?;
     let mut captures = program.captures(rt.alloc())?;
     let mut dfa = Dfa::new(rt.alloc(), &program, 4);
     let input = Input::new(b"-a b");
@@ -48,7 +72,7 @@ fn answers_are_of_parts(rt: HostRuntime) -> Result<(), Fail> {
     assert!(rt; first == Some((1, 2)));
     let whole = builder.range(b'a', b'z');
     let end = engine::first_end_of_part(rt.alloc(), AsciiWord, whole, b"-a b")?;
-    assert!(rt; end == Some(2));
+    assert!(rt; end == Answer::End(2));
     let whole = builder.plus(builder.range(b'a', b'z'))?;
     let end = engine::leftmost_end_of_part(rt.alloc(), AsciiWord, whole, b"-ab c")?;
     assert!(rt; end == Some(3));
@@ -70,6 +94,18 @@ fn the_first_of_two_parts_is_preferred(rt: HostRuntime) -> Result<(), Fail> {
 }
 
 #[test]
+fn a_name_is_once_in_a_program(rt: HostRuntime) -> Result<(), Fail> {
+    let builder = Builder::new(rt.alloc());
+    let one = builder.group(Some("a"), builder.empty())?;
+    assert!(rt; engine::program_of_part(rt.alloc(), AsciiWord, one).is_ok());
+    let one = builder.group(Some("a"), builder.empty())?;
+    let other = builder.group(Some("a"), builder.empty())?;
+    let both = builder.then(one, other)?;
+    assert!(rt; engine::program_of_part(rt.alloc(), AsciiWord, both).is_err());
+    Ok(())
+}
+
+#[test]
 fn groups_of_both_parts(rt: HostRuntime) -> Result<(), Fail> {
     let builder = Builder::new(rt.alloc());
     let one = builder.group(Some("a"), builder.range(b'a', b'z'))?;
@@ -80,19 +116,66 @@ fn groups_of_both_parts(rt: HostRuntime) -> Result<(), Fail> {
     Ok(())
 }
 
+// `ab|a`
+fn two_texts(alloc: Global) -> Result<Program<AsciiWord>, Error> {
+    let builder = Builder::new(alloc);
+    let whole = engine::one_of_two(alloc, &builder, b"ab", b"a")?;
+    builder.build(AsciiWord, true, whole)
+}
+
 #[test]
-fn all_matches_come_over_one_cache(rt: HostRuntime) -> Result<(), Fail> {
-    let builder = Builder::new(rt.alloc());
-    let whole = engine::one_of_two(rt.alloc(), &builder, b"ab", b"a")?;
-    let program = builder.build(AsciiWord, true, whole)?;
+fn all_matches_come_in_turn(rt: HostRuntime) -> Result<(), Fail> {
+    let program = two_texts(rt.alloc())?;
     let all = engine::all_matches(rt.alloc(), &program, Input::new(b"a-ab"))?;
     assert!(rt; all.len() == 2 && all[0].end() == 1 && all[1].end() == 4);
+    Ok(())
+}
+
+#[test]
+fn all_matches_come_over_one_cache(rt: HostRuntime) -> Result<(), Fail> {
+    let program = two_texts(rt.alloc())?;
     let mut captures = program.captures(rt.alloc())?;
     let cache = Cache::new(rt.alloc(), &program)?;
-    let (one, other) = (Input::new(b"-a"), Input::new(b"b"));
-    let (all, mut cache) = engine::all_over(rt.alloc(), cache, &mut captures, one.clone()?)?;
+    let input = Input::new(b"-a");
+    let (all, _) = engine::all_over(rt.alloc(), cache, &mut captures, input)?;
     assert!(rt; all.len() == 1 && all[0].start() == 1);
+    Ok(())
+}
+
+#[test]
+fn two_inputs_are_searched_over_one_cache(rt: HostRuntime) -> Result<(), Fail> {
+    let program = two_texts(rt.alloc())?;
+    let mut captures = program.captures(rt.alloc())?;
+    let mut cache = Cache::new(rt.alloc(), &program)?;
+    let (one, other) = (Input::new(b"-a"), Input::new(b"b"));
     assert!(rt; engine::both_match(&mut cache, &mut captures, &one, &one)?);
     assert!(rt; !engine::both_match(&mut cache, &mut captures, &one, &other)?);
+    Ok(())
+}
+
+#[test]
+fn tokens_stand_side_by_side(rt: HostRuntime) -> Result<(), Fail> {
+    let mut builder = Builder::new(rt.alloc());
+    let keyword = builder.literal(b"if")?;
+    builder.pattern(keyword)?;
+    let word = builder.plus(builder.range(b'a', b'z'))?;
+    builder.pattern(word)?;
+    let other = builder.range(0, 0xFF);
+    let tokens = lexer::tokens_of(rt.alloc(), AsciiWord, builder, other, b"if x")?;
+    assert!(rt; tokens.len() == 3);
+    for (token, (pattern, end)) in tokens.iter().zip([(0, 2), (2, 3), (1, 4)]) {
+        assert!(rt; token.pattern().as_usize() == pattern && token.end() == end);
+    }
+    Ok(())
+}
+
+#[test]
+fn the_bytes_of_a_group_are_cut_out(rt: HostRuntime) -> Result<(), Fail> {
+    let builder = Builder::new(rt.alloc());
+    let digits = builder.plus(builder.range(b'0', b'9'))?;
+    let value = builder.group(None, digits)?;
+    let whole = builder.then(builder.literal(b"=")?, value)?;
+    let found = lexer::bytes_of_group(rt.alloc(), AsciiWord, whole, 1, b"a=42;")?;
+    assert!(rt; found == Some(b"42".as_slice()));
     Ok(())
 }

@@ -5,13 +5,13 @@ use Rattle.rsc_engine.specs.Patterns.{Goes}
 use Rattle.rsc_uses.proofs.EngineLemmas.{goes_of, text}
 use Rattle.rsc_uses.proofs.engine.first_end_of_part.Goals as goal
 
-pub returns-in-End : goal.returns-in-End
-returns-in-End g c =
+pub returns : goal.returns
+returns g c = λ end is.
     let p = pattern_of c.args.part in
     let chars = g.W.WordClass.word_chars in
     let matches = rw c.new.ensures.patterns at c.in_ok-program.ensures.matches in
-    let ends = rw (c.in-End.is, c.new-input.ensures, c.new-dfa.ensures) at c.in_ok-end.ensures.answer in
-    let one = c.an_earliest_end_is_of_a_pattern.ensures.some c.in_ok-program.program (p ∷ []) (whole c.args.haystack.now) c.in-End.end matches ends in (
+    let ends = rw (is, c.new-input.ensures, c.new-dfa.ensures) at c.in_ok-answer.ensures.answer in
+    let one = c.an_earliest_end_is_of_a_pattern.ensures.some c.in_ok-program.program (p ∷ []) (whole c.args.haystack.now) end matches ends in (
       one.0.span.start,
       subst (λ end. Goes (text c.args.haystack.now (chars c.args.words)) p one.0.span.start end) one.3
           (goes_of chars c.in_ok-program.program c.args.words p c.args.haystack.now one.0 c.in_ok-program.ensures.matcher one.1),

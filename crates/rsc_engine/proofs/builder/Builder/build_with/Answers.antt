@@ -1,10 +1,12 @@
-use Rattle.std.proofs.Common.{◌≡◌, ◌∙◌, ◌≤◌, ◌++◌, [], ◌∷◌, ap, arith, length, map}
+use Rattle.std.proofs.Common.{◌≡◌, ◌∙◌, ◌*◌, ◌≤◌, ◌++◌, [], ◌∷◌, ap, arith, length, map}
 use Rattle.std.proofs.lemmas.List.{length-map}
 use Rattle.std.proofs.lemmas.Result.{err_from_is_err_and}
+use Rattle.rsc_captures.specs.Groups.{all_groups}
 use Rattle.rsc_engine.specs.Refusals.{has_a_reversed_range}
 use Rattle.rsc_engine.specs.Parts.{pattern_of, patterns_of, groups_of_pattern, lists_of}
 use Rattle.rsc_engine.proofs.BeginsLayoutLemmas.{Recognizes-built}
 use Rattle.rsc_engine.proofs.GroupEndsLemmas.{RecordsEnds-built}
+use Rattle.rsc_engine.proofs.GroupOrderLemmas.{ClosesGroups-built}
 use Rattle.rsc_engine.proofs.PatternOrderLemmas.{PrefersLesser-built}
 use Rattle.rsc_engine.proofs.NamesLayoutLemmas.{sound-faulty}
 use Rattle.rsc_engine.proofs.RefusalsLemmas.{faulty-refused}
@@ -30,6 +32,20 @@ returns-clause-prefers g c =
     (PrefersLesser-built _ _
     (rw (c.in_ok-nfa.ensures.made, c.deref.ensures.value)
     (rw c.as_slice-2.ensures.value at c.in_ok-states.ensures.0).prefers))
+
+pub returns-clause-closes : goal.returns-clause-closes
+returns-clause-closes g c =
+    let room : length c.as_slice-2.result.now ≤ length c.in_ok-info.info =
+    omega (
+      arith,
+      ap length c.in_ok-info.ensures.groups,
+      length-map c.as_slice.result.now groups_of_pattern,
+      ap length c.as_slice.ensures.value,
+      ap length c.as_slice-2.ensures.value,
+    ) in
+    rw c.in-Some.ensures.made
+    (ClosesGroups-built _ _ (2 * all_groups c.in_ok-info.info) (length c.in_ok-info.info) (has_a_reversed_range (map pattern_of c.as_slice-2.result.now))
+    (rw (c.in_ok-nfa.ensures.made, c.deref.ensures.value) (c.in_ok-states.ensures.1 room)))
 
 pub returns-in_err-nfa-clause-refused : goal.returns-in_err-nfa-clause-refused
 returns-in_err-nfa-clause-refused g c =

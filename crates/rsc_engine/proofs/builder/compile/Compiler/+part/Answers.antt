@@ -48,8 +48,8 @@ copies-loop-done-preserved t c = rw add-one (Builds-then _ _ _ _ _ _ _ _ _ c.loo
 pub group-returns : goal.group-returns
 group-returns t c =
     built-weaker c.add-2.result _ _
-    (λ id a. Builds-group _ _ _ _ _ _ _ _ _ id _ _ c.in_ok-start.ensures.start c.in_ok-start.ensures.start_within
-    c.in_ok-start.ensures.end c.in_ok-start.ensures.end_within c.in_ok-after.ensures c.in_ok-body.ensures a)
+    (λ id a. Builds-group _ _ _ _ _ _ _ _ _ id _ _ c.in_ok-start.ensures.start c.in_ok-start.ensures.even
+    c.in_ok-start.ensures.end c.in_ok-start.ensures.within c.in_ok-after.ensures c.in_ok-body.ensures a)
     c.add-2.ensures
 
 pub part-returns-in-Range : goal.part-returns-in-Range

@@ -1,6 +1,7 @@
 //! What the builder makes.
-use super::made::{captures_of, finds, first, first_of_patterns, first_span, span};
+use super::made::{captures_of, finds, first, first_of_patterns, first_span};
 use rsc_engine::{Builder, Error, Part, Program};
+use rsc_engine_tests::made::span;
 use rsc_look::{AsciiWord, Look, LookMatcher};
 use rsc_primitives::PatternID;
 use rsc_search::{Anchored, Input};

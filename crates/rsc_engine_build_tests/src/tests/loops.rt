@@ -1,6 +1,7 @@
 //! Loops over classes of bytes, alone, within one another and with groups. What is expected is what Python's `re` finds.
-use super::made::{captures_of, finds, first, first_span, span};
+use super::made::{captures_of, finds, first, first_span};
 use rsc_engine::{Builder, Error, Part, Program};
+use rsc_engine_tests::made::span;
 use rsc_look::{AsciiWord, Look};
 use rsc_search::{Input, Span};
 use std::alloc::Global;

@@ -1,0 +1,4 @@
+mod alternations;
+mod build;
+mod loops;
+mod made;

@@ -1,0 +1,26 @@
+use Rattle.std.proofs.Common.{◌++◌, [], ◌∷◌, subst, None}
+use Rattle.rsc_engine.specs.Parts.{pattern_of, patterns_of}
+use Rattle.rsc_uses.specs.Lexed.{AreLexed}
+use Rattle.rsc_uses.proofs.LexedLemmas.{read_by, lexed}
+use Rattle.rsc_uses.proofs.lexer.tokens_of.Goals as goal
+
+pub returns : goal.returns
+returns g c =
+    let chars = g.W.WordClass.word_chars in
+    let program = c.in_ok-program.program in
+    let patterns = patterns_of c.args.builder ++ pattern_of c.args.last ∷ [] in
+    let matches = c.in_ok-program.ensures.matches in
+    let none = c.requires in
+    subst (λ matcher. AreLexed (read_by chars matcher c.args.text.now) patterns 0 c.in_ok-tokens.tokens.items) c.in_ok-program.ensures.matcher
+    (lexed chars program patterns c.args.text.now 0 None c.in_ok-tokens.tokens.items
+    (record {
+      is_in = λ input last captures found f.
+          c.a_next_match_is_of_a_pattern.ensures.some program patterns input last captures found matches f;
+      least = λ input last captures found other f m same.
+          c.a_match_is_of_the_least_pattern.ensures.next program patterns input last captures found other matches c.in_ok-program.ensures.prefers f m same;
+      start = λ input last captures found anchored f.
+          c.anchored_matches_are_side_by_side.ensures.next program patterns input last captures found matches none anchored f;
+      over = λ input last other over same m.
+          c.anchored_matches_are_side_by_side.ensures.over program patterns input last other matches none over same m;
+    })
+    (rw (c.anchored-input.ensures, c.new.ensures) at c.in_ok-tokens.ensures))
