@@ -8,7 +8,7 @@ table is of Python's version of Unicode, so only the characters of chars.txt may
 import sys
 import unicodedata
 
-WORD = {"Lu", "Ll", "Lt", "Lm", "Lo", "Nl", "Nd", "Mn", "Mc", "Me", "Pc"}
+WORD_CATEGORIES = {"Lu", "Ll", "Lt", "Lm", "Lo", "Nl", "Nd", "Mn", "Mc", "Me", "Pc"}
 # Alphabetic characters that are neither letter, letter number nor mark.
 SYMBOLS = [(0x24B6, 0x24E9), (0x1F130, 0x1F149), (0x1F150, 0x1F169), (0x1F170, 0x1F189)]
 JOIN_CONTROLS = {0x200C, 0x200D}
@@ -16,7 +16,7 @@ JOIN_CONTROLS = {0x200C, 0x200D}
 
 def is_word(code):
     return (
-        unicodedata.category(chr(code)) in WORD
+        unicodedata.category(chr(code)) in WORD_CATEGORIES
         or code in JOIN_CONTROLS
         or any(first <= code <= last for first, last in SYMBOLS)
     )
@@ -25,10 +25,10 @@ def is_word(code):
 def ranges():
     start = None
     for code in range(0x110001):
-        word = code < 0x110000 and is_word(code)
-        if word and start is None:
+        accepted = code < 0x110000 and is_word(code)
+        if accepted and start is None:
             start = code
-        if not word and start is not None:
+        if not accepted and start is not None:
             yield start, code - 1
             start = None
 

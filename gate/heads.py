@@ -32,9 +32,9 @@ class Source:
     A function has its owner (by name `Half<W>`, or `Model for Half<W>` in an impl of a trait), its signature with its clauses, and offsets: of its
     attributes, its line, its parameters, its body and its end.
 
-    >>> text = "impl<W: Words> Half<W> {\\n    pub fn one(&self) -> usize\\n        ensures { result ≡ 1 }\\n    {\\n        1\\n    }\\n}\\n\\nfn two() -> usize {\\n    2\\n}\\n"
+    >>> text = "impl<W: WordClass> Half<W> {\\n    pub fn one(&self) -> usize\\n        ensures { result ≡ 1 }\\n    {\\n        1\\n    }\\n}\\n\\nfn two() -> usize {\\n    2\\n}\\n"
     >>> [(it.owner.name, it.is_public, it.signature, it.owner.bounds) for it in Source(text).functions]
-    [('Half<W>', True, '    pub fn one(&self) -> usize\\n        ensures { result ≡ 1 }', 'impl<W: Words> Half<W>'), ('', False, 'fn two() -> usize', '')]
+    [('Half<W>', True, '    pub fn one(&self) -> usize\\n        ensures { result ≡ 1 }', 'impl<W: WordClass> Half<W>'), ('', False, 'fn two() -> usize', '')]
     >>> Source("impl Half\\n{\\n    pub fn one() {}\\n}\\n")
     Traceback (most recent call last):
     ValueError: impl Half: a head of more than one line, which isn't read

@@ -69,7 +69,7 @@ fn primitives(kernel: u32, data: &[u8], param: u64, reps: u64) -> u64 {
             }
             sum
         }),
-        BOUNDARIES => repeat(reps, || {
+        CHAR_BOUNDARIES => repeat(reps, || {
             let data = black_box(data);
             (0..=data.len()).filter(|&i| utf8::is_boundary(data, i)).count() as u64
         }),

@@ -13,7 +13,7 @@ pub type Kernel = unsafe extern "C" fn(u32, *const u8, usize, u64, u64) -> u64;
 pub const WORD_BYTES: u32 = 1;
 pub const DECODE: u32 = 2;
 pub const DECODE_LAST: u32 = 3;
-pub const BOUNDARIES: u32 = 4;
+pub const CHAR_BOUNDARIES: u32 = 4;
 pub const HAYSTACK_TEXT: u32 = 5;
 pub const BYTE_TEXT: u32 = 6;
 pub const SMALL_NEW: u32 = 7;
@@ -163,14 +163,14 @@ fn run_of(n: &mut Numbers, first: u32, count: u64) -> String {
 /// Words of ASCII, Cyrillic, Chinese and mathematical letters, and some symbols.
 pub fn mixed(len: usize) -> Vec<u8> {
     text(len, 2, |n| {
-        let word = match n.below(8) {
+        let piece = match n.below(8) {
             0..=2 => n.pick(&ENGLISH).to_string(),
             3 | 4 => run_of(n, 0x430, 32),
             5 => run_of(n, 0x4E00, 512),
             6 => run_of(n, 0x1D41A, 26),
             _ => n.pick(&["\u{2014}", "\u{20AC}", "\u{2603}", "\u{1F600}"]).to_string(),
         };
-        format!("{word}{}", n.pick(&GAPS))
+        format!("{piece}{}", n.pick(&GAPS))
     })
 }
 
@@ -334,7 +334,7 @@ pub fn all() -> Vec<Workload> {
     for (name, text) in &texts[..6] {
         add(&format!("decode_last_{name}"), DECODE_LAST, text, 0, steps(text));
     }
-    add("is_boundary_mixed", BOUNDARIES, &mixed(mib), 0, mib as u64 + 1);
+    add("is_boundary_mixed", CHAR_BOUNDARIES, &mixed(mib), 0, mib as u64 + 1);
     add("is_word_byte", WORD_BYTES, &ascii(mib), 0, mib as u64);
     let every: Vec<u8> = (0..=255).collect();
     add("byte_text", BYTE_TEXT, &every, 0, 256);

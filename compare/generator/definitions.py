@@ -125,7 +125,7 @@ def allowed_characters():
     path = os.path.join(os.path.dirname(os.path.abspath(__file__)), "..", "chars.txt")
     with open(path, encoding="ascii") as file:
         rows = [line.split() for line in file if not line.startswith("#")]
-    return {int(code, 16): (word == "word", plain == "plain") for code, word, plain in rows}
+    return {int(code, 16): (kind == "word", plain == "plain") for code, kind, plain in rows}
 
 
 ALLOWED = allowed_characters()

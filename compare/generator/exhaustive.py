@@ -30,8 +30,8 @@ def look_lines(name, haystacks):
         if comparable(data):
             yield f"{tagged(name, departs(data))} 0a {show_hex(data)}"
         else:  # characters that may be of another class elsewhere: with a predicate of our own
-            for words in ("ascii", "0-255", "128-1114111"):
-                yield f"looks_with_port 0a {words} {show_hex(data)}"
+            for predicate in ("ascii", "0-255", "128-1114111"):
+                yield f"looks_with_port 0a {predicate} {show_hex(data)}"
 
 
 def decode_last_lines(haystacks):

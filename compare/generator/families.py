@@ -194,8 +194,8 @@ def matcher_command(draw):
         return f"{tagged('matches_set', departs_at(data, at))} {byte} {look_set(draw)} {show_hex(data)} {at}"
     if which == 3:
         ranges = [sorted((any_character(draw), any_character(draw))) for _ in range(draw.randrange(4))]
-        words = draw.choice(["ascii", join(f"{low}-{high}" for low, high in ranges), "0-1114111"])
-        return f"looks_with_port {byte} {words} {show_hex(any_bytes(draw))}"
+        predicate = draw.choice(["ascii", join(f"{low}-{high}" for low, high in ranges), "0-1114111"])
+        return f"looks_with_port {byte} {predicate} {show_hex(any_bytes(draw))}"
     if which == 4:
         return f"{tagged('sets', departs(data))} {byte} {look_set(draw)} {show_hex(data)}"
     if which == 5:

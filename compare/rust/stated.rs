@@ -46,7 +46,7 @@ pub fn decode_last(haystack: &[u8]) -> Option<Result<char, u8>> {
 }
 
 /// What `\w` accepts: any predicate on characters.
-pub type Word<'a> = &'a dyn Fn(char) -> bool;
+pub type WordPredicate<'a> = &'a dyn Fn(char) -> bool;
 
 /// Letters, digits and `_` of ASCII.
 pub fn is_word_byte(b: u8) -> bool {
@@ -68,28 +68,34 @@ pub fn unicode_word(c: char) -> bool {
 enum Side {
     None,
     Bad,
-    Word,
+    WordCharacter,
     Other,
 }
 
-fn side(byte: Option<u8>, c: Option<char>, word: Word) -> Side {
+fn side(byte: Option<u8>, c: Option<char>, accepts: WordPredicate) -> Side {
     match (byte, c) {
         (None, _) => Side::None,
         (Some(_), None) => Side::Bad,
-        (Some(_), Some(c)) if word(c) => Side::Word,
+        (Some(_), Some(c)) if accepts(c) => Side::WordCharacter,
         (Some(_), Some(_)) => Side::Other,
     }
 }
 
 /// Whether an assertion holds at a position, by its neighbours.
-pub fn holds(look: Look, terminator: u8, word: Word, haystack: &[u8], at: usize) -> bool {
+pub fn holds(
+    look: Look,
+    terminator: u8,
+    accepts: WordPredicate,
+    haystack: &[u8],
+    at: usize,
+) -> bool {
     let previous = at.checked_sub(1).map(|i| haystack[i]);
     let next = haystack.get(at).copied();
     let (word_previous, word_next) =
         (previous.is_some_and(is_word_byte), next.is_some_and(is_word_byte));
-    let before = || side(previous, ends(haystack, at), word);
-    let after = || side(next, begins(haystack, at), word);
-    let is_word = |s: Side| s == Side::Word;
+    let before = || side(previous, ends(haystack, at), accepts);
+    let after = || side(next, begins(haystack, at), accepts);
+    let is_word_character = |s: Side| s == Side::WordCharacter;
     match look {
         Look::Start => previous.is_none(),
         Look::End => next.is_none(),
@@ -111,12 +117,14 @@ pub fn holds(look: Look, terminator: u8, word: Word, haystack: &[u8], at: usize)
         Look::WordEndAscii => word_previous && !word_next,
         Look::WordStartHalfAscii => !word_previous,
         Look::WordEndHalfAscii => !word_next,
-        Look::WordUnicode => is_word(before()) != is_word(after()),
+        Look::WordUnicode => is_word_character(before()) != is_word_character(after()),
         Look::WordUnicodeNegate => {
-            before() != Side::Bad && after() != Side::Bad && is_word(before()) == is_word(after())
+            before() != Side::Bad
+                && after() != Side::Bad
+                && is_word_character(before()) == is_word_character(after())
         }
-        Look::WordStartUnicode => is_word(after()) && !is_word(before()),
-        Look::WordEndUnicode => is_word(before()) && !is_word(after()),
+        Look::WordStartUnicode => is_word_character(after()) && !is_word_character(before()),
+        Look::WordEndUnicode => is_word_character(before()) && !is_word_character(after()),
         Look::WordStartHalfUnicode => matches!(before(), Side::None | Side::Other),
         Look::WordEndHalfUnicode => matches!(after(), Side::None | Side::Other),
     }

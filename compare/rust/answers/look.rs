@@ -100,7 +100,7 @@ fn lookset_op(op: &str, a: LookSet, arg: &str) -> Read<String> {
 }
 
 /// A word predicate: `ascii`, `unicode`, or ranges of code points `LO-HI`.
-fn with_word<T>(spec: &str, f: impl FnOnce(stated::Word) -> T) -> Read<T> {
+fn with_word_predicate<T>(spec: &str, f: impl FnOnce(stated::WordPredicate) -> T) -> Read<T> {
     match spec {
         "ascii" => Ok(f(&stated::ascii_word)),
         "unicode" => Ok(f(&stated::unicode_word)),
@@ -189,8 +189,8 @@ pub fn answer(name: &str, port: bool, args: &[&str]) -> Read<String> {
         }
         ("looks_with", true, [terminator, spec, haystack]) => {
             let (terminator, haystack) = (byte(terminator)?, bytes(haystack)?);
-            with_word(spec, |word| {
-                masks(&haystack, |look, at| stated::holds(look, terminator, word, &haystack, at))
+            with_word_predicate(spec, |accepts| {
+                masks(&haystack, |look, at| stated::holds(look, terminator, accepts, &haystack, at))
             })
         }
         _ => Err(Bad),

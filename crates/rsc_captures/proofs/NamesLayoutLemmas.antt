@@ -17,11 +17,11 @@ use Rattle.rsc_captures.proofs.FaultsLemmas.{some_group, before_more}
 module _ (text more : List ℕ) where
   -- where the text may be cut, the longer text may be
   char_boundary_stays : (i : ℕ) → IsUtf8 more → IsCharBoundary text i → IsCharBoundary (text ++ more) i
-  char_boundary_stays i utf8 boundary =
+  char_boundary_stays i utf8 may_cut =
       ⊎_elim
       (λ (lt : i < length text). let same : get_or (text ++ more) i 0 ≡ get_or text i 0 = get_or_append_left text more 0 i lt in
-      (rw length-append (omega (arith, lt)), λ _ high. rw same (boundary.1 lt (rw same at high))))
-      (λ (ge : length text ≤ i). let at_seam : i ≡ length text = omega (arith, ge, boundary.0) in
+      (rw length-append (omega (arith, lt)), λ _ high. rw same (may_cut.1 lt (rw same at high))))
+      (λ (ge : length text ≤ i). let at_seam : i ≡ length text = omega (arith, ge, may_cut.0) in
       rw at_seam (IsCharBoundary-at_seam (text ++ more) text more refl utf8))
       (cases_lt i (length text))
 

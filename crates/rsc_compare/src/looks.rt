@@ -21,7 +21,7 @@ pub(crate) fn answer(name: &[u8], line: &mut Line<'_>, answer: &mut Answer) -> b
         b"looks" => { let matcher = matcher(line); push_masks(line, answer, &matcher, false) },
         b"is_all" => { let matcher = matcher(line); push_masks(line, answer, &matcher, true) },
         b"sets" => sets(line, answer),
-        b"looks_with" => with_words(line, answer),
+        b"looks_with" => with_word_class(line, answer),
     }
 }
 
@@ -41,8 +41,8 @@ pub fn matcher(line: &mut Line<'_>) -> LookMatcher<UnicodeWord> {
     matcher_of(line.byte(b' '), UnicodeWord)
 }
 
-fn matcher_of<W: WordClass>(terminator: u8, words: W) -> LookMatcher<W> {
-    let mut matcher = LookMatcher::new(words);
+fn matcher_of<W: WordClass>(terminator: u8, word_class: W) -> LookMatcher<W> {
+    let mut matcher = LookMatcher::new(word_class);
     let _ = matcher.set_line_terminator(terminator);
     matcher
 }
@@ -92,15 +92,15 @@ fn sets(line: &mut Line<'_>, answer: &mut Answer) {
     answer.close(outer);
 }
 
-fn with_words(line: &mut Line<'_>, answer: &mut Answer) {
+fn with_word_class(line: &mut Line<'_>, answer: &mut Answer) {
     let terminator = line.byte(b' ');
     if line.eat(b" ascii") {
         push_masks(line, answer, &matcher_of(terminator, AsciiWord), false);
     } else if line.eat(b" unicode") {
         push_masks(line, answer, &matcher_of(terminator, UnicodeWord), false);
     } else {
-        let words = words(line);
-        push_masks(line, answer, &matcher_of(terminator, words), false);
+        let word_class = range_word(line);
+        push_masks(line, answer, &matcher_of(terminator, word_class), false);
     }
 }
 
@@ -178,7 +178,7 @@ struct RangeWord {
     ranges: Vec<(u32, u32)>,
 }
 
-fn words(line: &mut Line<'_>) -> RangeWord {
+fn range_word(line: &mut Line<'_>) -> RangeWord {
     RangeWord {
         ranges: list!(line, b',', b'.', mark => (line.number_u32(mark), line.number_u32(b'-'))),
     }
@@ -187,7 +187,7 @@ fn words(line: &mut Line<'_>) -> RangeWord {
 impl WordClass for RangeWord {
     ghost use Rattle.rsc_compare.specs.CharRanges.{is_in_ranges};
 
-    ghost word_chars = { λ words c. is_in_ranges c words.ranges.items };
+    ghost word_chars = { λ word_class c. is_in_ranges c word_class.ranges.items };
 
     fn is_word(&self, c: char) -> bool {
         is_in_ranges(self.ranges.as_slice(), c as u32)

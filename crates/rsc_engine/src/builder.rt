@@ -231,7 +231,7 @@ impl<'n> Builder<'n> {
     /// most 0 times; `TooLarge` for more states, patterns or groups than there are numbers for; or out of memory, which may come first.
     pub fn build<W: WordClass>(
         self,
-        words: W,
+        word_class: W,
         utf8: bool,
         last: Part<'n>,
     ) -> Result<Program<W>, Error>
@@ -241,13 +241,13 @@ impl<'n> Builder<'n> {
         ensures prefers { IfOk result (λ program. PrefersLesser W.word_chars program) }
         ensures closes { IfOk result (λ program. ClosesGroups W.word_chars program) }
         ensures text { IfOk result (λ program. program.utf8 ≡ utf8) }
-        ensures matcher { IfOk result (λ program. program.automaton.matcher ≡ (10, words)) }
+        ensures matcher { IfOk result (λ program. program.automaton.matcher ≡ (10, word_class)) }
         ensures names { OnOk result (¬ (RepeatsName (lists_of self.entry ++ groups_of_pattern last.entry ∷ []))) }
         ensures ordered { OnOk result (has_a_reversed_range (patterns_of self.entry ++ pattern_of last.entry ∷ []) ≡ false) }
         ensures refused { IfErr result (FailsToBuild (patterns_of self.entry ++ pattern_of last.entry ∷ [])
             (lists_of self.entry ++ groups_of_pattern last.entry ∷ [])) }
     {
-        self.build_with(LookMatcher::new(words), utf8, last)
+        self.build_with(LookMatcher::new(word_class), utf8, last)
     }
 
     /// The same with a matcher, which has a line terminator and a word predicate.

@@ -9,7 +9,7 @@ use crate::dfa::MOST_ROWS;
 use crate::groups::write_match;
 use crate::numbers::flags_needed;
 use crate::starts::Starts;
-use crate::{AsciiWords, Dfa, Error, Matches, Program};
+use crate::{AsciiWordClass, Dfa, Error, Matches, Program};
 use rsc_captures::Captures;
 use rsc_look::WordClass;
 use rsc_search::{Input, Match};
@@ -40,7 +40,7 @@ impl<'p, W: WordClass> Model for Cache<'p, W> {
         AreStarts c.program.now.automaton.states c.program.now.start c.starts.marks.items c.starts.bytes.items) };
 }
 
-impl<'p, W: WordClass + AsciiWords> Cache<'p, W> {
+impl<'p, W: WordClass + AsciiWordClass> Cache<'p, W> {
     /// What searches by the program keep: nothing yet.
     ///
     /// # Errors

@@ -19,7 +19,7 @@ mod successor;
 mod table;
 
 use crate::first::{end_from, find_from, is_match_by_walk};
-use crate::{AsciiWords, Error, Program};
+use crate::{AsciiWordClass, Error, Program};
 use entries::Step;
 use lawful::steps_are_lawful;
 use needed::Needed;
@@ -84,7 +84,7 @@ impl<'p, W: WordClass> Model for Dfa<'p, W> {
         × IfSome d.needed (λ n. NeedsPair (machine W.word_chars d.plan.program.now) n.first n.second) };
 }
 
-impl<'p, W: WordClass + AsciiWords> Dfa<'p, W> {
+impl<'p, W: WordClass + AsciiWordClass> Dfa<'p, W> {
     /// The DFA of a program, with no rows. It keeps at most that many rows, and one at least: when it has as many and a search needs
     /// another, it drops them all and goes on from the new one.
     pub fn new(alloc: Global, program: &'p Program<W>, most_rows: usize) -> Dfa<'p, W>

@@ -11,7 +11,7 @@ use crate::groups::write_match;
 use crate::numbers::flags_needed;
 use crate::starts::Starts;
 use crate::trail::last_place;
-use crate::{AsciiWords, Dfa, Error, Program};
+use crate::{AsciiWordClass, Dfa, Error, Program};
 use rsc_captures::Captures;
 use rsc_look::WordClass;
 use rsc_search::{Input, Match};
@@ -27,7 +27,7 @@ use std::alloc::Global;
 /// # Errors
 ///
 /// Out of memory, or `TooLarge` where the span has too many positions for the number of states.
-pub fn find<W: WordClass + AsciiWords>(
+pub fn find<W: WordClass + AsciiWordClass>(
     alloc: Global,
     program: &Program<W>,
     input: &Input<'_>,

@@ -16,7 +16,7 @@ use crate::backtrack::Walk;
 use crate::groups::write_match;
 use crate::numbers::flags_needed;
 use crate::starts::Starts;
-use crate::{AsciiWords, Cache, Dfa, Error, Program};
+use crate::{AsciiWordClass, Cache, Dfa, Error, Program};
 use rsc_captures::Captures;
 use rsc_look::WordClass;
 use rsc_search::{Input, Match};
@@ -42,7 +42,7 @@ impl<'p, 'h, W: WordClass> Model for Matches<'p, 'h, W> {
     ghost view = { λ m. record { program = m.rest.program.now; input = m.rest.input; last = m.rest.last_end } };
 }
 
-impl<'p, 'h, W: WordClass + AsciiWords> Matches<'p, 'h, W> {
+impl<'p, 'h, W: WordClass + AsciiWordClass> Matches<'p, 'h, W> {
     /// All matches in an input's span.
     ///
     /// # Errors
@@ -148,7 +148,7 @@ struct Rest<'p, 'h, W: WordClass> {
     ghost order: { ForSome last_end (λ end. end ≤ input.span.start) },
 }
 
-impl<'p, 'h, W: WordClass + AsciiWords> Rest<'p, 'h, W> {
+impl<'p, 'h, W: WordClass + AsciiWordClass> Rest<'p, 'h, W> {
     // The next match.
     fn next(&mut self, captures: &mut Captures) -> Result<Option<Match>, Error>
         ensures next { IfOk result (λ found. IfSome found (λ m.
@@ -282,7 +282,7 @@ impl<'p, 'h, W: WordClass + AsciiWords> Rest<'p, 'h, W> {
 
 // A position before which no match begins; `None` only if none begins where one may. If the last match was far, the DFA tells; if that is out
 // of memory, the backtracker looks from the start on.
-fn begin_of<W: WordClass + AsciiWords>(
+fn begin_of<W: WordClass + AsciiWordClass>(
     dfa: &mut Dfa<'_, W>,
     is_far: bool,
     input: &Input<'_>,

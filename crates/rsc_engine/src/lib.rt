@@ -4,7 +4,7 @@
 //!
 //! `builder` makes parts and compiles them to the automaton of a `program`. `first`, `iterate` and `cache` have the searches: `starts` and `dfa` tell where no
 //! match begins, `backtrack` follows runs by the `moves` of states and the `turns` of loops, over the `flags` of places and a `trail`, and `groups` writes the
-//! match that a run makes. `numbers` has the numbers of flags, `words` which word predicates a search takes, `error` why there is no answer.
+//! match that a run makes. `numbers` has the numbers of flags, `word_class` which word predicates a search takes, `error` why there is no answer.
 //! `find` stands above `dfa`, the rest of `first` below it.
 #![tactic(auto)]
 
@@ -25,7 +25,7 @@ mod program;
 mod starts;
 mod trail;
 mod turns;
-mod words;
+mod word_class;
 
 pub use builder::{Builder, Part};
 pub use cache::Cache;
@@ -34,4 +34,4 @@ pub use error::Error;
 pub use first::find;
 pub use iterate::Matches;
 pub use program::Program;
-pub use words::AsciiWords;
+pub use word_class::AsciiWordClass;

@@ -7,7 +7,8 @@ use rsc_search::{Anchored, Input};
 use std::alloc::Global;
 use std::time::CpuClock;
 
-/// Times the tokens of a text: keywords of two letters, words, other bytes between words, and single bytes. It does so with no keyword, with 10 and with 100.
+/// Times the tokens of a text: keywords of two letters; small letters, capitals, digits or spaces in a row; and single bytes. It does so with no
+/// keyword, with 10 and with 100.
 pub fn time_tokens(rt: &HostRuntime, text: &[u8]) -> Result<(), Fail> {
     for (name, keywords) in [("tokens", 0), ("tokens10", 10), ("tokens100", 100)] {
         let from = rt.thread_cpu_time()?;
@@ -26,8 +27,8 @@ fn make(alloc: Global, keywords: u8) -> Result<Program<AsciiWord>, Error> {
     let mut builder = Builder::new(alloc);
     for number in 0..keywords {
         let letters = [b'a' + number / 10 % 26, b'a' + number % 10];
-        let word = builder.literal(&letters)?;
-        let whole = builder.then(word, builder.look(Look::WordEndAscii))?;
+        let keyword = builder.literal(&letters)?;
+        let whole = builder.then(keyword, builder.look(Look::WordEndAscii))?;
         builder.pattern(whole)?;
     }
     for (first, last) in [(b'a', b'z'), (b'A', b'Z'), (b'0', b'9'), (b' ', b' ')] {

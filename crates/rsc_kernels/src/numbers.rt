@@ -7,7 +7,7 @@ pub const DECODE: u32 = 2;
 
 pub const DECODE_LAST: u32 = 3;
 
-pub const BOUNDARIES: u32 = 4;
+pub const CHAR_BOUNDARIES: u32 = 4;
 
 pub const HAYSTACK_TEXT: u32 = 5;
 

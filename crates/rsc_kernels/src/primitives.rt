@@ -2,7 +2,8 @@
 ghost use Rattle.std.specs.Prelude.{◌≤◌};
 
 use crate::numbers::{
-    BOUNDARIES, BYTE_TEXT, DECODE, DECODE_LAST, HAYSTACK_TEXT, PATTERN_ITER, SMALL_NEW, WORD_BYTES,
+    BYTE_TEXT, CHAR_BOUNDARIES, DECODE, DECODE_LAST, HAYSTACK_TEXT, PATTERN_ITER, SMALL_NEW,
+    WORD_BYTES,
 };
 use crate::repeat::repeat;
 use crate::request::Request;
@@ -18,7 +19,7 @@ pub fn run(alloc: Global, request: Request<'_>) -> Result<u64, AllocError> {
         WORD_BYTES => repeat(reps, |sum| word_bytes(data, sum)),
         DECODE => repeat(reps, |sum| decoded(data, sum)),
         DECODE_LAST => repeat(reps, |sum| decoded_last(data, sum)),
-        BOUNDARIES => repeat(reps, |sum| char_boundaries(data, sum)),
+        CHAR_BOUNDARIES => repeat(reps, |sum| char_boundaries(data, sum)),
         HAYSTACK_TEXT => repeat(reps, |sum| text_of_haystack(alloc, data, sum)),
         BYTE_TEXT => repeat(reps, |sum| texts_of_bytes(alloc, data, sum)),
         SMALL_NEW => {

@@ -112,8 +112,8 @@ Together-eqb p a b t la lb s h =
     (λ l lt. Together-leb-boundary p (is_boundary_of_byte t) a b (t - 1) s h (omega arith) (grind (arith, nat_tests)))
 
 -- the word bytes, by the boundaries that they lie between
-abbrev word_between : Bool → Bool → Bool → Bool → Bool → Bool → Bool → Bool → Bool
-word_between x1 x2 x3 x4 x5 x6 x7 x8 = ((not x1 && x2) || (not x3 && x4) || (x6 && not x5)) || (not x7 && x8)
+abbrev word_byte_between : Bool → Bool → Bool → Bool → Bool → Bool → Bool → Bool → Bool
+word_byte_between x1 x2 x3 x4 x5 x6 x7 x8 = ((not x1 && x2) || (not x3 && x4) || (x6 && not x5)) || (not x7 && x8)
 
 above : (x a : ℕ) → leb (suc x) a ≡ not (leb a x)
 above x a = grind (arith, nat_tests)
@@ -122,7 +122,7 @@ at_low_line : (a : ℕ) → eqb a 0x5F ≡ (leb a 0x5F && not (leb a 0x5E))
 at_low_line a = grind (arith, nat_tests)
 
 is_word_byte-between : (a : ℕ)
-    → is_word_byte a ≡ word_between (leb a 0x2F) (leb a 0x39) (leb a 0x40) (leb a 0x5A) (leb a 0x5E) (leb a 0x5F) (leb a 0x60) (leb a 0x7A)
+    → is_word_byte a ≡ word_byte_between (leb a 0x2F) (leb a 0x39) (leb a 0x40) (leb a 0x5A) (leb a 0x5E) (leb a 0x5F) (leb a 0x60) (leb a 0x7A)
 is_word_byte-between a = rw (above 0x2F a, above 0x40 a, above 0x60 a, at_low_line a)
 
 -- bytes that are together are both word bytes, or neither is
@@ -170,10 +170,10 @@ same_byte p None None t s h = refl
 same_byte p (Some a) (Some b) t s h = Together-eqb p a b t h.0 h.1 s h.2
 same_byte p _ _ t s h = absurd h
 
-same_word : (p : ℕ → Bool) (a b : Option ℕ) → HasBoundariesOf p is_word_byte_boundary → TogetherAt p a b → is_word_neighbor a ≡ is_word_neighbor b
-same_word p None None s h = refl
-same_word p (Some a) (Some b) s h = Together-is_word_byte p a b s h.2
-same_word p _ _ s h = absurd h
+same_word_byte : (p : ℕ → Bool) (a b : Option ℕ) → HasBoundariesOf p is_word_byte_boundary → TogetherAt p a b → is_word_neighbor a ≡ is_word_neighbor b
+same_word_byte p None None s h = refl
+same_word_byte p (Some a) (Some b) s h = Together-is_word_byte p a b s h.2
+same_word_byte p _ _ s h = absurd h
 
 crlf_cr : (p : ℕ → Bool) → HasBoundariesOf p (λ b. is_boundary_of_byte 13 b || is_boundary_of_byte 10 b) → HasBoundariesOf p (is_boundary_of_byte 13)
 crlf_cr p s b l e = s b l (or_left (is_boundary_of_byte 13 b) (is_boundary_of_byte 10 b) e)
@@ -193,10 +193,10 @@ holds_at_bytes-same p StartCRLF t s a b x y h k =
     rw (same_none p a b h, same_byte p a b 13 (crlf_cr p s) h, same_byte p a b 10 (crlf_lf p s) h, same_byte p x y 10 (crlf_lf p s) k)
 holds_at_bytes-same p EndCRLF t s a b x y h k =
     rw (same_none p x y k, same_byte p x y 13 (crlf_cr p s) k, same_byte p x y 10 (crlf_lf p s) k, same_byte p a b 13 (crlf_cr p s) h)
-holds_at_bytes-same p WordAscii t s a b x y h k = rw (same_word p a b s h, same_word p x y s k)
-holds_at_bytes-same p WordAsciiNegate t s a b x y h k = rw (same_word p a b s h, same_word p x y s k)
-holds_at_bytes-same p WordStartAscii t s a b x y h k = rw (same_word p a b s h, same_word p x y s k)
-holds_at_bytes-same p WordEndAscii t s a b x y h k = rw (same_word p a b s h, same_word p x y s k)
-holds_at_bytes-same p WordStartHalfAscii t s a b x y h k = rw (same_word p a b s h)
-holds_at_bytes-same p WordEndHalfAscii t s a b x y h k = rw (same_word p x y s k)
+holds_at_bytes-same p WordAscii t s a b x y h k = rw (same_word_byte p a b s h, same_word_byte p x y s k)
+holds_at_bytes-same p WordAsciiNegate t s a b x y h k = rw (same_word_byte p a b s h, same_word_byte p x y s k)
+holds_at_bytes-same p WordStartAscii t s a b x y h k = rw (same_word_byte p a b s h, same_word_byte p x y s k)
+holds_at_bytes-same p WordEndAscii t s a b x y h k = rw (same_word_byte p a b s h, same_word_byte p x y s k)
+holds_at_bytes-same p WordStartHalfAscii t s a b x y h k = rw (same_word_byte p a b s h)
+holds_at_bytes-same p WordEndHalfAscii t s a b x y h k = rw (same_word_byte p x y s k)
 holds_at_bytes-same p _ t s a b x y h k = refl

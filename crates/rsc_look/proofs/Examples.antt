@@ -1,7 +1,7 @@
 -- The definitions, computed on examples.
 use Rattle.std.proofs.Common.{◌≡◌, ℕ, Bool, true, false, List, [], ◌∷◌, refl, sym, ap, ◌∙◌, arith}
 use Rattle.std.specs.FinSet as sets
-use Rattle.rsc_look.proofs.Prelude.{Look, StartLF, EndLF, StartCRLF, EndCRLF, WordAscii, WordUnicode, WordUnicodeNegate, WordStartHalfUnicode, Invalid, Word, Other, every_look, bits_of, bits_of-looks_of, byte_before, byte_after, holds_at_bytes, holds_at_sides, boundaries_of, mirror}
+use Rattle.rsc_look.proofs.Prelude.{Look, StartLF, EndLF, StartCRLF, EndCRLF, WordAscii, WordUnicode, WordUnicodeNegate, WordStartHalfUnicode, Invalid, WordCharacter, Other, every_look, bits_of, bits_of-looks_of, byte_before, byte_after, holds_at_bytes, holds_at_sides, boundaries_of, mirror}
 use Rattle.rsc_look.proofs.BoundariesLemmas.{contains-boundaries_of}
 use Rattle.rsc_look.proofs.LookSetLayoutLemmas.{looks_of_all}
 
@@ -30,13 +30,13 @@ mirror_of_crlf : mirror StartCRLF (13 ∷ 10 ∷ 0x61 ∷ []) ≡ 0x61 ∷ 13 �
 mirror_of_crlf = refl
 
 -- a side whose bytes are no character
-bad_after_word : holds_at_sides WordUnicode Word Invalid ≡ true
+bad_after_word : holds_at_sides WordUnicode WordCharacter Invalid ≡ true
 bad_after_word = refl
 
 bad_before_word_negated : holds_at_sides WordUnicodeNegate Invalid Other ≡ false
 bad_before_word_negated = refl
 
-bad_before_half_start : holds_at_sides WordStartHalfUnicode Invalid Word ≡ false
+bad_before_half_start : holds_at_sides WordStartHalfUnicode Invalid WordCharacter ≡ false
 bad_before_half_start = refl
 
 -- the line terminators 0 and 255 have one boundary each

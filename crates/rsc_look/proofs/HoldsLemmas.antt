@@ -2,7 +2,7 @@
 use Rattle.std.specs.Bool.{beq}
 use Rattle.std.proofs.Common.{cond, not, ◌&&◌, ap₂, ◌≡◌, ◌↔◌, ℕ, ◌-◌, ◌<◌, ◌≤◌, Bool, true, false, List, length, get_or, refl, sym, ap, ◌∙◌, subst, arith, inl, inr, ⊎_elim, true≢false, IsTrue}
 use Rattle.std.proofs.lemmas.Bool.{cases_eq, cases_Bool, false_from_ne_true}
-use Rattle.rsc_look.proofs.Prelude.{HasBoundariesOf, is_word_byte, BeginsAt, EndsAt, EncodedFrom, AgreePastAscii, EncodedFrom-agree, BeginsAt-same, EndsAt-same, Look, Side, Absent, Invalid, Word, Other, IsBefore, IsAfter, HoldsAtSides, holds_at_sides, exactly_one, is_invalid, is_word_side, is_absent_or_other, Holds, WordUnicode, WordUnicodeNegate, WordStartUnicode, WordEndUnicode, WordStartHalfUnicode, WordEndHalfUnicode, BeginsAt-decided, EndsAt-decided, IsSideOf, is_unicode, AreInterchanged, DifferInAscii, AgreesWithAscii, IsInside, IsInside-begins, IsInside-ends}
+use Rattle.rsc_look.proofs.Prelude.{HasBoundariesOf, is_word_byte, BeginsAt, EndsAt, EncodedFrom, AgreePastAscii, EncodedFrom-agree, BeginsAt-same, EndsAt-same, Look, Side, Absent, Invalid, WordCharacter, Other, IsBefore, IsAfter, HoldsAtSides, holds_at_sides, exactly_one, is_invalid, is_word_side, is_absent_or_other, Holds, WordUnicode, WordUnicodeNegate, WordStartUnicode, WordEndUnicode, WordStartHalfUnicode, WordEndHalfUnicode, BeginsAt-decided, EndsAt-decided, IsSideOf, is_unicode, AreInterchanged, DifferInAscii, AgreesWithAscii, IsInside, IsInside-begins, IsInside-ends}
 use Rattle.rsc_look.proofs.BoundariesLemmas.{is_word_byte_boundary, Together-is_word_byte}
 
 -- an encoding has some bytes, so no character ends at the start and none begins at the end
@@ -22,38 +22,38 @@ not_both W c d e t f = true≢false (sym t ∙ ap W e ∙ f)
 pub IsBefore-same : (W : ℕ → Bool) (h : List ℕ) (i : ℕ) (a b : Side) → IsBefore W h i a → IsBefore W h i b → a ≡ b
 IsBefore-same W h i Absent Absent p q = refl
 IsBefore-same W h i Absent Invalid p q = absurd (omega arith)
-IsBefore-same W h i Absent Word p q = absurd (ends_after_start h q.0 (subst (λ x. EndsAt h x q.0) p q.1))
+IsBefore-same W h i Absent WordCharacter p q = absurd (ends_after_start h q.0 (subst (λ x. EndsAt h x q.0) p q.1))
 IsBefore-same W h i Absent Other p q = absurd (ends_after_start h q.0 (subst (λ x. EndsAt h x q.0) p q.1))
 IsBefore-same W h i Invalid Absent p q = absurd (omega arith)
 IsBefore-same W h i Invalid Invalid p q = refl
-IsBefore-same W h i Invalid Word p q = absurd (p.1 q.0 q.1)
+IsBefore-same W h i Invalid WordCharacter p q = absurd (p.1 q.0 q.1)
 IsBefore-same W h i Invalid Other p q = absurd (p.1 q.0 q.1)
-IsBefore-same W h i Word Absent p q = absurd (ends_after_start h p.0 (subst (λ x. EndsAt h x p.0) q p.1))
-IsBefore-same W h i Word Invalid p q = absurd (q.1 p.0 p.1)
-IsBefore-same W h i Word Word p q = refl
-IsBefore-same W h i Word Other p q = absurd (not_both W p.0 q.0 (EndsAt-same h i p.0 q.0 p.1 q.1) p.2 q.2)
+IsBefore-same W h i WordCharacter Absent p q = absurd (ends_after_start h p.0 (subst (λ x. EndsAt h x p.0) q p.1))
+IsBefore-same W h i WordCharacter Invalid p q = absurd (q.1 p.0 p.1)
+IsBefore-same W h i WordCharacter WordCharacter p q = refl
+IsBefore-same W h i WordCharacter Other p q = absurd (not_both W p.0 q.0 (EndsAt-same h i p.0 q.0 p.1 q.1) p.2 q.2)
 IsBefore-same W h i Other Absent p q = absurd (ends_after_start h p.0 (subst (λ x. EndsAt h x p.0) q p.1))
 IsBefore-same W h i Other Invalid p q = absurd (q.1 p.0 p.1)
-IsBefore-same W h i Other Word p q = absurd (not_both W q.0 p.0 (EndsAt-same h i q.0 p.0 q.1 p.1) q.2 p.2)
+IsBefore-same W h i Other WordCharacter p q = absurd (not_both W q.0 p.0 (EndsAt-same h i q.0 p.0 q.1 p.1) q.2 p.2)
 IsBefore-same W h i Other Other p q = refl
 
 -- and one after it
 pub IsAfter-same : (W : ℕ → Bool) (h : List ℕ) (i : ℕ) (a b : Side) → IsAfter W h i a → IsAfter W h i b → a ≡ b
 IsAfter-same W h i Absent Absent p q = refl
 IsAfter-same W h i Absent Invalid p q = absurd (omega arith)
-IsAfter-same W h i Absent Word p q = absurd (begins_before_end h q.0 (subst (λ x. BeginsAt h x q.0) p q.1))
+IsAfter-same W h i Absent WordCharacter p q = absurd (begins_before_end h q.0 (subst (λ x. BeginsAt h x q.0) p q.1))
 IsAfter-same W h i Absent Other p q = absurd (begins_before_end h q.0 (subst (λ x. BeginsAt h x q.0) p q.1))
 IsAfter-same W h i Invalid Absent p q = absurd (omega arith)
 IsAfter-same W h i Invalid Invalid p q = refl
-IsAfter-same W h i Invalid Word p q = absurd (p.1 q.0 q.1)
+IsAfter-same W h i Invalid WordCharacter p q = absurd (p.1 q.0 q.1)
 IsAfter-same W h i Invalid Other p q = absurd (p.1 q.0 q.1)
-IsAfter-same W h i Word Absent p q = absurd (begins_before_end h p.0 (subst (λ x. BeginsAt h x p.0) q p.1))
-IsAfter-same W h i Word Invalid p q = absurd (q.1 p.0 p.1)
-IsAfter-same W h i Word Word p q = refl
-IsAfter-same W h i Word Other p q = absurd (not_both W p.0 q.0 (BeginsAt-same h i p.0 q.0 p.1 q.1) p.2 q.2)
+IsAfter-same W h i WordCharacter Absent p q = absurd (begins_before_end h p.0 (subst (λ x. BeginsAt h x p.0) q p.1))
+IsAfter-same W h i WordCharacter Invalid p q = absurd (q.1 p.0 p.1)
+IsAfter-same W h i WordCharacter WordCharacter p q = refl
+IsAfter-same W h i WordCharacter Other p q = absurd (not_both W p.0 q.0 (BeginsAt-same h i p.0 q.0 p.1 q.1) p.2 q.2)
 IsAfter-same W h i Other Absent p q = absurd (begins_before_end h p.0 (subst (λ x. BeginsAt h x p.0) q p.1))
 IsAfter-same W h i Other Invalid p q = absurd (q.1 p.0 p.1)
-IsAfter-same W h i Other Word p q = absurd (not_both W q.0 p.0 (BeginsAt-same h i q.0 p.0 q.1 p.1) q.2 p.2)
+IsAfter-same W h i Other WordCharacter p q = absurd (not_both W q.0 p.0 (BeginsAt-same h i q.0 p.0 q.1 p.1) q.2 p.2)
 IsAfter-same W h i Other Other p q = refl
 
 -- at known sides the assertion is its entry in the table
@@ -85,12 +85,12 @@ AgreePastAscii-sym h k s = let e = s.same_length in
 pub record Interchange (W : ℕ → Bool) (h k : List ℕ) : Type 0 where
   pub agree : AgreePastAscii h k
   pub ascii : AgreesWithAscii W
-  pub words : (i : ℕ) → i < length h → is_word_byte (get_or h i 0) ≡ is_word_byte (get_or k i 0)
+  pub word_bytes : (i : ℕ) → i < length h → is_word_byte (get_or h i 0) ≡ is_word_byte (get_or k i 0)
 
 -- each of the two has it in common with the other
 pub Interchange-sym : (W : ℕ → Bool) (h k : List ℕ) → Interchange W h k → Interchange W k h
 Interchange-sym W h k s = let e = s.agree.same_length in
-    record { agree = AgreePastAscii-sym h k s.agree; ascii = s.ascii; words = λ i l. sym (s.words i (omega arith)) }
+    record { agree = AgreePastAscii-sym h k s.agree; ascii = s.ascii; word_bytes = λ i l. sym (s.word_bytes i (omega arith)) }
 
 encoded_moves : (W : ℕ → Bool) (h k : List ℕ) (i j c : ℕ) → Interchange W h k → EncodedFrom h i j c → (d : ℕ) × EncodedFrom k i j d × (W d ≡ W c)
 encoded_moves W h k i j c s e =
@@ -99,7 +99,7 @@ encoded_moves W h k i j c s e =
     (λ q.
     let here : i < length h = omega arith in
     let low : get_or h i 0 < 128 = subst (λ x. x < 128) q.1 q.2 in
-    (get_or k i 0, q.4, s.ascii (get_or k i 0) q.3 ∙ sym (s.words i here) ∙ sym (s.ascii (get_or h i 0) low) ∙ ap W (sym q.1)))
+    (get_or k i 0, q.4, s.ascii (get_or k i 0) q.3 ∙ sym (s.word_bytes i here) ∙ sym (s.ascii (get_or h i 0) low) ∙ ap W (sym q.1)))
     (EncodedFrom-agree h k i j c s.agree e)
 
 ends_moves : (W : ℕ → Bool) (h k : List ℕ) (i c : ℕ) → Interchange W h k → EndsAt h i c → (d : ℕ) × EndsAt k i d × (W d ≡ W c)
@@ -111,14 +111,14 @@ begins_moves W h k i c s e = let m = encoded_moves W h k i e.0 c s e.1 in (m.0, 
 pub IsBefore-moves : (W : ℕ → Bool) (h k : List ℕ) (i : ℕ) (a : Side) → Interchange W h k → IsBefore W h i a → IsBefore W k i a
 IsBefore-moves W h k i Absent s p = p
 IsBefore-moves W h k i Invalid s p = (p.0, λ c e. let m = ends_moves W k h i c (Interchange-sym W h k s) e in p.1 m.0 m.1)
-IsBefore-moves W h k i Word s p = let m = ends_moves W h k i p.0 s p.1 in (m.0, m.1, m.2 ∙ p.2)
+IsBefore-moves W h k i WordCharacter s p = let m = ends_moves W h k i p.0 s p.1 in (m.0, m.1, m.2 ∙ p.2)
 IsBefore-moves W h k i Other s p = let m = ends_moves W h k i p.0 s p.1 in (m.0, m.1, m.2 ∙ p.2)
 
 pub IsAfter-moves : (W : ℕ → Bool) (h k : List ℕ) (i : ℕ) (a : Side) → Interchange W h k → IsAfter W h i a → IsAfter W k i a
 IsAfter-moves W h k i Absent s p = p ∙ s.agree.same_length
 IsAfter-moves W h k i Invalid s p = let e = s.agree.same_length in
     (omega arith, λ c e. let m = begins_moves W k h i c (Interchange-sym W h k s) e in p.1 m.0 m.1)
-IsAfter-moves W h k i Word s p = let m = begins_moves W h k i p.0 s p.1 in (m.0, m.1, m.2 ∙ p.2)
+IsAfter-moves W h k i WordCharacter s p = let m = begins_moves W h k i p.0 s p.1 in (m.0, m.1, m.2 ∙ p.2)
 IsAfter-moves W h k i Other s p = let m = begins_moves W h k i p.0 s p.1 in (m.0, m.1, m.2 ∙ p.2)
 
 -- an assertion on characters holds in both haystacks or in neither
@@ -140,7 +140,7 @@ Interchange-from p W h k a m s d =
     record {
       agree = AgreePastAscii-from h k s.same_length d;
       ascii = a;
-      words =
+      word_bytes =
           λ i l. Together-is_word_byte p (get_or h i 0) (get_or k i 0) m (s.together i l);
     }
 
@@ -150,29 +150,29 @@ Interchange-from p W h k a m s d =
 pub IsBefore-from_char : (W : ℕ → Bool) (h : List ℕ) (i c : ℕ) (a : Side) → EndsAt h i c → IsSideOf W c a → IsBefore W h i a
 IsBefore-from_char W h i c Absent e s = absurd s
 IsBefore-from_char W h i c Invalid e s = absurd s
-IsBefore-from_char W h i c Word e s = (c, e, s)
+IsBefore-from_char W h i c WordCharacter e s = (c, e, s)
 IsBefore-from_char W h i c Other e s = (c, e, s)
 
 -- the side after a position where a character begins
 pub IsAfter-from_char : (W : ℕ → Bool) (h : List ℕ) (i c : ℕ) (a : Side) → BeginsAt h i c → IsSideOf W c a → IsAfter W h i a
 IsAfter-from_char W h i c Absent e s = absurd s
 IsAfter-from_char W h i c Invalid e s = absurd s
-IsAfter-from_char W h i c Word e s = (c, e, s)
+IsAfter-from_char W h i c WordCharacter e s = (c, e, s)
 IsAfter-from_char W h i c Other e s = (c, e, s)
 
 -- and where the class of word characters decides which
-pub side_is : (W : ℕ → Bool) (h : List ℕ) (i b : ℕ) → EndsAt h i b → IsBefore W h i (cond (W b) Word Other)
+pub side_is : (W : ℕ → Bool) (h : List ℕ) (i b : ℕ) → EndsAt h i b → IsBefore W h i (cond (W b) WordCharacter Other)
 side_is W h i b e = go (W b) refl
   where
-    go : (v : Bool) → W b ≡ v → IsBefore W h i (cond v Word Other)
+    go : (v : Bool) → W b ≡ v → IsBefore W h i (cond v WordCharacter Other)
     go true f = (b, e, f)
     go false f = (b, e, f)
 
 -- the same after a position
-pub side_is_after : (W : ℕ → Bool) (h : List ℕ) (i b : ℕ) → BeginsAt h i b → IsAfter W h i (cond (W b) Word Other)
+pub side_is_after : (W : ℕ → Bool) (h : List ℕ) (i b : ℕ) → BeginsAt h i b → IsAfter W h i (cond (W b) WordCharacter Other)
 side_is_after W h i b e = go (W b) refl
   where
-    go : (v : Bool) → W b ≡ v → IsAfter W h i (cond v Word Other)
+    go : (v : Bool) → W b ≡ v → IsAfter W h i (cond v WordCharacter Other)
     go true f = (b, e, f)
     go false f = (b, e, f)
 
@@ -182,7 +182,7 @@ side_is_after W h i b e = go (W b) refl
 pub has_before : (W : ℕ → Bool) (h : List ℕ) (i : ℕ) → (a : Side) × IsBefore W h i a
 has_before W h i =
     ⊎_elim (λ e. (Absent, e))
-    (λ ne. ⊎_elim (λ p. ⊎_elim (λ w. (Word, (p.0, p.1, w))) (λ w. (Other, (p.0, p.1, w))) (cases_Bool (W p.0)))
+    (λ ne. ⊎_elim (λ p. ⊎_elim (λ w. (WordCharacter, (p.0, p.1, w))) (λ w. (Other, (p.0, p.1, w))) (cases_Bool (W p.0)))
     (λ n. (Invalid, (omega (arith, ne), n)))
     (EndsAt-decided h i))
     (cases_eq i 0)
@@ -191,7 +191,7 @@ has_before W h i =
 pub has_after : (W : ℕ → Bool) (h : List ℕ) (i : ℕ) → i ≤ length h → (a : Side) × IsAfter W h i a
 has_after W h i o =
     ⊎_elim (λ e. (Absent, e))
-    (λ ne. ⊎_elim (λ p. ⊎_elim (λ w. (Word, (p.0, p.1, w))) (λ w. (Other, (p.0, p.1, w))) (cases_Bool (W p.0)))
+    (λ ne. ⊎_elim (λ p. ⊎_elim (λ w. (WordCharacter, (p.0, p.1, w))) (λ w. (Other, (p.0, p.1, w))) (cases_Bool (W p.0)))
     (λ n. (Invalid, (omega (arith, ne), n)))
     (BeginsAt-decided h i))
     (cases_eq i (length h))
@@ -252,13 +252,13 @@ module _ (W : ℕ → Bool) (h : List ℕ) (i : ℕ) (a : Side) where
 bad_before : (W : ℕ → Bool) (h : List ℕ) (i : ℕ) (a : Side) → IsInside h i → IsBefore W h i a → a ≡ Invalid
 bad_before W h i Absent s p = let f = s.after_first in absurd (omega arith)
 bad_before W h i Invalid s p = refl
-bad_before W h i Word s p = absurd (IsInside-ends h i p.0 s p.1)
+bad_before W h i WordCharacter s p = absurd (IsInside-ends h i p.0 s p.1)
 bad_before W h i Other s p = absurd (IsInside-ends h i p.0 s p.1)
 
 bad_after : (W : ℕ → Bool) (h : List ℕ) (i : ℕ) (a : Side) → IsInside h i → IsAfter W h i a → a ≡ Invalid
 bad_after W h i Absent s p = let f = s.before_last in let w = s.encoded.within in absurd (omega arith)
 bad_after W h i Invalid s p = refl
-bad_after W h i Word s p = absurd (IsInside-begins h i p.0 s p.1)
+bad_after W h i WordCharacter s p = absurd (IsInside-begins h i p.0 s p.1)
 bad_after W h i Other s p = absurd (IsInside-begins h i p.0 s p.1)
 
 neither : (l : Look) → holds_at_sides l Invalid Invalid ≡ false

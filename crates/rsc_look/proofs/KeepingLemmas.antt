@@ -2,7 +2,7 @@
 use Rattle.std.proofs.Common.{◌≡◌, ℕ, zero, suc, ◌+◌, ◌<◌, ◌≤◌, Bool, true, false, ◌&&◌, ◌||◌, eqb, nat_eq, nat_lt, cond, List, [], ◌∷◌, refl, sym, ap, ◌∙◌, arith, ◌⊎◌, inl, inr, true≢false, not, ltb, ◌↔◌, subst, slice_index, length, Contains, nat_cmp}
 use Rattle.std.specs.List.{list_any, list_all}
 use Rattle.std.proofs.lemmas.Bool.Decides.{nat_tests}
-use Rattle.rsc_look.proofs.Prelude.{HasBoundariesOf, is_word_byte, EncodedFrom, Look, Start, End, StartLF, EndLF, StartCRLF, EndCRLF, WordUnicode, WordUnicodeNegate, WordEndAscii, WordStartUnicode, WordEndUnicode, WordStartHalfAscii, WordStartHalfUnicode, WordEndHalfUnicode, Side, Absent, Word, Other, exactly_one, byte_before, byte_after, holds_at_bytes, IsBefore, IsAfter, holds_at_sides, is_unicode, AgreesWithAscii, Tells, Numbers, is_boundary_of_set, contains-joined, word_byte_boundaries, Together, class_map, Holds, boundaries_of_each, IsHaystack, AreInterchanged, DifferInAscii, Keeps, IsCoarsest, AgreesWhereAsked, IsNeeded, IsCoarsestMap, alike_alone, not_told, IsExactFor, boundaries_of, same_as_only, is_its_member}
+use Rattle.rsc_look.proofs.Prelude.{HasBoundariesOf, is_word_byte, EncodedFrom, Look, Start, End, StartLF, EndLF, StartCRLF, EndCRLF, WordUnicode, WordUnicodeNegate, WordEndAscii, WordStartUnicode, WordEndUnicode, WordStartHalfAscii, WordStartHalfUnicode, WordEndHalfUnicode, Side, Absent, WordCharacter, Other, exactly_one, byte_before, byte_after, holds_at_bytes, IsBefore, IsAfter, holds_at_sides, is_unicode, AgreesWithAscii, Tells, Numbers, is_boundary_of_set, contains-joined, word_byte_boundaries, Together, class_map, Holds, boundaries_of_each, IsHaystack, AreInterchanged, DifferInAscii, Keeps, IsCoarsest, AgreesWhereAsked, IsNeeded, IsCoarsestMap, alike_alone, not_told, IsExactFor, boundaries_of, same_as_only, is_its_member}
 use Rattle.rsc_look.proofs.BoundariesLemmas.{is_boundary_of_byte, word_byte_boundary_numbers, is_word_byte_boundary, is_boundary_of, contains-word_byte_boundaries, is_boundary_of_each, contains-boundaries_of_each, contains-boundaries_of, TogetherAt-slice_get, TogetherAt-before, holds_at_bytes-same}
 use Rattle.rsc_look.proofs.HoldsLemmas.{at_sides, Holds-bytes, Holds-sides, side_is, side_is_after, HoldsAtSides-moves, Interchange, Interchange-from, Interchange-sym}
 use Rattle.std.proofs.lemmas.Bool.{agree_below_at, eqb-true, true_from_ne_false, or_right}
@@ -30,7 +30,7 @@ told_at_le _ = omega arith
 
 -- the side that a byte below 128 makes
 abbrev side_of : ℕ → Side
-side_of b = cond (is_word_byte b) Word Other
+side_of b = cond (is_word_byte b) WordCharacter Other
 
 -- what the assertion says of a haystack of one byte, as a test
 abbrev alone_at_bytes : Look → ℕ → ℕ → Bool
@@ -191,8 +191,8 @@ pub kept_at_characters : (p : ℕ → Bool) (l : Look) (t : ℕ) (W : ℕ → Bo
     → is_unicode l ≡ true → (h k : List ℕ)
     → AreInterchanged p h k → DifferInAscii h k → (i : ℕ) → Holds l t W h i ↔ Holds l t W k i
 kept_at_characters p l t W ascii m e h k s d i =
-    let words : HasBoundariesOf p is_word_byte_boundary = λ b q x. m b q (is_boundary_of-unicode l t b e ∙ x) in
-    let w : Interchange W h k = Interchange-from p W h k ascii words s d in
+    let word_bytes : HasBoundariesOf p is_word_byte_boundary = λ b q x. m b q (is_boundary_of-unicode l t b e ∙ x) in
+    let w : Interchange W h k = Interchange-from p W h k ascii word_bytes s d in
     let a = Holds-sides l t W h i e in
     let b = Holds-sides l t W k i e in
     ((λ x. b.1 (HoldsAtSides-moves l W h k i w (a.0 x))), (λ x. a.1 (HoldsAtSides-moves l W k h i (Interchange-sym W h k w) (b.0 x))))

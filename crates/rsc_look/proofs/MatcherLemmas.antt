@@ -4,7 +4,7 @@ use Rattle.std.proofs.Math.Bool.{or-false}
 use Rattle.std.proofs.lemmas.Option.{slice_get_within, get_or_from_slice_get}
 use Rattle.rsc_primitives.specs.Utf8Laws.{slice_one}
 use Rattle.rsc_look.specs.Looks.{ascii_of}
-use Rattle.rsc_look.proofs.Prelude.{EncodedFrom, BeginsAt, EndsAt, Look, WordUnicode, WordUnicodeNegate, WordStartUnicode, WordEndUnicode, WordStartHalfUnicode, WordEndHalfUnicode, Side, Absent, Word, Other, byte_before, byte_after, is_word_neighbor, exactly_one, is_invalid, is_word_side, is_absent_or_other, holds_at_bytes, holds_at_sides, IsBefore, IsAfter, Holds, is_unicode, AgreesWithAscii}
+use Rattle.rsc_look.proofs.Prelude.{EncodedFrom, BeginsAt, EndsAt, Look, WordUnicode, WordUnicodeNegate, WordStartUnicode, WordEndUnicode, WordStartHalfUnicode, WordEndHalfUnicode, Side, Absent, WordCharacter, Other, byte_before, byte_after, is_word_neighbor, exactly_one, is_invalid, is_word_side, is_absent_or_other, holds_at_bytes, holds_at_sides, IsBefore, IsAfter, Holds, is_unicode, AgreesWithAscii}
 use Rattle.rsc_look.proofs.HoldsLemmas.{at_sides, Holds-bytes, Holds-sides, side_is, side_is_after}
 
 -- ---- the assertions that hold at a position
@@ -39,7 +39,7 @@ holds_by_tables l t W h i a b has p q is = go (kind l t (byte_before h i) (byte_
 -- the side that a byte below 128 is, or no byte
 ascii_side : (ℕ → Bool) → Option ℕ → Side
 ascii_side W None = Absent
-ascii_side W (Some b) = cond (W b) Word Other
+ascii_side W (Some b) = cond (W b) WordCharacter Other
 
 one_byte : (h : List ℕ) (i b : ℕ) → slice_get h i ≡ Some b → b < 128 → EncodedFrom h i (i + 1) b
 one_byte h i b e l =
@@ -85,44 +85,45 @@ ascii_after W h i l low = go (slice_get h i) refl low
     go (Some b) e x = side_is_after W h i b (BeginsAt-ascii h i b e x)
 
 -- what a word assertion makes of whether a word character is before and whether one is after
-by_words : Look → Bool → Bool → Bool
-by_words WordUnicode a b = exactly_one a b
-by_words WordUnicodeNegate a b = not (exactly_one a b)
-by_words WordStartUnicode a b = b && not a
-by_words WordEndUnicode a b = a && not b
-by_words WordStartHalfUnicode a b = not a
-by_words WordEndHalfUnicode a b = not b
-by_words _ a b = false
+by_word_characters : Look → Bool → Bool → Bool
+by_word_characters WordUnicode a b = exactly_one a b
+by_word_characters WordUnicodeNegate a b = not (exactly_one a b)
+by_word_characters WordStartUnicode a b = b && not a
+by_word_characters WordEndUnicode a b = a && not b
+by_word_characters WordStartHalfUnicode a b = not a
+by_word_characters WordEndHalfUnicode a b = not b
+by_word_characters _ a b = false
 
-of_bytes : (l : Look) (t : ℕ) (p n : Option ℕ) → is_unicode l ≡ true → holds_at_bytes (ascii_of l) t p n ≡ by_words l (is_word_neighbor p) (is_word_neighbor n)
-unfolding by_words
+of_bytes : (l : Look) (t : ℕ) (p n : Option ℕ) → is_unicode l ≡ true
+    → holds_at_bytes (ascii_of l) t p n ≡ by_word_characters l (is_word_neighbor p) (is_word_neighbor n)
+unfolding by_word_characters
 of_bytes WordUnicode t p n u = cc
 of_bytes _ t p n u = cc
 
 -- a side that isn't invalid
-record IsValid (a : Side) (word : Bool) : Type 0 where
+record IsValid (a : Side) (accepted : Bool) : Type 0 where
   invalid : is_invalid a ≡ false
-  is_word : is_word_side a ≡ word
-  absent_or_other : is_absent_or_other a ≡ not word
+  is_word_character : is_word_side a ≡ accepted
+  absent_or_other : is_absent_or_other a ≡ not accepted
 
-of_sides : (l : Look) (a b : Side) (x y : Bool) → is_unicode l ≡ true → IsValid a x → IsValid b y → holds_at_sides l a b ≡ by_words l x y
-unfolding by_words
-of_sides WordUnicode a b x y u v w = rw (v.is_word, w.is_word) refl
-of_sides WordUnicodeNegate a b x y u v w = rw (v.invalid, w.invalid, v.is_word, w.is_word) refl
-of_sides WordStartUnicode a b x y u v w = rw (v.is_word, w.is_word) refl
-of_sides WordEndUnicode a b x y u v w = rw (v.is_word, w.is_word) refl
+of_sides : (l : Look) (a b : Side) (x y : Bool) → is_unicode l ≡ true → IsValid a x → IsValid b y → holds_at_sides l a b ≡ by_word_characters l x y
+unfolding by_word_characters
+of_sides WordUnicode a b x y u v w = rw (v.is_word_character, w.is_word_character) refl
+of_sides WordUnicodeNegate a b x y u v w = rw (v.invalid, w.invalid, v.is_word_character, w.is_word_character) refl
+of_sides WordStartUnicode a b x y u v w = rw (v.is_word_character, w.is_word_character) refl
+of_sides WordEndUnicode a b x y u v w = rw (v.is_word_character, w.is_word_character) refl
 of_sides WordStartHalfUnicode a b x y u v w = v.absent_or_other
 of_sides WordEndHalfUnicode a b x y u v w = w.absent_or_other
 of_sides _ a b x y u v w = absurd (true≢false (sym u))
 
 valid : (W : ℕ → Bool) (p : Option ℕ) → AgreesWithAscii W → IfSome p (λ b. b < 128) → IsValid (ascii_side W p) (is_word_neighbor p)
 unfolding ascii_side
-valid W None agrees low = record { invalid = refl; is_word = refl; absent_or_other = refl }
-valid W (Some b) agrees low = subst (λ x. IsValid (cond (W b) Word Other) x) (agrees b low) (go (W b))
+valid W None agrees low = record { invalid = refl; is_word_character = refl; absent_or_other = refl }
+valid W (Some b) agrees low = subst (λ x. IsValid (cond (W b) WordCharacter Other) x) (agrees b low) (go (W b))
   where
-    go : (v : Bool) → IsValid (cond v Word Other) v
-    go true = record { invalid = refl; is_word = refl; absent_or_other = refl }
-    go false = record { invalid = refl; is_word = refl; absent_or_other = refl }
+    go : (v : Bool) → IsValid (cond v WordCharacter Other) v
+    go true = record { invalid = refl; is_word_character = refl; absent_or_other = refl }
+    go false = record { invalid = refl; is_word_character = refl; absent_or_other = refl }
 
 ascii_is_bytes : (l : Look) → is_unicode (ascii_of l) ≡ false
 ascii_is_bytes WordUnicode = refl

@@ -8,7 +8,7 @@ use Rattle.std.proofs.lemmas.List.{get_or-reverse, length-reverse, take_all}
 use Rattle.std.proofs.lemmas.Option.{slice_get-get_or, slice_get_past, slice_get-map}
 use Rattle.std.proofs.Math.Bool.{and_comm}
 use Rattle.std.proofs.lemmas.Bool.{and_parts, cases_lt}
-use Rattle.rsc_look.proofs.Prelude.{EncodesAll-std, position, BeginsAt-position, EndsAt-position, Look, Start, StartCRLF, EndCRLF, WordAscii, WordAsciiNegate, WordUnicode, WordUnicodeNegate, Side, Absent, Word, Other, byte_before, byte_after, is_byte, is_word_neighbor, exactly_one, holds_at_bytes, holds_at_sides, is_invalid, is_word_side, IsBefore, IsAfter, Holds, is_unicode, reversed, is_crlf, exchanged, mirror, EndsFirst, IsTextMirrored}
+use Rattle.rsc_look.proofs.Prelude.{EncodesAll-std, position, BeginsAt-position, EndsAt-position, Look, Start, StartCRLF, EndCRLF, WordAscii, WordAsciiNegate, WordUnicode, WordUnicodeNegate, Side, Absent, WordCharacter, Other, byte_before, byte_after, is_byte, is_word_neighbor, exactly_one, holds_at_bytes, holds_at_sides, is_invalid, is_word_side, IsBefore, IsAfter, Holds, is_unicode, reversed, is_crlf, exchanged, mirror, EndsFirst, IsTextMirrored}
 use Rattle.rsc_look.proofs.HoldsLemmas.{Holds-bytes, Holds-sides, at_sides, side_is, side_is_after}
 
 -- ---- neighbours in a list read from the other end
@@ -109,7 +109,7 @@ Holds-mirror l t W h i u o = same_tests _ _ _ _ (Holds-bytes l t W h i u)
 
 side_by : (ℕ → Bool) → Option ℕ → Side
 side_by W None = Absent
-side_by W (Some c) = cond (W c) Word Other
+side_by W (Some c) = cond (W c) WordCharacter Other
 
 before_position : (W : ℕ → Bool) (cs : List ℕ) (k : ℕ) → all_scalars cs ≡ true → k ≤ length cs
     → IsBefore W (encode_utf8_all cs) (position cs k) (side_by W (byte_before cs k))

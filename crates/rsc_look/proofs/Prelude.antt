@@ -21,4 +21,4 @@ pub use Rattle.rsc_look.specs.SideLayout.{IsSideOf}
 pub use Rattle.rsc_look.specs.declared.assertion.Look.{Look}
 pub use Rattle.rsc_look.specs.declared.assertion.Look.TheVariants.{Start, End, StartLF, EndLF, StartCRLF, EndCRLF, WordAscii, WordAsciiNegate, WordStartAscii, WordEndAscii, WordStartHalfAscii, WordEndHalfAscii, WordUnicode, WordUnicodeNegate, WordStartUnicode, WordEndUnicode, WordStartHalfUnicode, WordEndHalfUnicode}
 pub use Rattle.rsc_look.specs.declared.side.Side.{Side}
-pub use Rattle.rsc_look.specs.declared.side.Side.TheVariants.{Absent, Invalid, Word, Other}
+pub use Rattle.rsc_look.specs.declared.side.Side.TheVariants.{Absent, Invalid, WordCharacter, Other}

@@ -3,7 +3,7 @@ use Rattle.std.specs.Prelude.{ℕ, Bool, false, not, ◌&&◌, ◌==◌, Option,
 use Rattle.rsc_look.specs.declared.assertion.Look.{Look}
 use Rattle.rsc_look.specs.declared.assertion.Look.TheVariants.{WordAscii, WordAsciiNegate, WordStartAscii, WordEndAscii, WordStartHalfAscii, WordEndHalfAscii}
 use Rattle.rsc_look.specs.declared.side.Side.{Side}
-use Rattle.rsc_look.specs.declared.side.Side.TheVariants.{Absent, Invalid, Word, Other}
+use Rattle.rsc_look.specs.declared.side.Side.TheVariants.{Absent, Invalid, WordCharacter, Other}
 use Rattle.rsc_look.specs.Looks.{line_feed, carriage_return}
 use Rattle.rsc_look.specs.Holds.{exactly_one}
 
@@ -26,5 +26,5 @@ is_within_line t (Some b) = not (b == t) && not (b == line_feed) && not (b == ca
 abbrev pub entry_of : Side → ℕ
 entry_of Absent = 0
 entry_of Invalid = 1
-entry_of Word = 2
+entry_of WordCharacter = 2
 entry_of Other = 3

@@ -4,7 +4,7 @@ use Rattle.rsc_primitives.specs.Utf8.{is_word_byte, BeginsAt, EndsAt}
 use Rattle.rsc_look.specs.declared.assertion.Look.{Look}
 use Rattle.rsc_look.specs.declared.assertion.Look.TheVariants.{Start, End, StartLF, EndLF, StartCRLF, EndCRLF, WordAscii, WordAsciiNegate, WordUnicode, WordUnicodeNegate, WordStartAscii, WordEndAscii, WordStartUnicode, WordEndUnicode, WordStartHalfAscii, WordEndHalfAscii, WordStartHalfUnicode, WordEndHalfUnicode}
 use Rattle.rsc_look.specs.declared.side.Side.{Side}
-use Rattle.rsc_look.specs.declared.side.Side.TheVariants.{Absent, Invalid, Word, Other}
+use Rattle.rsc_look.specs.declared.side.Side.TheVariants.{Absent, Invalid, WordCharacter, Other}
 use Rattle.rsc_look.specs.Looks.{is_unicode, line_feed, carriage_return}
 
 -- the byte before a position of a haystack, and the byte after it
@@ -49,14 +49,14 @@ holds_at_bytes _ t p n = false
 abbrev pub IsBefore : (ℕ → Bool) → List ℕ → ℕ → Side → Type 0
 IsBefore W h i Absent = i ≡ 0
 IsBefore W h i Invalid = (0 < i) × ((c : ℕ) → ¬ (EndsAt h i c))
-IsBefore W h i Word = (c : ℕ) × EndsAt h i c × (W c ≡ true)
+IsBefore W h i WordCharacter = (c : ℕ) × EndsAt h i c × (W c ≡ true)
 IsBefore W h i Other = (c : ℕ) × EndsAt h i c × (W c ≡ false)
 
 -- and the side after it
 abbrev pub IsAfter : (ℕ → Bool) → List ℕ → ℕ → Side → Type 0
 IsAfter W h i Absent = i ≡ length h
 IsAfter W h i Invalid = (i < length h) × ((c : ℕ) → ¬ (BeginsAt h i c))
-IsAfter W h i Word = (c : ℕ) × BeginsAt h i c × (W c ≡ true)
+IsAfter W h i WordCharacter = (c : ℕ) × BeginsAt h i c × (W c ≡ true)
 IsAfter W h i Other = (c : ℕ) × BeginsAt h i c × (W c ≡ false)
 
 abbrev pub is_invalid : Side → Bool
@@ -64,7 +64,7 @@ is_invalid Invalid = true
 is_invalid _ = false
 
 abbrev pub is_word_side : Side → Bool
-is_word_side Word = true
+is_word_side WordCharacter = true
 is_word_side _ = false
 
 abbrev pub is_absent_or_other : Side → Bool

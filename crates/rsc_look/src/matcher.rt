@@ -36,7 +36,7 @@ pub(crate) const CARRIAGE_RETURN: u8 = b'\r';
 #[derive(Debug, Drop)]
 pub struct LookMatcher<W: WordClass> {
     line_terminator: u8,
-    words: W,
+    word_class: W,
 }
 
 impl<W: WordClass> Model for LookMatcher<W> {
@@ -44,7 +44,7 @@ impl<W: WordClass> Model for LookMatcher<W> {
 
     ghost Value = { ℕ × W };
 
-    ghost view = { λ m. (m.line_terminator, m.words) };
+    ghost view = { λ m. (m.line_terminator, m.word_class) };
 }
 
 impl Default for LookMatcher<UnicodeWord> {
@@ -61,12 +61,12 @@ impl Default for LookMatcher<UnicodeWord> {
 impl<W: WordClass> LookMatcher<W> {
     /// A matcher whose line terminator is `\n`.
     #[inline]
-    pub fn new(words: W) -> Self
-        ensures { result ≡ (line_feed, words) }
+    pub fn new(word_class: W) -> Self
+        ensures { result ≡ (line_feed, word_class) }
     {
         LookMatcher {
             line_terminator: LINE_FEED,
-            words,
+            word_class,
         }
     }
 
@@ -84,7 +84,7 @@ impl<W: WordClass> LookMatcher<W> {
     {
         Ok(LookMatcher {
             line_terminator: self.line_terminator,
-            words: self.words.clone()?,
+            word_class: self.word_class.clone()?,
         })
     }
 

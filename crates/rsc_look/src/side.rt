@@ -12,7 +12,7 @@ pub(crate) enum Side {
     /// Bytes, but no encoded character ends or begins here.
     Invalid,
     /// A word character.
-    Word,
+    WordCharacter,
     /// Another character.
     Other,
 }
@@ -22,10 +22,10 @@ impl Side {
     ghost use Rattle.rsc_look.specs.HoldingLayout.{entry_of};
 
     #[inline(always)]
-    pub(crate) fn is_word(self) -> bool
+    pub(crate) fn is_word_character(self) -> bool
         ensures { result ≡ is_word_side self }
     {
-        matches!(self, Side::Word)
+        matches!(self, Side::WordCharacter)
     }
 
     #[inline(always)]
@@ -43,7 +43,7 @@ impl Side {
         match self {
             Side::Absent => 0,
             Side::Invalid => 1,
-            Side::Word => 2,
+            Side::WordCharacter => 2,
             Side::Other => 3,
         }
     }

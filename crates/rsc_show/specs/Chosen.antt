@@ -4,13 +4,13 @@ use Rattle.rsc_primitives.specs.Utf8.{is_word_byte}
 use Rattle.rsc_look.specs.Words.{is_unicode_word}
 use Rattle.rsc_show.specs.declared.choices.Color.{Color}
 use Rattle.rsc_show.specs.declared.choices.Color.TheVariants.{Auto, Always, Never}
-use Rattle.rsc_show.specs.declared.choices.Words.{Words}
-use Rattle.rsc_show.specs.declared.choices.Words.TheVariants.{Ascii, Unicode}
+use Rattle.rsc_show.specs.declared.choices.WordPredicate.{WordPredicate}
+use Rattle.rsc_show.specs.declared.choices.WordPredicate.TheVariants.{Ascii, Unicode}
 
 -- the word bytes, or the word characters of Unicode
-abbrev pub chosen_words : Words → ℕ → Bool
-chosen_words Ascii c = is_word_byte c
-chosen_words Unicode c = is_unicode_word c
+abbrev pub chosen_word_chars : WordPredicate → ℕ → Bool
+chosen_word_chars Ascii c = is_word_byte c
+chosen_word_chars Unicode c = is_unicode_word c
 
 -- whether colour is used, for an output that wants it or not
 abbrev pub is_colored : Color → Bool → Bool

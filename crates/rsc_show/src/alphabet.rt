@@ -3,32 +3,40 @@ ghost use Rattle.std.specs.Prelude.{◌≡◌, ◌≤◌, ◌<◌, ◌⊎◌, []
 ghost use Rattle.std.specs.FinSet as sets;
 ghost use Rattle.rsc_alphabet.specs.Iterators.{symbol_count};
 ghost use Rattle.rsc_look.specs.Keeping.{IsCoarsestMap, Keeps};
-ghost use Rattle.rsc_show.specs.Chosen.{chosen_words};
+ghost use Rattle.rsc_show.specs.Chosen.{chosen_word_chars};
 ghost use Rattle.rsc_show.specs.Ranges.{HasBoundary, IsCoarsestParting, IsOfLook, Parts};
 
-use crate::choices::{Words, words_agree};
+use crate::choices::{WordPredicate, word_predicates_agree};
 use rsc_alphabet::laws::boundaries_part_a_range;
 use rsc_alphabet::{ByteClassSet, ByteClasses};
 use rsc_look::laws::{boundaries_are_exact, kept_lists_are_joined};
 use rsc_look::{Look, LookMatcher};
 
 /// The classes of bytes that neither a listed assertion nor a listed range tells apart.
-pub fn classes_of(matcher: &LookMatcher<Words>, looks: &[Look], ranges: &[(u8, u8)]) -> ByteClasses
-    ensures parting { IsCoarsestParting result ranges.now looks.now matcher.now.0 (chosen_words matcher.now.1) }
-    ensures coarsest { ranges.now ≡ [] → IsCoarsestMap result looks.now matcher.now.0 (chosen_words matcher.now.1) }
+pub fn classes_of(
+    matcher: &LookMatcher<WordPredicate>,
+    looks: &[Look],
+    ranges: &[(u8, u8)],
+) -> ByteClasses
+    ensures parting { IsCoarsestParting result ranges.now looks.now matcher.now.0 (chosen_word_chars matcher.now.1) }
+    ensures coarsest { ranges.now ≡ [] → IsCoarsestMap result looks.now matcher.now.0 (chosen_word_chars matcher.now.1) }
 {
-    words_agree();
+    word_predicates_agree();
     boundaries_are_exact();
     alphabet_of(matcher, looks, ranges).byte_classes()
 }
 
 // A partition that keeps the assertions and parts the ranges, with no boundary but theirs.
-fn alphabet_of(matcher: &LookMatcher<Words>, looks: &[Look], ranges: &[(u8, u8)]) -> ByteClassSet
-    ensures keeps { Keeps (sets.contains result) looks.now matcher.now.0 (chosen_words matcher.now.1) }
+fn alphabet_of(
+    matcher: &LookMatcher<WordPredicate>,
+    looks: &[Look],
+    ranges: &[(u8, u8)],
+) -> ByteClassSet
+    ensures keeps { Keeps (sets.contains result) looks.now matcher.now.0 (chosen_word_chars matcher.now.1) }
     ensures parts { Parts (sets.contains result) ranges.now }
     ensures only { (b : ℕ) → b < 255 → sets.contains result b ≡ true → HasBoundary b ranges.now ⊎ IsOfLook b looks.now matcher.now.0 }
 {
-    words_agree();
+    word_predicates_agree();
     kept_lists_are_joined();
     let mut set = set_of(ranges);
     for look in looks {

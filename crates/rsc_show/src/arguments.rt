@@ -7,7 +7,7 @@ ghost use Rattle.rsc_show.specs.declared.arguments.Next.{Next};
 ghost use Rattle.rsc_show.specs.Listed.{haystack_arguments, IsGiven, listed};
 ghost use Rattle.rsc_show.specs.ListedLayout.{left_of, SoFar};
 
-use crate::choices::{Color, Words, color_of, words_of};
+use crate::choices::{Color, WordPredicate, color_of, word_predicate_of};
 use crate::error::{ShowError, refused, refused_value};
 use crate::text::Page;
 use rsc_look::{Look, LookMatcher};
@@ -25,7 +25,7 @@ const EXPECTED_RANGE: &str = "a range of bytes, as 61-7a, whose start is at most
 const EXPECTED_OPTION: &str =
     "an assertion, or --terminator, --words, --range, --color, --summary once, --hex or --";
 
-const EXPECTED_WORDS: &str = "ascii or unicode";
+const EXPECTED_PREDICATE: &str = "ascii or unicode";
 
 const EXPECTED_COLOR: &str = "auto, always or never";
 
@@ -45,8 +45,8 @@ pub enum Haystack {
 pub struct Request {
     /// The line terminator.
     pub terminator: u8,
-    /// The word characters.
-    pub words: Words,
+    /// The word predicate.
+    pub word_predicate: WordPredicate,
     /// The ranges of bytes.
     pub ranges: Vec<(u8, u8)>,
     /// The assertions, in the order of the arguments.
@@ -64,7 +64,7 @@ pub struct Request {
 enum Next {
     Plain,
     Terminator,
-    Words,
+    WordPredicate,
     Range,
     Color,
     Hex,
@@ -74,10 +74,10 @@ enum Next {
 
 impl Request {
     /// The matcher that it asks for.
-    pub fn matcher(&self) -> LookMatcher<Words>
-        ensures { result ≡ (self.now.terminator, self.now.words) }
+    pub fn matcher(&self) -> LookMatcher<WordPredicate>
+        ensures { result ≡ (self.now.terminator, self.now.word_predicate) }
     {
-        let mut matcher = LookMatcher::new(self.words);
+        let mut matcher = LookMatcher::new(self.word_predicate);
         let _ = matcher.set_line_terminator(self.terminator);
         matcher
     }
@@ -95,7 +95,7 @@ pub fn parse(alloc: Global, arguments: &[String]) -> Result<Request, ShowError>
 {
     let mut request = Request {
         terminator: b'\n',
-        words: Words::Unicode,
+        word_predicate: WordPredicate::Unicode,
         ranges: Vec::new(alloc),
         looks: Vec::new(alloc),
         color: Color::Auto,
@@ -109,7 +109,7 @@ pub fn parse(alloc: Global, arguments: &[String]) -> Result<Request, ShowError>
     let (option, expected) = match next {
         Next::Plain | Next::Nothing => return Ok(request),
         Next::Terminator => ("--terminator", EXPECTED_BYTE),
-        Next::Words => ("--words", EXPECTED_WORDS),
+        Next::WordPredicate => ("--words", EXPECTED_PREDICATE),
         Next::Range => ("--range", EXPECTED_RANGE),
         Next::Color => ("--color", EXPECTED_COLOR),
         Next::Hex => ("--hex", EXPECTED_BYTES),
@@ -133,9 +133,9 @@ fn take(alloc: Global, request: &mut Request, next: Next, argument: &str) -> Res
             request.terminator = expect(alloc, byte, "--terminator", argument, EXPECTED_BYTE)?;
             Ok(Next::Plain)
         }
-        Next::Words => {
-            let words = words_of(argument);
-            request.words = expect(alloc, words, "--words", argument, EXPECTED_WORDS)?;
+        Next::WordPredicate => {
+            let named = word_predicate_of(argument);
+            request.word_predicate = expect(alloc, named, "--words", argument, EXPECTED_PREDICATE)?;
             Ok(Next::Plain)
         }
         Next::Range => {
@@ -216,7 +216,7 @@ fn after_option(argument: &str) -> Option<Next>
     if argument == "--terminator" {
         Some(Next::Terminator)
     } else if argument == "--words" {
-        Some(Next::Words)
+        Some(Next::WordPredicate)
     } else if argument == "--range" {
         Some(Next::Range)
     } else if argument == "--color" {

@@ -3,46 +3,46 @@ ghost use Rattle.std.specs.Prelude.{◌≡◌, ◌↔◌, ℕ, Bool, Some};
 ghost use Rattle.rsc_primitives.specs.Utf8.{is_word_byte};
 ghost use Rattle.rsc_look.specs.Words.{is_unicode_word};
 ghost use Rattle.rsc_look.specs.Keeping.{AgreesWithAscii};
-ghost use Rattle.rsc_show.specs.declared.choices.Words.{Words};
-ghost use Rattle.rsc_show.specs.Chosen.{chosen_words, is_colored};
-ghost use Rattle.rsc_show.specs.Names.{words_name, color_name};
+ghost use Rattle.rsc_show.specs.declared.choices.WordPredicate.{WordPredicate};
+ghost use Rattle.rsc_show.specs.Chosen.{chosen_word_chars, is_colored};
+ghost use Rattle.rsc_show.specs.Names.{word_predicate_name, color_name};
 ghost use Rattle.rsc_show.specs.declared.choices.Color.{Color};
 
 use rsc_look::{AsciiWord, UnicodeWord, WordClass};
 
 /// Which characters are word characters.
 #[derive(Clone, Copy, Drop)]
-pub enum Words {
+pub enum WordPredicate {
     /// The word bytes alone.
     Ascii,
     /// Those of Unicode.
     Unicode,
 }
 
-impl WordClass for Words {
-    ghost word_chars = { chosen_words };
+impl WordClass for WordPredicate {
+    ghost word_chars = { chosen_word_chars };
 
     fn is_word(&self, c: char) -> bool {
         match self {
-            Words::Ascii => AsciiWord.is_word(c),
-            Words::Unicode => UnicodeWord.is_word(c),
+            WordPredicate::Ascii => AsciiWord.is_word(c),
+            WordPredicate::Unicode => UnicodeWord.is_word(c),
         }
     }
 }
 
 /// Below 128 both choices are the word bytes.
-pub fn words_agree()
-    ensures { (w : Words) → AgreesWithAscii (chosen_words w) }
+pub fn word_predicates_agree()
+    ensures { (predicate : WordPredicate) → AgreesWithAscii (chosen_word_chars predicate) }
 {}
 
 /// The choice that an argument names.
-pub fn words_of(argument: &str) -> Option<Words>
-    ensures { (words : Words) → (result ≡ Some words) ↔ (argument.now ≡ words_name words) }
+pub fn word_predicate_of(argument: &str) -> Option<WordPredicate>
+    ensures { (predicate : WordPredicate) → (result ≡ Some predicate) ↔ (argument.now ≡ word_predicate_name predicate) }
 {
     if argument == "ascii" {
-        Some(Words::Ascii)
+        Some(WordPredicate::Ascii)
     } else if argument == "unicode" {
-        Some(Words::Unicode)
+        Some(WordPredicate::Unicode)
     } else {
         None
     }

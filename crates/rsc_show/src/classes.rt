@@ -3,7 +3,7 @@ ghost use Rattle.std.specs.Prelude.{◌≤◌, ◌<◌};
 
 use crate::alphabet::{Sizes, classes_of, sizes_of};
 use crate::arguments::{Haystack, Request, parse};
-use crate::choices::Words;
+use crate::choices::WordPredicate;
 use crate::error::{ShowError, refused};
 use crate::summary::summary;
 use crate::text::Page;
@@ -113,7 +113,7 @@ fn push_sizes(page: &mut Page, classes: &ByteClasses) {
 fn push_boundaries(
     page: &mut Page,
     request: &Request,
-    matcher: &LookMatcher<Words>,
+    matcher: &LookMatcher<WordPredicate>,
     classes: &ByteClasses,
 ) {
     for byte in 0..255u8 {
@@ -125,7 +125,7 @@ fn push_boundaries(
 }
 
 // What tells a byte from the next one: an assertion, or the first range that begins or ends there, or both.
-fn push_boundary(page: &mut Page, request: &Request, matcher: &LookMatcher<Words>, byte: u8)
+fn push_boundary(page: &mut Page, request: &Request, matcher: &LookMatcher<WordPredicate>, byte: u8)
     requires { byte < 255 }
 {
     page.push_str("between ");
@@ -157,7 +157,7 @@ fn push_boundary(page: &mut Page, request: &Request, matcher: &LookMatcher<Words
 // The assertion, the position, and on which of the two bytes it holds there.
 fn push_witness(
     page: &mut Page,
-    matcher: &LookMatcher<Words>,
+    matcher: &LookMatcher<WordPredicate>,
     look: Look,
     position: usize,
     byte: u8,

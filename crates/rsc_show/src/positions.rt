@@ -3,10 +3,10 @@ ghost use Rattle.std.specs.Prelude.{◌≤◌, ◌<◌, ◌↔◌, IsTrue, lengt
 ghost use Rattle.rsc_primitives.specs.Utf8.{IsInside};
 ghost use Rattle.rsc_show.specs.Sides.{IsSideAfter, IsSideBefore, ReachesPast};
 ghost use Rattle.rsc_look.specs.Holds.{Holds};
-ghost use Rattle.rsc_show.specs.Chosen.{chosen_words};
+ghost use Rattle.rsc_show.specs.Chosen.{chosen_word_chars};
 ghost use Rattle.rsc_show.specs.Marks.{AreMarks};
 
-use crate::choices::Words;
+use crate::choices::WordPredicate;
 use rsc_look::{Look, LookMatcher};
 use rsc_primitives::laws::encoding_is_that_of_std;
 use rsc_primitives::utf8;
@@ -86,13 +86,13 @@ fn reaches_past(haystack: &[u8], start: usize, at: usize) -> bool
 /// [`AllocError`] if memory runs out.
 pub fn marks_at(
     alloc: Global,
-    matcher: &LookMatcher<Words>,
+    matcher: &LookMatcher<WordPredicate>,
     looks: &[Look],
     haystack: &[u8],
     at: usize,
 ) -> Result<Vec<bool>, AllocError>
     requires { at ≤ length haystack.now }
-    ensures { IfOk result (λ marks. AreMarks (λ look. Holds look matcher.now.0 (chosen_words matcher.now.1) haystack.now at) looks.now marks.items) }
+    ensures { IfOk result (λ marks. AreMarks (λ look. Holds look matcher.now.0 (chosen_word_chars matcher.now.1) haystack.now at) looks.now marks.items) }
 {
     let mut marks = Vec::new(alloc);
     for look in looks {

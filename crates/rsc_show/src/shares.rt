@@ -1,12 +1,12 @@
 //! What each listed assertion and range brings to the classes of all of them.
 ghost use Rattle.std.specs.Prelude.{◌≡◌, ◌<◌, ◌∷◌, ◌++◌, [], ℕ, Bool, IfOk, map};
 ghost use Rattle.rsc_alphabet.specs.Partitions.{class_map, class_of};
-ghost use Rattle.rsc_show.specs.Chosen.{chosen_words};
+ghost use Rattle.rsc_show.specs.Chosen.{chosen_word_chars};
 ghost use Rattle.rsc_show.specs.Ranges.{IsCoarsestParting};
 ghost use Rattle.rsc_show.specs.Shares.{exceeds, differ_at, look_item, range_item};
 
 use crate::alphabet::classes_of;
-use crate::choices::Words;
+use crate::choices::WordPredicate;
 use rsc_alphabet::ByteClasses;
 use rsc_look::{Look, LookMatcher};
 use std::alloc::{AllocError, Global};
@@ -34,7 +34,7 @@ pub struct Share {
 /// The share of each assertion, and then that of each range.
 pub fn shares_of(
     alloc: Global,
-    matcher: &LookMatcher<Words>,
+    matcher: &LookMatcher<WordPredicate>,
     looks: &[Look],
     ranges: &[(u8, u8)],
 ) -> Result<Vec<Share>, AllocError>
@@ -55,16 +55,16 @@ pub fn shares_of(
 // The share of an assertion between those before and after it in the list.
 fn share_of_look(
     alloc: Global,
-    matcher: &LookMatcher<Words>,
+    matcher: &LookMatcher<WordPredicate>,
     before: &[Look],
     look: Look,
     after: &[Look],
     ranges: &[(u8, u8)],
 ) -> Result<Share, AllocError>
     ensures item { IfOk result (λ share. share.item ≡ look_item look) }
-    ensures own { IfOk result (λ share. IsCoarsestParting share.own [] (look ∷ []) matcher.now.0 (chosen_words matcher.now.1)) }
+    ensures own { IfOk result (λ share. IsCoarsestParting share.own [] (look ∷ []) matcher.now.0 (chosen_word_chars matcher.now.1)) }
     ensures others { IfOk result (λ share.
-        IsCoarsestParting share.others ranges.now (before.now ++ after.now) matcher.now.0 (chosen_words matcher.now.1)) }
+        IsCoarsestParting share.others ranges.now (before.now ++ after.now) matcher.now.0 (chosen_word_chars matcher.now.1)) }
 {
     let mut rest = Vec::from_slice(alloc, before)?;
     rest.extend_from_slice(after)?;
@@ -78,16 +78,16 @@ fn share_of_look(
 // The share of a range between those before and after it in the list.
 fn share_of_range(
     alloc: Global,
-    matcher: &LookMatcher<Words>,
+    matcher: &LookMatcher<WordPredicate>,
     looks: &[Look],
     before: &[(u8, u8)],
     range: (u8, u8),
     after: &[(u8, u8)],
 ) -> Result<Share, AllocError>
     ensures item { IfOk result (λ share. share.item ≡ range_item range) }
-    ensures own { IfOk result (λ share. IsCoarsestParting share.own (range ∷ []) [] matcher.now.0 (chosen_words matcher.now.1)) }
+    ensures own { IfOk result (λ share. IsCoarsestParting share.own (range ∷ []) [] matcher.now.0 (chosen_word_chars matcher.now.1)) }
     ensures others { IfOk result (λ share.
-        IsCoarsestParting share.others (before.now ++ after.now) looks.now matcher.now.0 (chosen_words matcher.now.1)) }
+        IsCoarsestParting share.others (before.now ++ after.now) looks.now matcher.now.0 (chosen_word_chars matcher.now.1)) }
 {
     let mut rest = Vec::from_slice(alloc, before)?;
     rest.extend_from_slice(after)?;

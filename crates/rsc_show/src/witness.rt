@@ -2,10 +2,10 @@
 ghost use Rattle.std.specs.Prelude.{◌≡◌, ◌≢◌, ◌≤◌, ◌<◌, ◌↔◌, ◌+◌, ◌∷◌, ◌⊎◌, [], ℕ, List, IsTrue, IsSome, IfSome, IsNone, slice_index};
 ghost use Rattle.std.specs.List.{Contains};
 ghost use Rattle.rsc_look.specs.Keeping.{IsCoarsestMap, IsNeeded, Tells};
-ghost use Rattle.rsc_show.specs.Chosen.{chosen_words};
+ghost use Rattle.rsc_show.specs.Chosen.{chosen_word_chars};
 ghost use Rattle.rsc_show.specs.Ranges.{IsCoarsestParting, BoundsRange};
 
-use crate::choices::Words;
+use crate::choices::WordPredicate;
 use rsc_alphabet::laws::one_class_is_together;
 use rsc_look::{Look, LookMatcher};
 
@@ -14,12 +14,16 @@ use rsc_look::{Look, LookMatcher};
 ///
 /// It is never `None` at a boundary of the coarsest partition that keeps the list, which
 /// [`LookMatcher::classes_of`](rsc_look::LookMatcher::classes_of) answers.
-pub fn witness(matcher: &LookMatcher<Words>, looks: &[Look], byte: u8) -> Option<(Look, usize)>
+pub fn witness(
+    matcher: &LookMatcher<WordPredicate>,
+    looks: &[Look],
+    byte: u8,
+) -> Option<(Look, usize)>
     requires { byte < 255 }
     ensures told { IfSome result (λ w. Contains looks.now w.0 × (w.1 ≤ 1)
-        × Tells w.0 matcher.now.0 (chosen_words matcher.now.1) (byte ∷ []) ((byte + 1) ∷ []) w.1) }
-    ensures needed { IsSome result ↔ IsNeeded byte looks.now matcher.now.0 (chosen_words matcher.now.1) }
-    ensures boundary { (m : List ℕ) → IsCoarsestMap m looks.now matcher.now.0 (chosen_words matcher.now.1) →
+        × Tells w.0 matcher.now.0 (chosen_word_chars matcher.now.1) (byte ∷ []) ((byte + 1) ∷ []) w.1) }
+    ensures needed { IsSome result ↔ IsNeeded byte looks.now matcher.now.0 (chosen_word_chars matcher.now.1) }
+    ensures boundary { (m : List ℕ) → IsCoarsestMap m looks.now matcher.now.0 (chosen_word_chars matcher.now.1) →
         slice_index m byte ≢ slice_index m (byte + 1) → IsSome result }
 {
     one_class_is_together();
@@ -35,16 +39,16 @@ pub fn witness(matcher: &LookMatcher<Words>, looks: &[Look], byte: u8) -> Option
 ///
 /// One of them is there at each boundary of the coarsest partition that keeps the assertions and parts the ranges.
 pub fn witnesses(
-    matcher: &LookMatcher<Words>,
+    matcher: &LookMatcher<WordPredicate>,
     looks: &[Look],
     ranges: &[(u8, u8)],
     byte: u8,
 ) -> (Option<(Look, usize)>, Option<(u8, u8)>)
     requires { byte < 255 }
     ensures told { IfSome result.0 (λ w. Contains looks.now w.0 × (w.1 ≤ 1)
-        × Tells w.0 matcher.now.0 (chosen_words matcher.now.1) (byte ∷ []) ((byte + 1) ∷ []) w.1) }
+        × Tells w.0 matcher.now.0 (chosen_word_chars matcher.now.1) (byte ∷ []) ((byte + 1) ∷ []) w.1) }
     ensures range { IfSome result.1 (λ r. Contains ranges.now r × BoundsRange byte r) }
-    ensures boundary { (m : List ℕ) → IsCoarsestParting m ranges.now looks.now matcher.now.0 (chosen_words matcher.now.1) →
+    ensures boundary { (m : List ℕ) → IsCoarsestParting m ranges.now looks.now matcher.now.0 (chosen_word_chars matcher.now.1) →
         slice_index m byte ≢ slice_index m (byte + 1) → IsSome result.0 ⊎ IsSome result.1 }
 {
     one_class_is_together();
@@ -66,11 +70,11 @@ fn range_at(ranges: &[(u8, u8)], byte: u8) -> Option<(u8, u8)>
 }
 
 // The first position, 0 or 1, at which an assertion tells a byte from the next one.
-fn position_that_tells(matcher: &LookMatcher<Words>, look: Look, byte: u8) -> Option<usize>
+fn position_that_tells(matcher: &LookMatcher<WordPredicate>, look: Look, byte: u8) -> Option<usize>
     requires { byte < 255 }
-    ensures told { IfSome result (λ i. (i ≤ 1) × Tells look matcher.now.0 (chosen_words matcher.now.1) (byte ∷ []) ((byte + 1) ∷ []) i) }
+    ensures told { IfSome result (λ i. (i ≤ 1) × Tells look matcher.now.0 (chosen_word_chars matcher.now.1) (byte ∷ []) ((byte + 1) ∷ []) i) }
     ensures none { IsNone result → (i : ℕ) → i ≤ 1 →
-        ¬ (Tells look matcher.now.0 (chosen_words matcher.now.1) (byte ∷ []) ((byte + 1) ∷ []) i) }
+        ¬ (Tells look matcher.now.0 (chosen_word_chars matcher.now.1) (byte ∷ []) ((byte + 1) ∷ []) i) }
 {
     if tells(matcher, look, byte, 0) {
         Some(0)
@@ -82,10 +86,10 @@ fn position_that_tells(matcher: &LookMatcher<Words>, look: Look, byte: u8) -> Op
 }
 
 // Whether an assertion holds at a position on one and not on the other of the haystacks of a byte and of the next one.
-fn tells(matcher: &LookMatcher<Words>, look: Look, byte: u8, position: usize) -> bool
+fn tells(matcher: &LookMatcher<WordPredicate>, look: Look, byte: u8, position: usize) -> bool
     requires byte { byte < 255 }
     requires position { position ≤ 1 }
-    ensures { IsTrue result ↔ Tells look matcher.now.0 (chosen_words matcher.now.1) (byte ∷ []) ((byte + 1) ∷ []) position }
+    ensures { IsTrue result ↔ Tells look matcher.now.0 (chosen_word_chars matcher.now.1) (byte ∷ []) ((byte + 1) ∷ []) position }
 {
     matcher.matches(look, &[byte], position) != matcher.matches(look, &[byte + 1], position)
 }

@@ -21,10 +21,10 @@ its_only p q zero e = cc
 its_only p q (suc n) e = absurd (cc)
 
 -- a match of the only pattern is where it goes
-pub goes_of : {W : Type 0} (chars : W → ℕ → Bool) (program : Compiled W) (words : W) (p : Pattern) (haystack : List ℕ) (found : Matched)
-    → program.automaton.matcher ≡ (10, words) → IsMatchIn (p ∷ []) (search_in chars program (whole haystack)) found
-    → Goes (text haystack (chars words)) p found.span.start found.span.end
-goes_of {W = W} chars program words p haystack found matcher m =
+pub goes_of : {W : Type 0} (chars : W → ℕ → Bool) (program : Compiled W) (word_class : W) (p : Pattern) (haystack : List ℕ) (found : Matched)
+    → program.automaton.matcher ≡ (10, word_class) → IsMatchIn (p ∷ []) (search_in chars program (whole haystack)) found
+    → Goes (text haystack (chars word_class)) p found.span.start found.span.end
+goes_of {W = W} chars program word_class p haystack found matcher m =
     subst (λ (x : ℕ × W). Goes (record { haystack = haystack; terminator = x.0; word_chars = chars x.1 }) p found.span.start found.span.end) matcher
     (subst (λ (q : Pattern). Goes (record { haystack = haystack; terminator = program.automaton.matcher.0; word_chars = chars program.automaton.matcher.1 }) q
     found.span.start found.span.end) (its_only p m.pattern found.pattern m.its) m.goes)
@@ -48,10 +48,10 @@ room_for_first lists groups captures is made =
     omega (arith, ap (λ (c : Captured). length c.offsets) made, length-replicate {A = Option ℕ} (2 * all_groups lists) None, ap all_groups is)
 
 -- and where it goes is a match; it may be the first of several
-pub match_of : {W : Type 0} (chars : W → ℕ → Bool) (program : Compiled W) (words : W) (p : Pattern) (others : List Pattern) (haystack : List ℕ) (i j : ℕ)
-    → program.automaton.matcher ≡ (10, words) → j ≤ length haystack → Goes (text haystack (chars words)) p i j
+pub match_of : {W : Type 0} (chars : W → ℕ → Bool) (program : Compiled W) (word_class : W) (p : Pattern) (others : List Pattern) (haystack : List ℕ) (i j : ℕ)
+    → program.automaton.matcher ≡ (10, word_class) → j ≤ length haystack → Goes (text haystack (chars word_class)) p i j
     → IsMatchIn (p ∷ others) (search_in chars program (whole haystack)) (record { pattern = 0; span = record { start = i; end = j } })
-match_of {W = W} chars program words p others haystack i j matcher within g = record {
+match_of {W = W} chars program word_class p others haystack i j matcher within g = record {
   pattern = p;
   its = refl;
   wanted = refl;

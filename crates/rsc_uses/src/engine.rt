@@ -12,28 +12,28 @@ ghost use Rattle.rsc_engine.specs.Refusals.{RepeatsName, has_a_reversed_range};
 
 use rsc_captures::Captures;
 use rsc_engine::{
-    Answer, AsciiWords, Builder, Cache, Dfa, Error, Matches, Part, Program, find, laws,
+    Answer, AsciiWordClass, Builder, Cache, Dfa, Error, Matches, Part, Program, find, laws,
 };
 use rsc_look::WordClass;
 use rsc_search::{Input, Match, Span};
 use std::alloc::Global;
 
 /// Where a part goes first in a haystack, whose line terminator is `\n`: from where to where, or `None` if it goes nowhere.
-pub fn find_part<W: WordClass + AsciiWords>(
+pub fn find_part<W: WordClass + AsciiWordClass>(
     alloc: Global,
-    words: W,
+    word_class: W,
     part: Part<'_>,
     haystack: &[u8],
 ) -> Result<Option<(usize, usize)>, Error>
     ensures some { IfOk result (λ found. IfSome found (λ ends.
-        Goes (record { haystack = haystack.now; terminator = 10; word_chars = W.word_chars words }) (pattern_of part.entry) ends.0 ends.1)) }
+        Goes (record { haystack = haystack.now; terminator = 10; word_chars = W.word_chars word_class }) (pattern_of part.entry) ends.0 ends.1)) }
     ensures first { IfOk result (λ found. IfSome found (λ ends. (i j : ℕ) → i < ends.0 → j ≤ length haystack.now →
-        ¬ (Goes (record { haystack = haystack.now; terminator = 10; word_chars = W.word_chars words }) (pattern_of part.entry) i j))) }
+        ¬ (Goes (record { haystack = haystack.now; terminator = 10; word_chars = W.word_chars word_class }) (pattern_of part.entry) i j))) }
     ensures none { IfOk result (λ found. IfNone found ((i j : ℕ) → i ≤ length haystack.now → j ≤ length haystack.now →
-        ¬ (Goes (record { haystack = haystack.now; terminator = 10; word_chars = W.word_chars words }) (pattern_of part.entry) i j))) }
+        ¬ (Goes (record { haystack = haystack.now; terminator = 10; word_chars = W.word_chars word_class }) (pattern_of part.entry) i j))) }
 {
     laws::a_first_match_is_of_a_pattern::<W>();
-    let program = Builder::new(alloc).build(words, true, part)?;
+    let program = Builder::new(alloc).build(word_class, true, part)?;
     let mut captures = program.captures(alloc)?;
     let input = Input::new(haystack);
     match find(alloc, &program, &input, &mut captures)? {
@@ -43,9 +43,9 @@ pub fn find_part<W: WordClass + AsciiWords>(
 }
 
 /// The first match of a part, with captures whose first two slots hold where it starts and ends; so its first group has its span.
-pub fn find_with_slots<W: WordClass + AsciiWords>(
+pub fn find_with_slots<W: WordClass + AsciiWordClass>(
     alloc: Global,
-    words: W,
+    word_class: W,
     part: Part<'_>,
     input: &Input<'_>,
 ) -> Result<Option<(Match, Captures)>, Error>
@@ -55,7 +55,7 @@ pub fn find_with_slots<W: WordClass + AsciiWords>(
 {
     laws::a_first_match_is_of_a_pattern::<W>();
     laws::the_first_group_is_the_match::<W>();
-    let program = Builder::new(alloc).build(words, true, part)?;
+    let program = Builder::new(alloc).build(word_class, true, part)?;
     let mut captures = program.captures(alloc)?;
     match find(alloc, &program, input, &mut captures)? {
         None => Ok(None),
@@ -64,22 +64,22 @@ pub fn find_with_slots<W: WordClass + AsciiWords>(
 }
 
 /// The first match of a part, with its first group, which has its span.
-pub fn find_with_group<W: WordClass + AsciiWords>(
+pub fn find_with_group<W: WordClass + AsciiWordClass>(
     alloc: Global,
-    words: W,
+    word_class: W,
     part: Part<'_>,
     input: &Input<'_>,
 ) -> Result<Option<(Match, Option<Span>)>, Error>
     ensures { IfOk result (λ found. IfSome found (λ both. both.1 ≡ Some both.0.span)) }
 {
-    match find_with_slots(alloc, words, part, input)? {
+    match find_with_slots(alloc, word_class, part, input)? {
         None => Ok(None),
         Some((found, captures)) => Ok(Some((found, captures.get_group(0)))),
     }
 }
 
 /// The span of the first match, or `None` if no match begins where one may.
-pub fn first_span<W: WordClass + AsciiWords>(
+pub fn first_span<W: WordClass + AsciiWordClass>(
     alloc: Global,
     program: &Program<W>,
     input: &Input<'_>,
@@ -96,7 +96,7 @@ pub fn first_span<W: WordClass + AsciiWords>(
 }
 
 /// Whether an input has a match, by a DFA and by the backtracker: they never differ.
-pub fn has_match_twice<W: WordClass + AsciiWords>(
+pub fn has_match_twice<W: WordClass + AsciiWordClass>(
     alloc: Global,
     program: &Program<W>,
     dfa: &mut Dfa<'_, W>,
@@ -115,7 +115,7 @@ pub fn has_match_twice<W: WordClass + AsciiWords>(
 }
 
 /// Where the first match ends, by a DFA and by the backtracker: they never differ.
-pub fn first_end_twice<W: WordClass + AsciiWords>(
+pub fn first_end_twice<W: WordClass + AsciiWordClass>(
     alloc: Global,
     program: &Program<W>,
     dfa: &mut Dfa<'_, W>,
@@ -134,7 +134,7 @@ pub fn first_end_twice<W: WordClass + AsciiWords>(
 }
 
 /// The ends of the next two matches, of which the second is greater.
-pub fn next_two_ends<W: WordClass + AsciiWords>(
+pub fn next_two_ends<W: WordClass + AsciiWordClass>(
     matches: &mut Matches<'_, '_, W>,
     captures: &mut Captures,
 ) -> Result<Option<(usize, usize)>, Error>
@@ -150,7 +150,7 @@ pub fn next_two_ends<W: WordClass + AsciiWords>(
 }
 
 /// All matches in an input. `all_over`'s loop ends, since each match ends after the one before it and within the span.
-pub fn all_matches<W: WordClass + AsciiWords>(
+pub fn all_matches<W: WordClass + AsciiWordClass>(
     alloc: Global,
     program: &Program<W>,
     input: Input<'_>,
@@ -163,7 +163,7 @@ pub fn all_matches<W: WordClass + AsciiWords>(
 }
 
 /// All matches in an input over a cache, which comes back for the next input.
-pub fn all_over<'p, 'h, W: WordClass + AsciiWords>(
+pub fn all_over<'p, 'h, W: WordClass + AsciiWordClass>(
     alloc: Global,
     cache: Cache<'p, W>,
     captures: &mut Captures,
@@ -183,7 +183,7 @@ pub fn all_over<'p, 'h, W: WordClass + AsciiWords>(
 }
 
 /// Whether two inputs have a match, over one cache.
-pub fn both_match<W: WordClass + AsciiWords>(
+pub fn both_match<W: WordClass + AsciiWordClass>(
     cache: &mut Cache<'_, W>,
     captures: &mut Captures,
     one: &Input<'_>,
@@ -219,20 +219,20 @@ pub fn one_of_two<'n>(
 }
 
 /// The first match of two parts, of which the first is preferred: the match is of the other one only if the first goes nowhere from its start.
-pub fn first_of_two<'n, W: WordClass + AsciiWords>(
+pub fn first_of_two<'n, W: WordClass + AsciiWordClass>(
     alloc: Global,
-    words: W,
+    word_class: W,
     one: Part<'n>,
     other: Part<'n>,
     haystack: &[u8],
 ) -> Result<Option<Match>, Error>
     ensures { IfOk result (λ found. IfSome found (λ m. m.pattern ≡ 1 → (j : ℕ) → j ≤ length haystack.now →
-        ¬ (Goes (record { haystack = haystack.now; terminator = 10; word_chars = W.word_chars words }) (pattern_of one.entry) m.span.start j))) }
+        ¬ (Goes (record { haystack = haystack.now; terminator = 10; word_chars = W.word_chars word_class }) (pattern_of one.entry) m.span.start j))) }
 {
     laws::a_match_is_of_the_least_pattern::<W>();
     let mut builder = Builder::new(alloc);
     builder.pattern(one)?;
-    let program = builder.build(words, true, other)?;
+    let program = builder.build(word_class, true, other)?;
     let mut captures = program.captures(alloc)?;
     let input = Input::new(haystack);
     match find(alloc, &program, &input, &mut captures)? {
@@ -242,22 +242,22 @@ pub fn first_of_two<'n, W: WordClass + AsciiWords>(
 }
 
 /// Where the first match of an iteration is: the part goes there, and nowhere from an earlier position; `None` only if it goes nowhere.
-pub fn first_of_iteration<W: WordClass + AsciiWords>(
+pub fn first_of_iteration<W: WordClass + AsciiWordClass>(
     alloc: Global,
-    words: W,
+    word_class: W,
     part: Part<'_>,
     haystack: &[u8],
 ) -> Result<Option<(usize, usize)>, Error>
     ensures some { IfOk result (λ found. IfSome found (λ ends.
-        Goes (record { haystack = haystack.now; terminator = 10; word_chars = W.word_chars words }) (pattern_of part.entry) ends.0 ends.1)) }
+        Goes (record { haystack = haystack.now; terminator = 10; word_chars = W.word_chars word_class }) (pattern_of part.entry) ends.0 ends.1)) }
     ensures first { IfOk result (λ found. IfSome found (λ ends. (i j : ℕ) → i < ends.0 → j ≤ length haystack.now →
-        ¬ (Goes (record { haystack = haystack.now; terminator = 10; word_chars = W.word_chars words }) (pattern_of part.entry) i j))) }
+        ¬ (Goes (record { haystack = haystack.now; terminator = 10; word_chars = W.word_chars word_class }) (pattern_of part.entry) i j))) }
     ensures none { IfOk result (λ found. IfNone found ((i j : ℕ) → i ≤ length haystack.now → j ≤ length haystack.now →
-        ¬ (Goes (record { haystack = haystack.now; terminator = 10; word_chars = W.word_chars words }) (pattern_of part.entry) i j))) }
+        ¬ (Goes (record { haystack = haystack.now; terminator = 10; word_chars = W.word_chars word_class }) (pattern_of part.entry) i j))) }
 {
     laws::a_next_match_is_of_a_pattern::<W>();
     // The haystack isn't taken for text, so no match is left out for being within a character.
-    let program = Builder::new(alloc).build(words, false, part)?;
+    let program = Builder::new(alloc).build(word_class, false, part)?;
     let mut captures = program.captures(alloc)?;
     let input = Input::new(haystack);
     let mut matches = Matches::new(alloc, &program, input)?;
@@ -268,17 +268,17 @@ pub fn first_of_iteration<W: WordClass + AsciiWords>(
 }
 
 /// The least position to which a part goes, unless the DFA quits before it: at a byte above 7F, if an assertion of the part looks at characters.
-pub fn first_end_of_part<W: WordClass + AsciiWords>(
+pub fn first_end_of_part<W: WordClass + AsciiWordClass>(
     alloc: Global,
-    words: W,
+    word_class: W,
     part: Part<'_>,
     haystack: &[u8],
 ) -> Result<Answer, Error>
     ensures { IfOk result (λ answer. (end : ℕ) → answer ≡ End end →
-        (i : ℕ) × Goes (record { haystack = haystack.now; terminator = 10; word_chars = W.word_chars words }) (pattern_of part.entry) i end) }
+        (i : ℕ) × Goes (record { haystack = haystack.now; terminator = 10; word_chars = W.word_chars word_class }) (pattern_of part.entry) i end) }
 {
     laws::an_earliest_end_is_of_a_pattern::<W>();
-    let program = Builder::new(alloc).build(words, true, part)?;
+    let program = Builder::new(alloc).build(word_class, true, part)?;
     let input = Input::new(haystack);
     let mut dfa = Dfa::new(alloc, &program, 100);
     let answer = dfa.earliest_end(&input)?;
@@ -286,17 +286,17 @@ pub fn first_end_of_part<W: WordClass + AsciiWords>(
 }
 
 /// The position to which the first match of a part goes.
-pub fn leftmost_end_of_part<W: WordClass + AsciiWords>(
+pub fn leftmost_end_of_part<W: WordClass + AsciiWordClass>(
     alloc: Global,
-    words: W,
+    word_class: W,
     part: Part<'_>,
     haystack: &[u8],
 ) -> Result<Option<usize>, Error>
     ensures { IfOk result (λ found. IfSome found (λ end.
-        (i : ℕ) × Goes (record { haystack = haystack.now; terminator = 10; word_chars = W.word_chars words }) (pattern_of part.entry) i end)) }
+        (i : ℕ) × Goes (record { haystack = haystack.now; terminator = 10; word_chars = W.word_chars word_class }) (pattern_of part.entry) i end)) }
 {
     laws::a_leftmost_end_is_of_a_pattern::<W>();
-    let program = Builder::new(alloc).build(words, true, part)?;
+    let program = Builder::new(alloc).build(word_class, true, part)?;
     let input = Input::new(haystack);
     let mut dfa = Dfa::new(alloc, &program, 100);
     match dfa.leftmost_end(&input)? {
@@ -308,7 +308,7 @@ pub fn leftmost_end_of_part<W: WordClass + AsciiWords>(
 /// The program of two parts, one after the other: the groups of the first come before those of the second.
 pub fn program_of_two<W: WordClass>(
     alloc: Global,
-    words: W,
+    word_class: W,
     one: Part<'_>,
     other: Part<'_>,
 ) -> Result<Program<W>, Error>
@@ -316,18 +316,18 @@ pub fn program_of_two<W: WordClass>(
 {
     let builder = Builder::new(alloc);
     let both = builder.then(one, other)?;
-    builder.build(words, true, both)
+    builder.build(word_class, true, both)
 }
 
 /// The program of a part. If there is one, the part has no name twice, and no reversed range where it may occur.
 pub fn program_of_part<W: WordClass>(
     alloc: Global,
-    words: W,
+    word_class: W,
     part: Part<'_>,
 ) -> Result<Program<W>, Error>
     ensures names { OnOk result (¬ (RepeatsName (groups_of_pattern part.entry ∷ []))) }
     ensures ordered { OnOk result (has_a_reversed_range (pattern_of part.entry ∷ []) ≡ false) }
 {
-    let program = Builder::new(alloc).build(words, true, part)?;
+    let program = Builder::new(alloc).build(word_class, true, part)?;
     Ok(program)
 }

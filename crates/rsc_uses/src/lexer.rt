@@ -6,29 +6,29 @@ ghost use Rattle.rsc_engine.specs.Parts.{pattern_of, patterns_of};
 ghost use Rattle.rsc_uses.specs.Lexed.{AreLexed};
 
 use crate::engine::all_matches;
-use rsc_engine::{AsciiWords, Builder, Error, Part, find, laws};
+use rsc_engine::{AsciiWordClass, Builder, Error, Part, find, laws};
 use rsc_look::WordClass;
 use rsc_search::{Anchored, Input, Match};
 use std::alloc::Global;
 
 /// The tokens of a text: each is of the first pattern that goes on from where the token before it ended, and from the end of the last none does. No pattern
 /// may be empty.
-pub fn tokens_of<'n, W: WordClass + AsciiWords>(
+pub fn tokens_of<'n, W: WordClass + AsciiWordClass>(
     alloc: Global,
-    words: W,
+    word_class: W,
     builder: Builder<'n>,
     last: Part<'n>,
     text: &[u8],
 ) -> Result<Vec<Match>, Error>
     requires { list_any may_be_empty (patterns_of builder ++ pattern_of last ∷ []) ≡ false }
     ensures { IfOk result (λ tokens.
-        AreLexed (record { haystack = text.now; terminator = 10; word_chars = W.word_chars words }) (patterns_of builder.entry ++ pattern_of last.entry ∷ []) 0
-        tokens.items) }
+        AreLexed (record { haystack = text.now; terminator = 10; word_chars = W.word_chars word_class })
+        (patterns_of builder.entry ++ pattern_of last.entry ∷ []) 0 tokens.items) }
 {
     laws::a_next_match_is_of_a_pattern::<W>();
     laws::a_match_is_of_the_least_pattern::<W>();
     laws::anchored_matches_are_side_by_side::<W>();
-    let program = builder.build(words, true, last)?;
+    let program = builder.build(word_class, true, last)?;
     let input = Input::new(text).anchored(Anchored::Yes);
     let tokens = all_matches(alloc, &program, input)?;
     Ok(tokens)
@@ -36,9 +36,9 @@ pub fn tokens_of<'n, W: WordClass + AsciiWords>(
 
 /// The bytes of a group of the first match of a part, if there is one and the group is set. They can be cut out: the group's start is at most its end, and
 /// both are within the match.
-pub fn bytes_of_group<'h, W: WordClass + AsciiWords>(
+pub fn bytes_of_group<'h, W: WordClass + AsciiWordClass>(
     alloc: Global,
-    words: W,
+    word_class: W,
     part: Part<'_>,
     group: usize,
     text: &'h [u8],
@@ -46,7 +46,7 @@ pub fn bytes_of_group<'h, W: WordClass + AsciiWords>(
     ensures { IfOk result (λ found. IfSome found (λ bytes. length bytes.now ≤ length text.now)) }
 {
     laws::a_group_that_begins_ends::<W>();
-    let program = Builder::new(alloc).build(words, true, part)?;
+    let program = Builder::new(alloc).build(word_class, true, part)?;
     let mut captures = program.captures(alloc)?;
     let input = Input::new(text);
     match find(alloc, &program, &input, &mut captures)? {

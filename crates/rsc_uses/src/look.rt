@@ -1,4 +1,4 @@
-//! Assertions: words and lines of a haystack, words of one's own, and one partition for ranges and assertions.
+//! Assertions: words and lines of a haystack, word characters of one's own, and one partition for ranges and assertions.
 ghost use Rattle.std.specs.Prelude.{◌≡◌, ◌↔◌, ◌<◌, ◌≤◌, ◌∷◌, [], ℕ, Bool, List, All, IsTrue, IfOk, IfSome, ◌==◌, ◌||◌, ◌&&◌, nat_le, true, false, ◌+◌, length, slice_index};
 ghost use Rattle.std.specs.List.{list_any};
 ghost use Rattle.std.specs.FinSet as sets;
@@ -103,14 +103,14 @@ pub fn insert_and_remove(look: Look, other: Look) -> bool
     set.contains(look) && !set.contains(other)
 }
 
-/// The classes of two line assertions, for words of any kind.
+/// The classes of two line assertions, for any word predicate.
 pub fn line_classes<W: WordClass>(matcher: &LookMatcher<W>) -> ByteClasses
     ensures { IsCoarsestMap result (Look.StartLF ∷ Look.EndCRLF ∷ []) matcher.now.0 (W.word_chars matcher.now.1) }
 {
     matcher.classes_of(&[Look::StartLF, Look::EndCRLF])
 }
 
-/// The classes of any list, for Unicode's words: they agree with the word bytes below 128, as `classes_of` asks of them.
+/// The classes of any list, for Unicode's word characters: below 128 they are the word bytes, as `classes_of` asks of them.
 pub fn unicode_classes(matcher: &LookMatcher<UnicodeWord>, looks: &[Look]) -> ByteClasses
     ensures { IsCoarsestMap result looks.now matcher.now.0 (⟦<UnicodeWord as WordClass>⟧.word_chars matcher.now.1) }
 {
@@ -132,10 +132,10 @@ impl WordClass for Letters {
 
 /// They don't agree with the word bytes, so of their classes `classes_of` says nothing where a Unicode assertion is listed.
 pub fn letters_do_not_agree()
-    ensures { (words : Letters) → ¬ (AgreesWithAscii (⟦<Letters as WordClass>⟧.word_chars words)) }
+    ensures { (letters : Letters) → ¬ (AgreesWithAscii (⟦<Letters as WordClass>⟧.word_chars letters)) }
 {}
 
-/// The classes of a list that has no Unicode assertion: nothing is asked of the words.
+/// The classes of a list that has no Unicode assertion: nothing is asked of the word characters.
 pub fn byte_classes_of<W: WordClass>(matcher: &LookMatcher<W>, looks: &[Look]) -> ByteClasses
     requires { All (λ l. is_unicode l ≡ false) looks.now }
     ensures { IsCoarsestMap result looks.now matcher.now.0 (W.word_chars matcher.now.1) }

@@ -6,7 +6,7 @@ ghost use Rattle.rsc_engine.specs.RowsLayout.{IsPlan, IsPlainUnit, IsNeverEntere
 ghost use Rattle.rsc_nfa.specs.declared.state.State.TheVariants.{ByteRange};
 ghost use Rattle.rsc_engine.specs.TablesLayout.{IsBeyond, column};
 
-use crate::{AsciiWords, Program};
+use crate::{AsciiWordClass, Program};
 use rsc_alphabet::{ByteClassSet, ByteClasses};
 use rsc_look::WordClass;
 use rsc_nfa::State;
@@ -32,7 +32,7 @@ pub struct Plan<'p, W: WordClass> {
     pub most_rows: usize,
 }
 
-impl<'p, W: WordClass + AsciiWords> Plan<'p, W> {
+impl<'p, W: WordClass + AsciiWordClass> Plan<'p, W> {
     /// The plan of a program.
     pub fn new(program: &'p Program<W>, most_rows: usize) -> Plan<'p, W>
         ensures program { result.program.now ≡ program.now }

@@ -24,9 +24,9 @@ fn star(builder: &Builder<'static>, class: &[(u8, u8)]) -> Result<Part<'static>,
 // `(?:[a-z]+|-)*`
 fn nested(builder: &Builder<'static>) -> Result<Part<'static>, Error> {
     let class = builder.class(&SMALL)?;
-    let word = builder.plus(class)?;
+    let letters = builder.plus(class)?;
     let other = builder.literal(b"-")?;
-    let either = builder.either(word, other)?;
+    let either = builder.either(letters, other)?;
     builder.star(either)
 }
 
@@ -144,19 +144,19 @@ fn a_loop_goes_on_after_a_match(rt: HostRuntime) -> Result<(), Fail> {
 }
 
 // `[a-z]*[0-9]|-`
-fn words_with_digits(alloc: Global) -> Result<Program<AsciiWord>, Error> {
+fn letters_with_a_digit(alloc: Global) -> Result<Program<AsciiWord>, Error> {
     let builder = Builder::new(alloc);
-    let word = star(&builder, &SMALL)?;
-    let word = builder.then(word, builder.range(b'0', b'9'))?;
+    let letters = star(&builder, &SMALL)?;
+    let letters = builder.then(letters, builder.range(b'0', b'9'))?;
     let other = builder.literal(b"-")?;
-    let whole = builder.either(word, other)?;
+    let whole = builder.either(letters, other)?;
     builder.build(AsciiWord, true, whole)
 }
 
 #[test]
 fn a_loop_passes_over_places_of_an_earlier_search(rt: HostRuntime) -> Result<(), Fail> {
     // The first search visits the places of `abc` and finds the `-` after it.
-    let program = words_with_digits(rt.alloc())?;
+    let program = letters_with_a_digit(rt.alloc())?;
     let ends = [(3, 4), (4, 8), (8, 9), (10, 11), (11, 12)];
     assert!(rt; finds(rt.alloc(), &program, Input::new(b"abc-abd1-z-9"), &ends)?);
     Ok(())

@@ -2,7 +2,7 @@
 use super::programs::program_of;
 use crate::made::captures_of;
 use rsc_captures::Captures;
-use rsc_engine::{Answer, AsciiWords, Builder, Dfa, Error, Program, find};
+use rsc_engine::{Answer, AsciiWordClass, Builder, Dfa, Error, Program, find};
 use rsc_look::{AsciiWord, Look, UnicodeWord, WordClass};
 use rsc_primitives::PatternID;
 use rsc_search::{Anchored, Input, Span};
@@ -33,7 +33,7 @@ fn text_of(number: usize) -> ([u8; 4], usize) {
 }
 
 // Whether the backtracker finds a match that ends at the position or before.
-fn ends_by<W: WordClass + AsciiWords>(
+fn ends_by<W: WordClass + AsciiWordClass>(
     alloc: Global,
     program: &Program<W>,
     input: &Input<'_>,
@@ -52,7 +52,7 @@ fn ends_by<W: WordClass + AsciiWords>(
 }
 
 // Whether the backtracker agrees with an answer.
-fn agrees<W: WordClass + AsciiWords>(
+fn agrees<W: WordClass + AsciiWordClass>(
     alloc: Global,
     program: &Program<W>,
     input: &Input<'_>,
@@ -147,10 +147,10 @@ fn agrees_on_lines(rt: HostRuntime) -> Result<(), Fail> {
 
 #[test]
 fn goes_on_with_one_row(rt: HostRuntime) -> Result<(), Fail> {
-    let lines = difference(rt.alloc(), 2, 3, 1)?;
-    let words = difference(rt.alloc(), 8, 9, 1)?;
+    let line_start = difference(rt.alloc(), 2, 3, 1)?;
+    let word_boundary = difference(rt.alloc(), 8, 9, 1)?;
     let letters = difference(rt.alloc(), 20, 21, 0)?;
-    assert_eq!(rt; [lines, words, letters], [None; 3]);
+    assert_eq!(rt; [line_start, word_boundary, letters], [None; 3]);
     Ok(())
 }
 

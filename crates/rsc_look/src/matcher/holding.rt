@@ -177,25 +177,25 @@ fn holding_at_words(before: bool, after: bool) -> LookSet
     LookSet::of_bits(AT_WORDS[usize::from(before) * 2 + usize::from(after)])
 }
 
-// No word is beside the position: the negation and both half assertions.
-const NO_WORD: u32 = 1 << 9 | 1 << 16 | 1 << 17;
+// No word character is beside the position: the negation and both half assertions.
+const NO_WORD_CHARACTER: u32 = 1 << 9 | 1 << 16 | 1 << 17;
 
 // A word starts, and ends.
 const STARTS: u32 = 1 << 8 | 1 << 12;
 
 const ENDS: u32 = 1 << 8 | 1 << 13;
 
-// The half assertions: what is before, or after, is no word, and not invalid.
+// The half assertions: what is before, or after, is no word character, and not invalid.
 const START_HALF: u32 = 1 << 16;
 
 const END_HALF: u32 = 1 << 17;
 
-// The assertions about characters, by the side before and the side after: absent, invalid, a word, another character.
+// The assertions about characters, by the side before and the side after: absent, invalid, a word character, another character.
 static AT_SIDES: [u32; 16] = [
-    NO_WORD,
+    NO_WORD_CHARACTER,
     START_HALF,
     STARTS | START_HALF,
-    NO_WORD,
+    NO_WORD_CHARACTER,
     END_HALF,
     0,
     STARTS,
@@ -204,10 +204,10 @@ static AT_SIDES: [u32; 16] = [
     ENDS,
     1 << 9,
     ENDS | END_HALF,
-    NO_WORD,
+    NO_WORD_CHARACTER,
     START_HALF,
     STARTS | START_HALF,
-    NO_WORD,
+    NO_WORD_CHARACTER,
 ];
 
 // The assertions about characters that hold between two sides.

@@ -1,7 +1,7 @@
 //! The assertions about words: those of ASCII look at the neighbouring bytes, those of Unicode at the characters beside the position.
 //!
 //! A side of a position may be no character at all, since a haystack is any list of bytes. Beside it the Unicode `\B` and the half
-//! assertions fail, so that a match never splits a character; the other three take it as no word.
+//! assertions fail, so that a match never splits a character; the other three take it as no word character.
 ghost use Rattle.std.specs.Prelude.{◌≤◌, ◌↔◌, IsTrue, IsOkAnd, length};
 ghost use Rattle.rsc_look.specs.declared.assertion.Look.{Look};
 ghost use Rattle.rsc_look.specs.Holds.{HoldsFor, IsBefore, IsAfter};
@@ -43,8 +43,8 @@ impl<W: WordClass> LookMatcher<W> {
     pub(crate) fn side_of(&self, c: char) -> Side
         ensures { IsSideOf (W.word_chars self.now.1) c result }
     {
-        if self.words.is_word(c) {
-            Side::Word
+        if self.word_class.is_word(c) {
+            Side::WordCharacter
         } else {
             Side::Other
         }
@@ -86,7 +86,7 @@ impl<W: WordClass> LookMatcher<W> {
     {
         let before = self.side_before(haystack, at);
         let after = self.side_after(haystack, at);
-        Ok(before.is_word() != after.is_word())
+        Ok(before.is_word_character() != after.is_word_character())
     }
 
     /// Whether neither side is invalid, and a word character is on both sides or on neither.
@@ -123,7 +123,7 @@ impl<W: WordClass> LookMatcher<W> {
             return Ok(false);
         }
         let after = self.side_after(haystack, at);
-        Ok(!after.is_invalid() & (before.is_word() == after.is_word()))
+        Ok(!after.is_invalid() & (before.is_word_character() == after.is_word_character()))
     }
 
     /// Whether a word byte is after the position, and none before it.
@@ -161,7 +161,7 @@ impl<W: WordClass> LookMatcher<W> {
         let before = self.side_before(haystack, at);
         // Both sides are read: a branch on the first side alone is mispredicted too often.
         let after = self.side_after(haystack, at);
-        Ok(after.is_word() & !before.is_word())
+        Ok(after.is_word_character() & !before.is_word_character())
     }
 
     /// Whether a word character is before the position, and none after it.
@@ -180,7 +180,7 @@ impl<W: WordClass> LookMatcher<W> {
     {
         let before = self.side_before(haystack, at);
         let after = self.side_after(haystack, at);
-        Ok(before.is_word() & !after.is_word())
+        Ok(before.is_word_character() & !after.is_word_character())
     }
 
     /// Whether no word byte is before the position.

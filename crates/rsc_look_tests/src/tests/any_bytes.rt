@@ -10,7 +10,7 @@ enum Side {
     /// Bytes that no character ends, or begins, at the position.
     Bad,
     /// A word character.
-    Word,
+    WordCharacter,
     /// Another character.
     Other,
 }
@@ -22,7 +22,7 @@ fn side_of(character: Option<Result<char, u8>>) -> Side {
         Some(Err(_)) => Side::Bad,
         Some(Ok(c)) => {
             if UnicodeWord.is_word(c) {
-                Side::Word
+                Side::WordCharacter
             } else {
                 Side::Other
             }
@@ -37,13 +37,15 @@ fn agrees_at(matcher: &LookMatcher<UnicodeWord>, haystack: &[u8], at: usize) -> 
     }
     let before = side_of(last_character(&haystack[..at]));
     let after = side_of(first_character(&haystack[at..]));
-    let is_word = (before == Side::Word, after == Side::Word);
+    let is_word_character = (before == Side::WordCharacter, after == Side::WordCharacter);
     let is_bad = before == Side::Bad || after == Side::Bad;
-    matcher.matches(Look::WordUnicode, haystack, at) == (is_word.0 != is_word.1)
+    matcher.matches(Look::WordUnicode, haystack, at) == (is_word_character.0 != is_word_character.1)
         && matcher.matches(Look::WordUnicodeNegate, haystack, at)
-            == (!is_bad && is_word.0 == is_word.1)
-        && matcher.matches(Look::WordStartUnicode, haystack, at) == (!is_word.0 && is_word.1)
-        && matcher.matches(Look::WordEndUnicode, haystack, at) == (is_word.0 && !is_word.1)
+            == (!is_bad && is_word_character.0 == is_word_character.1)
+        && matcher.matches(Look::WordStartUnicode, haystack, at)
+            == (!is_word_character.0 && is_word_character.1)
+        && matcher.matches(Look::WordEndUnicode, haystack, at)
+            == (is_word_character.0 && !is_word_character.1)
         && matcher.matches(Look::WordStartHalfUnicode, haystack, at)
             == matches!(before, Side::Absent | Side::Other)
         && matcher.matches(Look::WordEndHalfUnicode, haystack, at)

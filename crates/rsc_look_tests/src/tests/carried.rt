@@ -3,10 +3,10 @@ use rsc_look::{AsciiWord, Look, LookMatcher, WordClass};
 use std::process::Abort;
 
 // The texts of the tests of lines.
-const LINES: [&str; 5] = ["", "\n", "a", "\na", "a\na"];
+const LINE_TEXTS: [&str; 5] = ["", "\n", "a", "\na", "a\na"];
 
 // The texts of the tests of words.
-const WORDS: [&str; 11] = [
+const WORD_TEXTS: [&str; 11] = [
     "", "a", "ab", "a ", " a ", "𝛃", "𝛃 ", " 𝛃 ", "𝛃𐆀", "𝛃b", "b𝛃",
 ];
 
@@ -54,37 +54,37 @@ fn both_tell(rt: &impl Abort, look: Look, texts: &[&str], marks: &str) {
 #[test]
 fn look_matches_start_text(rt: HostRuntime) {
     let marks = "x x- x- x-- x---";
-    both_tell(&rt, Look::Start, &LINES, marks);
+    both_tell(&rt, Look::Start, &LINE_TEXTS, marks);
 }
 
 #[test]
 fn look_matches_end_text(rt: HostRuntime) {
     let marks = "x -x -x --x ---x";
-    both_tell(&rt, Look::End, &LINES, marks);
+    both_tell(&rt, Look::End, &LINE_TEXTS, marks);
 }
 
 #[test]
 fn look_matches_start_line(rt: HostRuntime) {
     let marks = "x xx x- xx- x-x-";
-    both_tell(&rt, Look::StartLF, &LINES, marks);
+    both_tell(&rt, Look::StartLF, &LINE_TEXTS, marks);
 }
 
 #[test]
 fn look_matches_end_line(rt: HostRuntime) {
     let marks = "x xx -x x-x -x-x";
-    both_tell(&rt, Look::EndLF, &LINES, marks);
+    both_tell(&rt, Look::EndLF, &LINE_TEXTS, marks);
 }
 
 #[test]
 fn look_matches_word_ascii(rt: HostRuntime) {
     let marks = "- xx .-. .x- -xx- ----- ....-- --...-- --------- ....x. .x....";
-    both_tell(&rt, Look::WordAscii, &WORDS, marks);
+    both_tell(&rt, Look::WordAscii, &WORD_TEXTS, marks);
 }
 
 #[test]
 fn look_matches_word_ascii_negate(rt: HostRuntime) {
     let marks = "x -- .x. .-x x--x xxxxx ....xx xx...xx xxxxxxxxx ....-. .-....";
-    both_tell(&rt, Look::WordAsciiNegate, &WORDS, marks);
+    both_tell(&rt, Look::WordAsciiNegate, &WORD_TEXTS, marks);
 }
 
 #[test]
@@ -94,7 +94,7 @@ fn look_matches_word_unicode(rt: HostRuntime) {
         &rt,
         &LookMatcher::default(),
         Look::WordUnicode,
-        &WORDS,
+        &WORD_TEXTS,
         marks,
     );
 }
@@ -106,7 +106,7 @@ fn look_matches_word_unicode_negate(rt: HostRuntime) {
         &rt,
         &LookMatcher::default(),
         Look::WordUnicodeNegate,
-        &WORDS,
+        &WORD_TEXTS,
         marks,
     );
 }
@@ -114,13 +114,13 @@ fn look_matches_word_unicode_negate(rt: HostRuntime) {
 #[test]
 fn look_matches_word_start_ascii(rt: HostRuntime) {
     let marks = "- x- .-. .-- -x-- ----- ....-- --...-- --------- ....x. .-....";
-    both_tell(&rt, Look::WordStartAscii, &WORDS, marks);
+    both_tell(&rt, Look::WordStartAscii, &WORD_TEXTS, marks);
 }
 
 #[test]
 fn look_matches_word_end_ascii(rt: HostRuntime) {
     let marks = "- -x .-. .x- --x- ----- ....-- --...-- --------- ....-. .x....";
-    both_tell(&rt, Look::WordEndAscii, &WORDS, marks);
+    both_tell(&rt, Look::WordEndAscii, &WORD_TEXTS, marks);
 }
 
 #[test]
@@ -130,7 +130,7 @@ fn look_matches_word_start_unicode(rt: HostRuntime) {
         &rt,
         &LookMatcher::default(),
         Look::WordStartUnicode,
-        &WORDS,
+        &WORD_TEXTS,
         marks,
     );
 }
@@ -142,7 +142,7 @@ fn look_matches_word_end_unicode(rt: HostRuntime) {
         &rt,
         &LookMatcher::default(),
         Look::WordEndUnicode,
-        &WORDS,
+        &WORD_TEXTS,
         marks,
     );
 }
@@ -150,13 +150,13 @@ fn look_matches_word_end_unicode(rt: HostRuntime) {
 #[test]
 fn look_matches_word_start_half_ascii(rt: HostRuntime) {
     let marks = "x x- .-. .-x xx-x xxxxx ....xx xx...xx xxxxxxxxx ....x. .-....";
-    both_tell(&rt, Look::WordStartHalfAscii, &WORDS, marks);
+    both_tell(&rt, Look::WordStartHalfAscii, &WORD_TEXTS, marks);
 }
 
 #[test]
 fn look_matches_word_end_half_ascii(rt: HostRuntime) {
     let marks = "x -x .-. .xx x-xx xxxxx ....xx xx...xx xxxxxxxxx ....-. .x....";
-    both_tell(&rt, Look::WordEndHalfAscii, &WORDS, marks);
+    both_tell(&rt, Look::WordEndHalfAscii, &WORD_TEXTS, marks);
 }
 
 #[test]
@@ -166,7 +166,7 @@ fn look_matches_word_start_half_unicode(rt: HostRuntime) {
         &rt,
         &LookMatcher::default(),
         Look::WordStartHalfUnicode,
-        &WORDS,
+        &WORD_TEXTS,
         marks,
     );
 }
@@ -178,7 +178,7 @@ fn look_matches_word_end_half_unicode(rt: HostRuntime) {
         &rt,
         &LookMatcher::default(),
         Look::WordEndHalfUnicode,
-        &WORDS,
+        &WORD_TEXTS,
         marks,
     );
 }

@@ -22,8 +22,8 @@ fn word_characters(rt: HostRuntime) {
         ('\u{203F}', false, true),
         ('\u{0300}', false, true),
     ] {
-        let are_words = [AsciiWord.is_word(c), UnicodeWord.is_word(c)];
-        assert!(rt; are_words == [ascii, unicode], "{c:?}");
+        let are_word_characters = [AsciiWord.is_word(c), UnicodeWord.is_word(c)];
+        assert!(rt; are_word_characters == [ascii, unicode], "{c:?}");
     }
 }
 

@@ -95,14 +95,14 @@ fn bytes_that_are_no_characters(rt: HostRuntime) {
             "{haystack:?} at {at}"
         );
     }
-    let word = b"\xFFabc\xFF";
-    let are_words = [
-        matcher.matches(Look::WordUnicode, word, 1),
-        matcher.matches(Look::WordUnicode, word, 4),
-        matcher.matches(Look::WordUnicodeNegate, word, 0),
-        matcher.matches(Look::WordStartHalfUnicode, word, 1),
+    let haystack = b"\xFFabc\xFF";
+    let hold = [
+        matcher.matches(Look::WordUnicode, haystack, 1),
+        matcher.matches(Look::WordUnicode, haystack, 4),
+        matcher.matches(Look::WordUnicodeNegate, haystack, 0),
+        matcher.matches(Look::WordStartHalfUnicode, haystack, 1),
     ];
-    assert!(rt; are_words == [true, true, false, false]);
+    assert!(rt; hold == [true, true, false, false]);
 }
 
 // Whether the calls of the anchors answer as `matches` does.
@@ -129,7 +129,7 @@ fn anchors_agree(matcher: &LookMatcher<UnicodeWord>, haystack: &[u8], at: usize)
     by_call == by_look
 }
 
-// Whether the calls of the ASCII words answer as `matches` does.
+// Whether the calls of the ASCII word assertions answer as `matches` does.
 fn ascii_words_agree(matcher: &LookMatcher<UnicodeWord>, haystack: &[u8], at: usize) -> bool {
     if at > haystack.len() {
         return false;
@@ -153,7 +153,7 @@ fn ascii_words_agree(matcher: &LookMatcher<UnicodeWord>, haystack: &[u8], at: us
     by_call == by_look
 }
 
-// Whether the calls of the Unicode words answer as `matches` does.
+// Whether the calls of the Unicode word assertions answer as `matches` does.
 fn unicode_words_agree(
     matcher: &LookMatcher<UnicodeWord>,
     haystack: &[u8],
@@ -257,12 +257,12 @@ fn holding_between_a_byte_and_a_unit(rt: HostRuntime) {
     matcher.set_line_terminator(0);
     let between = matcher.holding_between(None, Unit::eoi(9));
     let anchors = [between.contains(Look::Start), between.contains(Look::EndLF)];
-    let words = [
+    let word_assertions = [
         between.contains(Look::WordStartHalfAscii),
         between.contains(Look::WordAscii),
         between.contains(Look::WordStartHalfUnicode),
     ];
-    assert!(rt; anchors == [true, true] && words == [true, false, false]);
+    assert!(rt; anchors == [true, true] && word_assertions == [true, false, false]);
 }
 
 // Whether an assertion quits at all bytes past ASCII or at none, and at none within it.

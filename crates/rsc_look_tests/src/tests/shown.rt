@@ -80,7 +80,7 @@ fn sets_are_shown_by_their_members(rt: HostRuntime) {
 fn matchers_are_shown_with_their_parts(rt: HostRuntime) {
     let mut matcher = LookMatcher::new(AsciiWord);
     matcher.set_line_terminator(7);
-    let want = "LookMatcher { line_terminator: 7, words: AsciiWord }";
+    let want = "LookMatcher { line_terminator: 7, word_class: AsciiWord }";
     assert!(rt; is_debug(rt.alloc(), &matcher, want));
 }
 

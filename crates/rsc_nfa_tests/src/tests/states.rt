@@ -98,13 +98,13 @@ fn what_was_handed_in_is_lent(rt: HostRuntime) -> Result<(), Fail> {
     Ok(())
 }
 
-// Word characters that hold memory.
+// A word predicate that holds memory.
 #[derive(Drop)]
-struct HeldWords<'a> {
+struct HeldWordPredicate<'a> {
     characters: Vec<char, &'a LocalHeap>,
 }
 
-impl WordClass for HeldWords<'_> {
+impl WordClass for HeldWordPredicate<'_> {
     ghost word_chars = { λ _ _. true };
 
     fn is_word(&self, _c: char) -> bool {
@@ -121,7 +121,7 @@ fn refusal_over(
     let info = GroupInfo::new(handed_in, &[&[None]])?;
     let mut characters = Vec::new(handed_in);
     characters.push('x')?;
-    let matcher = LookMatcher::new(HeldWords { characters });
+    let matcher = LookMatcher::new(HeldWordPredicate { characters });
     let accepting = [State::Accept { pattern }; 64];
     Ok(Nfa::new(states, info, matcher, &accepting).err())
 }

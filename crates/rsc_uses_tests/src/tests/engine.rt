@@ -82,13 +82,13 @@ fn answers_are_of_parts(rt: HostRuntime) -> Result<(), Fail> {
 #[test]
 fn the_first_of_two_parts_is_preferred(rt: HostRuntime) -> Result<(), Fail> {
     let builder = Builder::new(rt.alloc());
-    let word = builder.plus(builder.range(b'a', b'z'))?;
+    let letters = builder.plus(builder.range(b'a', b'z'))?;
     let keyword = builder.literal(b"if")?;
-    let found = engine::first_of_two(rt.alloc(), AsciiWord, keyword, word, b"- if")?;
+    let found = engine::first_of_two(rt.alloc(), AsciiWord, keyword, letters, b"- if")?;
     assert!(rt; found.is_some_and(|it| it.pattern() == PatternID::ZERO && it.start() == 2));
-    let word = builder.plus(builder.range(b'a', b'z'))?;
+    let letters = builder.plus(builder.range(b'a', b'z'))?;
     let keyword = builder.literal(b"if")?;
-    let found = engine::first_of_two(rt.alloc(), AsciiWord, keyword, word, b"- it")?;
+    let found = engine::first_of_two(rt.alloc(), AsciiWord, keyword, letters, b"- it")?;
     assert!(rt; found.is_some_and(|it| it.pattern().as_usize() == 1 && it.start() == 2));
     Ok(())
 }
@@ -158,8 +158,8 @@ fn tokens_stand_side_by_side(rt: HostRuntime) -> Result<(), Fail> {
     let mut builder = Builder::new(rt.alloc());
     let keyword = builder.literal(b"if")?;
     builder.pattern(keyword)?;
-    let word = builder.plus(builder.range(b'a', b'z'))?;
-    builder.pattern(word)?;
+    let letters = builder.plus(builder.range(b'a', b'z'))?;
+    builder.pattern(letters)?;
     let other = builder.range(0, 0xFF);
     let tokens = lexer::tokens_of(rt.alloc(), AsciiWord, builder, other, b"if x")?;
     assert!(rt; tokens.len() == 3);

@@ -1,7 +1,7 @@
 use Rattle.std.proofs.Common.{arith, refl, get_or, true≢false, sym}
 use Rattle.std.proofs.lemmas.List.Elements.{Contains-get_or}
 use Rattle.rsc_look.specs.declared.assertion.Look.TheVariants.{Start}
-use Rattle.rsc_show.specs.Chosen.{chosen_words}
+use Rattle.rsc_show.specs.Chosen.{chosen_word_chars}
 use Rattle.rsc_show.proofs.ChosenLemmas.{none_tells_more, not_needed, boundary_between}
 use Rattle.rsc_show.proofs.witness.witness.Goals as goal
 
@@ -28,20 +28,21 @@ returns-in-Some-clause-needed c =
 
 pub loop-look-preserved : goal.loop-look-preserved
 loop-look-preserved c =
-    none_tells_more c.args.byte c.loop-look.look-index c.args.looks.now Start c.args.matcher.now.0 (chosen_words c.args.matcher.now.1) c.loop-look.invariant
+    none_tells_more c.args.byte c.loop-look.look-index c.args.looks.now Start c.args.matcher.now.0 (chosen_word_chars c.args.matcher.now.1)
+    c.loop-look.invariant
     (c.in_default.ensures.none refl)
 
 pub returns-clause-needed : goal.returns-clause-needed
 returns-clause-needed c = (
   λ e. absurd (true≢false (sym e)),
   λ needed.
-      absurd (not_needed c.args.byte c.loop-look.look-index c.args.looks.now c.args.matcher.now.0 (chosen_words c.args.matcher.now.1)
+      absurd (not_needed c.args.byte c.loop-look.look-index c.args.looks.now c.args.matcher.now.0 (chosen_word_chars c.args.matcher.now.1)
       (omega (arith, c.loop-look-test.false)) c.loop-look.invariant needed),
 )
 
 pub returns-clause-boundary : goal.returns-clause-boundary
 returns-clause-boundary c = λ m coarsest differs.
-    absurd (not_needed c.args.byte c.loop-look.look-index c.args.looks.now c.args.matcher.now.0 (chosen_words c.args.matcher.now.1)
+    absurd (not_needed c.args.byte c.loop-look.look-index c.args.looks.now c.args.matcher.now.0 (chosen_word_chars c.args.matcher.now.1)
     (omega (arith, c.loop-look-test.false)) c.loop-look.invariant
     (coarsest.needed c.args.byte c.requires
     (boundary_between m coarsest.boundaries c.args.byte c.one_class_is_together.ensures c.requires coarsest.classes differs)))

@@ -12,7 +12,7 @@ returns-in-None-clause-none g c = λ i j before within goes.
     let none = rw (c.in-None.is, c.new-input.ensures) at c.in_ok-find.ensures.none in
     c.a_first_match_is_of_a_pattern.ensures.none c.in_ok-program.program (p ∷ []) (whole c.args.haystack.now) _ matches none
     (may_begin chars c.in_ok-program.program c.args.haystack.now i before)
-    (match_of chars c.in_ok-program.program c.args.words p [] c.args.haystack.now i j c.in_ok-program.ensures.matcher within goes)
+    (match_of chars c.in_ok-program.program c.args.word_class p [] c.args.haystack.now i j c.in_ok-program.ensures.matcher within goes)
 
 pub returns-clause-some : goal.returns-clause-some
 returns-clause-some g c =
@@ -21,7 +21,7 @@ returns-clause-some g c =
     let matches = rw c.new.ensures.patterns at c.in_ok-program.ensures.matches in
     let found = rw (c.in-Some.is, c.new-input.ensures) at c.in_ok-find.ensures.found in
     rw (c.start.ensures.start, c.end.ensures.end)
-    (goes_of chars c.in_ok-program.program c.args.words p c.args.haystack.now c.in-Some.found c.in_ok-program.ensures.matcher
+    (goes_of chars c.in_ok-program.program c.args.word_class p c.args.haystack.now c.in-Some.found c.in_ok-program.ensures.matcher
     (c.a_first_match_is_of_a_pattern.ensures.some c.in_ok-program.program (p ∷ []) (whole c.args.haystack.now) _ _ matches found))
 
 pub returns-clause-first : goal.returns-clause-first
@@ -32,4 +32,4 @@ returns-clause-first g c = λ i j before within goes.
     let found = rw (c.in-Some.is, c.new-input.ensures) at c.in_ok-find.ensures.found in
     c.a_first_match_is_of_a_pattern.ensures.earlier c.in_ok-program.program (p ∷ []) (whole c.args.haystack.now) _ c.in-Some.found _ matches found
     (rw c.start.ensures.start at before)
-    (match_of chars c.in_ok-program.program c.args.words p [] c.args.haystack.now i j c.in_ok-program.ensures.matcher within goes)
+    (match_of chars c.in_ok-program.program c.args.word_class p [] c.args.haystack.now i j c.in_ok-program.ensures.matcher within goes)

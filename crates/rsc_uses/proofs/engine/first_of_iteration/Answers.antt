@@ -15,7 +15,7 @@ returns-in-None-clause-none g c = λ i j before within goes.
     none_left_out (search_in chars program (whole c.args.haystack.now)) i c.in_ok-program.ensures.text
     (c.a_next_match_is_of_a_pattern.ensures.over program (p ∷ []) (whole c.args.haystack.now) _ _ matches over
     (is_open chars program c.args.haystack.now i before)
-    (match_of chars program c.args.words p [] c.args.haystack.now i j c.in_ok-program.ensures.matcher within goes))
+    (match_of chars program c.args.word_class p [] c.args.haystack.now i j c.in_ok-program.ensures.matcher within goes))
 
 pub returns-clause-some : goal.returns-clause-some
 returns-clause-some g c =
@@ -24,7 +24,7 @@ returns-clause-some g c =
     let matches = rw c.new.ensures.patterns at c.in_ok-program.ensures.matches in
     let found = rw (c.in-Some.is, c.in_ok-matches.ensures.made, c.new-input.ensures) at c.in_ok-next.ensures.found in
     rw (c.start.ensures.start, c.end.ensures.end)
-    (goes_of chars c.in_ok-program.program c.args.words p c.args.haystack.now c.in-Some.found c.in_ok-program.ensures.matcher
+    (goes_of chars c.in_ok-program.program c.args.word_class p c.args.haystack.now c.in-Some.found c.in_ok-program.ensures.matcher
     (c.a_next_match_is_of_a_pattern.ensures.some c.in_ok-program.program (p ∷ []) (whole c.args.haystack.now) _ _ _ matches found))
 
 pub returns-clause-first : goal.returns-clause-first
@@ -35,7 +35,7 @@ returns-clause-first g c = λ i j before within goes.
     let matches = rw c.new.ensures.patterns at c.in_ok-program.ensures.matches in
     let found = rw (c.in-Some.is, c.in_ok-matches.ensures.made, c.new-input.ensures) at c.in_ok-next.ensures.found in
     let earlier = rw c.start.ensures.start at before in
-    let m = match_of chars program c.args.words p [] c.args.haystack.now i j c.in_ok-program.ensures.matcher within goes in
+    let m = match_of chars program c.args.word_class p [] c.args.haystack.now i j c.in_ok-program.ensures.matcher within goes in
     none_left_out (search_in chars program (whole c.args.haystack.now)) i c.in_ok-program.ensures.text
     (c.a_next_match_is_of_a_pattern.ensures.earlier program (p ∷ []) (whole c.args.haystack.now) _ _ c.in-Some.found _ matches found earlier
     (is_open chars program c.args.haystack.now i (omega (arith, earlier, found.is_of.ends.start, found.is_next.opens.end))) m)

@@ -14,6 +14,6 @@ returns g c = λ second j within goes.
     let least : c.in-Some.found.pattern ≤ 0 =
     c.a_match_is_of_the_least_pattern.ensures.first program (p ∷ (pattern_of c.args.other ∷ [])) (whole c.args.haystack.now) _ c.in-Some.found
     (record { pattern = 0; span = record { start = c.in-Some.found.span.start; end = j } }) matches c.in_ok-program.ensures.prefers found
-    (match_of chars program c.args.words p (pattern_of c.args.other ∷ []) c.args.haystack.now c.in-Some.found.span.start j
+    (match_of chars program c.args.word_class p (pattern_of c.args.other ∷ []) c.args.haystack.now c.in-Some.found.span.start j
     c.in_ok-program.ensures.matcher within goes) refl in
     absurd (omega (arith, least, second))

@@ -13,6 +13,6 @@ returns g c =
     let ends = rw (c.in-Some.is, c.new-input.ensures, c.new-dfa.ensures) at c.in_ok-leftmost_end.ensures.found in
     let one = c.a_leftmost_end_is_of_a_pattern.ensures c.in_ok-program.program (p ∷ []) (whole c.args.haystack.now) c.in-Some.end matches ends in (
       one.0.span.start,
-      subst (λ end. Goes (text c.args.haystack.now (chars c.args.words)) p one.0.span.start end) one.3
-          (goes_of chars c.in_ok-program.program c.args.words p c.args.haystack.now one.0 c.in_ok-program.ensures.matcher one.1),
+      subst (λ end. Goes (text c.args.haystack.now (chars c.args.word_class)) p one.0.span.start end) one.3
+          (goes_of chars c.in_ok-program.program c.args.word_class p c.args.haystack.now one.0 c.in_ok-program.ensures.matcher one.1),
     )

@@ -2,4 +2,4 @@ use Rattle.rsc_look.proofs.HoldsLemmas.{starts}
 use Rattle.rsc_look.proofs.matcher.LookMatcher.is_word_start_unicode.Goals as goal
 
 pub returns : goal.returns
-returns g c = starts _ _ _ _ _ _ _ c.side_before-before.ensures c.side_after-after.ensures c.is_word-2.ensures c.is_word.ensures
+returns g c = starts _ _ _ _ _ _ _ c.side_before-before.ensures c.side_after-after.ensures c.is_word_character-2.ensures c.is_word_character.ensures

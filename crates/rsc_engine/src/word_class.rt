@@ -5,19 +5,19 @@ use rsc_look::{AsciiWord, UnicodeWord, WordClass};
 
 /// A word predicate whose word characters below 128 are the word bytes. A DFA is made of a program with such a predicate, so that beside ASCII
 /// it can answer an assertion about characters by the bytes.
-pub trait AsciiWords: WordClass {
+pub trait AsciiWordClass: WordClass {
     /// The law, for a proof: nothing is done.
     fn agrees_with_ascii()
-        ensures { (words : Self) → AgreesWithAscii (Self.word_chars words) };
+        ensures { (word_class : Self) → AgreesWithAscii (Self.word_chars word_class) };
 }
 
-impl AsciiWords for AsciiWord {
+impl AsciiWordClass for AsciiWord {
     fn agrees_with_ascii() {
         rsc_look::laws::words_agree_with_ascii();
     }
 }
 
-impl AsciiWords for UnicodeWord {
+impl AsciiWordClass for UnicodeWord {
     fn agrees_with_ascii() {
         rsc_look::laws::words_agree_with_ascii();
     }
