@@ -1,7 +1,6 @@
 //! The commands, by their names.
 
 /// What a line asks for.
-#[derive(Clone, Copy, Debug, PartialEq, Eq)]
 pub enum Command {
     /// The classes of a list of byte ranges.
     Ranges,

@@ -3,7 +3,7 @@
 use thiserror::Error;
 
 /// Why [`crate::run::run`] gave up.
-#[derive(Debug, Drop, Clone, Copy, PartialEq, Eq, Error)]
+#[derive(Debug, Drop, Error)]
 pub enum BenchError {
     /// The input failed, or didn't end within the reads that are allowed. Nothing was written.
     #[error("rsc_bench: read failed")]

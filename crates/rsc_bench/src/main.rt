@@ -9,8 +9,6 @@ mod input;
 mod looks;
 mod ranges;
 mod run;
-#[cfg(test)]
-mod tests;
 mod tokens;
 
 use run::run;
