@@ -10,7 +10,8 @@ use Rattle.rsc_search.specs.Matches.{Matched}
 use Rattle.rsc_engine.specs.Searches.{Compiled, Search, search_in}
 use Rattle.rsc_engine.specs.Preferred.{MayBegin}
 use Rattle.rsc_engine.specs.NextMatches.{Left, IsNextOf, IsOver, IsOpen, IsRepeated, IsSplitAt, AreAll, after}
-use Rattle.rsc_engine.specs.Patterns.{Pattern, Subject, Goes, IsMatchIn}
+use Rattle.rsc_engine.specs.Patterns.{Pattern, Subject, Goes, subject_of, IsMatchIn}
+use Rattle.rsc_engine.specs.FirstEnds.{IsFirstEnd}
 
 -- a haystack as a text whose lines end by \n
 abbrev pub text : List ℕ → (ℕ → Bool) → Subject
@@ -28,6 +29,17 @@ goes_of {W = W} chars program word_class p haystack found matcher m =
     subst (λ (x : ℕ × W). Goes (record { haystack = haystack; terminator = x.0; word_chars = chars x.1 }) p found.span.start found.span.end) matcher
     (subst (λ (q : Pattern). Goes (record { haystack = haystack; terminator = program.automaton.matcher.0; word_chars = chars program.automaton.matcher.1 }) q
     found.span.start found.span.end) (its_only p m.pattern found.pattern m.its) m.goes)
+
+-- and ends where the pattern's first end is
+pub first_end_of : {W : Type 0} (chars : W → ℕ → Bool) (program : Compiled W) (word_class : W) (p : Pattern) (haystack : List ℕ) (found : Matched)
+    → program.automaton.matcher ≡ (10, word_class) → IsMatchIn (p ∷ []) (search_in chars program (whole haystack)) found
+    → (slice_get (p ∷ []) found.pattern ≡ Some p
+    → IsFirstEnd (subject_of (search_in chars program (whole haystack))) p (λ j. j ≤ length haystack) found.span.start found.span.end)
+    → IsFirstEnd (text haystack (chars word_class)) p (λ j. j ≤ length haystack) found.span.start found.span.end
+first_end_of {W = W} chars program word_class p haystack found matcher m first =
+    subst (λ (x : ℕ × W). IsFirstEnd (record { haystack = haystack; terminator = x.0; word_chars = chars x.1 }) p (λ j. j ≤ length haystack) found.span.start
+    found.span.end) matcher
+    (first (m.its ∙ ap (λ (q : Pattern). Some q) (its_only p m.pattern found.pattern m.its)))
 
 -- and it's of pattern 0
 pub number_of : (p : Pattern) (e : Search) (found : Matched) → IsMatchIn (p ∷ []) e found → found.pattern ≡ 0

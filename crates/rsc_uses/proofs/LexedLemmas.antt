@@ -1,12 +1,13 @@
 -- Matches that stand side by side are tokens.
-use Rattle.std.proofs.Common.{◌≡◌, ℕ, ◌≤◌, Bool, false, List, [], ◌∷◌, length, slice_get, refl, sym, subst, arith, Option, Some}
+use Rattle.std.proofs.Common.{◌≡◌, ℕ, ◌≤◌, Bool, false, true, List, [], ◌∷◌, length, slice_get, refl, sym, subst, arith, Option, Some}
 use Rattle.rsc_search.specs.declared.anchored.Anchored.TheVariants.{No, Yes}
 use Rattle.rsc_search.specs.Inputs.{InputParts}
 use Rattle.rsc_search.specs.Matches.{Matched}
 use Rattle.rsc_captures.specs.Captured.{Captured}
 use Rattle.rsc_engine.specs.Searches.{Compiled, search_in}
 use Rattle.rsc_engine.specs.NextMatches.{IsNextMatch, IsOver, AreAll}
-use Rattle.rsc_engine.specs.Patterns.{Pattern, Subject, Goes, IsMatchIn}
+use Rattle.rsc_engine.specs.Patterns.{Pattern, Subject, Goes, subject_of, IsMatchIn}
+use Rattle.rsc_engine.specs.FirstEnds.{loops_take_bytes, IsFirstEnd}
 use Rattle.rsc_uses.specs.Lexed.{AreLexed}
 
 -- what laws of the engine say of the next matches of a program
@@ -16,6 +17,9 @@ pub record Laws {W : Type 0} (chars : W → ℕ → Bool) (program : Compiled W)
   pub least : (input : InputParts) (last : Option ℕ) (captures : Captured) (found other : Matched)
       → IsNextMatch (search_in chars program input) last captures found → IsMatchIn patterns (search_in chars program input) other
       → other.span.start ≡ found.span.start → found.pattern ≤ other.pattern
+  pub first_end : (input : InputParts) (last : Option ℕ) (captures : Captured) (found : Matched) (p : Pattern)
+      → IsNextMatch (search_in chars program input) last captures found → slice_get patterns found.pattern ≡ Some p → loops_take_bytes p ≡ true
+      → IsFirstEnd (subject_of (search_in chars program input)) p (λ j. j ≤ input.span.end) found.span.start found.span.end
   pub start : (input : InputParts) (last : Option ℕ) (captures : Captured) (found : Matched) → (input.anchored ≡ No → ⊥)
       → IsNextMatch (search_in chars program input) last captures found → found.span.start ≡ input.span.start
   pub over : (input : InputParts) (last : Option ℕ) (other : Matched) → IsOver (search_in chars program input) last
@@ -53,6 +57,9 @@ lexed chars program patterns text at last (found ∷ rest) laws all =
         start = start;
         end = m.end;
         goes = subst (λ (i : ℕ). Goes (read_by chars program.automaton.matcher text) m.pattern i found.span.end) start m.goes;
+        first_end = λ loops.
+            subst (λ (i : ℕ). IsFirstEnd (read_by chars program.automaton.matcher text) m.pattern (λ j. j ≤ length text) i found.span.end) start
+            (laws.first_end (rest_of text at) last all.0.0 found m.pattern all.0.1 m.its loops);
         first = λ number pattern to l its within goes.
             let least = laws.least (rest_of text at) last all.0.0 found (record { pattern = number; span = record { start = at; end = to } }) all.0.1
             (match_at chars program patterns text at number to pattern its within goes) (sym start) in

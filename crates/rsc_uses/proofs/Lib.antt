@@ -1,5 +1,6 @@
 mod AlphabetLemmas  -- tables that are filled unit by unit
 mod CapturesLemmas  -- the slots that a group was written into give its span
+mod EndsLemmas  -- where what comes often ends, and what comes seldom
 mod EngineLemmas  -- matches of one pattern in a whole haystack
 mod LexedLemmas  -- matches that stand side by side are tokens
 mod ListedLemmas  -- how such a list is made, number by number

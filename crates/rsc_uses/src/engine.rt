@@ -1,5 +1,5 @@
 //! Searches by an engine, and what its answers say of one another.
-ghost use Rattle.std.specs.Prelude.{◌≡◌, ◌<◌, ◌≤◌, ◌⊎◌, ◌++◌, [], ◌∷◌, ℕ, Some, None, false, IfOk, OnOk, IfSome, IfNone, length, slice_index_or};
+ghost use Rattle.std.specs.Prelude.{◌≡◌, ◌<◌, ◌≤◌, ◌⊎◌, ◌++◌, [], ◌∷◌, ℕ, Some, None, true, false, IfOk, OnOk, IfSome, IfNone, length, slice_index_or};
 ghost use Rattle.rsc_search.specs.Matches.{Matched};
 ghost use Rattle.rsc_captures.specs.Captured.{group_span};
 ghost use Rattle.rsc_engine.specs.Searches.{search_in};
@@ -7,6 +7,7 @@ ghost use Rattle.rsc_engine.specs.NextMatches.{AreAll};
 ghost use Rattle.rsc_engine.specs.declared.dfa.Answer.TheVariants.{End};
 ghost use Rattle.rsc_engine.specs.Preferred.{HasNone, IsFirstMatch};
 ghost use Rattle.rsc_engine.specs.Patterns.{Goes, Either, Literal};
+ghost use Rattle.rsc_engine.specs.FirstEnds.{loops_take_bytes, IsFirstEnd};
 ghost use Rattle.rsc_engine.specs.Parts.{pattern_of, groups_of_part, groups_of_pattern};
 ghost use Rattle.rsc_engine.specs.Refusals.{RepeatsName, has_a_reversed_range};
 
@@ -18,7 +19,8 @@ use rsc_look::WordClass;
 use rsc_search::{Input, Match, Span};
 use std::alloc::Global;
 
-/// Where a part goes first in a haystack, whose line terminator is `\n`: from where to where, or `None` if it goes nowhere.
+/// Where a part goes first in a haystack, whose line terminator is `\n`: from where to where, or `None` if it goes nowhere. If its loops take bytes, it's
+/// to the first end.
 pub fn find_part<W: WordClass + AsciiWordClass>(
     alloc: Global,
     word_class: W,
@@ -31,8 +33,12 @@ pub fn find_part<W: WordClass + AsciiWordClass>(
         ¬ (Goes (record { haystack = haystack.now; terminator = 10; word_chars = W.word_chars word_class }) (pattern_of part.entry) i j))) }
     ensures none { IfOk result (λ found. IfNone found ((i j : ℕ) → i ≤ length haystack.now → j ≤ length haystack.now →
         ¬ (Goes (record { haystack = haystack.now; terminator = 10; word_chars = W.word_chars word_class }) (pattern_of part.entry) i j))) }
+    ensures first_end { IfOk result (λ found. IfSome found (λ ends. loops_take_bytes (pattern_of part.entry) ≡ true →
+        IsFirstEnd (record { haystack = haystack.now; terminator = 10; word_chars = W.word_chars word_class }) (pattern_of part.entry)
+        (λ j. j ≤ length haystack.now) ends.0 ends.1)) }
 {
     laws::a_first_match_is_of_a_pattern::<W>();
+    laws::a_match_ends_at_its_first_end::<W>();
     let program = Builder::new(alloc).build(word_class, true, part)?;
     let mut captures = program.captures(alloc)?;
     let input = Input::new(haystack);
@@ -267,7 +273,7 @@ pub fn first_of_iteration<W: WordClass + AsciiWordClass>(
     }
 }
 
-/// The least position to which a part goes, unless the DFA quits before it: at a byte above 7F, if an assertion of the part looks at characters.
+/// A position to which a part goes, by a DFA: the earliest end. It quits before it at a byte above 7F, if an assertion of the part looks at characters.
 pub fn first_end_of_part<W: WordClass + AsciiWordClass>(
     alloc: Global,
     word_class: W,
@@ -285,7 +291,7 @@ pub fn first_end_of_part<W: WordClass + AsciiWordClass>(
     Ok(answer)
 }
 
-/// The position to which the first match of a part goes.
+/// A position to which a part goes: the end of its first match.
 pub fn leftmost_end_of_part<W: WordClass + AsciiWordClass>(
     alloc: Global,
     word_class: W,

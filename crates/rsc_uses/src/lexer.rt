@@ -1,5 +1,6 @@
 //! A lexer: the tokens of a text, which an engine finds side by side, and the bytes of a group.
-ghost use Rattle.std.specs.Prelude.{◌≡◌, ◌≤◌, ◌++◌, [], ◌∷◌, false, length, IfOk, IfSome};
+ghost use Rattle.std.specs.Prelude.{◌≡◌, ◌≤◌, ◌⊎◌, ◌++◌, [], ◌∷◌, true, false, length, IfOk, IfSome, IfNone};
+ghost use Rattle.rsc_engine.specs.FirstEnds.{loops_take_bytes};
 ghost use Rattle.std.specs.List.{list_any};
 ghost use Rattle.rsc_engine.specs.Patterns.{may_be_empty};
 ghost use Rattle.rsc_engine.specs.Parts.{pattern_of, patterns_of};
@@ -11,8 +12,8 @@ use rsc_look::WordClass;
 use rsc_search::{Anchored, Input, Match};
 use std::alloc::Global;
 
-/// The tokens of a text: each is of the first pattern that goes on from where the token before it ended, and from the end of the last none does. No pattern
-/// may be empty.
+/// The tokens of a text: each is of the first pattern that goes on from where the token before it ended, to its first end if its loops take bytes; and from
+/// the end of the last none goes on. No pattern may be empty.
 pub fn tokens_of<'n, W: WordClass + AsciiWordClass>(
     alloc: Global,
     word_class: W,
@@ -28,10 +29,24 @@ pub fn tokens_of<'n, W: WordClass + AsciiWordClass>(
     laws::a_next_match_is_of_a_pattern::<W>();
     laws::a_match_is_of_the_least_pattern::<W>();
     laws::anchored_matches_are_side_by_side::<W>();
+    laws::a_match_ends_at_its_first_end::<W>();
     let program = builder.build(word_class, true, last)?;
     let input = Input::new(text).anchored(Anchored::Yes);
     let tokens = all_matches(alloc, &program, input)?;
     Ok(tokens)
+}
+
+/// A part as a token's pattern, or `None` if it may match no byte, or if a part of it that may be empty is repeated without a limit: so `tokens_of` takes it,
+/// and says where its tokens end.
+pub fn as_token<'n>(part: Part<'n>) -> Option<Part<'n>>
+    ensures same { IfSome result (λ token. pattern_of token ≡ pattern_of part.entry) }
+    ensures some { IfSome result (λ token. (may_be_empty (pattern_of token) ≡ false) × (loops_take_bytes (pattern_of token) ≡ true)) }
+    ensures none { IfNone result ((may_be_empty (pattern_of part.entry) ≡ true) ⊎ (loops_take_bytes (pattern_of part.entry) ≡ false)) }
+{
+    if part.may_be_empty() || !part.loops_take_bytes() {
+        return None;
+    }
+    Some(part)
 }
 
 /// The bytes of a group of the first match of a part, if there is one and the group is set. They can be cut out: the group's start is at most its end, and

@@ -4,6 +4,7 @@
 
 pub mod alphabet;
 pub mod captures;
+pub mod ends;
 pub mod engine;
 pub mod lexer;
 pub mod look;

@@ -3,7 +3,7 @@ use rsc_engine::{Answer, Builder, Cache, Dfa, Error, Matches, Program};
 use rsc_look::AsciiWord;
 use rsc_primitives::PatternID;
 use rsc_search::Input;
-use rsc_uses::{engine, lexer};
+use rsc_uses::{ends, engine, lexer};
 use std::alloc::Global;
 use std::test::Fail;
 
@@ -177,5 +177,25 @@ fn the_bytes_of_a_group_are_cut_out(rt: HostRuntime) -> Result<(), Fail> {
     let whole = builder.then(builder.literal(b"=")?, value)?;
     let found = lexer::bytes_of_group(rt.alloc(), AsciiWord, whole, 1, b"a=42;")?;
     assert!(rt; found == Some(b"42".as_slice()));
+    Ok(())
+}
+
+#[test]
+fn a_run_and_what_is_quoted_end_where_they_should(rt: HostRuntime) -> Result<(), Fail> {
+    assert!(rt; ends::find_run(rt.alloc(), b'a', b'z', b"-ab1")? == Some((1, 3)));
+    assert!(rt; ends::find_run(rt.alloc(), b'a', b'z', b"12")? == None);
+    assert!(rt; ends::find_quoted(rt.alloc(), b"a \"b\" \"c\"")? == Some((2, 5)));
+    assert!(rt; ends::find_quoted(rt.alloc(), b"a \"b")? == None);
+    Ok(())
+}
+
+#[test]
+fn a_token_takes_a_byte(rt: HostRuntime) -> Result<(), Fail> {
+    let builder = Builder::new(rt.alloc());
+    assert!(rt; lexer::as_token(builder.range(b'a', b'z')).is_some());
+    assert!(rt; lexer::as_token(builder.empty()).is_none());
+    let loops = builder.plus(builder.optional(builder.range(b'a', b'z'))?)?;
+    let digits = builder.range(b'0', b'9');
+    assert!(rt; lexer::as_token(builder.then(loops, digits)?).is_none());
     Ok(())
 }

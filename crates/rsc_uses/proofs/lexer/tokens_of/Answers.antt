@@ -18,6 +18,8 @@ returns g c =
           c.a_next_match_is_of_a_pattern.ensures.some program patterns input last captures found matches f;
       least = λ input last captures found other f m same.
           c.a_match_is_of_the_least_pattern.ensures.next program patterns input last captures found other matches c.in_ok-program.ensures.prefers f m same;
+      first_end = λ input last captures found p f its loops.
+          c.a_match_ends_at_its_first_end.ensures.next program patterns input last captures found p c.in_ok-program.ensures.first_ends f its loops;
       start = λ input last captures found anchored f.
           c.anchored_matches_are_side_by_side.ensures.next program patterns input last captures found matches none anchored f;
       over = λ input last other over same m.

@@ -1,0 +1,43 @@
+//! Where a match ends: of what comes preferably often as late as it can, of what comes preferably seldom as early.
+ghost use Rattle.std.specs.Prelude.{◌≡◌, ◌+◌, ◌<◌, ◌≤◌, ℕ, Some, IfOk, IfSome, IsTrue, slice_get};
+ghost use Rattle.rsc_nfa.specs.Steps.{is_between};
+
+use crate::engine::find_part;
+use rsc_engine::{Builder, Error};
+use rsc_look::AsciiWord;
+use std::alloc::Global;
+
+/// The first run of bytes of a range, from where to where: the byte after it, if there is one, isn't in the range.
+pub fn find_run(
+    alloc: Global,
+    first: u8,
+    last: u8,
+    haystack: &[u8],
+) -> Result<Option<(usize, usize)>, Error>
+    ensures bytes { IfOk result (λ found. IfSome found (λ ends. (k : ℕ) → ends.0 ≤ k → k < ends.1 →
+        IsTrue (is_between first last (slice_get haystack.now k)))) }
+    ensures longest { IfOk result (λ found. IfSome found (λ ends. ¬ (IsTrue (is_between first last (slice_get haystack.now ends.1))))) }
+{
+    let builder = Builder::new(alloc);
+    let run = builder.plus(builder.range(first, last))?;
+    match find_part(alloc, AsciiWord, run, haystack)? {
+        None => Ok(None),
+        Some(ends) => Ok(Some(ends)),
+    }
+}
+
+/// The first quoted part of a text: from a quotation mark to after the next one.
+pub fn find_quoted(alloc: Global, haystack: &[u8]) -> Result<Option<(usize, usize)>, Error>
+    ensures opens { IfOk result (λ found. IfSome found (λ ends. slice_get haystack.now ends.0 ≡ Some 34)) }
+    ensures closes { IfOk result (λ found. IfSome found (λ ends. (at : ℕ) × (ends.0 < at) × (slice_get haystack.now at ≡ Some 34) × (ends.1 ≡ at + 1)
+        × ((k : ℕ) → ends.0 < k → k < at → ¬ (slice_get haystack.now k ≡ Some 34)))) }
+{
+    let builder = Builder::new(alloc);
+    let quoted = builder.star_lazy(builder.range(0, 255))?;
+    let rest = builder.then(quoted, builder.literal(b"\"")?)?;
+    let all = builder.then(builder.literal(b"\"")?, rest)?;
+    match find_part(alloc, AsciiWord, all, haystack)? {
+        None => Ok(None),
+        Some(ends) => Ok(Some(ends)),
+    }
+}
