@@ -78,6 +78,7 @@ def statement(is_quoted):
 
 # What rsc_engine promises of a search, and by what its groups are read: the clauses of these functions.
 ENGINE = (("rsc_engine", "first.rt", ("find",)), ("rsc_engine", "iterate.rt", ("new", "next", "into_cache")), ("rsc_engine", "builder.rt", ("new", "range", "class", "literal", "look", "empty", "never", "then", "concat", "one_of", "either", "group", "pattern", "build", "build_with")),
+          ("rsc_engine", "builder/part.rt", ("may_be_empty", "loops_take_bytes")),
           ("rsc_engine", "builder/repeat.rt", tuple(f"{it}{end}" for it in ("optional", "star", "plus", "repeat") for end in ("", "_lazy"))),
           ("rsc_engine", "dfa.rt", ("new", "earliest_end", "is_match", "find", "leftmost_end")), ("rsc_engine", "cache.rt", ("new", "find", "matches")),
           ("rsc_engine", "program.rt", ("new", "captures")), ("rsc_captures", "captures.rt", ("get_group",)),

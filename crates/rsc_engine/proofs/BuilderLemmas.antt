@@ -1,21 +1,25 @@
 -- How lists of states grow, part by part.
-use Rattle.std.proofs.Common.{Bool, true, false, subst, true≢false, drop, drop-cons, get_or, ◌≡◌, ℕ, zero, suc, ◌+◌, ◌-◌, ◌*◌, ◌%◌, ◌<◌, ◌≤◌, ◌⊎◌, inl, inr, List, [], ◌∷◌, ◌++◌, length, set, slice_get, refl, sym, ap, ◌∙◌, arith, length-append, Some, None}
+use Rattle.std.proofs.Common.{Bool, true, false, subst, true≢false, drop, drop-cons, get_or, ◌≡◌, ℕ, zero, suc, ◌+◌, ◌-◌, ◌*◌, ◌%◌, ◌<◌, ◌≤◌, inl, inr, List, [], ◌∷◌, ◌++◌, length, set, slice_get, refl, sym, ap, ◌∙◌, arith, length-append, Some}
 use Rattle.std.proofs.lemmas.List.{length-set}
 use Rattle.std.proofs.Math.Nat.{div-add-mod}
 use Rattle.std.proofs.Math.Seq.{drop-length}
 use Rattle.rsc_look.specs.declared.assertion.Look.{Look}
 use Rattle.rsc_nfa.specs.declared.state.State.{State}
 use Rattle.rsc_nfa.specs.declared.state.State.TheVariants.{ByteRange, Assert, Fork, Capture}
-use Rattle.rsc_engine.specs.Patterns.{Pattern, Empty, Never, Class, Literal, Assertion, Then, Either, Repeat, one_of, Subject, Goes}
+use Rattle.rsc_engine.specs.Patterns.{Pattern, Empty, Never, Class, Literal, Assertion, Then, Either, one_of, Subject, Goes}
 use Rattle.rsc_engine.specs.EnclosesLayout.{IsOnWay, StaysOnWay, Encloses}
 use Rattle.rsc_nfa.specs.Classes.{IsOrdered}
 use Rattle.rsc_engine.specs.Refusals.{has_reversed_range}
 use Rattle.rsc_engine.specs.NamesLayout.{HasClose, RecordsInPairs, Names}
-use Rattle.rsc_engine.proofs.NamesLayoutLemmas.{Names-joined, Names-one, Names-above, Names-choice, Names-loop, or_none, either_back, range-ordered, range-reversed, class-same, literal-same, between-same, star-same, limited-same, unlimited-same}
-use Rattle.rsc_engine.specs.LinksLayout.{Adds, Builds, IsAdded, IsChoice, Realizes, copies, up_to}
-use Rattle.rsc_engine.proofs.LinksLayoutLemmas.{Realizes-never, Realizes-range, Realizes-assert, Realizes-capture, Realizes-is, Realizes-then, Realizes-either, Realizes-choice, Realizes-star, Realizes-plus}
-use Rattle.rsc_engine.proofs.EnclosesLayoutLemmas.{Encloses-one, Encloses-then, Encloses-either, Encloses-choice, Encloses-loop}
-use Rattle.rsc_engine.proofs.PatternsLemmas.{between-is, between-back, class-is, class-back, literal-is, literal-back, star-is, star-back, limited-is, limited-back, unlimited-is, unlimited-back}
+use Rattle.rsc_engine.proofs.NamesLayoutLemmas.{Names-none, Names-joined, Names-one, Names-above, either_back, range-ordered, range-reversed, class-same, literal-same, between-same}
+use Rattle.rsc_engine.specs.LinksLayout.{Adds, Builds, IsAdded, Realizes}
+use Rattle.rsc_engine.proofs.LinksLayoutLemmas.{Realizes-never, Realizes-range, Realizes-assert, Realizes-capture, Realizes-empty, Realizes-is, Realizes-then, Realizes-either}
+use Rattle.rsc_engine.proofs.EnclosesLayoutLemmas.{Encloses-one, Encloses-then, Encloses-either}
+use Rattle.rsc_engine.proofs.PatternsLemmas.{between-is, between-back, class-is, class-back, literal-is, literal-back}
+use Rattle.rsc_engine.specs.FirstEnds.{loops_take_bytes}
+use Rattle.rsc_engine.specs.OrderLayout.{Orders}
+use Rattle.rsc_engine.proofs.FirstEndsLemmas.{HasFirst, class-first, literal-first, between-first, between-loops}
+use Rattle.rsc_engine.proofs.OrderLayoutLemmas.{Orders-empty, Orders-is, Orders-never, Orders-range, Orders-assert, Orders-capture, Orders-then, Orders-either}
 
 -- ---- what a list has at an index
 
@@ -92,9 +96,9 @@ Adds-written old middle new state written id P a p = record {
 -- ---- parts
 
 -- the states from low to high are a part's
-abbrev IsPart : ℕ × ℕ → ℕ → ℕ → ℕ → ℕ → Pattern → List State → Type 0
+abbrev pub IsPart : ℕ × ℕ → ℕ → ℕ → ℕ → ℕ → Pattern → List State → Type 0
 IsPart slot low high first next p all =
-    Realizes all first next p × Encloses slot.0 low high first next all × Names slot.1 (has_reversed_range p) low high all
+    Realizes all first next p × Encloses slot.0 low high first next all × Names slot.1 (has_reversed_range p) low high all × Orders all first next p
 
 part-then : (slot : ℕ × ℕ) (low middle high first between next : ℕ) (p q : Pattern) (all : List State) → low ≤ middle → middle ≤ high
     → IsPart slot low middle between next q all → IsPart slot middle high first between p all → IsPart slot low high first next (Then p q) all
@@ -103,6 +107,7 @@ part-then slot low middle high first between next p q all l h a b = (
   Encloses-then slot.0 low middle high first between next all l h a.1 b.1,
   Names-joined slot.1 (has_reversed_range (Then p q)) (has_reversed_range q) (has_reversed_range p) low middle high all
       (either_back (has_reversed_range q) (has_reversed_range p)) l h a.2 b.2,
+  Orders-then all first between next p q a.0 a.3 b.3,
 )
 
 pub Builds-then : (slot : ℕ × ℕ) (old middle new : List State) (first between next : ℕ) (p q : Pattern) → Builds slot old middle between next q
@@ -114,15 +119,33 @@ Builds-then slot old middle new first between next p q x y =
 
 -- a part is what goes where it goes
 pub Builds-is : (slot : ℕ × ℕ) (old new : List State) (first next : ℕ) (p q : Pattern) → ((x : Subject) (i j : ℕ) → Goes x p i j → Goes x q i j)
-    → ((x : Subject) (i j : ℕ) → Goes x q i j → Goes x p i j) → has_reversed_range p ≡ has_reversed_range q
-    → Builds slot old new first next p → Builds slot old new first next q
-Builds-is slot old new first next p q to back same x =
+    → ((x : Subject) (i j : ℕ) → Goes x q i j → Goes x p i j) → HasFirst p q → (loops_take_bytes q ≡ true → loops_take_bytes p ≡ true)
+    → has_reversed_range p ≡ has_reversed_range q → Builds slot old new first next p → Builds slot old new first next q
+Builds-is slot old new first next p q to back first-is loops same x =
     Adds-is old new (IsPart slot (length old) (length new) first next p) (IsPart slot (length old) (length new) first next q)
     (λ all r. (
-      Realizes-is all first next p q to back r.0,
+      Realizes-is all first next p q to back loops r.0,
       r.1,
       subst (λ (b : Bool). Names slot.1 b (length old) (length new) all) same r.2,
+      Orders-is all first next p q first-is loops r.3,
     )) x
+
+-- no state
+pub Builds-empty : (slot : ℕ × ℕ) (states : List State) (next : ℕ) → Builds slot states states next next Empty
+Builds-empty slot states next = record {
+  longer = omega arith;
+  kept = λ k l. refl;
+  holds = λ all is. (
+    Realizes-empty all next,
+    record { begins = inr refl; stays = λ k state l h. absurd (omega (arith, l, h)) },
+    Names-none slot.1 (length states) (length states) all (omega arith),
+    Orders-empty all next,
+  );
+}
+
+pub Builds-no_byte : (slot : ℕ × ℕ) (states : List State) (next : ℕ) → Builds slot states states next next (Literal [])
+Builds-no_byte slot states next =
+    Builds-is slot states states next next Empty (Literal []) (λ x i j g. g) (λ x i j g. g) (λ x w i j f. f) (λ e. e) refl (Builds-empty slot states next)
 
 -- ---- single states
 
@@ -132,14 +155,15 @@ grown old new state id a = ap length a.added ∙ length-append old (state ∷ []
 Builds-state : (slot : ℕ × ℕ) (old new : List State) (state : State) (id next : ℕ) (p : Pattern) → IsAdded old new state id
     → StaysOnWay (λ (s : ℕ). IsOnWay (length old) (length new) next s) slot.0 state
     → ((all : List State) → RecordsInPairs slot.1 all state) → (has_reversed_range p ≡ false → IsOrdered state)
-    → (has_reversed_range p ≡ true → IsOrdered state → ⊥) → ((all : List State) → slice_get all id ≡ Some state → Realizes all id next p)
+    → (has_reversed_range p ≡ true → IsOrdered state → ⊥) → ((all : List State) → slice_get all id ≡ Some state → Realizes all id next p × Orders all id next p)
     → Builds slot old new id next p
 Builds-state slot old new state id next p a stays below ordered reversed realizes =
     Adds-is old new (λ (all : List State). slice_get all id ≡ Some state) (IsPart slot (length old) (length new) id next p)
     (λ all is. (
-      realizes all is,
+      (realizes all is).0,
       Encloses-one slot.0 (length old) (length new) id next all state a.last (grown old new state id a) is stays,
       Names-one slot.1 (has_reversed_range p) (length old) (length new) id all state a.last (grown old new state id a) is (below all) ordered reversed,
+      (realizes all is).1,
     ))
     (Adds-one old new state id a)
 
@@ -149,19 +173,21 @@ Builds-never slot old new this id next e a =
     let same : this ≡ id = e ∙ sym a.last in
     let here : IsOnWay (length old) (length new) next this = inl (omega (arith, e), omega (arith, e, grown old new (Fork this this) id a)) in
     Builds-state slot old new (Fork this this) id next Never a (here, here) (λ all. tt) (λ e. tt) (λ e. absurd (true≢false (sym e)))
-    (λ all is. Realizes-never all id next (is ∙ ap (λ (n : ℕ). Some (Fork n n)) same))
+    (λ all is.
+    let loop = is ∙ ap (λ (n : ℕ). Some (Fork n n)) same in
+    (Realizes-never all id next loop, Orders-never all id next loop))
 
 pub Builds-range : (slot : ℕ × ℕ) (old new : List State) (x y id next : ℕ) → IsAdded old new (ByteRange x y next) id
     → Builds slot old new id next (Class ((x, y) ∷ []))
 Builds-range slot old new x y id next a =
     Builds-state slot old new (ByteRange x y next) id next (Class ((x, y) ∷ [])) a (inr refl) (λ all. tt) (range-ordered x y next) (range-reversed x y next)
-    (λ all is. Realizes-range all id x y next is)
+    (λ all is. (Realizes-range all id x y next is, Orders-range all id x y next is))
 
 pub Builds-assert : (slot : ℕ × ℕ) (old new : List State) (look : Look) (id next : ℕ) → IsAdded old new (Assert look next) id
     → Builds slot old new id next (Assertion look)
 Builds-assert slot old new look id next a =
     Builds-state slot old new (Assert look next) id next (Assertion look) a (inr refl) (λ all. tt) (λ e. tt) (λ e. absurd (true≢false (sym e)))
-    (λ all is. Realizes-assert all id next look is)
+    (λ all is. (Realizes-assert all id next look is, Orders-assert all id next look is))
 
 part-capture : (slot : ℕ × ℕ) (low high c id next : ℕ) (all : List State) → id ≡ low → high ≡ low + 1 → slice_get all id ≡ Some (Capture c next)
     → slot.0 < c → c < slot.1 → ((pair : ℕ) → c ≡ 2 * pair → HasClose all pair next) → IsPart slot low high id next Empty all
@@ -169,6 +195,7 @@ part-capture slot low high c id next all same one is l m closed = (
   Realizes-capture all id c next is,
   Encloses-one slot.0 low high id next all (Capture c next) same one is (l, inr refl),
   Names-one slot.1 false low high id all (Capture c next) same one is (m, closed) (λ e. tt) (λ e. absurd (true≢false (sym e))),
+  Orders-capture all id c next is,
 )
 
 -- ---- states after parts
@@ -189,6 +216,7 @@ Builds-either slot old middle last new one other id next p q x y a =
           (omega (arith, x.longer, y.longer)) a.last (grown last new (Fork one other) id a) is
           (Names-joined slot.1 (has_reversed_range (Either p q)) (has_reversed_range q) (has_reversed_range p) (length old) (length middle) (length last) all
           (either_back (has_reversed_range q) (has_reversed_range p)) x.longer y.longer b.0.2 b.1.2),
+      Orders-either all id one other next p q is b.1.0 b.1.3 b.0.3,
     ))
   where
     Both : List State → Type 0
@@ -208,7 +236,7 @@ pub Builds-class : (slot : ℕ × ℕ) (old middle last new : List State) (x y o
     → IsAdded middle last (ByteRange x y next) one → IsAdded last new (Fork one other) id → Builds slot old new id next (Class ((x, y) ∷ rest))
 Builds-class slot old middle last new x y one other id next rest r a b =
     Builds-is slot old new id next (Either (Class ((x, y) ∷ [])) (Class rest)) (Class ((x, y) ∷ rest)) (class-is x y rest) (class-back x y rest)
-    (class-same x y rest)
+    (class-first x y rest) (λ e. e) (class-same x y rest)
     (Builds-either slot old middle last new one other id next (Class ((x, y) ∷ [])) (Class rest) r (Builds-range slot middle last x y one next a) b)
 
 -- a byte before others
@@ -216,7 +244,7 @@ pub Builds-byte : (slot : ℕ × ℕ) (old middle new : List State) (b first id 
     → IsAdded middle new (ByteRange b b first) id → Builds slot old new id next (Literal (b ∷ rest))
 Builds-byte slot old middle new b first id next rest r a =
     Builds-is slot old new id next (Then (Class ((b, b) ∷ [])) (Literal rest)) (Literal (b ∷ rest)) (literal-is b rest) (literal-back b rest)
-    (literal-same b rest)
+    (literal-first b rest) (λ e. e) (literal-same b rest)
     (Builds-then slot old middle new id first next (Class ((b, b) ∷ [])) (Literal rest) r (Builds-range slot middle new b b id first a))
 
 -- a part between two records, which are in the slots of a pair
@@ -225,7 +253,7 @@ pub Builds-group : (slot : ℕ × ℕ) (old middle last new : List State) (start
     → IsAdded old middle (Capture end next) after → Builds slot middle last body after p → IsAdded last new (Capture start body) id
     → Builds slot old new id next p
 Builds-group slot old middle last new start end body after id next p l even second m a x b =
-    Builds-is slot old new id next (Then Empty (Then p Empty)) p (between-is p) (between-back p) (between-same p)
+    Builds-is slot old new id next (Then Empty (Then p Empty)) p (between-is p) (between-back p) (between-first p) (between-loops p) (between-same p)
     (Adds-both old last new Two (λ (all : List State). slice_get all id ≡ Some (Capture start body))
     (IsPart slot (length old) (length new) id next (Then Empty (Then p Empty)))
     (Adds-both old middle last (λ (all : List State). slice_get all after ≡ Some (Capture end next)) (IsPart slot (length middle) (length last) body after p)
@@ -260,100 +288,6 @@ Builds-group slot old middle last new start end body after id next p l even seco
       encloses = y.1.1;
     }
 
--- the part or nothing
-Adds-choice : (last new : List State) (state : State) (one next id : ℕ) → (state ≡ Fork one next) ⊎ (state ≡ Fork next one) → IsAdded last new state id
-    → Adds last new (λ (all : List State). IsChoice all id one next)
-Adds-choice last new state one next id c a =
-    Adds-is last new (λ (all : List State). slice_get all id ≡ Some state) (λ (all : List State). IsChoice all id one next)
-    (λ all is. choice all is c) (Adds-one last new state id a)
-  where
-    choice : (all : List State) → slice_get all id ≡ Some state → (state ≡ Fork one next) ⊎ (state ≡ Fork next one) → IsChoice all id one next
-    choice all is (inl e) = inl (is ∙ ap (λ (s : State). Some s) e)
-    choice all is (inr e) = inr (is ∙ ap (λ (s : State). Some s) e)
-
-pub Builds-optional : (slot : ℕ × ℕ) (old last new : List State) (state : State) (one id next : ℕ) (p : Pattern) → Builds slot old last one next p
-    → (state ≡ Fork one next) ⊎ (state ≡ Fork next one) → IsAdded last new state id → Builds slot old new id next (Either p Empty)
-Builds-optional slot old last new state one id next p x c a =
-    Adds-both old last new (IsPart slot (length old) (length last) one next p) (λ (all : List State). IsChoice all id one next)
-    (IsPart slot (length old) (length new) id next (Either p Empty)) x (Adds-choice last new state one next id c a)
-    (λ all r is. (
-      Realizes-choice all id one next p is r.0,
-      Encloses-choice slot.0 (length old) (length last) (length new) one id next all x.longer a.last (grown last new state id a) r.1 is,
-      subst (λ (b : Bool). Names slot.1 b (length old) (length new) all) (sym (or_none (has_reversed_range p)))
-          (Names-choice slot.1 (has_reversed_range p) (length old) (length last) (length new) id one next all x.longer a.last
-          (grown last new state id a) is r.2),
-    ))
-
-pub Builds-star : (slot : ℕ × ℕ) (old last new : List State) (state : State) (one id next : ℕ) (p : Pattern) → Builds slot old last one next (Repeat 1 None p)
-    → (state ≡ Fork one next) ⊎ (state ≡ Fork next one) → IsAdded last new state id → Builds slot old new id next (Repeat 0 None p)
-Builds-star slot old last new state one id next p x c a =
-    Builds-is slot old new id next (Either (Repeat 1 None p) Empty) (Repeat 0 None p) (star-is p) (star-back p) (star-same p)
-    (Builds-optional slot old last new state one id next (Repeat 1 None p) x c a)
-
--- a loop: its fork, its part, and the fork written anew
-record LoopsOver (slot : ℕ × ℕ) (low high first again next : ℕ) (p : Pattern) (all : List State) : Type 0 where
-  choice : IsChoice all again first next
-  part : Realizes all first again p
-  encloses : Encloses slot.0 low high again next all × Encloses slot.0 low high first next all
-  names : Names slot.1 (has_reversed_range p) low high all
-
-Adds-loop : (slot : ℕ × ℕ) (old middle last : List State) (state written : State) (first again next : ℕ) (p : Pattern) → IsAdded old middle state again
-    → Builds slot middle last first again p → (written ≡ Fork first next) ⊎ (written ≡ Fork next first)
-    → Adds old (set last again written) (LoopsOver slot (length old) (length (set last again written)) first again next p)
-Adds-loop slot old middle last state written first again next p a x c =
-    Adds-is old (set last again written)
-    (λ (all : List State). (slice_get all again ≡ Some written) × IsPart slot (length middle) (length last) first again p all)
-    (LoopsOver slot (length old) (length (set last again written)) first again next p)
-    (λ all is.
-    let fork = choice all is.0 c in
-    record {
-      choice = fork;
-      part = is.1.0;
-      encloses = Encloses-loop slot.0 (length old) (length middle) (length last) (length (set last again written)) first again next all a.last
-          (grown old middle state again a) x.longer (length-set last again written) fork is.1.1;
-      names = Names-loop slot.1 (has_reversed_range p) (length old) (length middle) (length last) (length (set last again written)) again first next all a.last
-          (grown old middle state again a) x.longer (length-set last again written) fork is.1.2;
-    })
-    (Adds-written old middle last state written again (IsPart slot (length middle) (length last) first again p) a x)
-  where
-    choice : (all : List State) → slice_get all again ≡ Some written → (written ≡ Fork first next) ⊎ (written ≡ Fork next first) → IsChoice all again first next
-    choice all is (inl e) = inl (is ∙ ap (λ (s : State). Some s) e)
-    choice all is (inr e) = inr (is ∙ ap (λ (s : State). Some s) e)
-
-pub Builds-again : (slot : ℕ × ℕ) (old middle last : List State) (state written : State) (first again next : ℕ) (p : Pattern) → IsAdded old middle state again
-    → Builds slot middle last first again p → (written ≡ Fork first next) ⊎ (written ≡ Fork next first)
-    → Builds slot old (set last again written) again next (Repeat 0 None p)
-Builds-again slot old middle last state written first again next p a x c =
-    let high : ℕ = length (set last again written) in
-    Adds-is old (set last again written) (LoopsOver slot (length old) high first again next p) (IsPart slot (length old) high again next (Repeat 0 None p))
-    (λ all b. (Realizes-star all again first next p b.choice b.part, b.encloses.0, b.names))
-    (Adds-loop slot old middle last state written first again next p a x c)
-
-pub Builds-plus : (slot : ℕ × ℕ) (old middle last : List State) (state written : State) (first again next : ℕ) (p : Pattern) → IsAdded old middle state again
-    → Builds slot middle last first again p → (written ≡ Fork first next) ⊎ (written ≡ Fork next first)
-    → Builds slot old (set last again written) first next (Repeat 1 None p)
-Builds-plus slot old middle last state written first again next p a x c =
-    let high : ℕ = length (set last again written) in
-    Adds-is old (set last again written) (LoopsOver slot (length old) high first again next p) (IsPart slot (length old) high first next (Repeat 1 None p))
-    (λ all b. (Realizes-plus all again first next p b.choice b.part, b.encloses.1, b.names))
-    (Adds-loop slot old middle last state written first again next p a x c)
-
-pub Builds-limited : (slot : ℕ × ℕ) (old middle new : List State) (min max rest first next : ℕ) (p : Pattern)
-    → Builds slot old middle rest next (up_to (max - min) p)
-    → Builds slot middle new first rest (copies min p) → Builds slot old new first next (Repeat min (Some max) p)
-Builds-limited slot old middle new min max rest first next p x y =
-    Builds-is slot old new first next (Then (copies min p) (up_to (max - min) p)) (Repeat min (Some max) p) (limited-is min max p) (limited-back min max p)
-    (limited-same min max p)
-    (Builds-then slot old middle new first rest next (copies min p) (up_to (max - min) p) x y)
-
-pub Builds-unlimited : (slot : ℕ × ℕ) (old middle new : List State) (min last first next : ℕ) (p : Pattern)
-    → 0 < min → Builds slot old middle last next (Repeat 1 None p)
-    → Builds slot middle new first last (copies (min - 1) p) → Builds slot old new first next (Repeat min None p)
-Builds-unlimited slot old middle new min last first next p some x y =
-    Builds-is slot old new first next (Then (copies (min - 1) p) (Repeat 1 None p)) (Repeat min None p) (unlimited-is min p some) (unlimited-back min p some)
-    (unlimited-same min p)
-    (Builds-then slot old middle new first last next (copies (min - 1) p) (Repeat 1 None p) x y)
-
 -- ---- a list from an index on
 
 pub drop-last : {A : Type 0} (xs : List A) (i : ℕ) (d : A) → 0 < i → i ≤ length xs → drop (i - 1) xs ≡ get_or xs (i - 1) d ∷ drop i xs
@@ -374,5 +308,6 @@ Builds-nothing slot old new first next (p ∷ rest) none x = absurd (omega (arit
 pub Builds-none : (slot : ℕ × ℕ) (old new : List State) (first next : ℕ) (ranges : List (ℕ × ℕ)) → length ranges ≡ 0 → Builds slot old new first next Never
     → Builds slot old new first next (Class ranges)
 Builds-none slot old new first next [] none x =
-    Builds-is slot old new first next Never (Class []) (λ t i j g. absurd g) (λ t i j g. absurd (true≢false (sym g.0))) refl x
+    Builds-is slot old new first next Never (Class []) (λ t i j g. absurd g) (λ t i j g. absurd (true≢false (sym g.0)))
+    (λ t w i j f. absurd f.0) (λ e. e) refl x
 Builds-none slot old new first next (r ∷ rest) none x = absurd (omega (arith, none))

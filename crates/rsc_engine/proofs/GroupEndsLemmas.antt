@@ -15,7 +15,8 @@ use Rattle.rsc_engine.specs.Preferred.{IsOf}
 use Rattle.rsc_engine.specs.Patterns.{Subject, subject_of}
 use Rattle.rsc_engine.specs.GroupEnds.{RecordsEnds}
 use Rattle.rsc_engine.specs.EnclosesLayout.{IsOnWay, StaysOnWay, Encloses}
-use Rattle.rsc_engine.specs.BeginsLayout.{AreSteps, last_place, RecordsFrom}
+use Rattle.rsc_engine.specs.StepsLayout.{AreSteps, last_place}
+use Rattle.rsc_engine.specs.BeginsLayout.{RecordsFrom}
 
 -- ---- one step more
 

@@ -18,7 +18,7 @@ use Rattle.rsc_engine.specs.Preferred.{IsOf}
 use Rattle.rsc_engine.specs.Patterns.{subject_of}
 use Rattle.rsc_engine.specs.EnclosesLayout.{IsOnWay}
 use Rattle.rsc_engine.specs.NamesLayout.{HasClose, AreSound}
-use Rattle.rsc_engine.specs.BeginsLayout.{AreSteps, last_place}
+use Rattle.rsc_engine.specs.StepsLayout.{AreSteps, last_place}
 use Rattle.rsc_engine.specs.GroupOrder.{ClosesGroups}
 use Rattle.rsc_engine.proofs.WalksLayoutLemmas.{leads-rises}
 use Rattle.rsc_engine.proofs.LawsLemmas.{accepted}

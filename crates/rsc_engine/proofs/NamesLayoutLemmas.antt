@@ -1,5 +1,5 @@
 -- What the states of parts name that are made of parts, and whether a range of theirs is reversed.
-use Rattle.std.proofs.Common.{◌≡◌, ℕ, zero, suc, ◌+◌, ◌-◌, ◌*◌, ◌<◌, ◌≤◌, ◌⊎◌, ◌||◌, nat_lt, inl, inr, ⊎_elim, Bool, true, false, cond, List, [], ◌∷◌, length, slice_get, refl, sym, ap, ◌∙◌, subst, arith, Option, Some, None, true≢false}
+use Rattle.std.proofs.Common.{◌≡◌, ℕ, zero, suc, ◌+◌, ◌*◌, ◌<◌, ◌≤◌, ◌⊎◌, ◌||◌, ◌&&◌, nat_lt, inl, inr, ⊎_elim, Bool, true, false, cond, List, [], ◌∷◌, length, slice_get, refl, sym, ap, ◌∙◌, subst, arith, Option, Some, None, true≢false}
 use Rattle.std.proofs.lemmas.Bool.{cases_lt}
 use Rattle.std.proofs.lemmas.Bool.Decides.{nat_tests}
 use Rattle.rsc_captures.specs.Groups.{GroupLists, all_groups}
@@ -9,9 +9,10 @@ use Rattle.rsc_nfa.specs.declared.error.BuildError.TheVariants.{EmptyRange}
 use Rattle.rsc_nfa.specs.Classes.{IsOrdered}
 use Rattle.rsc_nfa.specs.Faults.{target_fault, fault_of_state, fault_in, AreFaultless}
 use Rattle.rsc_engine.specs.Patterns.{Pattern, Empty, Class, Literal, Then, Either, Repeat}
-use Rattle.rsc_engine.specs.Refusals.{has_reversed_range}
+use Rattle.rsc_engine.specs.Refusals.{may_occur, has_reversed_range}
 use Rattle.rsc_engine.specs.EnclosesLayout.{IsOnWay, StaysOnWay, Encloses}
-use Rattle.rsc_engine.specs.LinksLayout.{IsChoice, copies, up_to}
+use Rattle.rsc_engine.specs.LinksLayout.{IsChoice, copies, optional, up_to}
+use Rattle.rsc_engine.proofs.PatternsLemmas.{limit_less, no_less}
 use Rattle.rsc_engine.specs.NamesLayout.{EachOf, HasClose, RecordsInPairs, HasReversed, Names, LeadsBelow, AreSound}
 
 -- ---- one list of states after the other
@@ -144,49 +145,53 @@ literal-same b rest = let e : nat_lt b b ≡ false = grind (arith, nat_tests) in
 pub between-same : (p : Pattern) → has_reversed_range (Then Empty (Then p Empty)) ≡ has_reversed_range p
 between-same p = or_none (has_reversed_range p)
 
-pub star-same : (p : Pattern) → has_reversed_range (Either (Repeat 1 None p) Empty) ≡ has_reversed_range (Repeat 0 None p)
-star-same p = or_none (has_reversed_range p)
+pub optional-same : (often : Bool) (p : Pattern) → has_reversed_range (optional often p) ≡ has_reversed_range p
+optional-same true p = or_none (has_reversed_range p)
+optional-same false p = refl
 
 -- of a pattern without one no copies have one
 copies-none : (n : ℕ) (p : Pattern) → has_reversed_range p ≡ false → has_reversed_range (copies n p) ≡ false
 copies-none zero p e = refl
 copies-none (suc n) p e = rw (e, copies-none n p e) refl
 
-up_to-none : (n : ℕ) (p : Pattern) → has_reversed_range p ≡ false → has_reversed_range (up_to n p) ≡ false
-up_to-none zero p e = refl
-up_to-none (suc n) p e = rw (e, up_to-none n p e) refl
+up_to-none : (often : Bool) (n : ℕ) (p : Pattern) → has_reversed_range p ≡ false → has_reversed_range (up_to often n p) ≡ false
+up_to-none often zero p e = refl
+up_to-none often (suc n) p e = optional-same often (Then p (up_to often n p)) ∙ rw (e, up_to-none often n p e) refl
 
 -- more of what is so already, or isn't
 absorbed : (r q : Bool) → (r ≡ false → q ≡ false) → (r || q) ≡ r
 absorbed true q f = refl
 absorbed false q f = f refl
 
-absorbed_back : (r q : Bool) → (r ≡ false → q ≡ false) → (q || r) ≡ r
-absorbed_back true true f = refl
-absorbed_back true false f = refl
-absorbed_back false q f = rw (f refl) refl
-
 copies-some : (n : ℕ) (p : Pattern) → has_reversed_range (copies (suc n) p) ≡ has_reversed_range p
 copies-some n p = absorbed (has_reversed_range p) (has_reversed_range (copies n p)) (copies-none n p)
 
-up_to-some : (n : ℕ) (p : Pattern) → has_reversed_range (up_to (suc n) p) ≡ has_reversed_range p
-up_to-some n p =
-    or_none (has_reversed_range p || has_reversed_range (up_to n p))
-    ∙ absorbed (has_reversed_range p) (has_reversed_range (up_to n p)) (up_to-none n p)
+up_to-some : (often : Bool) (n : ℕ) (p : Pattern) → has_reversed_range (up_to often (suc n) p) ≡ has_reversed_range p
+up_to-some often n p =
+    optional-same often (Then p (up_to often n p))
+    ∙ absorbed (has_reversed_range p) (has_reversed_range (up_to often n p)) (up_to-none often n p)
 
-pub limited-same : (min max : ℕ) (p : Pattern)
-    → has_reversed_range (Then (copies min p) (up_to (max - min) p)) ≡ has_reversed_range (Repeat min (Some max) p)
-limited-same zero zero p = refl
-limited-same zero (suc max) p = let all : suc max - 0 ≡ suc max = omega arith in rw all (up_to-some max p)
-limited-same (suc min) zero p =
-    let some : nat_lt 0 (suc min) ≡ true = grind (arith, nat_tests) in
-    rw some (ap (λ (r : Bool). r || has_reversed_range (up_to (0 - suc min) p)) (copies-some min p)
-    ∙ absorbed (has_reversed_range p) (has_reversed_range (up_to (0 - suc min) p)) (up_to-none (0 - suc min) p))
-limited-same (suc min) (suc max) p = ap (λ (r : Bool). r || has_reversed_range (up_to (suc max - suc min) p)) (copies-some min p)
-    ∙ absorbed (has_reversed_range p) (has_reversed_range (up_to (suc max - suc min) p)) (up_to-none (suc max - suc min) p)
+pub up_to-same : (often : Bool) (n : ℕ) (p : Pattern) → has_reversed_range (up_to often n p) ≡ has_reversed_range (Repeat 0 (Some n) often p)
+up_to-same often zero p = refl
+up_to-same often (suc n) p = up_to-some often n p
 
-pub unlimited-same : (min : ℕ) (p : Pattern) → has_reversed_range (Then (copies (min - 1) p) (Repeat 1 None p)) ≡ has_reversed_range (Repeat min None p)
-unlimited-same min p = absorbed_back (has_reversed_range p) (has_reversed_range (copies (min - 1) p)) (copies-none (min - 1) p)
+occurs : (n m : ℕ) (max : Option ℕ) → 0 < n → may_occur (n + m) max ≡ true
+occurs n m None l = refl
+occurs n m (Some zero) l = let f : nat_lt 0 (n + m) ≡ true = grind (arith, nat_tests) in f
+occurs n m (Some (suc max)) l = refl
+
+again_absorbed : (r b : Bool) → (r || (b && r)) ≡ r
+again_absorbed true b = refl
+again_absorbed false true = refl
+again_absorbed false false = refl
+
+pub counted-same : (n m : ℕ) (max : Option ℕ) (often : Bool) (p : Pattern)
+    → has_reversed_range (Then (copies n p) (Repeat m (limit_less max n) often p)) ≡ has_reversed_range (Repeat (n + m) max often p)
+counted-same zero m max often p = let none : zero + m ≡ m = omega arith in rw (none, no_less max) refl
+counted-same (suc n) m max often p =
+    rw (occurs (suc n) m max (omega arith))
+    (ap (λ (r : Bool). r || (may_occur m (limit_less max (suc n)) && has_reversed_range p)) (copies-some n p)
+    ∙ again_absorbed (has_reversed_range p) (may_occur m (limit_less max (suc n))))
 
 -- ---- a part of a list of sound states
 

@@ -1,10 +1,17 @@
--- The pattern of a tree, by its variants.
-use Rattle.std.proofs.Common.{◌≡◌, ℕ, [], ◌∷◌, Box, Vec, Global, sym, ap, ◌∙◌}
+-- The pattern of a tree, by its variants; and what is so of parts in order, or of one of them, as the list grows.
+use Rattle.std.proofs.Common.{◌≡◌, ℕ, ◌+◌, ◌<◌, List, [], ◌∷◌, ◌++◌, map, take, length, get_or, ◌&&◌, ◌||◌, Bool, true, false, Box, Vec, Global, refl, sym, ap, ◌∙◌}
+use Rattle.std.proofs.lemmas.List.{map_more}
 use Rattle.rsc_look.specs.declared.assertion.Look.{Look}
-use Rattle.rsc_engine.specs.Patterns.{Pattern, Never, Class, Literal, Assertion, Then, Either}
-use Rattle.rsc_engine.specs.Parts.{pattern_in, pattern_of_node}
+use Rattle.rsc_engine.specs.Patterns.{Pattern, Empty, Never, Class, Literal, Assertion, Then, Either, in_order, one_of, may_be_empty}
+use Rattle.rsc_engine.specs.FirstEnds.{loops_take_bytes}
+use Rattle.rsc_engine.specs.Trees.{pattern_in, pattern_of_node}
+use Rattle.rsc_engine.specs.Parts.{pattern_of}
+use Rattle.rsc_engine.specs.declared.builder.part.Part.{Part}
 use Rattle.rsc_engine.specs.declared.builder.tree.Tree.{Tree, Tree-F, fold-roll-Tree}
 use Rattle.rsc_engine.specs.declared.builder.tree.Tree.TheVariants as variants
+
+pub pattern-empty : pattern_in variants.Empty ≡ Empty
+pattern-empty = ap pattern_in (sym variants.rolls-Empty) ∙ fold-roll-Tree Pattern pattern_of_node Tree-F.Empty
 
 pub pattern-never : pattern_in variants.Never ≡ Never
 pattern-never = ap pattern_in (sym variants.rolls-Never) ∙ fold-roll-Tree Pattern pattern_of_node Tree-F.Never
@@ -26,3 +33,68 @@ pattern-then one other = ap pattern_in (sym (variants.rolls-Then one other)) ∙
 
 pub pattern-either : (one other : Box Tree Global) → pattern_in (variants.Either one other) ≡ Either (pattern_in one.value) (pattern_in other.value)
 pattern-either one other = ap pattern_in (sym (variants.rolls-Either one other)) ∙ fold-roll-Tree Pattern pattern_of_node (Tree-F.Either one other)
+
+pub pattern-concat : (trees : Vec Tree Global) → pattern_in (variants.Concat trees) ≡ in_order (map pattern_in trees.items)
+pattern-concat trees = ap pattern_in (sym (variants.rolls-Concat trees)) ∙ fold-roll-Tree Pattern pattern_of_node (Tree-F.Concat trees)
+
+pub pattern-one_of : (trees : Vec Tree Global) → pattern_in (variants.OneOf trees) ≡ one_of (map pattern_in trees.items)
+pattern-one_of trees = ap pattern_in (sym (variants.rolls-OneOf trees)) ∙ fold-roll-Tree Pattern pattern_of_node (Tree-F.OneOf trees)
+
+-- ---- one more pattern at the end of a list
+
+pub patterns_more : (parts : List Part) (k : ℕ) (part : Part) → k < length parts → part ≡ get_or parts k part
+    → map pattern_of (take (k + 1) parts) ≡ map pattern_of (take k parts) ++ pattern_of part ∷ []
+patterns_more parts k part l is =
+    map_more pattern_of parts k part l ∙ ap (λ (p : Part). map pattern_of (take k parts) ++ pattern_of p ∷ []) (sym is)
+
+and_one : (a : Bool) → (a && true) ≡ a
+and_one true = refl
+and_one false = refl
+
+or_none : (a : Bool) → (a || false) ≡ a
+or_none true = refl
+or_none false = refl
+
+and_more : (a b c : Bool) → (a && (b && c)) ≡ ((a && b) && c)
+and_more true b c = refl
+and_more false b c = refl
+
+or_more : (a b c : Bool) → (a || (b || c)) ≡ ((a || b) || c)
+or_more true b c = refl
+or_more false b c = refl
+
+pub in_order_empty : (ps : List Pattern) (p : Pattern) → may_be_empty (in_order (ps ++ p ∷ [])) ≡ (may_be_empty (in_order ps) && may_be_empty p)
+in_order_empty [] p = and_one (may_be_empty p)
+in_order_empty (q ∷ rest) p =
+    ap (λ (b : Bool). may_be_empty q && b) (in_order_empty rest p) ∙ and_more (may_be_empty q) (may_be_empty (in_order rest)) (may_be_empty p)
+
+pub in_order_loops : (ps : List Pattern) (p : Pattern)
+    → loops_take_bytes (in_order (ps ++ p ∷ [])) ≡ (loops_take_bytes (in_order ps) && loops_take_bytes p)
+in_order_loops [] p = and_one (loops_take_bytes p)
+in_order_loops (q ∷ rest) p =
+    ap (λ (b : Bool). loops_take_bytes q && b) (in_order_loops rest p)
+    ∙ and_more (loops_take_bytes q) (loops_take_bytes (in_order rest)) (loops_take_bytes p)
+
+first_empty : (q : Pattern) (rest : List Pattern) → may_be_empty (one_of (q ∷ rest)) ≡ (may_be_empty q || may_be_empty (one_of rest))
+first_empty q [] = sym (or_none (may_be_empty q))
+first_empty q (r ∷ rest) = refl
+
+pub one_of_empty : (ps : List Pattern) (p : Pattern) → may_be_empty (one_of (ps ++ p ∷ [])) ≡ (may_be_empty (one_of ps) || may_be_empty p)
+one_of_empty [] p = refl
+one_of_empty (q ∷ rest) p =
+    first_empty q (rest ++ p ∷ [])
+    ∙ (ap (λ (b : Bool). may_be_empty q || b) (one_of_empty rest p)
+    ∙ (or_more (may_be_empty q) (may_be_empty (one_of rest)) (may_be_empty p) ∙ ap (λ (b : Bool). b || may_be_empty p) (sym (first_empty q rest))))
+
+first_loops : (q : Pattern) (rest : List Pattern) → loops_take_bytes (one_of (q ∷ rest)) ≡ (loops_take_bytes q && loops_take_bytes (one_of rest))
+first_loops q [] = sym (and_one (loops_take_bytes q))
+first_loops q (r ∷ rest) = refl
+
+pub one_of_loops : (ps : List Pattern) (p : Pattern)
+    → loops_take_bytes (one_of (ps ++ p ∷ [])) ≡ (loops_take_bytes (one_of ps) && loops_take_bytes p)
+one_of_loops [] p = refl
+one_of_loops (q ∷ rest) p =
+    first_loops q (rest ++ p ∷ [])
+    ∙ (ap (λ (b : Bool). loops_take_bytes q && b) (one_of_loops rest p)
+    ∙ (and_more (loops_take_bytes q) (loops_take_bytes (one_of rest)) (loops_take_bytes p)
+    ∙ ap (λ (b : Bool). b && loops_take_bytes p) (sym (first_loops q rest))))

@@ -1,50 +1,29 @@
--- Of the matches from a position that of the pattern with the least number is preferred.
-use Rattle.std.proofs.Common.{◌≡◌, ℕ, zero, suc, ◌+◌, ◌-◌, ◌<◌, ◌≤◌, ◌⊎◌, inl, inr, ⊎_elim, Bool, List, [], ◌∷◌, length, slice_get, refl, sym, ap, ◌∙◌, subst, arith, Option, Some, None, MatchOption, true}
+-- Of the matches from a position that of the pattern with the least number is preferred, and of its ends the first.
+use Rattle.std.proofs.Common.{◌≡◌, ℕ, zero, suc, ◌+◌, ◌-◌, ◌<◌, ◌≤◌, ◌⊎◌, inl, inr, ⊎_elim, Bool, List, [], ◌∷◌, length, slice_get, refl, sym, ap, ◌∙◌, subst, arith, Some, true}
 use Rattle.std.proofs.lemmas.Bool.{cases_lt, cases_eq}
 use Rattle.std.proofs.lemmas.Option.{slice_get_within}
 use Rattle.rsc_nfa.specs.declared.state.State.{State}
-use Rattle.rsc_nfa.specs.declared.state.State.TheVariants.{ByteRange, Assert, Fork, Capture, Accept}
-use Rattle.rsc_nfa.specs.Steps.{StepsTo, IsStep, IsRun, place}
+use Rattle.rsc_nfa.specs.declared.state.State.TheVariants.{Fork, Accept}
+use Rattle.rsc_nfa.specs.Steps.{place}
 use Rattle.rsc_search.specs.Matches.{Matched}
 use Rattle.rsc_engine.specs.Searches.{Search, Compiled, search_in}
 use Rattle.rsc_engine.specs.Runs.{accepts, IsMatchRun, IsMatchOf}
 use Rattle.rsc_engine.specs.Preferred.{IsOnce, IsPreferredTo, IsPreferred}
 use Rattle.rsc_engine.specs.Patterns.{Pattern, Subject, subject_of, HasRunOf}
-use Rattle.rsc_engine.specs.PatternOrder.{PrefersLesser}
+use Rattle.rsc_engine.specs.PatternOrder.{PrefersLesser, PrefersFirstEnds}
 use Rattle.rsc_engine.specs.LinksLayout.{Aim, Ends}
-use Rattle.rsc_engine.specs.BeginsLayout.{AreSteps, last_place, IsBefore, PrefersFrom, Begins, IsOfOne}
+use Rattle.rsc_engine.specs.StepsLayout.{AreSteps, last_place}
+use Rattle.rsc_engine.specs.OrderLayout.{IsBefore, IsLeast}
+use Rattle.rsc_engine.specs.BeginsLayout.{PrefersFrom, Begins, IsOfOne}
+use Rattle.rsc_engine.specs.FirstsLayout.{OrdersSome}
+use Rattle.rsc_engine.specs.FirstEnds.{loops_take_bytes, IsFirstEnd}
+use Rattle.rsc_engine.proofs.OrderLayoutLemmas.{aim_at, way_of}
 use Rattle.rsc_engine.proofs.GroupEndsLemmas.{step_of, steps_of, last_is}
 use Rattle.rsc_engine.proofs.PreferredLemmas.{same_place}
-use Rattle.rsc_engine.proofs.RunsLemmas.{run-before, step-within}
-use Rattle.rsc_engine.proofs.WalksLayoutLemmas.{leads-rises}
+use Rattle.rsc_engine.proofs.StepsLayoutLemmas.{Short, shorten, once_of, is_run_of, HasMore, once_or_more, AreDistinct}
 
--- ---- from steps to a way to a match
+-- ---- from steps to a way to a match, where the state is known
 
-step_end : (state : State) (x : Subject) (end i : ℕ) (q : ℕ × ℕ) → StepsTo state x.terminator x.word_chars x.haystack end i q → i ≤ end → q.1 ≤ end
-step_end (ByteRange a b next) x end i q s l = omega (arith, s.0, s.3)
-step_end (Assert look next) x end i q s l = omega (arith, l, s.2)
-step_end (Fork a b) x end i q s l = omega (arith, l, s.1)
-step_end (Capture slot next) x end i q s l = omega (arith, l, s.1)
-step_end (Accept p) x end i q s l = absurd s
-
--- a step from a position up to the end leads to another
-leads_end : (states : List State) (x : Subject) (end : ℕ) (p q : ℕ × ℕ) → IsStep states x.terminator x.word_chars x.haystack end p q → p.1 ≤ end → q.1 ≤ end
-leads_end states x end p q step l = go (slice_get states p.0) step
-  where
-    go : (o : Option State) → MatchOption o ⊥ (λ (state : State). StepsTo state x.terminator x.word_chars x.haystack end p.1 q) → q.1 ≤ end
-    go None s = absurd s
-    go (Some state) s = step_end state x end p.1 q s l
-
-abbrev aim_at : Subject → ℕ → ℕ → ℕ × ℕ → Aim
-aim_at x end m p = record { text = x; end = end; pattern = m; position = p.1 }
-
-way_of : (states : List State) (x : Subject) (end m : ℕ) (p : ℕ × ℕ) (rest : List (ℕ × ℕ)) → p.1 ≤ end → AreSteps states x end p rest
-    → slice_get states (last_place p rest).0 ≡ Some (Accept m) → Ends states (aim_at x end m (last_place p rest)) (length rest) p.0 p.1
-way_of states x end m p [] l steps at = (at, refl, l)
-way_of states x end m p (q ∷ rest) l steps at =
-    (l, q.0, q.1, steps.0, way_of states x end m q rest (leads_end states x end p q steps.0 l) steps.1 at)
-
--- where the state is known
 way_from : (states : List State) (x : Subject) (end m first : ℕ) (p : ℕ × ℕ) (rest : List (ℕ × ℕ)) → p.0 ≡ first → p.1 ≤ end → AreSteps states x end p rest
     → slice_get states (last_place p rest).0 ≡ Some (Accept m) → Ends states (aim_at x end m (last_place p rest)) (length rest) first p.1
 way_from states x end m first p rest same l steps at =
@@ -178,80 +157,7 @@ PrefersLesser-built chars program b = record {
   lesser = λ input one other found beaten m f n g l. lesser_of (search_in chars program input) one other found beaten b m f n g l;
 }
 
--- ---- a run that comes to no place twice
-
--- the place is one of these
-abbrev IsAmong : ℕ × ℕ → List (ℕ × ℕ) → Type 0
-IsAmong p [] = ⊥
-IsAmong p (q ∷ rest) = (p ≡ q) ⊎ IsAmong p rest
-
--- none of these places is there twice
-abbrev AreDistinct : List (ℕ × ℕ) → Type 0
-AreDistinct [] = Unit {0}
-AreDistinct (p ∷ rest) = (IsAmong p rest → ⊥) × AreDistinct rest
-
-same_or_not : (p q : ℕ × ℕ) → (p ≡ q) ⊎ (p ≡ q → ⊥)
-same_or_not p q = ⊎_elim
-    (λ (a : p.0 ≡ q.0). ⊎_elim
-    (λ (b : p.1 ≡ q.1). inl (same_place p q a b))
-    (λ (no : (p.1 ≡ q.1) → ⊥). inr (λ e. no (ap (λ (z : ℕ × ℕ). z.1) e)))
-    (cases_eq p.1 q.1))
-    (λ (no : (p.0 ≡ q.0) → ⊥). inr (λ e. no (ap (λ (z : ℕ × ℕ). z.0) e)))
-    (cases_eq p.0 q.0)
-
-among_or_not : (p : ℕ × ℕ) (rest : List (ℕ × ℕ)) → IsAmong p rest ⊎ (IsAmong p rest → ⊥)
-among_or_not p [] = inr (λ h. h)
-among_or_not p (q ∷ rest) = ⊎_elim
-    (λ (e : p ≡ q). inl (inl e))
-    (λ (no : p ≡ q → ⊥). ⊎_elim
-    (λ (h : IsAmong p rest). inl (inr h))
-    (λ (none : IsAmong p rest → ⊥). inr (λ h. ⊎_elim (λ (e : p ≡ q). no e) (λ (y : IsAmong p rest). none y) h))
-    (among_or_not p rest))
-    (same_or_not p q)
-
-among : (k : ℕ) (rest : List (ℕ × ℕ)) → k < length rest → IsAmong (place rest k) rest
-among k [] l = absurd (omega (arith, l))
-among zero (q ∷ rest) l = inl refl
-among (suc k) (q ∷ rest) l = inr (among k rest (omega (arith, l)))
-
-once_of : (run : List (ℕ × ℕ)) → AreDistinct run → (j k : ℕ) → j < k → k < length run → place run j ≡ place run k → ⊥
-once_of [] d j k l h e = absurd (omega (arith, h))
-once_of (p ∷ rest) d j zero l h e = absurd (omega (arith, l))
-once_of (p ∷ rest) d zero (suc k) l h e = d.0 (subst (λ (z : ℕ × ℕ). IsAmong z rest) (sym e) (among k rest (omega (arith, h))))
-once_of (p ∷ rest) d (suc j) (suc k) l h e = once_of rest d.1 j k (omega (arith, l)) (omega (arith, h)) e
-
--- steps from a place to another, which come to no place twice
-record Short (states : List State) (x : Subject) (end : ℕ) (p last : ℕ × ℕ) : Type 0 where
-  rest : List (ℕ × ℕ)
-  steps : AreSteps states x end p rest
-  ends : last_place p rest ≡ last
-  once : AreDistinct (p ∷ rest)
-
--- of such steps those from a place on
-cut : (states : List State) (x : Subject) (end : ℕ) (p q last : ℕ × ℕ) (rest : List (ℕ × ℕ)) → AreSteps states x end q rest → last_place q rest ≡ last
-    → AreDistinct (q ∷ rest) → IsAmong p (q ∷ rest) → Short states x end p last
-cut states x end p q last rest steps ends once (inl e) =
-    subst (λ (z : ℕ × ℕ). Short states x end z last) (sym e) (record { rest = rest; steps = steps; ends = ends; once = once })
-cut states x end p q last [] steps ends once (inr h) = absurd h
-cut states x end p q last (r ∷ rest) steps ends once (inr h) = cut states x end p r last rest steps.1 ends once.1 h
-
-shorten : (states : List State) (x : Subject) (end : ℕ) (p : ℕ × ℕ) (rest : List (ℕ × ℕ)) → AreSteps states x end p rest
-    → Short states x end p (last_place p rest)
-shorten states x end p [] steps = record { rest = []; steps = tt; ends = refl; once = (λ h. h, tt) }
-shorten states x end p (q ∷ rest) steps =
-    let s = shorten states x end q rest steps.1 in
-    ⊎_elim
-    (λ (h : IsAmong p (q ∷ s.rest)). cut states x end p q (last_place q rest) s.rest s.steps s.ends s.once h)
-    (λ (no : IsAmong p (q ∷ s.rest) → ⊥).
-    record { rest = q ∷ s.rest; steps = (steps.0, s.steps); ends = s.ends; once = (no, s.once) })
-    (among_or_not p (q ∷ s.rest))
-
-is_run_of : (e : Search) (p : ℕ × ℕ) (rest : List (ℕ × ℕ)) → (last_place p rest).0 < length e.states → e.start ≤ p.1 → p.1 ≤ e.end
-    → AreSteps e.states (subject_of e) e.end p rest → IsRun e.states e.terminator e.word_chars e.haystack e.start e.end (p ∷ rest)
-is_run_of e p [] there low high steps = run-before e p [] (there, low, high) (λ l. absurd (omega (arith, l)))
-    (record { places = λ k l. absurd (omega (arith, l)); steps = λ k l. absurd (omega (arith, l)) })
-is_run_of e p (q ∷ rest) there low high steps = run-before e p (q ∷ rest) (step-within e p q steps.0, low, high) (λ l. steps.0)
-    (is_run_of e q rest there (omega (arith, low, leads-rises e p q steps.0)) (leads_end e.states (subject_of e) e.end p q steps.0 high) steps.1)
+-- ---- the least pattern
 
 -- a run to a match that comes to no place twice
 record Once (e : Search) (found : Matched) : Type 0 where
@@ -288,8 +194,6 @@ once_run e found (p ∷ rest) m f = record {
     at : slice_get e.states (last_place p s.rest).0 ≡ Some (Accept found.pattern)
     at = ap (λ (z : ℕ × ℕ). slice_get e.states z.0) (s.ends ∙ sym (last_is p rest)) ∙ f.pattern
 
--- ---- the least pattern
-
 -- in the search, of runs from one place to matches of two patterns, the lesser pattern's is preferred
 abbrev Prefers : Search → Type 0
 Prefers e = (one other : List (ℕ × ℕ)) (found beaten : Matched) → IsMatchRun e (e.first, found.span.start) one → IsMatchOf e one found
@@ -305,3 +209,69 @@ is_least e run found other prefers first f h same = ⊎_elim
     (prefers o.run run other found o.is_match o.makes (subst (λ (i : ℕ). IsMatchRun e (e.first, i) run) (sym start) first.is_match) f l)))
     (λ (le : found.pattern ≤ other.pattern). le)
     (cases_lt other.pattern found.pattern)
+
+-- ---- the first end
+
+-- the same state accepts as is wanted
+same_accepts : (e : Search) (p q : ℕ × ℕ) (m : ℕ) → slice_get e.states p.0 ≡ Some (Accept m) → slice_get e.states q.0 ≡ Some (Accept m) → accepts e p ≡ true
+    → accepts e q ≡ true
+same_accepts e p q m here there a = rw there (rw here at a)
+
+-- the steps of a preferred run are the first to its pattern, if there are few
+is_first : (e : Search) (m i most : ℕ) (rest : List (ℕ × ℕ)) → IsPreferred e (e.first, i) ((e.first, i) ∷ rest)
+    → slice_get e.states (last_place (e.first, i) rest).0 ≡ Some (Accept m)
+    → ((a : Aim) (n j : ℕ) → a.end ≡ e.end → a.pattern ≡ m → Ends e.states a n e.first j → n ≤ most)
+    → IsLeast e.states (subject_of e) e.end m (e.first, i) rest
+is_first e m i most rest preferred accepted few = record {
+  way = record {
+    within = (preferred.is_match.is_run.places 0 preferred.is_match.some).2;
+    steps = steps_of e (e.first, i) rest preferred.is_match.is_run;
+    accepts = accepted;
+  };
+  least = λ other w b. ⊎_elim
+      (λ (d : AreDistinct ((e.first, i) ∷ other)).
+      preferred.first ((e.first, i) ∷ other)
+      (record {
+        is_run = is_run_of e (e.first, i) other (slice_get_within e.states (last_place (e.first, i) other).0 (Accept m) w.accepts)
+            ((preferred.is_match.is_run.places 0 preferred.is_match.some).1) w.within w.steps;
+        some = omega arith;
+        begins = refl;
+        ends = subst (λ (z : ℕ × ℕ). accepts e z ≡ true) (sym (last_is (e.first, i) other))
+            (same_accepts e (last_place (e.first, i) rest) (last_place (e.first, i) other) m accepted w.accepts
+            (subst (λ (z : ℕ × ℕ). accepts e z ≡ true) (last_is (e.first, i) rest) preferred.is_match.ends));
+      })
+      (λ j k l h same. once_of ((e.first, i) ∷ other) d j k l h same)
+      (before_is e (e.first, i) other rest b))
+      (λ (h : HasMore e.states (subject_of e) e.end most (e.first, i) (last_place (e.first, i) other)).
+      let a : Aim = aim_at (subject_of e) e.end m (last_place (e.first, i) h.rest) in
+      let less = few a (length h.rest) i refl refl (way_of e.states (subject_of e) e.end m (e.first, i) h.rest w.within h.steps
+      (subst (λ (z : ℕ × ℕ). slice_get e.states z.0 ≡ Some (Accept m)) (sym h.ends) w.accepts)) in
+      let many = h.many in
+      absurd (omega (arith, less, many)))
+      (once_or_more e.states (subject_of e) e.end most (e.first, i) other w.steps);
+}
+
+first_end : (e : Search) (patterns : List Pattern) (run : List (ℕ × ℕ)) (found : Matched) (p : Pattern) → OrdersSome e.states e.first 0 patterns
+    → IsPreferred e (e.first, (place run 0).1) run → IsMatchOf e run found → slice_get patterns found.pattern ≡ Some p → loops_take_bytes p ≡ true
+    → IsFirstEnd (subject_of e) p (λ j. j ≤ e.end) found.span.start found.span.end
+first_end e patterns [] found p all preferred makes its loops = let none = preferred.is_match.some in absurd (omega (arith, none))
+first_end e patterns (q ∷ rest) found p all preferred makes its loops =
+    let o = all found.pattern p (omega arith) its in
+    let here : q ≡ (e.first, q.1) = preferred.is_match.begins in
+    let its_run : IsPreferred e (e.first, q.1) ((e.first, q.1) ∷ rest) = subst (λ (z : ℕ × ℕ). IsPreferred e (e.first, q.1) (z ∷ rest)) here preferred in
+    let accepted : slice_get e.states (last_place q rest).0 ≡ Some (Accept found.pattern) =
+    ap (λ (z : ℕ × ℕ). slice_get e.states z.0) (sym (last_is q rest)) ∙ makes.pattern in
+    let least = is_first e found.pattern q.1 (o.cost e.end) rest its_run
+    (subst (λ (z : ℕ × ℕ). slice_get e.states (last_place z rest).0 ≡ Some (Accept found.pattern)) here accepted)
+    (λ a n j end number way. subst (λ (k : ℕ). n ≤ o.cost k) end (o.few loops a n j number way)) in
+    let first : IsFirstEnd (subject_of e) p (λ j. j ≤ e.end) q.1 (last_place (e.first, q.1) rest).1 = o.goes loops (subject_of e) e.end q.1 rest least in
+    let end : (last_place (e.first, q.1) rest).1 ≡ found.span.end =
+    ap (λ (z : ℕ × ℕ). (last_place z rest).1) (sym here) ∙ (ap (λ (z : ℕ × ℕ). z.1) (sym (last_is q rest)) ∙ sym makes.end) in
+    subst (λ (j : ℕ). IsFirstEnd (subject_of e) p (λ k. k ≤ e.end) found.span.start j) end
+    (subst (λ (i : ℕ). IsFirstEnd (subject_of e) p (λ k. k ≤ e.end) i (last_place (e.first, q.1) rest).1) (sym makes.start) first)
+
+pub PrefersFirstEnds-built : {W : Type 0} (chars : W → ℕ → Bool) (program : Compiled W) (patterns : List Pattern)
+    → OrdersSome program.automaton.states program.start 0 patterns → PrefersFirstEnds chars program patterns
+PrefersFirstEnds-built chars program patterns all = record {
+  first = λ input run found p preferred makes its loops. first_end (search_in chars program input) patterns run found p all preferred makes its loops;
+}

@@ -3,8 +3,8 @@ use Rattle.std.proofs.Common.{◌≡◌, ℕ, zero, suc, ◌+◌, ◌-◌, ◌<�
 use Rattle.std.specs.List.{list_any}
 use Rattle.std.proofs.lemmas.Bool.{cases_lt, leb-true, le-leb}
 use Rattle.rsc_nfa.specs.Steps.{is_between}
-use Rattle.rsc_engine.specs.Patterns.{Pattern, Empty, Never, Class, Literal, Assertion, Then, Either, Repeat, Subject, AreBytes, Times, Goes, may_be_empty}
-use Rattle.rsc_engine.specs.LinksLayout.{copies, up_to}
+use Rattle.rsc_engine.specs.Patterns.{Pattern, Empty, Never, Class, Literal, Assertion, Then, Either, Repeat, Subject, AreBytes, Times, IsAtMost, Goes, may_be_empty}
+use Rattle.rsc_engine.specs.LinksLayout.{copies, optional, up_to}
 
 -- ---- n times
 
@@ -34,66 +34,83 @@ times-copies : (x : Subject) (p : Pattern) (n i j : ℕ) → Times (Goes x p) n 
 times-copies x p zero i j g = g
 times-copies x p (suc n) i j g = (g.0, g.1, times-copies x p n g.0 j g.2)
 
-up_to-times : (x : Subject) (p : Pattern) (n i j : ℕ) → Goes x (up_to n p) i j → (m : ℕ) × (m ≤ n) × Times (Goes x p) m i j
-up_to-times x p zero i j g = (0, omega arith, g)
-up_to-times x p (suc n) i j g = ⊎_elim
-    (λ (h : Goes x (Then p (up_to n p)) i j).
-    let r = up_to-times x p n h.0 j h.2 in (suc r.0, omega (arith, r.1), (h.0, h.1, r.2)))
-    (λ (h : i ≡ j). (0, omega arith, h))
-    g
+-- the part, or nothing
+optional-goes : (often : Bool) (p : Pattern) (x : Subject) (i j : ℕ) → Goes x (optional often p) i j → Goes x p i j ⊎ (i ≡ j)
+optional-goes true p x i j g = g
+optional-goes false p x i j g = ⊎_elim (λ (h : i ≡ j). inr h) (λ (h : Goes x p i j). inl h) g
 
-times-up_to : (x : Subject) (p : Pattern) (n m i j : ℕ) → m ≤ n → Times (Goes x p) m i j → Goes x (up_to n p) i j
-times-up_to x p zero zero i j l t = t
-times-up_to x p zero (suc m) i j l t = absurd (omega (arith, l))
-times-up_to x p (suc n) zero i j l t = inr t
-times-up_to x p (suc n) (suc m) i j l t = inl (t.0, t.1, times-up_to x p n m t.0 j (omega (arith, l)) t.2)
+goes-optional : (often : Bool) (p : Pattern) (x : Subject) (i j : ℕ) → Goes x p i j ⊎ (i ≡ j) → Goes x (optional often p) i j
+goes-optional true p x i j g = g
+goes-optional false p x i j g = ⊎_elim (λ (h : Goes x p i j). inr h) (λ (h : i ≡ j). inl h) g
+
+up_to-times : (x : Subject) (often : Bool) (p : Pattern) (n i j : ℕ) → Goes x (up_to often n p) i j → (m : ℕ) × (m ≤ n) × Times (Goes x p) m i j
+up_to-times x often p zero i j g = (0, omega arith, g)
+up_to-times x often p (suc n) i j g = ⊎_elim
+    (λ (h : Goes x (Then p (up_to often n p)) i j).
+    let r = up_to-times x often p n h.0 j h.2 in (suc r.0, omega (arith, r.1), (h.0, h.1, r.2)))
+    (λ (h : i ≡ j). (0, omega arith, h))
+    (optional-goes often (Then p (up_to often n p)) x i j g)
+
+times-up_to : (x : Subject) (often : Bool) (p : Pattern) (n m i j : ℕ) → m ≤ n → Times (Goes x p) m i j → Goes x (up_to often n p) i j
+times-up_to x often p zero zero i j l t = t
+times-up_to x often p zero (suc m) i j l t = absurd (omega (arith, l))
+times-up_to x often p (suc n) zero i j l t = goes-optional often (Then p (up_to often n p)) x i j (inr t)
+times-up_to x often p (suc n) (suc m) i j l t =
+    goes-optional often (Then p (up_to often n p)) x i j (inl (t.0, t.1, times-up_to x often p n m t.0 j (omega (arith, l)) t.2))
+
+pub up_to-is : (often : Bool) (n : ℕ) (p : Pattern) (x : Subject) (i j : ℕ) → Goes x (up_to often n p) i j → Goes x (Repeat 0 (Some n) often p) i j
+up_to-is often n p x i j g = let r = up_to-times x often p n i j g in (r.0, omega arith, inl r.1, r.2)
+
+pub up_to-back : (often : Bool) (n : ℕ) (p : Pattern) (x : Subject) (i j : ℕ) → Goes x (Repeat 0 (Some n) often p) i j → Goes x (up_to often n p) i j
+up_to-back often n p x i j g = times-up_to x often p n g.0 i j (⊎_elim (λ (l : g.0 ≤ n). l) (λ (l : g.0 ≤ 0). omega (arith, l)) g.2) g.3
 
 -- ---- counted repetitions
 
-pub limited-is : (min max : ℕ) (p : Pattern) (x : Subject) (i j : ℕ) → Goes x (Then (copies min p) (up_to (max - min) p)) i j
-    → Goes x (Repeat min (Some max) p) i j
-limited-is min max p x i j g =
-    let r = up_to-times x p (max - min) g.0 j g.2 in
-    (min + r.0, omega arith, most r.0 r.1, Times-add (Goes x p) min r.0 i g.0 j (copies-times x p min i g.0 g.1) r.2)
+-- what is left of a limit after n times
+abbrev pub limit_less : Option ℕ → ℕ → Option ℕ
+limit_less None n = None
+limit_less (Some max) n = Some (max - n)
+
+pub no_less : (max : Option ℕ) → limit_less max 0 ≡ max
+no_less None = refl
+no_less (Some max) = let all : max - 0 ≡ max = omega arith in ap (λ (n : ℕ). Some n) all
+
+-- n times, and then at least m times
+pub counted-is : (n m : ℕ) (max : Option ℕ) (often : Bool) (p : Pattern) (x : Subject) (i j : ℕ)
+    → Goes x (Then (copies n p) (Repeat m (limit_less max n) often p)) i j → Goes x (Repeat (n + m) max often p) i j
+counted-is n m max often p x i j g =
+    (n + g.2.0, omega (arith, g.2.1), most max g.2.0 g.2.2, Times-add (Goes x p) n g.2.0 i g.0 j (copies-times x p n i g.0 g.1) g.2.3)
   where
-    most : (m : ℕ) → m ≤ max - min → (min + m ≤ max) ⊎ (min + m ≤ min)
-    most m l = ⊎_elim (λ (h : max < min). inr (omega (arith, h, l))) (λ (h : min ≤ max). inl (omega (arith, h, l))) (cases_lt max min)
+    most : (max : Option ℕ) (r : ℕ) → IsAtMost m (limit_less max n) r → IsAtMost (n + m) max (n + r)
+    most None r l = tt
+    most (Some max) r l = ⊎_elim
+        (λ (h : r ≤ max - n). ⊎_elim (λ (a : max < n). inr (omega (arith, a, h))) (λ (a : n ≤ max). inl (omega (arith, a, h))) (cases_lt max n))
+        (λ (h : r ≤ m). inr (omega (arith, h)))
+        l
 
-pub limited-back : (min max : ℕ) (p : Pattern) (x : Subject) (i j : ℕ) → Goes x (Repeat min (Some max) p) i j
-    → Goes x (Then (copies min p) (up_to (max - min) p)) i j
-limited-back min max p x i j g =
-    let whole : g.0 ≡ min + (g.0 - min) = omega (arith, g.1) in
-    let t : Times (Goes x p) (min + (g.0 - min)) i j = subst (λ (n : ℕ). Times (Goes x p) n i j) whole g.3 in
-    let s = Times-split (Goes x p) min (g.0 - min) i j t in
-    (s.0, times-copies x p min i s.0 s.1, times-up_to x p (max - min) (g.0 - min) s.0 j (fits g.0 g.2) s.2)
+pub counted-back : (n m : ℕ) (max : Option ℕ) (often : Bool) (p : Pattern) (x : Subject) (i j : ℕ)
+    → Goes x (Repeat (n + m) max often p) i j → Goes x (Then (copies n p) (Repeat m (limit_less max n) often p)) i j
+counted-back n m max often p x i j g =
+    let whole : g.0 ≡ n + (g.0 - n) = omega (arith, g.1) in
+    let t : Times (Goes x p) (n + (g.0 - n)) i j = subst (λ (l : ℕ). Times (Goes x p) l i j) whole g.3 in
+    let s = Times-split (Goes x p) n (g.0 - n) i j t in
+    (s.0, times-copies x p n i s.0 s.1, (g.0 - n, omega (arith, g.1), most max g.0 g.1 g.2, s.2))
   where
-    fits : (n : ℕ) → (n ≤ max) ⊎ (n ≤ min) → n - min ≤ max - min
-    fits n h = ⊎_elim (λ (l : n ≤ max). omega (arith, l)) (λ (l : n ≤ min). omega (arith, l)) h
-
-pub unlimited-is : (min : ℕ) (p : Pattern) → 0 < min → (x : Subject) (i j : ℕ) → Goes x (Then (copies (min - 1) p) (Repeat 1 None p)) i j
-    → Goes x (Repeat min None p) i j
-unlimited-is min p some x i j g =
-    (min - 1 + g.2.0, omega (arith, some, g.2.1), tt, Times-add (Goes x p) (min - 1) g.2.0 i g.0 j (copies-times x p (min - 1) i g.0 g.1) g.2.3)
-
-pub unlimited-back : (min : ℕ) (p : Pattern) → 0 < min → (x : Subject) (i j : ℕ) → Goes x (Repeat min None p) i j
-    → Goes x (Then (copies (min - 1) p) (Repeat 1 None p)) i j
-unlimited-back min p some x i j g =
-    let whole : g.0 ≡ (min - 1) + (g.0 - (min - 1)) = omega (arith, g.1) in
-    let t : Times (Goes x p) ((min - 1) + (g.0 - (min - 1))) i j = subst (λ (n : ℕ). Times (Goes x p) n i j) whole g.3 in
-    let s = Times-split (Goes x p) (min - 1) (g.0 - (min - 1)) i j t in
-    (s.0, times-copies x p (min - 1) i s.0 s.1, (g.0 - (min - 1), omega (arith, g.1, some), tt, s.2))
+    most : (max : Option ℕ) (r : ℕ) → n + m ≤ r → IsAtMost (n + m) max r → IsAtMost m (limit_less max n) (r - n)
+    most None r a l = tt
+    most (Some max) r a l = ⊎_elim (λ (h : r ≤ max). inl (omega (arith, h))) (λ (h : r ≤ n + m). inr (omega (arith, h))) l
 
 -- any number of times is once or more, or not at all
-pub star-is : (p : Pattern) (x : Subject) (i j : ℕ) → Goes x (Either (Repeat 1 None p) Empty) i j → Goes x (Repeat 0 None p) i j
-star-is p x i j g = ⊎_elim
-    (λ (h : Goes x (Repeat 1 None p) i j). (h.0, omega arith, tt, h.3))
+pub star-is : (often : Bool) (p : Pattern) (x : Subject) (i j : ℕ) → Goes x (optional often (Repeat 1 None often p)) i j → Goes x (Repeat 0 None often p) i j
+star-is often p x i j g = ⊎_elim
+    (λ (h : Goes x (Repeat 1 None often p) i j). (h.0, omega arith, tt, h.3))
     (λ (h : i ≡ j). (0, omega arith, tt, h))
-    g
+    (optional-goes often (Repeat 1 None often p) x i j g)
 
-pub star-back : (p : Pattern) (x : Subject) (i j : ℕ) → Goes x (Repeat 0 None p) i j → Goes x (Either (Repeat 1 None p) Empty) i j
-star-back p x i j g = go g.0 g.3
+pub star-back : (often : Bool) (p : Pattern) (x : Subject) (i j : ℕ) → Goes x (Repeat 0 None often p) i j → Goes x (optional often (Repeat 1 None often p)) i j
+star-back often p x i j g = goes-optional often (Repeat 1 None often p) x i j (go g.0 g.3)
   where
-    go : (n : ℕ) → Times (Goes x p) n i j → Goes x (Either (Repeat 1 None p) Empty) i j
+    go : (n : ℕ) → Times (Goes x p) n i j → Goes x (Repeat 1 None often p) i j ⊎ (i ≡ j)
     go zero t = inr t
     go (suc n) t = inl (suc n, omega arith, tt, t)
 
@@ -190,7 +207,7 @@ goes-forward x (Literal bytes) i j g = bytes-forward x.haystack bytes i j g
 goes-forward x (Assertion look) i j g = omega (arith, g.1)
 goes-forward x (Then a b) i j g = omega (arith, goes-forward x a i g.0 g.1, goes-forward x b g.0 j g.2)
 goes-forward x (Either a b) i j g = ⊎_elim (λ h. goes-forward x a i j h) (λ h. goes-forward x b i j h) g
-goes-forward x (Repeat min max a) i j g = times-forward (Goes x a) (goes-forward x a) g.0 i j g.3
+goes-forward x (Repeat min max often a) i j g = times-forward (Goes x a) (goes-forward x a) g.0 i j g.3
 
 times-takes : (R : ℕ → ℕ → Type 0) → ((i j : ℕ) → R i j → i < j) → (n i j : ℕ) → 0 < n → Times R n i j → i < j
 times-takes R f zero i j l t = absurd (omega (arith, l))
@@ -224,8 +241,8 @@ goes-takes x (Either a b) i j e g = ⊎_elim
     (λ h. goes-takes x a i j (neither_one (may_be_empty a) (may_be_empty b) e) h)
     (λ h. goes-takes x b i j (neither_other (may_be_empty a) (may_be_empty b) e) h)
     g
-goes-takes x (Repeat zero max a) i j e g = absurd (true≢false e)
-goes-takes x (Repeat (suc min) max a) i j e g = times-takes (Goes x a) (λ k l h. goes-takes x a k l e h) g.0 i j (omega (arith, g.1)) g.3
+goes-takes x (Repeat zero max often a) i j e g = absurd (true≢false e)
+goes-takes x (Repeat (suc min) max often a) i j e g = times-takes (Goes x a) (λ k l h. goes-takes x a k l e h) g.0 i j (omega (arith, g.1)) g.3
 
 -- one of a list of patterns of which none may be empty
 pub takes-at : (patterns : List Pattern) (n : ℕ) (p : Pattern) → list_any may_be_empty patterns ≡ false → slice_get patterns n ≡ Some p

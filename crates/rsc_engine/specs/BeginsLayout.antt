@@ -1,33 +1,18 @@
 -- At which state the matches of a pattern, or of several, begin.
-use Rattle.std.specs.Prelude.{◌≡◌, ◌≢◌, ℕ, ◌+◌, ◌*◌, ◌<◌, ◌≤◌, ◌⊎◌, List, [], ◌∷◌, slice_get, Some}
+use Rattle.std.specs.Prelude.{◌≡◌, ℕ, ◌+◌, ◌*◌, ◌<◌, ◌≤◌, List, ◌∷◌, slice_get, Some}
 use Rattle.rsc_nfa.specs.declared.state.State.{State}
-use Rattle.rsc_nfa.specs.declared.state.State.TheVariants.{Fork, Accept}
-use Rattle.rsc_nfa.specs.Steps.{IsStep, recorded}
+use Rattle.rsc_nfa.specs.declared.state.State.TheVariants.{Accept}
+use Rattle.rsc_nfa.specs.Steps.{recorded}
 use Rattle.rsc_engine.specs.Patterns.{Pattern, Subject, Goes}
 use Rattle.rsc_engine.specs.LinksLayout.{Aim, Ends, HasEnd}
-
--- a step leads from a place to the first of these, and from each to the one after it
-abbrev pub AreSteps : List State → Subject → ℕ → ℕ × ℕ → List (ℕ × ℕ) → Type 0
-AreSteps states x end p [] = Unit {0}
-AreSteps states x end p (q ∷ rest) = IsStep states x.terminator x.word_chars x.haystack end p q × AreSteps states x end q rest
-
--- the last of these places, or the one before them
-abbrev pub last_place : ℕ × ℕ → List (ℕ × ℕ) → ℕ × ℕ
-last_place p [] = p
-last_place p (q ∷ rest) = last_place q rest
+use Rattle.rsc_engine.specs.StepsLayout.{AreSteps, last_place}
+use Rattle.rsc_engine.specs.OrderLayout.{IsBefore}
 
 -- what steps from the state `first` to a match record in the slots of the whole match: its ends
 pub record RecordsFrom (states : List State) (first : ℕ) : Type 0 where
   pub ends : (x : Subject) (end number : ℕ) (p : ℕ × ℕ) (rest : List (ℕ × ℕ)) → p.0 ≡ first → AreSteps states x end p rest →
       slice_get states (last_place p rest).0 ≡ Some (Accept number) →
       (recorded states (p ∷ rest) (2 * number) ≡ Some p.1) × (recorded states (p ∷ rest) (2 * number + 1) ≡ Some (last_place p rest).1)
-
--- of two lists of steps from a place: they go together up to a fork, at which the one goes the first way and the other doesn't
-abbrev pub IsBefore : List State → ℕ × ℕ → List (ℕ × ℕ) → List (ℕ × ℕ) → Type 0
-IsBefore states p [] other = ⊥
-IsBefore states p (q ∷ one) [] = ⊥
-IsBefore states p (q ∷ one) (r ∷ other) =
-    ((a : ℕ) × (b : ℕ) × (slice_get states p.0 ≡ Some (Fork a b)) × (q.0 ≡ a) × (r.0 ≢ a)) ⊎ ((q ≡ r) × IsBefore states q one other)
 
 -- of steps from the state `first` to matches of two patterns, those to the lesser pattern's are before the others
 pub record PrefersFrom (states : List State) (first : ℕ) : Type 0 where

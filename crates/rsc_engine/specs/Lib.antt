@@ -13,11 +13,16 @@ pub mod TurnsLayout  -- the flags of a loop's turns, and what turns do
 pub mod Patterns  -- what a pattern matches, and which programs match it
 pub mod GroupEnds  -- the group of the whole match: what runs record in its slots
 pub mod GroupOrder  -- where groups begin and end
-pub mod PatternOrder  -- which of two patterns is preferred
+pub mod PatternOrder  -- which match of a program's patterns is preferred
+pub mod FirstEnds  -- which end of a pattern is preferred
+pub mod Trees  -- which pattern a tree is
 pub mod Parts  -- which pattern a part is, and which groups it has
 pub mod EnclosesLayout  -- where the states of a part lead, and in which slots they record
 pub mod NamesLayout  -- what the states of a part or of patterns name, and whether a range of theirs is reversed
+pub mod StepsLayout  -- steps from a place on
+pub mod OrderLayout  -- in which order ways to a match are tried
 pub mod LinksLayout  -- how the states of a part lead on
+pub mod FirstsLayout  -- that ways to a pattern's match are few, and which of them is the first
 pub mod BeginsLayout  -- at which state the matches of a pattern, or of several, begin
 pub mod Ends  -- where matches end, and what a DFA answers
 pub mod RowsLayout  -- the rows of a DFA, and where a byte leads from one

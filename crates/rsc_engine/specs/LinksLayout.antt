@@ -1,5 +1,5 @@
 -- How the states of a part lead on.
-use Rattle.std.specs.Prelude.{◌≡◌, ℕ, zero, suc, ◌<◌, ◌≤◌, ◌⊎◌, List, [], ◌∷◌, ◌++◌, length, slice_get, Some}
+use Rattle.std.specs.Prelude.{◌≡◌, ℕ, zero, suc, ◌+◌, ◌<◌, ◌≤◌, ◌⊎◌, Bool, true, false, List, [], ◌∷◌, ◌++◌, length, slice_get, Some}
 use Rattle.rsc_nfa.specs.declared.state.State.{State}
 use Rattle.rsc_nfa.specs.declared.state.State.TheVariants.{Fork, Accept}
 use Rattle.rsc_nfa.specs.Steps.{IsStep}
@@ -7,6 +7,8 @@ use Rattle.rsc_engine.specs.Patterns.{Pattern, Empty, Then, Either, Subject, Goe
 use Rattle.rsc_engine.specs.EnclosesLayout.{Encloses}
 use Rattle.rsc_engine.specs.NamesLayout.{Names}
 use Rattle.rsc_engine.specs.Refusals.{has_reversed_range}
+use Rattle.rsc_engine.specs.FirstEnds.{loops_take_bytes}
+use Rattle.rsc_engine.specs.OrderLayout.{Orders}
 
 -- a match that is looked for: in a text up to an end, of a pattern, to a position
 pub record Aim : Type 0 where
@@ -21,11 +23,13 @@ Ends states a zero s i = (slice_get states s ≡ Some (Accept a.pattern)) × (i 
 Ends states a (suc n) s i =
     (i ≤ a.end) × (t : ℕ) × (k : ℕ) × IsStep states a.text.terminator a.text.word_chars a.text.haystack a.end (s, i) (t, k) × Ends states a n t k
 
--- n steps lead from the state s at i to the match: m of them from the state `next`, to which the pattern goes
-pub record GoesOn (states : List State) (a : Aim) (next : ℕ) (p : Pattern) (n i : ℕ) : Type 0 where
+-- n steps lead from the state s at i to the match: `left` of them from the state `next`, to which the pattern goes; if its loops take bytes, at most as
+-- many before them as it costs
+pub record GoesOn (states : List State) (a : Aim) (next : ℕ) (p : Pattern) (cost n i : ℕ) : Type 0 where
   pub to : ℕ
   pub left : ℕ
   pub fewer : left ≤ n
+  pub few : loops_take_bytes p ≡ true → n ≤ left + cost
   pub goes : Goes a.text p i to
   pub ends : Ends states a left next to
 
@@ -34,9 +38,10 @@ pub record HasEnd (states : List State) (a : Aim) (s i : ℕ) : Type 0 where
   pub steps : ℕ
   pub ends : Ends states a steps s i
 
--- from the state `first` matches are those from the state `next` after the pattern
+-- from the state `first` matches are those from the state `next` after the pattern; `cost` says how many steps the pattern takes, by a text's end
 pub record Realizes (states : List State) (first next : ℕ) (p : Pattern) : Type 0 where
-  pub sound : (a : Aim) (n i : ℕ) → Ends states a n first i → GoesOn states a next p n i
+  pub cost : ℕ → ℕ
+  pub sound : (a : Aim) (n i : ℕ) → Ends states a n first i → GoesOn states a next p (cost a.end) n i
   pub complete : (a : Aim) (i k : ℕ) → Goes a.text p i k → HasEnd states a next k → HasEnd states a first i
 
 -- the states from n on are in the other list too
@@ -53,12 +58,17 @@ pub record Adds (old new : List State) (Holds : List State → Type 0) : Type 0 
 abbrev pub Builds : ℕ × ℕ → List State → List State → ℕ → ℕ → Pattern → Type 0
 Builds slots old new first next p =
     Adds old new (λ states. Realizes states first next p × Encloses slots.0 (length old) (length new) first next states
-    × Names slots.1 (has_reversed_range p) (length old) (length new) states)
+    × Names slots.1 (has_reversed_range p) (length old) (length new) states × Orders states first next p)
 
 -- one state was added, and this is its number
 pub record IsAdded (old new : List State) (state : State) (id : ℕ) : Type 0 where
   pub last : id ≡ length old
   pub added : new ≡ old ++ state ∷ []
+
+-- a fork that leads to a part or to what comes next, preferably to the part, if it may come often
+abbrev pub choice_of : Bool → ℕ → ℕ → State
+choice_of true part next = Fork part next
+choice_of false part next = Fork next part
 
 -- the state leads to the one or to the other
 abbrev pub IsChoice : List State → ℕ → ℕ → ℕ → Type 0
@@ -69,6 +79,11 @@ abbrev pub copies : ℕ → Pattern → Pattern
 copies zero p = Empty
 copies (suc n) p = Then p (copies n p)
 
-abbrev pub up_to : ℕ → Pattern → Pattern
-up_to zero p = Empty
-up_to (suc n) p = Either (Then p (up_to n p)) Empty
+-- the pattern or nothing
+abbrev pub optional : Bool → Pattern → Pattern
+optional true p = Either p Empty
+optional false p = Either Empty p
+
+abbrev pub up_to : Bool → ℕ → Pattern → Pattern
+up_to often zero p = Empty
+up_to often (suc n) p = optional often (Then p (up_to often n p))

@@ -19,7 +19,7 @@ pub record IsRepeat (last : Option ℕ) (run : List (ℕ × ℕ)) : Type 0 where
   pub empty : IsEmpty run
   pub there : last ≡ Some (place run 0).1
 
--- the program is in UTF-8 mode, and the match is empty and not at a character boundary
+-- the program takes haystacks for text, and the match is empty and not at a character boundary
 pub record IsSplit (e : Search) (run : List (ℕ × ℕ)) : Type 0 where
   pub utf8 : e.utf8 ≡ true
   pub empty : IsEmpty run

@@ -1,10 +1,13 @@
--- Which of two patterns is preferred.
-use Rattle.std.specs.Prelude.{ℕ, ◌<◌, Bool, List}
+-- Which match of a program's patterns is preferred.
+use Rattle.std.specs.Prelude.{◌≡◌, ℕ, ◌<◌, ◌≤◌, Bool, true, List, slice_get, Some}
+use Rattle.rsc_nfa.specs.Steps.{place}
 use Rattle.rsc_search.specs.Inputs.{InputParts}
 use Rattle.rsc_search.specs.Matches.{Matched}
 use Rattle.rsc_engine.specs.Searches.{Compiled, search_in}
 use Rattle.rsc_engine.specs.Runs.{IsMatchRun, IsMatchOf}
-use Rattle.rsc_engine.specs.Preferred.{IsPreferredTo}
+use Rattle.rsc_engine.specs.Preferred.{IsPreferredTo, IsPreferred}
+use Rattle.rsc_engine.specs.Patterns.{Pattern, subject_of}
+use Rattle.rsc_engine.specs.FirstEnds.{loops_take_bytes, IsFirstEnd}
 
 -- in every input, of runs from the state at which matches begin, at one position, to matches of two patterns, that of the lesser pattern is preferred
 pub record PrefersLesser {W : Type 0} (chars : W → ℕ → Bool) (program : Compiled W) : Type 0 where
@@ -12,3 +15,10 @@ pub record PrefersLesser {W : Type 0} (chars : W → ℕ → Bool) (program : Co
       IsMatchRun (search_in chars program input) (program.start, found.span.start) one → IsMatchOf (search_in chars program input) one found →
       IsMatchRun (search_in chars program input) (program.start, found.span.start) other → IsMatchOf (search_in chars program input) other beaten →
       found.pattern < beaten.pattern → IsPreferredTo (search_in chars program input) one other
+
+-- in every input a preferred run is of a match that ends at the first end of its pattern in the span, if the pattern's loops take bytes
+pub record PrefersFirstEnds {W : Type 0} (chars : W → ℕ → Bool) (program : Compiled W) (patterns : List Pattern) : Type 0 where
+  pub first : (input : InputParts) (run : List (ℕ × ℕ)) (found : Matched) (p : Pattern) →
+      IsPreferred (search_in chars program input) (program.start, (place run 0).1) run → IsMatchOf (search_in chars program input) run found →
+      slice_get patterns found.pattern ≡ Some p → loops_take_bytes p ≡ true →
+      IsFirstEnd (subject_of (search_in chars program input)) p (λ j. j ≤ input.span.end) found.span.start found.span.end

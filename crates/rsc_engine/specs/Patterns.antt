@@ -25,8 +25,8 @@ pub data Pattern : Type 0 where
   Then : Pattern → Pattern → Pattern
   -- the one or the other
   Either : Pattern → Pattern → Pattern
-  -- a pattern from a number of times to another, or without a limit
-  Repeat : ℕ → Option ℕ → Pattern → Pattern
+  -- a pattern from a number of times to another, or without a limit; preferably often, or else seldom
+  Repeat : ℕ → Option ℕ → Bool → Pattern → Pattern
 
 -- each after the one before it
 abbrev pub in_order : List Pattern → Pattern
@@ -60,6 +60,10 @@ abbrev pub IsAtMost : ℕ → Option ℕ → ℕ → Type 0
 IsAtMost min None n = Unit {0}
 IsAtMost min (Some max) n = (n ≤ max) ⊎ (n ≤ min)
 
+-- a number of times from `min` to the limit, one after the other, leads from i to j
+abbrev pub SomeTimes : (ℕ → ℕ → Type 0) → ℕ → Option ℕ → ℕ → ℕ → Type 0
+SomeTimes Goes min max i j = (n : ℕ) × (min ≤ n) × IsAtMost min max n × Times Goes n i j
+
 -- the pattern goes from the position i to j
 abbrev pub Goes : Subject → Pattern → ℕ → ℕ → Type 0
 Goes x Empty i j = i ≡ j
@@ -69,7 +73,7 @@ Goes x (Literal bytes) i j = AreBytes x.haystack bytes i j
 Goes x (Assertion look) i j = Holds look x.terminator x.word_chars x.haystack i × (i ≡ j)
 Goes x (Then a b) i j = (k : ℕ) × Goes x a i k × Goes x b k j
 Goes x (Either a b) i j = Goes x a i j ⊎ Goes x b i j
-Goes x (Repeat min max a) i j = (n : ℕ) × (min ≤ n) × IsAtMost min max n × Times (Goes x a) n i j
+Goes x (Repeat min max often a) i j = SomeTimes (Goes x a) min max i j
 
 -- the pattern may match no byte: if not, each match of it has a byte
 abbrev pub may_be_empty : Pattern → Bool
@@ -81,8 +85,8 @@ may_be_empty (Literal (b ∷ rest)) = false
 may_be_empty (Assertion look) = true
 may_be_empty (Then a b) = may_be_empty a && may_be_empty b
 may_be_empty (Either a b) = may_be_empty a || may_be_empty b
-may_be_empty (Repeat zero max a) = true
-may_be_empty (Repeat (suc min) max a) = may_be_empty a
+may_be_empty (Repeat zero max often a) = true
+may_be_empty (Repeat (suc min) max often a) = may_be_empty a
 
 -- the subject of a search
 abbrev pub subject_of : Search → Subject

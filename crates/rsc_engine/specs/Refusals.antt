@@ -51,7 +51,7 @@ has_reversed_range (Literal bytes) = false
 has_reversed_range (Assertion look) = false
 has_reversed_range (Then a b) = has_reversed_range a || has_reversed_range b
 has_reversed_range (Either a b) = has_reversed_range a || has_reversed_range b
-has_reversed_range (Repeat min max a) = may_occur min max && has_reversed_range a
+has_reversed_range (Repeat min max often a) = may_occur min max && has_reversed_range a
 
 -- some pattern has one
 abbrev pub has_a_reversed_range : List Pattern → Bool

@@ -50,6 +50,6 @@ search_in chars p input = record {
   mode = input.anchored;
 }
 
--- there was no memory for the search, or it has more places, states times positions, than there are numbers of 64 bits
+-- why a search fails: there was no memory for it, or it has more places, states times positions, than there are numbers of 64 bits
 abbrev pub FailsFor : Search → Error → Type 0
 FailsFor e error = (error ≡ OutOfMemory) ⊎ ((error ≡ TooLarge) × (2 ^ 64 ≤ (e.end + 1 - e.start) * length e.states))

@@ -1,39 +1,32 @@
 //! A builder: each call makes a part of a pattern, and larger parts are made of smaller ones.
-ghost use Rattle.std.specs.Prelude.{false, ◌≡◌, ◌<◌, ◌++◌, [], ◌∷◌, None, Some, Err, map, flat_map, length, IfOk, IfErr, OnOk, OnErr};
+ghost use Rattle.std.specs.Prelude.{false, true, ◌≡◌, ◌<◌, ◌++◌, [], ◌∷◌, None, Some, Err, map, flat_map, length, IfOk, IfErr, OnOk, OnErr};
 ghost use Rattle.rsc_captures.specs.Groups.{groups_in};
 ghost use Rattle.rsc_engine.specs.declared.error.Error.TheVariants.{OutOfMemory, EmptyClass};
+ghost use Rattle.rsc_engine.specs.Patterns as patterns;
+ghost use Rattle.rsc_engine.specs.FirstEnds.{loops_take_bytes};
 ghost use Rattle.rsc_engine.specs.Patterns.{Empty, Never, Class, Literal, Assertion, Then, Either, in_order, one_of, Recognizes};
 ghost use Rattle.rsc_engine.specs.GroupEnds.{RecordsEnds};
 ghost use Rattle.rsc_engine.specs.GroupOrder.{ClosesGroups};
-ghost use Rattle.rsc_engine.specs.PatternOrder.{PrefersLesser};
-ghost use Rattle.rsc_engine.specs.Refusals.{FailsToBuild, RefusesNames, RepeatsName, error_of, has_a_reversed_range};
-ghost use Rattle.rsc_engine.specs.Parts.{pattern_of, patterns_of, pattern_in, groups_of_part, groups_of_pattern, lists_of};
+ghost use Rattle.rsc_engine.specs.PatternOrder.{PrefersLesser, PrefersFirstEnds};
+ghost use Rattle.rsc_engine.specs.Refusals.{FailsToBuild, RepeatsName, has_a_reversed_range};
+ghost use Rattle.rsc_engine.specs.Trees.{pattern_in};
+ghost use Rattle.rsc_engine.specs.Parts.{pattern_of, patterns_of, groups_of_part, groups_of_pattern, lists_of};
 
 mod compile;
 mod loops;
+mod names;
+mod part;
 mod repeat;
 mod tree;
 
 use self::compile::compile;
+use self::names::{info_of, joined};
+pub use self::part::Part;
 use self::tree::Tree;
 use crate::{Error, Program};
-use rsc_captures::{GroupInfo, GroupInfoError, GroupInfoErrorKind};
 use rsc_look::{Look, LookMatcher, WordClass};
 use rsc_nfa::Nfa;
 use std::alloc::Global;
-
-/// A part of a pattern.
-///
-/// Parts nest as the calls that made them, but for `literal`, `class`, `concat` and `one_of`, which stay flat: to build or drop a part takes stack for each
-/// level.
-#[derive(Drop)]
-pub struct Part<'n> {
-    tree: Tree,
-    // The names of its groups, in the order in which they open.
-    names: Vec<Option<&'n str>>,
-    // Whether it can match nothing. No clause speaks of it: it decides which match a loop over the part prefers, as tests of `build` and `loops` show.
-    may_be_empty: bool,
-}
 
 /// Makes parts, and keeps the patterns that are finished.
 #[derive(Drop)]
@@ -123,6 +116,7 @@ impl<'n> Builder<'n> {
         ensures refused { IfErr result (λ e. e ≡ OutOfMemory) }
     {
         let may_be_empty = one.may_be_empty && other.may_be_empty;
+        let loops_take_bytes = one.loops_take_bytes && other.loops_take_bytes;
         let names = joined(one.names, other.names)?;
         let tree = Tree::Then(
             Box::new(self.alloc, one.tree)?,
@@ -132,6 +126,7 @@ impl<'n> Builder<'n> {
             tree,
             names,
             may_be_empty,
+            loops_take_bytes,
         })
     }
 
@@ -142,14 +137,17 @@ impl<'n> Builder<'n> {
         ensures refused { IfErr result (λ e. e ≡ OutOfMemory) }
     {
         let mut may_be_empty = true;
+        let mut loops_take_bytes = true;
         for part in &parts {
-            may_be_empty = may_be_empty && part.may_be_empty;
+            may_be_empty &= part.may_be_empty;
+            loops_take_bytes &= part.loops_take_bytes;
         }
         let (trees, names) = self.taken_apart(parts)?;
         Ok(Part {
             tree: Tree::Concat(trees),
             names,
             may_be_empty,
+            loops_take_bytes,
         })
     }
 
@@ -160,14 +158,17 @@ impl<'n> Builder<'n> {
         ensures refused { IfErr result (λ e. e ≡ OutOfMemory) }
     {
         let mut may_be_empty = false;
+        let mut loops_take_bytes = true;
         for part in &parts {
-            may_be_empty = may_be_empty || part.may_be_empty;
+            may_be_empty |= part.may_be_empty;
+            loops_take_bytes &= part.loops_take_bytes;
         }
         let (trees, names) = self.taken_apart(parts)?;
         Ok(Part {
             tree: Tree::OneOf(trees),
             names,
             may_be_empty,
+            loops_take_bytes,
         })
     }
 
@@ -178,6 +179,7 @@ impl<'n> Builder<'n> {
         ensures refused { IfErr result (λ e. e ≡ OutOfMemory) }
     {
         let may_be_empty = one.may_be_empty || other.may_be_empty;
+        let loops_take_bytes = one.loops_take_bytes && other.loops_take_bytes;
         let names = joined(one.names, other.names)?;
         let tree = Tree::Either(
             Box::new(self.alloc, one.tree)?,
@@ -187,6 +189,7 @@ impl<'n> Builder<'n> {
             tree,
             names,
             may_be_empty,
+            loops_take_bytes,
         })
     }
 
@@ -199,6 +202,7 @@ impl<'n> Builder<'n> {
     {
         let groups = part.names.len();
         let may_be_empty = part.may_be_empty;
+        let loops_take_bytes = part.loops_take_bytes;
         let mut first = Vec::new(self.alloc);
         first.push(name)?;
         let names = joined(first, part.names)?;
@@ -207,6 +211,7 @@ impl<'n> Builder<'n> {
             tree,
             names,
             may_be_empty,
+            loops_take_bytes,
         })
     }
 
@@ -239,6 +244,7 @@ impl<'n> Builder<'n> {
         ensures groups { IfOk result (λ program. program.automaton.groups ≡ lists_of self.entry ++ groups_of_pattern last.entry ∷ []) }
         ensures ends { IfOk result (λ program. RecordsEnds W.word_chars program) }
         ensures prefers { IfOk result (λ program. PrefersLesser W.word_chars program) }
+        ensures first_ends { IfOk result (λ program. PrefersFirstEnds W.word_chars program (patterns_of self.entry ++ pattern_of last.entry ∷ [])) }
         ensures closes { IfOk result (λ program. ClosesGroups W.word_chars program) }
         ensures text { IfOk result (λ program. program.utf8 ≡ utf8) }
         ensures matcher { IfOk result (λ program. program.automaton.matcher ≡ (10, word_class)) }
@@ -265,6 +271,7 @@ impl<'n> Builder<'n> {
         ensures groups { IfOk result (λ program. program.automaton.groups ≡ lists_of self.entry ++ groups_of_pattern last.entry ∷ []) }
         ensures ends { IfOk result (λ program. RecordsEnds W.word_chars program) }
         ensures prefers { IfOk result (λ program. PrefersLesser W.word_chars program) }
+        ensures first_ends { IfOk result (λ program. PrefersFirstEnds W.word_chars program (patterns_of self.entry ++ pattern_of last.entry ∷ [])) }
         ensures closes { IfOk result (λ program. ClosesGroups W.word_chars program) }
         ensures text { IfOk result (λ program. program.utf8 ≡ utf8) }
         ensures matcher { IfOk result (λ program. program.automaton.matcher ≡ matcher) }
@@ -300,6 +307,8 @@ impl<'n> Builder<'n> {
 
     // A part with no smaller ones, and with no group.
     fn leaf(&self, tree: Tree, may_be_empty: bool) -> Part<'n>
+        requires emptiness { may_be_empty ≡ patterns.may_be_empty (pattern_in tree) }
+        requires loops { loops_take_bytes (pattern_in tree) ≡ true }
         ensures part { pattern_of result ≡ pattern_in tree }
         ensures groups { groups_of_part result ≡ [] }
     {
@@ -307,56 +316,7 @@ impl<'n> Builder<'n> {
             tree,
             names: Vec::new(self.alloc),
             may_be_empty,
+            loops_take_bytes: true,
         }
-    }
-}
-
-// The names of a part, and of the part after it.
-fn joined<'n>(
-    mut names: Vec<Option<&'n str>>,
-    mut more: Vec<Option<&'n str>>,
-) -> Result<Vec<Option<&'n str>>, Error>
-    ensures joined { IfOk result (λ all. all.items ≡ names.entry.items ++ more.entry.items) }
-    ensures refused { IfErr result (λ e. e ≡ OutOfMemory) }
-{
-    names.append(&mut more)?;
-    Ok(names)
-}
-
-// The groups of all patterns: of each that of the whole match, which has no name, and then its own.
-fn info_of(alloc: Global, patterns: &[Part<'_>]) -> Result<GroupInfo, Error>
-    ensures groups { IfOk result (λ info. info ≡ map groups_of_pattern patterns.now) }
-    ensures names { OnOk result (¬ (RepeatsName (map groups_of_pattern patterns.now))) }
-    ensures refused { IfErr result (RefusesNames (map groups_of_pattern patterns.now)) }
-{
-    let mut all = Vec::new(alloc);
-    for part in patterns {
-        let mut names = Vec::new(alloc);
-        names.push(None)?;
-        names.extend_from_slice(&part.names)?;
-        all.push(names)?;
-    }
-    let mut lists = Vec::new(alloc);
-    for names in &all {
-        lists.push(names.as_slice())?;
-    }
-    match GroupInfo::new(alloc, lists.as_slice()) {
-        Err(fault) => Err(refusal_of(&fault)),
-        Ok(info) => Ok(info),
-    }
-}
-
-// Why there is no group info.
-fn refusal_of(fault: &GroupInfoError) -> Error
-    ensures { result ≡ error_of fault.now }
-{
-    match fault.kind() {
-        GroupInfoErrorKind::OutOfMemory => Error::OutOfMemory,
-        GroupInfoErrorKind::Duplicate { .. } => Error::Names,
-        // The last two don't come, since `info_of` begins each pattern with a group that has no name.
-        GroupInfoErrorKind::TooManyPatterns { .. }
-        | GroupInfoErrorKind::TooManyGroups { .. }
-        | GroupInfoErrorKind::MissingGroups { .. }
-        | GroupInfoErrorKind::FirstMustBeUnnamed { .. } => Error::TooLarge,
     }
 }

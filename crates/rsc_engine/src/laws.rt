@@ -1,5 +1,5 @@
 //! Laws of matches that a caller can cite: functions whose contracts are the laws.
-ghost use Rattle.std.specs.Prelude.{true, false, ◌↔◌, ◌≡◌, ◌+◌, ◌*◌, ◌<◌, ◌≤◌, ◌⊎◌, ℕ, List, length, Option, Some, None, slice_index_or};
+ghost use Rattle.std.specs.Prelude.{true, false, ◌↔◌, ◌≡◌, ◌+◌, ◌*◌, ◌<◌, ◌≤◌, ◌⊎◌, ℕ, List, length, Option, Some, None, slice_get, slice_index_or};
 ghost use Rattle.std.specs.List.{list_any};
 ghost use Rattle.rsc_captures.specs.Groups.{group_count};
 ghost use Rattle.rsc_captures.specs.Captured.{Captured, group_span};
@@ -8,14 +8,15 @@ ghost use Rattle.rsc_search.specs.Matches.{Matched};
 ghost use Rattle.rsc_search.specs.declared.span.Span.{Span};
 ghost use Rattle.rsc_search.specs.declared.anchored.Anchored.TheVariants.{No};
 ghost use Rattle.rsc_engine.specs.Searches.{Search, Compiled, search_in};
-ghost use Rattle.rsc_engine.specs.Patterns.{Pattern, Subject, Goes, may_be_empty, IsMatchIn, Recognizes};
+ghost use Rattle.rsc_engine.specs.Patterns.{Pattern, Subject, Goes, may_be_empty, subject_of, IsMatchIn, Recognizes};
 ghost use Rattle.rsc_engine.specs.Preferred.{IsPreferred, IsLeftmostFirst, IsFirstMatch, MayBegin, HasNone};
 ghost use Rattle.rsc_engine.specs.NextMatches.{IsNext, IsOver, IsNextMatch, IsOpen, IsRepeated, IsSplitAt, Left, AreAll};
 ghost use Rattle.rsc_engine.specs.Ends.{IsEarliestEnd, IsLeftmostEnd};
 ghost use Rattle.rsc_engine.specs.GroupEnds.{RecordsEnds};
 ghost use Rattle.rsc_engine.specs.GroupOrder.{ClosesGroups};
 ghost use Rattle.rsc_engine.specs.declared.dfa.Answer.{Answer};
-ghost use Rattle.rsc_engine.specs.PatternOrder.{PrefersLesser};
+ghost use Rattle.rsc_engine.specs.PatternOrder.{PrefersLesser, PrefersFirstEnds};
+ghost use Rattle.rsc_engine.specs.FirstEnds.{loops_take_bytes, IsFirstEnd};
 
 use crate::Answer;
 use rsc_look::WordClass;
@@ -124,6 +125,21 @@ pub fn a_leftmost_end_is_of_a_pattern<W: WordClass>()
         (found : Matched) × IsMatchIn patterns (search_in W.word_chars program input) found
         × MayBegin (search_in W.word_chars program input) found.span.start × (found.span.end ≡ end)
         × ((other : Matched) → other.span.start < found.span.start → ¬ (IsMatchIn patterns (search_in W.word_chars program input) other)) }
+{}
+
+/// Where a match ends: at the first end of its pattern that is in the span, in the order in which its ways are tried, if each part that is
+/// repeated without a limit takes a byte. There is at most one first end.
+pub fn a_match_ends_at_its_first_end<W: WordClass>()
+    ensures first { (program : Compiled W) (patterns : List Pattern) (input : InputParts) (captures : Captured) (found : Matched) (p : Pattern) →
+        PrefersFirstEnds W.word_chars program patterns → IsFirstMatch (search_in W.word_chars program input) captures found →
+        slice_get patterns found.pattern ≡ Some p → loops_take_bytes p ≡ true →
+        IsFirstEnd (subject_of (search_in W.word_chars program input)) p (λ j. j ≤ input.span.end) found.span.start found.span.end }
+    ensures next { (program : Compiled W) (patterns : List Pattern) (input : InputParts) (last : Option ℕ) (captures : Captured) (found : Matched)
+        (p : Pattern) →
+        PrefersFirstEnds W.word_chars program patterns → IsNextMatch (search_in W.word_chars program input) last captures found →
+        slice_get patterns found.pattern ≡ Some p → loops_take_bytes p ≡ true →
+        IsFirstEnd (subject_of (search_in W.word_chars program input)) p (λ j. j ≤ input.span.end) found.span.start found.span.end }
+    ensures one { (x : Subject) (p : Pattern) (end i j k : ℕ) → IsFirstEnd x p (λ l. l ≤ end) i j → IsFirstEnd x p (λ l. l ≤ end) i k → j ≡ k }
 {}
 
 /// Where the captures of a program that records the ends of its matches have room, the two slots of the first group of a match's pattern hold

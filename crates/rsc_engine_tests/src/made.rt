@@ -77,17 +77,6 @@ pub fn span(start: usize, end: usize) -> Option<Span> {
     Some(Span { start, end })
 }
 
-/// The span of the first match in a text, whose groups are in the captures afterwards.
-pub fn first_span(
-    alloc: Global,
-    program: &Program<AsciiWord>,
-    text: &[u8],
-    captures: &mut Captures,
-) -> Result<Option<Span>, Fail> {
-    let found = find(alloc, program, &Input::new(text), captures)?;
-    Ok(found.map(|m| m.span()))
-}
-
 /// The pattern and the ends of the first match in `ab`, whose groups are in the captures afterwards.
 pub fn first_of_patterns(
     alloc: Global,

@@ -2,9 +2,11 @@
 ghost use Rattle.std.specs.Prelude.{◌≡◌, ℕ, ◌+◌, ◌*◌, ◌%◌, ◌<◌, ◌≤◌, ◌++◌, [], ◌∷◌, map, length, IfOk, IfErr, MatchResult};
 ghost use Rattle.rsc_nfa.specs.declared.state.State.TheVariants.{Fork};
 ghost use Rattle.rsc_engine.specs.Patterns.{Never, Class, Literal, in_order, one_of};
-ghost use Rattle.rsc_engine.specs.Parts.{pattern_of, pattern_in};
+ghost use Rattle.rsc_engine.specs.Parts.{pattern_of};
+ghost use Rattle.rsc_engine.specs.Trees.{pattern_in};
 ghost use Rattle.rsc_engine.specs.LinksLayout.{Adds, Builds, IsAdded};
 ghost use Rattle.rsc_engine.specs.BeginsLayout.{Begins, IsOfOne, IsOfSome};
+ghost use Rattle.rsc_engine.specs.FirstsLayout.{OrdersOne, OrdersSome};
 ghost use Rattle.rsc_captures.specs.Groups.{all_groups};
 ghost use Rattle.rsc_engine.specs.NamesLayout.{AreSoundIn};
 ghost use Rattle.rsc_engine.specs.Refusals.{RunsOut, has_reversed_range, has_a_reversed_range};
@@ -68,7 +70,8 @@ pub fn compile(
 ) -> Result<(Vec<State>, StateID), Error>
     ensures { MatchResult result (λ made. Begins made.0.items made.1 (IsOfSome 0 (map pattern_of patterns.now))
         × (length patterns.now ≤ length info.now →
-        AreSoundIn info.now (has_a_reversed_range (map pattern_of patterns.now)) [] made.0.items made.1 made.0.items)) RunsOut }
+        AreSoundIn info.now (has_a_reversed_range (map pattern_of patterns.now)) [] made.0.items made.1 made.0.items)
+        × OrdersSome made.0.items made.1 0 (map pattern_of patterns.now)) RunsOut }
 {
     let mut compiler = Compiler {
         states: Vec::new(alloc),
@@ -133,7 +136,8 @@ impl Compiler {
     ) -> Result<StateID, Error>
         ensures { MatchResult result (λ first. Adds self.old.states.items self.new.states.items
             (λ states. Begins states first (IsOfOne index (pattern_of whole.now)) × (index < length info.now →
-            AreSoundIn info.now (has_reversed_range (pattern_of whole.now)) self.old.states.items self.new.states.items first states))) RunsOut }
+            AreSoundIn info.now (has_reversed_range (pattern_of whole.now)) self.old.states.items self.new.states.items first states)
+            × OrdersOne states first index (pattern_of whole.now))) RunsOut }
     {
         let Ok(pattern) = PatternID::new(index) else {
             return Err(Error::TooLarge);

@@ -1,9 +1,8 @@
 //! The states of repetitions.
-ghost use Rattle.std.specs.Prelude.{◌≡◌, ◌⊎◌, None, IfOk, IfErr, MatchResult};
-ghost use Rattle.rsc_nfa.specs.declared.state.State.TheVariants.{Fork};
+ghost use Rattle.std.specs.Prelude.{◌≡◌, None, IfOk, IfErr, MatchResult};
 ghost use Rattle.rsc_engine.specs.Patterns.{Repeat};
-ghost use Rattle.rsc_engine.specs.Parts.{pattern_in};
-ghost use Rattle.rsc_engine.specs.LinksLayout.{Builds, copies, up_to};
+ghost use Rattle.rsc_engine.specs.Trees.{pattern_in};
+ghost use Rattle.rsc_engine.specs.LinksLayout.{Builds, choice_of, copies, up_to};
 ghost use Rattle.rsc_engine.specs.Refusals.{RunsOut};
 
 use super::compile::{Compiler, Slots};
@@ -23,7 +22,7 @@ impl Compiler {
         next: StateID,
     ) -> Result<StateID, Error>
         ensures { MatchResult result (λ first. Builds (slots.now.end, slots.now.limit) self.old.states.items self.new.states.items first next
-            (Repeat times.min times.max (pattern_in sub.now))) RunsOut }
+            (Repeat times.min times.max times.is_greedy (pattern_in sub.now))) RunsOut }
     {
         let left = self.left;
         let first = self.times(slots, times, sub, next)?;
@@ -42,7 +41,7 @@ impl Compiler {
         next: StateID,
     ) -> Result<StateID, Error>
         ensures { MatchResult result (λ first. Builds (slots.now.end, slots.now.limit) self.old.states.items self.new.states.items first next
-            (Repeat times.min times.max (pattern_in sub.now))) RunsOut }
+            (Repeat times.min times.max times.is_greedy (pattern_in sub.now))) RunsOut }
     {
         let left = self.left;
         match times.max {
@@ -95,7 +94,7 @@ impl Compiler {
         next: StateID,
     ) -> Result<StateID, Error>
         ensures { MatchResult result (λ first. Builds (slots.now.end, slots.now.limit) self.old.states.items self.new.states.items first next
-            (up_to count (pattern_in sub.now))) RunsOut }
+            (up_to is_greedy count (pattern_in sub.now))) RunsOut }
     {
         let left = self.left;
         let mut first = next;
@@ -117,7 +116,7 @@ impl Compiler {
         next: StateID,
     ) -> Result<StateID, Error>
         ensures { MatchResult result (λ first. Builds (slots.now.end, slots.now.limit) self.old.states.items self.new.states.items first next
-            (Repeat 0 None (pattern_in sub.now))) RunsOut }
+            (Repeat 0 None times.is_greedy (pattern_in sub.now))) RunsOut }
     {
         let (first, again) = self.again(slots, times.is_greedy, sub, next)?;
         if times.may_be_empty {
@@ -136,9 +135,9 @@ impl Compiler {
         next: StateID,
     ) -> Result<(StateID, StateID), Error>
         ensures first { IfOk result (λ made. Builds (slots.now.end, slots.now.limit) self.old.states.items self.new.states.items made.0 next
-            (Repeat 1 None (pattern_in sub.now))) }
+            (Repeat 1 None is_greedy (pattern_in sub.now))) }
         ensures again { IfOk result (λ made. Builds (slots.now.end, slots.now.limit) self.old.states.items self.new.states.items made.1 next
-            (Repeat 0 None (pattern_in sub.now))) }
+            (Repeat 0 None is_greedy (pattern_in sub.now))) }
         ensures refused { IfErr result RunsOut }
     {
         // What it leads to isn't known yet.
@@ -151,7 +150,7 @@ impl Compiler {
 
 // A state that leads to the part or to what comes next: preferably to the part, if it is greedy.
 fn choice(is_greedy: bool, part: StateID, next: StateID) -> State
-    ensures { (result ≡ Fork part next) ⊎ (result ≡ Fork next part) }
+    ensures { result ≡ choice_of is_greedy part next }
 {
     if is_greedy {
         State::Fork { a: part, b: next }

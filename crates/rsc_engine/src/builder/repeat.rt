@@ -1,5 +1,5 @@
 //! Repetitions.
-ghost use Rattle.std.specs.Prelude.{◌≡◌, None, Some, IfOk, IfErr};
+ghost use Rattle.std.specs.Prelude.{◌≡◌, None, Some, true, false, IfOk, IfErr};
 ghost use Rattle.rsc_engine.specs.declared.error.Error.TheVariants.{OutOfMemory};
 ghost use Rattle.rsc_engine.specs.Patterns.{Repeat};
 ghost use Rattle.rsc_engine.specs.Parts.{pattern_of, groups_of_part};
@@ -11,7 +11,7 @@ use crate::Error;
 impl<'n> Builder<'n> {
     /// The part or nothing, preferably the part.
     pub fn optional(&self, part: Part<'n>) -> Result<Part<'n>, Error>
-        ensures part { IfOk result (λ whole. pattern_of whole ≡ Repeat 0 (Some 1) (pattern_of part.entry)) }
+        ensures part { IfOk result (λ whole. pattern_of whole ≡ Repeat 0 (Some 1) true (pattern_of part.entry)) }
         ensures groups { IfOk result (λ whole. groups_of_part whole ≡ groups_of_part part.entry) }
         ensures refused { IfErr result (λ e. e ≡ OutOfMemory) }
     {
@@ -20,7 +20,7 @@ impl<'n> Builder<'n> {
 
     /// The part or nothing, preferably nothing.
     pub fn optional_lazy(&self, part: Part<'n>) -> Result<Part<'n>, Error>
-        ensures part { IfOk result (λ whole. pattern_of whole ≡ Repeat 0 (Some 1) (pattern_of part.entry)) }
+        ensures part { IfOk result (λ whole. pattern_of whole ≡ Repeat 0 (Some 1) false (pattern_of part.entry)) }
         ensures groups { IfOk result (λ whole. groups_of_part whole ≡ groups_of_part part.entry) }
         ensures refused { IfErr result (λ e. e ≡ OutOfMemory) }
     {
@@ -29,7 +29,7 @@ impl<'n> Builder<'n> {
 
     /// The part any number of times, preferably often. Of a part that can match nothing it is `(part+)?`, as in the original.
     pub fn star(&self, part: Part<'n>) -> Result<Part<'n>, Error>
-        ensures part { IfOk result (λ whole. pattern_of whole ≡ Repeat 0 None (pattern_of part.entry)) }
+        ensures part { IfOk result (λ whole. pattern_of whole ≡ Repeat 0 None true (pattern_of part.entry)) }
         ensures groups { IfOk result (λ whole. groups_of_part whole ≡ groups_of_part part.entry) }
         ensures refused { IfErr result (λ e. e ≡ OutOfMemory) }
     {
@@ -38,7 +38,7 @@ impl<'n> Builder<'n> {
 
     /// The part any number of times, preferably seldom.
     pub fn star_lazy(&self, part: Part<'n>) -> Result<Part<'n>, Error>
-        ensures part { IfOk result (λ whole. pattern_of whole ≡ Repeat 0 None (pattern_of part.entry)) }
+        ensures part { IfOk result (λ whole. pattern_of whole ≡ Repeat 0 None false (pattern_of part.entry)) }
         ensures groups { IfOk result (λ whole. groups_of_part whole ≡ groups_of_part part.entry) }
         ensures refused { IfErr result (λ e. e ≡ OutOfMemory) }
     {
@@ -47,7 +47,7 @@ impl<'n> Builder<'n> {
 
     /// The part once or more, preferably often.
     pub fn plus(&self, part: Part<'n>) -> Result<Part<'n>, Error>
-        ensures part { IfOk result (λ whole. pattern_of whole ≡ Repeat 1 None (pattern_of part.entry)) }
+        ensures part { IfOk result (λ whole. pattern_of whole ≡ Repeat 1 None true (pattern_of part.entry)) }
         ensures groups { IfOk result (λ whole. groups_of_part whole ≡ groups_of_part part.entry) }
         ensures refused { IfErr result (λ e. e ≡ OutOfMemory) }
     {
@@ -56,7 +56,7 @@ impl<'n> Builder<'n> {
 
     /// The part once or more, preferably seldom.
     pub fn plus_lazy(&self, part: Part<'n>) -> Result<Part<'n>, Error>
-        ensures part { IfOk result (λ whole. pattern_of whole ≡ Repeat 1 None (pattern_of part.entry)) }
+        ensures part { IfOk result (λ whole. pattern_of whole ≡ Repeat 1 None false (pattern_of part.entry)) }
         ensures groups { IfOk result (λ whole. groups_of_part whole ≡ groups_of_part part.entry) }
         ensures refused { IfErr result (λ e. e ≡ OutOfMemory) }
     {
@@ -66,7 +66,7 @@ impl<'n> Builder<'n> {
     /// The part from `min` to `max` times, without a limit if `max` is `None`, preferably often. Its groups are the same each time. With a
     /// `max` below `min` it is `min` times.
     pub fn repeat(&self, part: Part<'n>, min: usize, max: Option<usize>) -> Result<Part<'n>, Error>
-        ensures part { IfOk result (λ whole. pattern_of whole ≡ Repeat min max (pattern_of part.entry)) }
+        ensures part { IfOk result (λ whole. pattern_of whole ≡ Repeat min max true (pattern_of part.entry)) }
         ensures groups { IfOk result (λ whole. groups_of_part whole ≡ groups_of_part part.entry) }
         ensures refused { IfErr result (λ e. e ≡ OutOfMemory) }
     {
@@ -80,7 +80,7 @@ impl<'n> Builder<'n> {
         min: usize,
         max: Option<usize>,
     ) -> Result<Part<'n>, Error>
-        ensures part { IfOk result (λ whole. pattern_of whole ≡ Repeat min max (pattern_of part.entry)) }
+        ensures part { IfOk result (λ whole. pattern_of whole ≡ Repeat min max false (pattern_of part.entry)) }
         ensures groups { IfOk result (λ whole. groups_of_part whole ≡ groups_of_part part.entry) }
         ensures refused { IfErr result (λ e. e ≡ OutOfMemory) }
     {
@@ -94,7 +94,7 @@ impl<'n> Builder<'n> {
         max: Option<usize>,
         is_greedy: bool,
     ) -> Result<Part<'n>, Error>
-        ensures part { IfOk result (λ whole. pattern_of whole ≡ Repeat min max (pattern_of part.entry)) }
+        ensures part { IfOk result (λ whole. pattern_of whole ≡ Repeat min max is_greedy (pattern_of part.entry)) }
         ensures groups { IfOk result (λ whole. groups_of_part whole ≡ groups_of_part part.entry) }
         ensures refused { IfErr result (λ e. e ≡ OutOfMemory) }
     {
@@ -106,11 +106,13 @@ impl<'n> Builder<'n> {
             groups: part.names.len(),
         };
         let may_be_empty = min == 0 || part.may_be_empty;
+        let loops_take_bytes = part.loops_take_bytes && (max.is_some() || !part.may_be_empty);
         let tree = Tree::Repeat(times, Box::new(self.alloc, part.tree)?);
         Ok(Part {
             tree,
             names: part.names,
             may_be_empty,
+            loops_take_bytes,
         })
     }
 }

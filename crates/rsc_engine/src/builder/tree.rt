@@ -31,8 +31,8 @@ pub enum Tree {
     Group(usize, Box<Tree>),
 }
 
-/// How a part is repeated, and what its states need to know of it. Clauses speak of `min` and `max` alone: the others decide which match is preferred, and
-/// which slots groups have, as tests of `build` and `loops` show.
+/// How a part is repeated, and what its states need to know of it. No clause speaks of `may_be_empty` and `groups` here: the one decides which match a loop
+/// prefers that can take no byte, and the other which slots groups have, as tests of `build` and `loops` show.
 #[derive(Clone, Copy)]
 pub struct Times {
     /// At least this often.

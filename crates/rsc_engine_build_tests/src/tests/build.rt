@@ -1,7 +1,6 @@
 //! What the builder makes.
-use super::made::{captures_of, finds, first, first_of_patterns, first_span};
+use super::made::{captures_of, finds, first, first_of_patterns, first_span, span};
 use rsc_engine::{Builder, Error, Part, Program};
-use rsc_engine_tests::made::span;
 use rsc_look::{AsciiWord, Look, LookMatcher};
 use rsc_primitives::PatternID;
 use rsc_search::{Anchored, Input};
@@ -325,5 +324,21 @@ fn makes_captures_for_all_groups(rt: HostRuntime) -> Result<(), Fail> {
     assert!(rt; captures.slots().len() == 6 && !captures.is_match());
     let found = first_span(rt.alloc(), &program, b"-a", &mut captures)?;
     assert!(rt; found == span(1, 2) && captures.get_group(0) == span(1, 2));
+    Ok(())
+}
+
+#[test]
+fn a_part_says_whether_it_may_be_empty(rt: HostRuntime) -> Result<(), Fail> {
+    let builder = Builder::new(rt.alloc());
+    let letter = builder.range(b'a', b'z');
+    assert!(rt; !letter.may_be_empty() && letter.loops_take_bytes());
+    let option = builder.optional(letter)?;
+    assert!(rt; option.may_be_empty() && option.loops_take_bytes());
+    let few = builder.repeat(option, 0, Some(3))?;
+    assert!(rt; few.may_be_empty() && few.loops_take_bytes());
+    let many = builder.plus(few)?;
+    assert!(rt; many.may_be_empty() && !many.loops_take_bytes());
+    let all = builder.then(builder.literal(b"-")?, many)?;
+    assert!(rt; !all.may_be_empty() && !all.loops_take_bytes());
     Ok(())
 }

@@ -1,7 +1,6 @@
 //! Loops over classes of bytes, alone, within one another and with groups. What is expected is what Python's `re` finds.
-use super::made::{captures_of, finds, first, first_span};
+use super::made::{captures_of, finds, first, first_span, span};
 use rsc_engine::{Builder, Error, Part, Program};
-use rsc_engine_tests::made::span;
 use rsc_look::{AsciiWord, Look};
 use rsc_search::{Input, Span};
 use std::alloc::Global;
@@ -175,5 +174,23 @@ fn a_loop_ends_with_the_span(rt: HostRuntime) -> Result<(), Fail> {
         let found = first(rt.alloc(), &program, &input)?;
         assert!(rt; found == expected, "{start}..{end}");
     }
+    Ok(())
+}
+
+// `(?:x?y??)*`
+fn letters_or_none(alloc: Global) -> Result<Program<AsciiWord>, Error> {
+    let builder = Builder::new(alloc);
+    let one = builder.optional(builder.literal(b"x")?)?;
+    let other = builder.optional_lazy(builder.literal(b"y")?)?;
+    let both = builder.then(one, other)?;
+    let whole = builder.star(both)?;
+    builder.build(AsciiWord, true, whole)
+}
+
+#[test]
+fn a_loop_over_what_may_be_empty_goes_round_with_a_byte_alone(rt: HostRuntime) -> Result<(), Fail> {
+    let program = letters_or_none(rt.alloc())?;
+    assert!(rt; first(rt.alloc(), &program, &Input::new(b"xxy"))? == Some((0, 2)));
+    assert!(rt; first(rt.alloc(), &program, &Input::new(b"y"))? == Some((0, 0)));
     Ok(())
 }

@@ -17,6 +17,11 @@ pub fn no_captures(alloc: Global, program: &Program<AsciiWord>) -> Result<Captur
     Ok(Captures::empty(alloc, groups)?)
 }
 
+/// The span between two positions, as captures give it.
+pub fn span(start: usize, end: usize) -> Option<Span> {
+    Some(Span { start, end })
+}
+
 /// The span of the first match in a text, whose groups are in the captures afterwards.
 pub fn first_span(
     alloc: Global,

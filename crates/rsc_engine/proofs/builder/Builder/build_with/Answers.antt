@@ -7,7 +7,7 @@ use Rattle.rsc_engine.specs.Parts.{pattern_of, patterns_of, groups_of_pattern, l
 use Rattle.rsc_engine.proofs.BeginsLayoutLemmas.{Recognizes-built}
 use Rattle.rsc_engine.proofs.GroupEndsLemmas.{RecordsEnds-built}
 use Rattle.rsc_engine.proofs.GroupOrderLemmas.{ClosesGroups-built}
-use Rattle.rsc_engine.proofs.PatternOrderLemmas.{PrefersLesser-built}
+use Rattle.rsc_engine.proofs.PatternOrderLemmas.{PrefersLesser-built, PrefersFirstEnds-built}
 use Rattle.rsc_engine.proofs.NamesLayoutLemmas.{sound-faulty}
 use Rattle.rsc_engine.proofs.RefusalsLemmas.{faulty-refused}
 use Rattle.rsc_engine.proofs.builder.Builder.build_with.Goals as goal
@@ -32,6 +32,13 @@ returns-clause-prefers g c =
     (PrefersLesser-built _ _
     (rw (c.in_ok-nfa.ensures.made, c.deref.ensures.value)
     (rw c.as_slice-2.ensures.value at c.in_ok-states.ensures.0).prefers))
+
+pub returns-clause-first_ends : goal.returns-clause-first_ends
+returns-clause-first_ends g c =
+    rw (← c.in_ok-pattern.ensures.added, c.in-Some.ensures.made)
+    (PrefersFirstEnds-built _ _ _
+    (rw (c.in_ok-nfa.ensures.made, c.deref.ensures.value)
+    (rw c.as_slice-2.ensures.value at c.in_ok-states.ensures.2)))
 
 pub returns-clause-closes : goal.returns-clause-closes
 returns-clause-closes g c =

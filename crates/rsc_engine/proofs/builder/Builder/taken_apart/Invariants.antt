@@ -1,7 +1,8 @@
 use Rattle.std.proofs.Common.{◌≡◌, ◌++◌, map, flat_map, length}
 use Rattle.rsc_captures.specs.Groups.{groups_in}
 use Rattle.std.specs.Vec.Iter.{into_iter_items, into_iter_len}
-use Rattle.rsc_engine.specs.Parts.{pattern_of, pattern_in, groups_of_part}
+use Rattle.rsc_engine.specs.Trees.{pattern_in}
+use Rattle.rsc_engine.specs.Parts.{pattern_of, groups_of_part}
 use Rattle.rsc_engine.proofs.builder.Builder.taken_apart.Given as goal
 
 abbrev pub invariant-loop-part : goal.invariant-loop-part

@@ -1,18 +1,20 @@
 use Rattle.std.proofs.Common.{◌≡◌, ◌∙◌, ◌<◌, ◌≤◌, ◌-◌, add-one, arith, length, map, drop, length-drop, rules}
 use Rattle.rsc_engine.proofs.RefusalsLemmas.{built-weaker}
 use Rattle.std.proofs.lemmas.List.{length-map}
-use Rattle.rsc_engine.specs.Parts.{pattern_in}
-use Rattle.rsc_engine.proofs.PartsLemmas.{pattern-never, pattern-class, pattern-literal, pattern-range, pattern-assertion, pattern-then, pattern-either}
-use Rattle.rsc_engine.proofs.BuilderLemmas.{Builds-range, Builds-assert, Builds-then, Builds-either, Builds-group, Builds-optional, Builds-star, Builds-again, Builds-plus, Builds-limited, Builds-unlimited, Builds-one_of, Builds-nothing, drop-last, drop-one}
+use Rattle.std.proofs.Math.Seq.{drop-length}
+use Rattle.rsc_engine.specs.Trees.{pattern_in}
+use Rattle.rsc_engine.proofs.PartsLemmas.{pattern-empty, pattern-never, pattern-class, pattern-literal, pattern-range, pattern-assertion, pattern-then, pattern-either}
+use Rattle.rsc_engine.proofs.BuilderLemmas.{Builds-empty, Builds-range, Builds-assert, Builds-then, Builds-either, Builds-group, Builds-one_of, Builds-nothing, drop-last, drop-one}
+use Rattle.rsc_engine.proofs.LoopsLemmas.{Builds-optional, Builds-star, Builds-again, Builds-plus, Builds-limited, Builds-unlimited}
 use Rattle.rsc_engine.proofs.builder.compile.Compiler.+part.Goals as goal
 
 pub again-returns-clause-first : goal.again-returns-clause-first
 again-returns-clause-first t c =
-    rw c.as_usize.ensures.value (Builds-plus _ _ _ _ _ _ _ _ _ _ c.in_ok-again.ensures c.in_ok-first.ensures c.choice.ensures)
+    rw c.as_usize.ensures.value (rw c.choice.ensures (Builds-plus _ _ _ _ _ _ _ _ _ _ c.in_ok-again.ensures c.in_ok-first.ensures))
 
 pub again-returns-clause-again : goal.again-returns-clause-again
 again-returns-clause-again t c =
-    rw c.as_usize.ensures.value (Builds-again _ _ _ _ _ _ _ _ _ _ c.in_ok-again.ensures c.in_ok-first.ensures c.choice.ensures)
+    rw c.as_usize.ensures.value (rw c.choice.ensures (Builds-again _ _ _ _ _ _ _ _ _ _ c.in_ok-again.ensures c.in_ok-first.ensures))
 
 pub concat-loop-index-preserved : goal.concat-loop-index-preserved
 concat-loop-index-preserved t c =
@@ -76,24 +78,24 @@ part-returns-in_ok-first-in-Either t c =
 
 pub star-returns-then-times : goal.star-returns-then-times
 star-returns-then-times t c =
-    built-weaker c.add.result _ _ (λ id a. Builds-star _ _ _ _ _ _ id _ _ c.in_ok-first.ensures.first c.choice.ensures a) c.add.ensures
+    built-weaker c.add.result _ _ (λ id a. Builds-star _ _ _ _ _ id _ _ _ c.in_ok-first.ensures.first (rw c.choice.ensures at a)) c.add.ensures
 
 pub up_to-loop-done-preserved : goal.up_to-loop-done-preserved
 up_to-loop-done-preserved t c =
     rw add-one
-    (Builds-optional _ _ _ _ _ _ _ _ _ (Builds-then _ _ _ _ _ _ _ _ _ c.loop-done.invariant c.in_ok-one.ensures) c.choice.ensures c.in_ok-first.ensures)
+    (Builds-optional _ _ _ _ _ _ _ _ _ (Builds-then _ _ _ _ _ _ _ _ _ c.loop-done.invariant c.in_ok-one.ensures) (rw c.choice.ensures at c.in_ok-first.ensures))
 
 pub times-returns-in_ok-last-in-None : goal.times-returns-in_ok-last-in-None
 times-returns-in_ok-last-in-None t c =
     let some : 0 < c.args.times.min = search rules in
     built-weaker c.copies.result _ _
-    (λ first x. rw c.in-None.is (Builds-unlimited _ _ _ _ _ _ first _ _ some c.in_ok-last-in-None.ensures.first x))
+    (λ first x. rw c.in-None.is (Builds-unlimited _ _ _ _ _ _ first _ _ _ some c.in_ok-last-in-None.ensures.first x))
     c.copies.ensures
 
 pub times-returns-in_ok-rest-in-Some : goal.times-returns-in_ok-rest-in-Some
 times-returns-in_ok-rest-in-Some t c =
     built-weaker c.copies-in-Some.result _ _
-    (λ first x. rw c.in-Some.is (Builds-limited _ _ _ _ _ _ _ first _ _ (rw c.saturating_sub-more.ensures at c.in_ok-rest-in-Some.ensures) x))
+    (λ first x. rw c.in-Some.is (Builds-limited _ _ _ _ _ _ _ first _ _ _ (rw c.saturating_sub-more.ensures at c.in_ok-rest-in-Some.ensures) x))
     c.copies-in-Some.ensures
 
 pub part-returns-in-Never : goal.part-returns-in-Never
@@ -107,3 +109,15 @@ part-returns-in-Class t c =
 pub part-returns-in-Literal : goal.part-returns-in-Literal
 part-returns-in-Literal t c =
     built-weaker c.literal.result _ _ (λ first x. rw (c.in-Literal.is, pattern-literal, ← c.deref-in-Literal.ensures.value) (x _)) c.literal.ensures
+
+pub part-returns-in-Empty : goal.part-returns-in-Empty
+part-returns-in-Empty t c = rw (c.in-Empty.is, pattern-empty) (Builds-empty _ _ _)
+
+pub concat-loop-index-init : goal.concat-loop-index-init
+concat-loop-index-init t c = rw (drop-length c.args.parts.now) (Builds-empty _ _ _)
+
+pub copies-loop-done-init : goal.copies-loop-done-init
+copies-loop-done-init t c = Builds-empty _ _ _
+
+pub up_to-loop-done-init : goal.up_to-loop-done-init
+up_to-loop-done-init t c = Builds-empty _ _ _

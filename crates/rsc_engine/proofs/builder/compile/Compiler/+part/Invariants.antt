@@ -1,6 +1,6 @@
 use Rattle.std.proofs.Common.{map, drop}
 use Rattle.rsc_engine.specs.Patterns.{in_order, one_of}
-use Rattle.rsc_engine.specs.Parts.{pattern_in}
+use Rattle.rsc_engine.specs.Trees.{pattern_in}
 use Rattle.rsc_engine.specs.LinksLayout.{Builds, copies, up_to}
 use Rattle.rsc_engine.proofs.builder.compile.Compiler.+part.Given as goal
 
@@ -18,4 +18,4 @@ invariant-copies-loop-done l =
 
 abbrev pub invariant-up_to-loop-done : goal.invariant-up_to-loop-done
 invariant-up_to-loop-done l =
-    Builds (l.slots.end, l.slots.limit) l.fn.self.states.items l.self.states.items l.first l.fn.next (up_to l.done (pattern_in l.sub))
+    Builds (l.slots.end, l.slots.limit) l.fn.self.states.items l.self.states.items l.first l.fn.next (up_to l.is_greedy l.done (pattern_in l.sub))

@@ -1,6 +1,10 @@
 use Rattle.std.proofs.Common.{◌≡◌, arith}
-use Rattle.rsc_engine.proofs.BuilderLemmas.{Builds-byte, drop-last}
+use Rattle.std.proofs.Math.Seq.{drop-length}
+use Rattle.rsc_engine.proofs.BuilderLemmas.{Builds-no_byte, Builds-byte, drop-last}
 use Rattle.rsc_engine.proofs.builder.compile.Compiler.literal.Goals as goal
+
+pub loop-index-init : goal.loop-index-init
+loop-index-init c = λ slot. rw (drop-length c.args.bytes.now) (Builds-no_byte slot _ _)
 
 pub loop-index-preserved : goal.loop-index-preserved
 loop-index-preserved c = λ slot.

@@ -3,7 +3,7 @@ use Rattle.rsc_primitives.specs.Indices.{max_index}
 use Rattle.rsc_captures.specs.Groups.{groups_in, lists_in}
 use Rattle.rsc_engine.specs.Parts.{groups_of_pattern}
 use Rattle.rsc_engine.proofs.RefusalsLemmas.{names-refused}
-use Rattle.rsc_engine.proofs.builder.info_of.Goals as goal
+use Rattle.rsc_engine.proofs.builder.names.info_of.Goals as goal
 
 pub returns-in-Err-clause-refused : goal.returns-in-Err-clause-refused
 returns-in-Err-clause-refused c =

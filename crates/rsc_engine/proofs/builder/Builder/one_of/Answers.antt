@@ -1,0 +1,35 @@
+use Rattle.std.proofs.Common.{◌≡◌, ◌∙◌, sym, ap, arith, map, take, take_all, List, refl, ◌+◌, ◌++◌, ◌∷◌, []}
+use Rattle.rsc_engine.specs.Patterns.{Pattern, one_of, may_be_empty}
+use Rattle.rsc_engine.specs.FirstEnds.{loops_take_bytes}
+use Rattle.rsc_engine.specs.Parts.{pattern_of}
+use Rattle.rsc_engine.specs.Trees.{pattern_in}
+use Rattle.rsc_engine.specs.declared.builder.tree.Tree.TheVariants as variants
+use Rattle.rsc_engine.proofs.PartsLemmas.{pattern-one_of, patterns_more, one_of_empty, one_of_loops}
+use Rattle.rsc_engine.proofs.builder.Builder.one_of.Goals as goal
+
+pub loop-part-preserved : goal.loop-part-preserved
+loop-part-preserved c =
+    let done : List Pattern = map pattern_of (take c.loop-part.part-index c.deref-part-items.result.now) in
+    let more : map pattern_of (take (c.loop-part.part-index + 1) c.deref-part-items.result.now) ≡ done ++ pattern_of c.part-item.result ∷ [] =
+    patterns_more _ _ _ (omega (arith, c.loop-part-test.true)) c.part-item.is in
+    rw (
+      more,
+      one_of_empty done (pattern_of c.part-item.result),
+      one_of_loops done (pattern_of c.part-item.result),
+      ← c.loop-part.invariant.0,
+      ← c.loop-part.invariant.1,
+      ← c.part-item.result.emptiness,
+      ← c.part-item.result.loops,
+    )
+    (refl, refl)
+
+pub invariant_of-result : goal.invariant_of-result
+invariant_of-result c =
+    let all : take c.loop-part.part-index c.deref-part-items.result.now ≡ c.args.parts.items =
+    take_all _ _ (omega (arith, c.loop-part-test.false)) ∙ c.deref-part-items.ensures.value in
+    let same : one_of (map pattern_of (take c.loop-part.part-index c.deref-part-items.result.now)) ≡ pattern_in (variants.OneOf c.in_ok-trees.trees) =
+    ap (λ parts. one_of (map pattern_of parts)) all ∙ (ap one_of (sym c.in_ok-trees.ensures.trees) ∙ sym (pattern-one_of c.in_ok-trees.trees)) in
+    record {
+      emptiness = c.loop-part.invariant.0 ∙ ap may_be_empty same;
+      loops = c.loop-part.invariant.1 ∙ ap loops_take_bytes same;
+    }

@@ -1,0 +1,44 @@
+//! Parts of patterns, and what they know of the patterns that they are.
+ghost use Rattle.std.specs.Prelude.{◌≡◌};
+ghost use Rattle.rsc_engine.specs.Patterns as patterns;
+ghost use Rattle.rsc_engine.specs.FirstEnds as ends;
+ghost use Rattle.rsc_engine.specs.Trees.{pattern_in};
+
+use super::tree::Tree;
+
+/// A part of a pattern.
+///
+/// Parts nest as the calls that made them, but for `literal`, `class`, `concat` and `one_of`, which stay flat: to build or drop a part takes stack for each
+/// level.
+#[derive(Drop)]
+pub struct Part<'n> {
+    pub(super) tree: Tree,
+    // The names of its groups, in the order in which they open.
+    pub(super) names: Vec<Option<&'n str>>,
+    // Whether it can match nothing: so which match a loop over it prefers, as tests of `build` and `loops` show.
+    pub(super) may_be_empty: bool,
+    // Whether no loop in it is over what can match nothing.
+    pub(super) loops_take_bytes: bool,
+    ghost emptiness: { may_be_empty ≡ patterns.may_be_empty (pattern_in tree) },
+    ghost loops: { loops_take_bytes ≡ ends.loops_take_bytes (pattern_in tree) },
+}
+
+impl<'n> Part<'n> {
+    ghost use Rattle.rsc_engine.specs.Parts.{pattern_of};
+    ghost use Rattle.rsc_engine.specs.Patterns.{may_be_empty};
+    ghost use Rattle.rsc_engine.specs.FirstEnds.{loops_take_bytes};
+
+    /// Whether the part may match no byte, as it is built: if not, each match of it has a byte. An assertion may, and so may what is repeated from 0 times on.
+    pub fn may_be_empty(&self) -> bool
+        ensures { result ≡ may_be_empty (pattern_of self.now) }
+    {
+        self.may_be_empty
+    }
+
+    /// Whether each part in it that is repeated without a limit takes a byte each time: that part's own `may_be_empty` is false.
+    pub fn loops_take_bytes(&self) -> bool
+        ensures { result ≡ loops_take_bytes (pattern_of self.now) }
+    {
+        self.loops_take_bytes
+    }
+}
