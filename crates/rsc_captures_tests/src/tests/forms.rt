@@ -150,19 +150,34 @@ fn plain_kinds<'a>(
     ]
 }
 
-// Where there is no memory at all. The kinds whose clones are refused are gathered.
+// Where there is no memory at all.
 #[test]
 fn clones_of_each_plain_kind_are_made(rt: HostRuntime) -> Result<(), Fail> {
     let heap = LocalHeap::new(rt.alloc(), 0)?;
-    let mut refused = String::new(rt.alloc());
     let err = PatternID::new(2147483647).err().ok_or("accepted")?;
     for kind in plain_kinds(&heap, err).iter() {
-        if kind.clone().is_err() {
-            refused.push_str(format!(in rt.alloc(); "{kind:?}; ")?.as_str())?;
-        }
+        assert!(rt; kind.clone().is_ok(), "{kind:?}");
     }
-    assert_eq!(rt; refused.as_str(), "");
     let error = GroupInfoError::<&LocalHeap>::from(AllocError);
     assert!(rt; error.clone().is_ok() && error.kind().clone().is_ok());
+    Ok(())
+}
+
+// Whether the list is refused, and its error and the kind of that are cloned.
+fn is_cloned(heap: &LocalHeap, list: &[&[Option<&str>]]) -> bool {
+    match GroupInfo::new(heap, list) {
+        Err(error) => error.clone().is_ok() && error.kind().clone().is_ok(),
+        Ok(_) => false,
+    }
+}
+
+// A clone of an error without a name, and of its kind, is made where there is no memory at all.
+#[test]
+fn clones_of_other_errors_take_no_memory(rt: HostRuntime) -> Result<(), Fail> {
+    let heap = LocalHeap::new(rt.alloc(), 0)?;
+    let missing = is_cloned(&heap, &[&[]]);
+    let named = is_cloned(&heap, &[&[Some("x")]]);
+    let memory = is_cloned(&heap, &[&[None]]);
+    assert!(rt; missing && named && memory);
     Ok(())
 }

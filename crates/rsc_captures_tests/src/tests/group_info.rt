@@ -57,19 +57,26 @@ fn counts_patterns_groups_and_slots(rt: HostRuntime) -> Result<(), Fail> {
 fn numbers_slots(rt: HostRuntime) -> Result<(), Fail> {
     let info = two_patterns(rt.alloc())?;
     let (first, second, unknown) = (pattern(0), pattern(1), pattern(2));
-    for (pid, group, want) in [
-        (first, 0, Some(0)),
-        (first, 1, Some(4)),
-        (first, 2, None),
-        (second, 0, Some(2)),
-        (second, 1, Some(6)),
-        (second, 2, Some(8)),
-        (unknown, 0, None),
-        (first, 18446744073709551615, None),
-    ] {
-        assert!(rt; info.slot(pid, group) == want, "group {group} of {pid:?}");
-    }
-    assert!(rt; info.slots(second, 2) == Some((8, 9)));
+    let of_first = [
+        info.slot(first, 0),
+        info.slot(first, 1),
+        info.slot(first, 2),
+    ];
+    let of_second = [
+        info.slot(second, 0),
+        info.slot(second, 1),
+        info.slot(second, 2),
+    ];
+    let of_none = [
+        info.slot(unknown, 0),
+        info.slot(first, 18446744073709551615),
+    ];
+    assert!(rt;
+        of_first == [Some(0), Some(4), None]
+            && of_second == [Some(2), Some(6), Some(8)]
+            && of_none == [None; 2]
+            && info.slots(second, 2) == Some((8, 9))
+    );
     Ok(())
 }
 
@@ -85,18 +92,20 @@ fn no_group_has_the_greatest_index(rt: HostRuntime) -> Result<(), Fail> {
 fn names_are_local_to_their_pattern(rt: HostRuntime) -> Result<(), Fail> {
     let info = two_patterns(rt.alloc())?;
     let (first, second, unknown) = (pattern(0), pattern(1), pattern(2));
-    for (pid, name, want) in [
-        (first, "x", Some(1)),
-        (second, "x", Some(2)),
-        (unknown, "x", None),
-        (first, "", None),
-    ] {
-        assert!(rt; info.to_index(pid, name) == want, "{name} in {pid:?}");
-    }
-    for (group, want) in [(2, Some("x")), (1, None), (18446744073709551615, None)] {
-        assert!(rt; info.to_name(second, group) == want, "{group}");
-    }
-    assert!(rt; info.pattern_names(unknown).next() == None);
+    let indices = [
+        info.to_index(first, "x"),
+        info.to_index(second, "x"),
+        info.to_index(unknown, "x"),
+        info.to_index(first, ""),
+    ];
+    let names = [
+        info.to_name(second, 2),
+        info.to_name(second, 1),
+        info.to_name(second, 18446744073709551615),
+    ];
+    let is_none = info.pattern_names(unknown).next() == None;
+    let are_found = indices == [Some(1), Some(2), None, None] && names == [Some("x"), None, None];
+    assert!(rt; are_found && is_none);
     Ok(())
 }
 
@@ -104,11 +113,11 @@ fn names_are_local_to_their_pattern(rt: HostRuntime) -> Result<(), Fail> {
 fn iterates_over_the_names_of_a_pattern(rt: HostRuntime) -> Result<(), Fail> {
     let info = two_patterns(rt.alloc())?;
     let mut names = info.pattern_names(pattern(1));
-    assert!(rt; names.size_hint() == (3, Some(3)) && names.len() == 3);
-    for want in [Some(None), Some(None), Some(Some("x")), None, None] {
-        assert!(rt; names.next() == want);
-    }
-    assert_eq!(rt; names.len(), 0);
+    let is_whole = names.size_hint() == (3, Some(3)) && names.len() == 3;
+    let first = [names.next(), names.next(), names.next()];
+    let rest = [names.next(), names.next()];
+    let are_three = first == [Some(None), Some(None), Some(Some("x"))];
+    assert!(rt; is_whole && are_three && rest == [None, None] && names.len() == 0);
     Ok(())
 }
 
@@ -180,84 +189,86 @@ fn finds_each_of_many_names(rt: HostRuntime) -> Result<(), Fail> {
 }
 
 // Whether the list is refused with that text.
-fn refused_as(alloc: Global, lists: &[&[Option<&str>]], want: &str) -> Result<bool, Fail> {
-    match GroupInfo::new(alloc, lists) {
-        Ok(_) => Ok(false),
-        Err(error) => Ok(error.to_string(alloc)?.as_str() == want),
+fn is_refused_as(alloc: Global, lists: &[&[Option<&str>]], want: &str) -> bool {
+    let Err(error) = GroupInfo::new(alloc, lists) else {
+        return false;
+    };
+    match error.to_string(alloc) {
+        Ok(text) => text.as_str() == want,
+        Err(_) => false,
     }
 }
 
 #[test]
-fn refuses_missing_groups_and_named_first_groups(rt: HostRuntime) -> Result<(), Fail> {
+fn refuses_missing_groups_and_named_first_groups(rt: HostRuntime) {
     let alloc = rt.alloc();
     let missing =
         "no capturing groups found for pattern 1 (either all patterns have zero groups or all patterns have at least one group)";
-    assert!(rt; refused_as(alloc, &[&[None], &[]], missing)?);
+    let is_second = is_refused_as(alloc, &[&[None], &[]], missing);
     let missing =
         "no capturing groups found for pattern 0 (either all patterns have zero groups or all patterns have at least one group)";
-    assert!(rt; refused_as(alloc, &[&[], &[None, Some("x"), Some("x")]], missing)?);
+    let is_first = is_refused_as(alloc, &[&[], &[None, Some("x"), Some("x")]], missing);
     let named = "first capture group (at index 0) for pattern 0 has a name (it must be unnamed)";
-    let of_one = refused_as(alloc, &[&[Some("x")]], named)?;
-    let of_two = refused_as(alloc, &[&[Some("x")], &[]], named)?;
-    assert!(rt; of_one && of_two);
-    Ok(())
+    let of_one = is_refused_as(alloc, &[&[Some("x")]], named);
+    let of_two = is_refused_as(alloc, &[&[Some("x")], &[]], named);
+    assert_eq!(rt; [is_second, is_first, of_one, of_two], [true; 4]);
 }
 
 #[test]
 fn refuses_the_first_repeated_name(rt: HostRuntime) -> Result<(), Fail> {
     let alloc = rt.alloc();
     let duplicate = "duplicate capture group name 'x' found for pattern 0";
-    let before_groups = refused_as(alloc, &[&[None, Some("x"), Some("x")], &[None]], duplicate)?;
-    let before_none = refused_as(alloc, &[&[None, Some("x"), Some("x")], &[]], duplicate)?;
-    assert!(rt; before_groups && before_none);
+    let before_groups = is_refused_as(alloc, &[&[None, Some("x"), Some("x")], &[None]], duplicate);
+    let before_none = is_refused_as(alloc, &[&[None, Some("x"), Some("x")], &[]], duplicate);
     let duplicate = "duplicate capture group name 'b' found for pattern 0";
     let groups = groups_of(alloc, "-,f,b,d,e,a,c,b,i,h,g,a")?;
-    assert!(rt; refused_as(alloc, &[&groups], duplicate)?);
+    let is_first = is_refused_as(alloc, &[&groups], duplicate);
+    assert_eq!(rt; [before_groups, before_none, is_first], [true; 3]);
     Ok(())
 }
 
 #[test]
-fn refuses_a_repeated_name_of_a_later_pattern(rt: HostRuntime) -> Result<(), Fail> {
+fn refuses_a_repeated_name_of_a_later_pattern(rt: HostRuntime) {
     let alloc = rt.alloc();
     let duplicate = "duplicate capture group name 'y' found for pattern 1";
-    let second: [&[Option<&str>]; 2] = [&[None, Some("x")], &[None, Some("y"), None, Some("y")]];
-    assert!(rt; refused_as(alloc, &second, duplicate)?);
+    let lists: [&[Option<&str>]; 2] = [&[None, Some("x")], &[None, Some("y"), None, Some("y")]];
+    let letter = is_refused_as(alloc, &lists, duplicate);
     let duplicate = "duplicate capture group name '' found for pattern 1";
-    let second: [&[Option<&str>]; 2] = [&[None, Some("")], &[None, Some(""), Some("")]];
-    assert!(rt; refused_as(alloc, &second, duplicate)?);
-    Ok(())
+    let lists: [&[Option<&str>]; 2] = [&[None, Some("")], &[None, Some(""), Some("")]];
+    assert!(rt; letter && is_refused_as(alloc, &lists, duplicate));
 }
 
-// What a limit makes of the list: how many slots it has, or the displayed refusal.
-fn limited(alloc: Global, limit: usize, lists: &[&[Option<&str>]]) -> Result<String, Fail>
+// Whether a limit makes this of the list: how many slots it has, or the displayed refusal.
+fn is_limited_to(alloc: Global, limit: usize, lists: &[&[Option<&str>]], want: &str) -> bool
     requires { limit ≤ 2147483646 }
 {
-    match GroupInfo::new_limited(alloc, limit, lists) {
-        Ok(info) => {
-            let count = info.slot_len();
-            Ok(format!(in alloc; "{count}")?)
-        }
-        Err(error) => Ok(error.to_string(alloc)?),
+    let shown = match GroupInfo::new_limited(alloc, limit, lists) {
+        Ok(info) => info.slot_len().to_string(alloc),
+        Err(error) => error.to_string(alloc),
+    };
+    match shown {
+        Ok(text) => text.as_str() == want,
+        Err(_) => false,
     }
 }
 
 #[test]
-fn keeps_to_the_limit_of_the_caller(rt: HostRuntime) -> Result<(), Fail> {
+fn keeps_to_the_limit_of_the_caller(rt: HostRuntime) {
     let alloc = rt.alloc();
     let two: [&[Option<&str>]; 2] = [&[None], &[None, None]];
-    assert_eq!(rt; limited(alloc, 6, &two)?.as_str(), "6");
+    let six = is_limited_to(alloc, 6, &two, "6");
     let too_many = "too many capture groups (at least 2) were found for pattern 1";
-    assert_eq!(rt; limited(alloc, 5, &two)?.as_str(), too_many);
+    let five = is_limited_to(alloc, 5, &two, too_many);
     let too_many = "too many capture groups (at least 2) were found for pattern 0";
     let twice: [&[Option<&str>]; 1] = [&[None, Some("x"), Some("x")]];
-    assert_eq!(rt; limited(alloc, 2, &twice)?.as_str(), too_many);
+    let of_twice = is_limited_to(alloc, 2, &twice, too_many);
     let duplicate = "duplicate capture group name 'x' found for pattern 0";
-    assert_eq!(rt; limited(alloc, 4, &twice)?.as_str(), duplicate);
+    let is_duplicate = is_limited_to(alloc, 4, &twice, duplicate);
     let missing =
         "no capturing groups found for pattern 2 (either all patterns have zero groups or all patterns have at least one group)";
     let lacking: [&[Option<&str>]; 3] = [&[None, None], &[None], &[]];
-    assert_eq!(rt; limited(alloc, 4, &lacking)?.as_str(), missing);
-    Ok(())
+    let is_missing = is_limited_to(alloc, 4, &lacking, missing);
+    assert_eq!(rt; [six, five, of_twice, is_duplicate, is_missing], [true; 5]);
 }
 
 #[test]

@@ -1,4 +1,5 @@
 //! Refused memory: budgets that grow by 8 bytes refuse the first, the second and each further request, until one suffices.
+use super::group_info::NAMES;
 use linked_list_allocator::LocalHeap;
 use rsc_captures::{Captures, GroupInfo, GroupInfoError, GroupInfoErrorKind};
 use rsc_primitives::PatternID;
@@ -34,22 +35,30 @@ fn finds_names(info: &GroupInfo<&LocalHeap>) -> bool {
 }
 
 // A group info of seventeen groups in three patterns, by `new` or with the least limit that it keeps to.
-fn group_info_within(heap: &LocalHeap, with_limit: bool) -> Outcome {
-    let mut many: [Option<&str>; 12] = [Some("m"); 12];
-    let names = ["a", "b", "c", "d", "e", "f", "g", "h", "i", "j", "k", "l"];
-    many[0] = None;
-    for g in 1..12usize {
-        many[g] = Some(names[g]);
-    }
-    let lists: [&[Option<&str>]; 3] = [&[None, Some("first")], &[None, None, Some("last")], &many];
-    let made = if with_limit {
+fn made_within(
+    heap: &LocalHeap,
+    with_limit: bool,
+) -> Result<GroupInfo<&LocalHeap>, GroupInfoError<&LocalHeap>> {
+    let lists: [&[Option<&str>]; 3] = [&[None, Some("first")], &[None, None, Some("last")], &NAMES];
+    if with_limit {
         GroupInfo::new_limited(heap, 34, &lists)
     } else {
         GroupInfo::new(heap, &lists)
-    };
-    match made {
-        Ok(info) if finds_names(&info) && info.clone().is_ok_and(|copy| finds_names(&copy)) =>
-            Outcome::Answered,
+    }
+}
+
+// Whether the names are found in a clone; `false` where it is refused.
+fn finds_names_of_clone(info: &GroupInfo<&LocalHeap>) -> bool {
+    match info.clone() {
+        Ok(copy) => finds_names(&copy),
+        Err(_) => false,
+    }
+}
+
+// Such a group info, with all names in it and in its clone.
+fn group_info_within(heap: &LocalHeap, with_limit: bool) -> Outcome {
+    match made_within(heap, with_limit) {
+        Ok(info) if finds_names(&info) && finds_names_of_clone(&info) => Outcome::Answered,
         Err(error) if is_out_of_memory(&error) => Outcome::Refused,
         _ => Outcome::Wrong,
     }
@@ -192,15 +201,44 @@ fn clone_within(heap: &LocalHeap) -> Outcome {
     }
 }
 
+// What is tried within a budget.
+#[derive(Drop)]
+enum Call {
+    New,
+    NewLimited,
+    Empty,
+    RepeatedLetter,
+    RepeatedName,
+    CloneOfError,
+    CloneOfKind,
+    AllCaptures,
+    MatchCaptures,
+    CloneOfCaptures,
+}
+
+// What a budget gives.
+fn budget_gives(heap: &LocalHeap, call: &Call) -> Outcome {
+    match call {
+        Call::New => group_info_within(heap, false),
+        Call::NewLimited => group_info_within(heap, true),
+        Call::Empty => empty_within(heap),
+        Call::RepeatedLetter => repeated_within(heap, "x"),
+        Call::RepeatedName => repeated_within(heap, LONG),
+        Call::CloneOfError => clone_of_error_within(heap, false),
+        Call::CloneOfKind => clone_of_error_within(heap, true),
+        Call::AllCaptures => captures_within(heap, true),
+        Call::MatchCaptures => captures_within(heap, false),
+        Call::CloneOfCaptures => clone_within(heap),
+    }
+}
+
 // Whether the call is refused until there is enough, and what it made and what it was handed is dropped.
-fn is_refused_at_first<F: Fn(&LocalHeap) -> Outcome>(alloc: Global, call: F) -> Result<bool, Fail>
-    requires { F.IsAlwaysCallable call }
-{
+fn is_refused_at_first(alloc: Global, call: Call) -> Result<bool, Fail> {
     let mut so_far = Outcome::NotReached;
     let mut was_refused = false;
     for size in 0..512usize {
         let heap = LocalHeap::new(alloc, 8 * size)?;
-        let next = call(&heap);
+        let next = budget_gives(&heap, &call);
         if next < so_far || heap.used() > 0 {
             return Ok(false);
         }
@@ -213,9 +251,9 @@ fn is_refused_at_first<F: Fn(&LocalHeap) -> Outcome>(alloc: Global, call: F) -> 
 #[test]
 fn group_infos_are_refused_until_there_is_enough(rt: HostRuntime) -> Result<(), Fail> {
     let alloc = rt.alloc();
-    let new = is_refused_at_first(alloc, |heap| group_info_within(heap, false))?;
-    let limited = is_refused_at_first(alloc, |heap| group_info_within(heap, true))?;
-    let empty = is_refused_at_first(alloc, empty_within)?;
+    let new = is_refused_at_first(alloc, Call::New)?;
+    let limited = is_refused_at_first(alloc, Call::NewLimited)?;
+    let empty = is_refused_at_first(alloc, Call::Empty)?;
     assert_eq!(rt; [new, limited, empty], [true; 3]);
     Ok(())
 }
@@ -223,10 +261,10 @@ fn group_infos_are_refused_until_there_is_enough(rt: HostRuntime) -> Result<(), 
 #[test]
 fn errors_are_refused_until_there_is_enough(rt: HostRuntime) -> Result<(), Fail> {
     let alloc = rt.alloc();
-    let letter = is_refused_at_first(alloc, |heap| repeated_within(heap, "x"))?;
-    let name = is_refused_at_first(alloc, |heap| repeated_within(heap, LONG))?;
-    let error = is_refused_at_first(alloc, |heap| clone_of_error_within(heap, false))?;
-    let kind = is_refused_at_first(alloc, |heap| clone_of_error_within(heap, true))?;
+    let letter = is_refused_at_first(alloc, Call::RepeatedLetter)?;
+    let name = is_refused_at_first(alloc, Call::RepeatedName)?;
+    let error = is_refused_at_first(alloc, Call::CloneOfError)?;
+    let kind = is_refused_at_first(alloc, Call::CloneOfKind)?;
     assert_eq!(rt; [letter, name, error, kind], [true; 4]);
     Ok(())
 }
@@ -234,51 +272,46 @@ fn errors_are_refused_until_there_is_enough(rt: HostRuntime) -> Result<(), Fail>
 #[test]
 fn captures_are_refused_until_there_is_enough(rt: HostRuntime) -> Result<(), Fail> {
     let alloc = rt.alloc();
-    let all = is_refused_at_first(alloc, |heap| captures_within(heap, true))?;
-    let matches = is_refused_at_first(alloc, |heap| captures_within(heap, false))?;
-    let copy = is_refused_at_first(alloc, clone_within)?;
+    let all = is_refused_at_first(alloc, Call::AllCaptures)?;
+    let matches = is_refused_at_first(alloc, Call::MatchCaptures)?;
+    let copy = is_refused_at_first(alloc, Call::CloneOfCaptures)?;
     assert_eq!(rt; [all, matches, copy], [true; 3]);
     Ok(())
 }
 
-// What a list is refused for where there is no memory at all.
-fn refusal_without_memory(alloc: Global, lists: &[&[Option<&str>]]) -> Result<String, Fail> {
-    let heap = LocalHeap::new(alloc, 0)?;
-    match GroupInfo::new(&heap, lists) {
-        Ok(_) => Ok(String::new(alloc)),
-        Err(error) => Ok(error.to_string(alloc)?),
+// Whether what a list is refused for where there is no memory at all begins so.
+fn is_refused_without_memory(alloc: Global, lists: &[&[Option<&str>]], want: &str) -> bool {
+    let Ok(heap) = LocalHeap::new(alloc, 0) else {
+        return false;
+    };
+    let Err(error) = GroupInfo::new(&heap, lists) else {
+        return false;
+    };
+    match error.to_string(alloc) {
+        Ok(text) => text.starts_with(want),
+        Err(_) => false,
     }
 }
 
 #[test]
-fn faults_come_before_any_request(rt: HostRuntime) -> Result<(), Fail> {
+fn faults_come_before_any_request(rt: HostRuntime) {
     let alloc = rt.alloc();
-    let named = refusal_without_memory(alloc, &[&[None, Some("x")], &[Some("x")]])?;
-    assert!(rt; named.starts_with("first capture group (at index 0) for pattern 1 has a name "));
-    let missing = refusal_without_memory(alloc, &[&[None, Some("x")], &[]])?;
-    assert!(rt; missing.starts_with("no capturing groups found for pattern 1 "));
-    let missing = refusal_without_memory(alloc, &[&[], &[None, Some("x"), Some("x")]])?;
-    assert!(rt; missing.starts_with("no capturing groups found for pattern 0 "));
-    Ok(())
-}
-
-// Whether the list is refused, and its error and the kind of that are cloned.
-fn is_cloned(heap: &LocalHeap, list: &[&[Option<&str>]]) -> bool {
-    match GroupInfo::new(heap, list) {
-        Err(error) => error.clone().is_ok() && error.kind().clone().is_ok(),
-        Ok(_) => false,
-    }
-}
-
-// A clone of an error without a name, and of its kind, is made where there is no memory at all.
-#[test]
-fn clones_of_other_errors_take_no_memory(rt: HostRuntime) -> Result<(), Fail> {
-    let heap = LocalHeap::new(rt.alloc(), 0)?;
-    let missing = is_cloned(&heap, &[&[]]);
-    let named = is_cloned(&heap, &[&[Some("x")]]);
-    let memory = is_cloned(&heap, &[&[None]]);
-    assert!(rt; missing && named && memory);
-    Ok(())
+    let named = is_refused_without_memory(
+        alloc,
+        &[&[None, Some("x")], &[Some("x")]],
+        "first capture group (at index 0) for pattern 1 has a name ",
+    );
+    let second = is_refused_without_memory(
+        alloc,
+        &[&[None, Some("x")], &[]],
+        "no capturing groups found for pattern 1 ",
+    );
+    let first = is_refused_without_memory(
+        alloc,
+        &[&[], &[None, Some("x"), Some("x")]],
+        "no capturing groups found for pattern 0 ",
+    );
+    assert_eq!(rt; [named, second, first], [true; 3]);
 }
 
 // What the error of a repeated name takes, and what it takes with its clone; `None` where one of them is refused.

@@ -72,8 +72,11 @@ fn calls_on_a_group_info_ask_for_no_memory(rt: HostRuntime) -> Result<(), Fail> 
     watch.note("clone of a group info, drop");
     let is_shown = bytes_shown(&info) > 0;
     watch.note("fmt");
-    assert!(rt; are_numbers && are_names && is_cloned && is_shown);
-    assert_eq!(rt; watch.asking(), "");
+    let asking = watch.asking();
+    assert!(rt;
+        are_numbers && are_names && is_cloned && is_shown && asking == "",
+        "{asking}"
+    );
     Ok(())
 }
 
@@ -100,8 +103,7 @@ fn write(watch: &mut Watch<'_>, captures: &mut Captures<&Bump>) -> bool {
 fn match_of(captures: &Captures<&Bump>) -> Option<Match> {
     match captures.get_group(0) {
         Some(span) if span.start <= span.end => captures.get_match(),
-        Some(_) => None,
-        None => None,
+        _ => None,
     }
 }
 
@@ -114,12 +116,10 @@ fn read(watch: &mut Watch<'_>, captures: &Captures<&Bump>) -> bool {
     watch.note("group_len, slots");
     let groups = [captures.get_group(1), captures.get_group(2)];
     watch.note("get_group");
-    let named = [
-        captures.get_group_by_name("x"),
-        captures.get_group_by_name("y"),
-    ];
+    let named = captures.get_group_by_name("x");
+    let unnamed = captures.get_group_by_name("y");
     watch.note("get_group_by_name");
-    is_match && counts == [2, 28] && groups == [span, None] && named == [span, None]
+    is_match && counts == [2, 28] && groups == [span, None] && [named, unnamed] == [span, None]
 }
 
 // Notes each further call that reads such captures. Whether each answered as it should.
@@ -134,7 +134,11 @@ fn walk(watch: &mut Watch<'_>, captures: &Captures<&Bump>) -> bool {
     watch.note("next of iter");
     let patterns = captures.group_info().pattern_len();
     watch.note("group_info");
-    is_found && left == [2, 2] && walked == [Some(span), Some(span), None] && patterns == 2
+    let is_extracted = captures.extract_from::<&str, 1>("abcde") == Some(("d", ["d"]));
+    watch.note("extract_from");
+    let is_shown = bytes_shown(captures) > 0 && patterns == 2 && is_found;
+    watch.note("fmt");
+    is_extracted && is_shown && left == [2, 2] && walked == [Some(span), Some(span), None]
 }
 
 #[test]
@@ -144,12 +148,8 @@ fn calls_on_captures_ask_for_no_memory(rt: HostRuntime) -> Result<(), Fail> {
     let mut watch = Watch::new(rt.alloc(), &arena);
     let is_written = write(&mut watch, &mut captures);
     let is_read = read(&mut watch, &captures) && walk(&mut watch, &captures);
-    let is_extracted = captures.extract_from::<&str, 1>("abcde") == Some(("d", ["d"]));
-    watch.note("extract_from");
-    let is_shown = bytes_shown(&captures) > 0;
-    watch.note("fmt");
-    assert!(rt; is_written && is_read && is_extracted && is_shown);
-    assert_eq!(rt; watch.asking(), "");
+    let asking = watch.asking();
+    assert!(rt; is_written && is_read && asking == "", "{asking}");
     Ok(())
 }
 
@@ -177,8 +177,8 @@ fn captures_of_few_slots_ask_for_no_memory(rt: HostRuntime) -> Result<(), Fail> 
     one.set_pattern(Some(PatternID::ZERO));
     let is_set = one.set_group(1, span) && reads_as(&one, span);
     watch.note("calls on captures of one pattern");
-    assert!(rt; is_empty && is_set);
-    assert_eq!(rt; watch.asking(), "");
+    let asking = watch.asking();
+    assert!(rt; is_empty && is_set && asking == "", "{asking}");
     Ok(())
 }
 
@@ -252,8 +252,8 @@ fn calls_that_find_nothing_ask_for_no_memory(rt: HostRuntime) -> Result<(), Fail
     let info = captures.group_info();
     let is_nothing = find_nothing(&mut watch, info) && walk_to_the_end(&mut watch, info);
     let is_read = read_nothing(&mut watch, &captures) && write_nothing(&mut watch, &mut captures);
-    assert!(rt; is_nothing && is_read);
-    assert_eq!(rt; watch.asking(), "");
+    let asking = watch.asking();
+    assert!(rt; is_nothing && is_read && asking == "", "{asking}");
     Ok(())
 }
 
@@ -298,11 +298,13 @@ fn checks_of_patterns_ask_for_no_memory(rt: HostRuntime) -> Result<(), Fail> {
     let is_missing = note_refused(&mut watch, "new, a pattern without groups", made);
     let made = GroupInfo::new(&arena, &[&NAMES, &[Some("x")]]);
     let is_named = note_refused(&mut watch, "new, a first group with a name", made);
-    // The first fault is the one of the pattern before the repeated name.
     let made = GroupInfo::new(&arena, &[&[], &[None, Some("x"), Some("x")]]);
     let is_first = note_refused(&mut watch, "new, before a repeated name", made);
-    assert!(rt; is_missing && is_named && is_first);
-    assert_eq!(rt; watch.asking(), "");
+    let asking = watch.asking();
+    assert!(rt;
+        is_missing && is_named && is_first && asking == "",
+        "{asking}"
+    );
     Ok(())
 }
 
@@ -314,8 +316,8 @@ fn checks_of_limits_ask_for_no_memory(rt: HostRuntime) -> Result<(), Fail> {
     let is_explicit = note_refused(&mut watch, "new_limited, too many explicit groups", made);
     let made = GroupInfo::new_limited(&arena, 23, &[&NAMES]);
     let is_any = note_refused(&mut watch, "new_limited, too many groups", made);
-    assert!(rt; is_explicit && is_any);
-    assert_eq!(rt; watch.asking(), "");
+    let asking = watch.asking();
+    assert!(rt; is_explicit && is_any && asking == "", "{asking}");
     Ok(())
 }
 
@@ -326,8 +328,7 @@ fn is_long_refused(
     arena: &Bump,
     groups: &[Option<&str>],
 ) -> Result<bool, Fail> {
-    let mut lists: Vec<&[Option<&str>]> = Vec::new(alloc);
-    lists.push(groups)?;
+    let lists = vec![in alloc; groups; 1]?;
     let made = GroupInfo::new_limited(arena, 10_001, &lists);
     Ok(note_refused(watch, "new_limited, a fault after many names", made))
 }
@@ -338,7 +339,8 @@ fn checks_of_a_long_list_ask_for_no_memory(rt: HostRuntime) -> Result<(), Fail> 
     let groups = groups_of(rt.alloc(), &names)?;
     let arena = Bump::new(rt.alloc());
     let mut watch = Watch::new(rt.alloc(), &arena);
-    assert!(rt; is_long_refused(rt.alloc(), &mut watch, &arena, &groups)?);
-    assert_eq!(rt; watch.asking(), "");
+    let is_refused = is_long_refused(rt.alloc(), &mut watch, &arena, &groups)?;
+    let asking = watch.asking();
+    assert!(rt; is_refused && asking == "", "{asking}");
     Ok(())
 }

@@ -184,27 +184,41 @@ fn used_by_a_clone(
     }
 }
 
+// The same over heaps of these sizes. All of both is given back.
+fn used_over(
+    alloc: Global,
+    info_size: usize,
+    slots_size: usize,
+    with_all: bool,
+) -> Result<Option<[usize; 4]>, Fail> {
+    let of_info = LocalHeap::new(alloc, info_size)?;
+    let of_slots = LocalHeap::new(alloc, slots_size)?;
+    let used = used_by_a_clone(&of_info, &of_slots, with_all)?;
+    if of_info.used() > 0 || of_slots.used() > 0 {
+        return Err(Fail::from("kept"));
+    }
+    Ok(used)
+}
+
 // A clone's slots are in the memory of its source's slots, not in that of the group info.
 #[test]
 fn a_clone_is_in_the_memory_of_its_source(rt: HostRuntime) -> Result<(), Fail> {
     for with_all in [false, true] {
-        let of_info = LocalHeap::new(rt.alloc(), 4096)?;
-        let ample = LocalHeap::new(rt.alloc(), 4096)?;
-        let used = used_by_a_clone(&of_info, &ample, with_all)?.unwrap_or([0; 4]);
-        assert!(rt;
-            used[0] == used[1] && used[2] > 0 && used[3] / 2 == used[2],
-            "{used:?}"
-        );
-        let left = [of_info.used(), ample.used()];
+        let [info, with_clone, slots, both] = used_over(
+            rt.alloc(),
+            4096,
+            4096,
+            with_all,
+        )?.unwrap_or([0; 4]);
         // There is room for one, and none for its clone.
-        let scarce = LocalHeap::new(rt.alloc(), used[2].saturating_add(8))?;
-        let of_scarce = used_by_a_clone(&of_info, &scarce, with_all)?;
+        let of_scarce = used_over(rt.alloc(), 4096, slots.saturating_add(8), with_all)?;
         // The group info's memory has no room: the clone takes none of it.
-        let exact = LocalHeap::new(rt.alloc(), used[0])?;
-        let of_exact = used_by_a_clone(&exact, &ample, with_all)?;
-        assert!(rt; of_scarce.is_none() && of_exact.is_some());
-        let left_later = [exact.used(), scarce.used(), ample.used()];
-        assert_eq!(rt; (left, left_later), ([0; 2], [0; 3]));
+        let of_exact = used_over(rt.alloc(), info, 4096, with_all)?;
+        let is_there = info == with_clone && slots > 0 && both / 2 == slots;
+        assert!(rt;
+            is_there && of_scarce.is_none() && of_exact.is_some(),
+            "{info}, {slots}"
+        );
     }
     Ok(())
 }
