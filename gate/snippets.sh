@@ -4,8 +4,8 @@
 # crates/NAME/must-not-compile/*.snippet is misuse that the borrow checker must refuse: at the end of the crate's root file the
 # check must fail with the text of each of the snippet's lines `// refused: TEXT`.
 #
-# crates/NAME/must-run/*.snippet is tests of calls whose callers the checker doesn't cover: at the end of the file that the first
-# line names, `// added to: FILE`, they are compiled and run without a proof, and each must pass.
+# crates/NAME/must-run/*.snippet is tests of calls whose callers the checker doesn't cover, or of what no stored run of a program
+# shows: at the end of the file that the first line names, `// added to: FILE`, they are compiled and run without a proof, and each must pass.
 #
 # This script also makes a repository by own/new-repository.sh and runs its tests.
 set -u

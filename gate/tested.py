@@ -65,9 +65,9 @@ def misfits(wanted):
     return found
 
 
-def sources_of(crate):
+def sources_of(crate, root=ROOT):
     """Returns the texts of a crate's sources, by their paths below src."""
-    src = pathlib.Path(ROOT, "crates", crate, "src")
+    src = pathlib.Path(root, "crates", crate, "src")
     return {str(it.relative_to(src)): it.read_text(encoding="utf-8") for it in sorted(src.rglob("*.rt"))}
 
 
@@ -283,7 +283,8 @@ def judge_run(copy, crate, name, run, wanted):
 def judge_tests(copy, crate, name, fields):
     """Runs the tests of a copy, and returns whether one fails, with a line that says which."""
     tests = pathlib.Path(copy, "crates", fields["tests"])
-    texts = with_modules(sources_of(fields["tests"]), fields.get("modules", "").split())
+    # A program's tests are its own, so the copy's sources have the edit.
+    texts = with_modules(sources_of(fields["tests"], copy), fields.get("modules", "").split())
     if "snippet" in fields:
         snippet = pathlib.Path(ROOT, "crates", fields["tests"], "must-run", fields["snippet"] + ".snippet").read_text(encoding="utf-8")
         texts[snippet.splitlines()[0].removeprefix("// added to: src/")] += snippet
