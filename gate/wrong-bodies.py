@@ -7,6 +7,7 @@
     gate/wrong-bodies.py --both [CRATE ..]         # the edits of either kind, side by side
     gate/wrong-bodies.py --texts [CRATE ..]        # tries nothing: says in a second which edits of either kind don't fit the sources
     gate/wrong-bodies.py --after-ci [CRATE ..]     # takes the libraries as the `rt ci` before it left them, instead of building them by `rt lib`
+    gate/wrong-bodies.py --anew ..                 # tries those too that are kept
 
 gate/edits.py explains the format of an edit.
 
@@ -25,11 +26,14 @@ and the name that is refused); a goal that is refused because a proof file names
 it is. A crate's first batch is tried in a copy of the crate, over the libraries that stand in out/. The others are tried side by side, each in a copy of
 that one, so what the first check kept of the functions and lemmas that stay as they are is checked once.
 
+What passed whole is kept in the crate's out/, by the checksum of all that it rests on; later runs in that clone say so instead of trying it.
+
 A contract says nothing of whether memory is there, of the texts that only tests show, and of what a program reads and writes. gate/tested.py explains
 how the edits of tested-bodies.edits are tried.
 """
 import collections
 import glob
+import hashlib
 import os
 import pathlib
 import re
@@ -246,9 +250,43 @@ def refused_tasks(wanted, names, known, room):
     return first, others
 
 
+def state_of(kind, crate, known, tested):
+    """Returns a checksum of all that the edits of a kind of a crate rest on: the toolchain, this folder's scripts, the crate, and those below and above."""
+    others = {it[2]["tests"] for it in tested if it[0] == crate and "tests" in it[2]} if kind == "tested-bodies" else set()
+    folders = sorted({low for it in {crate, *others} for low in below(it, known)})
+    found = hashlib.sha256(subprocess.run(["rt", "version"], stdout=subprocess.PIPE, check=True).stdout)
+    for folder in [ROOT + "/gate", *(f"{ROOT}/crates/{it}" for it in folders)]:
+        for path in sorted(pathlib.Path(folder).rglob("*")):
+            if path.is_file() and not {"out", "__pycache__"} & {*path.relative_to(folder).parts} and path.suffix != ".md":
+                found.update(str(path.relative_to(ROOT)).encode() + b"\0" + path.read_bytes() + b"\0")
+    return found.hexdigest()
+
+
+def kept_file(kind, crate):
+    """Returns the file that has the state in which all edits of the kind passed."""
+    return pathlib.Path(ROOT, "crates", crate, "out", f"{kind}-passed")
+
+
+def try_new(kinds, wanted, names, known, tested):
+    """Tries the edits of these kinds but those of crates of which all have passed in this state, and keeps which crates' do; counts as `try_all` does."""
+    its = {"wrong-bodies": {it: len(edits_of(it, names)) for it in wanted}, "tested-bodies": collections.Counter(it[0] for it in tested)}
+    states = {(kind, crate): state_of(kind, crate, known, tested) for kind in kinds for crate in its[kind] if not names}
+    kept = {it for it, state in states.items() if "--anew" not in sys.argv and kept_file(*it).exists() and kept_file(*it).read_text() == state}
+    for kind, crate in sorted(kept):
+        print(f"{crate}: {its[kind][crate]} {kind} have passed in this state")
+    left = [it for it in wanted if ("wrong-bodies", it) not in kept]
+    counts, failed = try_all(kinds, left, names, known, [it for it in tested if ("tested-bodies", it[0]) not in kept])
+    for kind, crate in {*states} - kept - failed:
+        kept_file(kind, crate).parent.mkdir(exist_ok=True)
+        kept_file(kind, crate).write_text(states[kind, crate])
+    for kind, crate in kept:
+        counts[kind][0] += its[kind][crate]
+    return counts
+
+
 def try_all(kinds, wanted, names, known, tested):
-    """Tries the edits of these kinds; prints a line for each, and counts those of each kind that passed and that failed."""
-    counts = {kind: [0, 0] for kind in kinds}
+    """Tries the edits of these kinds; prints a line for each, and returns how many of each kind passed and failed, and the crates of which one failed."""
+    counts, failed = {kind: [0, 0] for kind in kinds}, set()
     with tempfile.TemporaryDirectory(prefix="wrong-bodies-") as room:
         first, others = refused_tasks(wanted, names, known, room) if "wrong-bodies" in kinds else ({}, {})
         among = tested_tasks(tested, room) if "tested-bodies" in kinds else {}
@@ -256,7 +294,9 @@ def try_all(kinds, wanted, names, known, tested):
             for is_well, line in results if kind in kinds else ():
                 print(line, flush=True)
                 counts[kind][not is_well] += 1
-    return counts
+                if not is_well:
+                    failed.add((kind, (re.search(r"(\w+)/\w+ isn't tried$", line) or re.match(r"(\w+)/", line))[1]))
+    return counts, failed
 
 
 def main():
@@ -277,7 +317,7 @@ def main():
         kinds = [it for it in kinds if (wanted if it == "wrong-bodies" else tested)]
     if not kinds:
         sys.exit(f"no edits of this kind: {' '.join(given)}")
-    counts = try_all(kinds, wanted, names, known, tested)
+    counts = try_new(kinds, wanted, names, known, tested)
     for kind, (passed, failed) in counts.items():
         print(f"{kind}: {passed} passed, {failed} failed")
     return 1 if any(failed or not passed for passed, failed in counts.values()) else 0
