@@ -1,5 +1,5 @@
 //! Where a match ends: of what comes preferably often as late as it can, of what comes preferably seldom as early.
-ghost use Rattle.std.specs.Prelude.{◌≡◌, ◌+◌, ◌<◌, ◌≤◌, ℕ, Some, IfOk, IfSome, IsTrue, slice_get};
+ghost use Rattle.std.specs.Prelude.{◌≡◌, ◌+◌, ◌<◌, ◌≤◌, ℕ, Some, IfOk, IfSome, IfNone, IsTrue, slice_get};
 ghost use Rattle.rsc_nfa.specs.Steps.{is_between};
 
 use crate::engine::find_part;
@@ -14,8 +14,11 @@ pub fn find_run(
     last: u8,
     haystack: &[u8],
 ) -> Result<Option<(usize, usize)>, Error>
+    ensures some { IfOk result (λ found. IfSome found (λ ends. ends.0 < ends.1)) }
     ensures bytes { IfOk result (λ found. IfSome found (λ ends. (k : ℕ) → ends.0 ≤ k → k < ends.1 →
         IsTrue (is_between first last (slice_get haystack.now k)))) }
+    ensures earlier { IfOk result (λ found. IfSome found (λ ends. (k : ℕ) → k < ends.0 → ¬ (IsTrue (is_between first last (slice_get haystack.now k))))) }
+    ensures none { IfOk result (λ found. IfNone found ((k : ℕ) → ¬ (IsTrue (is_between first last (slice_get haystack.now k))))) }
     ensures longest { IfOk result (λ found. IfSome found (λ ends. ¬ (IsTrue (is_between first last (slice_get haystack.now ends.1))))) }
 {
     let builder = Builder::new(alloc);
@@ -28,6 +31,8 @@ pub fn find_run(
 
 /// The first quoted part of a text: from a quotation mark to after the next one.
 pub fn find_quoted(alloc: Global, haystack: &[u8]) -> Result<Option<(usize, usize)>, Error>
+    ensures earlier { IfOk result (λ found. IfSome found (λ ends. (k : ℕ) → k < ends.0 → ¬ (slice_get haystack.now k ≡ Some 34))) }
+    ensures none { IfOk result (λ found. IfNone found ((i j : ℕ) → i < j → slice_get haystack.now i ≡ Some 34 → ¬ (slice_get haystack.now j ≡ Some 34))) }
     ensures opens { IfOk result (λ found. IfSome found (λ ends. slice_get haystack.now ends.0 ≡ Some 34)) }
     ensures closes { IfOk result (λ found. IfSome found (λ ends. (at : ℕ) × (ends.0 < at) × (slice_get haystack.now at ≡ Some 34) × (ends.1 ≡ at + 1)
         × ((k : ℕ) → ends.0 < k → k < at → ¬ (slice_get haystack.now k ≡ Some 34)))) }

@@ -6,7 +6,7 @@ ghost use Rattle.rsc_engine.specs.Searches.{search_in};
 ghost use Rattle.rsc_engine.specs.NextMatches.{AreAll};
 ghost use Rattle.rsc_engine.specs.declared.dfa.Answer.TheVariants.{End};
 ghost use Rattle.rsc_engine.specs.Preferred.{HasNone, IsFirstMatch};
-ghost use Rattle.rsc_engine.specs.Patterns.{Goes, Either, Literal};
+ghost use Rattle.rsc_engine.specs.Patterns.{Goes, Either, Literal, may_be_empty};
 ghost use Rattle.rsc_engine.specs.FirstEnds.{loops_take_bytes, IsFirstEnd};
 ghost use Rattle.rsc_engine.specs.Parts.{pattern_of, groups_of_part, groups_of_pattern};
 ghost use Rattle.rsc_engine.specs.Refusals.{RepeatsName, has_a_reversed_range};
@@ -29,6 +29,7 @@ pub fn find_part<W: WordClass + AsciiWordClass>(
 ) -> Result<Option<(usize, usize)>, Error>
     ensures some { IfOk result (λ found. IfSome found (λ ends.
         Goes (record { haystack = haystack.now; terminator = 10; word_chars = W.word_chars word_class }) (pattern_of part.entry) ends.0 ends.1)) }
+    ensures within { IfOk result (λ found. IfSome found (λ ends. ends.1 ≤ length haystack.now)) }
     ensures first { IfOk result (λ found. IfSome found (λ ends. (i j : ℕ) → i < ends.0 → j ≤ length haystack.now →
         ¬ (Goes (record { haystack = haystack.now; terminator = 10; word_chars = W.word_chars word_class }) (pattern_of part.entry) i j))) }
     ensures none { IfOk result (λ found. IfNone found ((i j : ℕ) → i ≤ length haystack.now → j ≤ length haystack.now →
@@ -110,7 +111,8 @@ pub fn has_match_twice<W: WordClass + AsciiWordClass>(
     captures: &mut Captures,
 ) -> Result<(bool, bool), Error>
     requires of_program { dfa.old ≡ program.now }
-    ensures { IfOk result (λ found. found.0 ≡ found.1) }
+    ensures same { IfOk result (λ found. found.0 ≡ found.1) }
+    ensures none { IfOk result (λ found. found.1 ≡ false → HasNone (search_in W.word_chars program.now input.now)) }
 {
     laws::there_is_one_first_match();
     let by_table = dfa.is_match(input)?;
@@ -198,7 +200,10 @@ pub fn both_match<W: WordClass + AsciiWordClass>(
     ensures program { cache.new ≡ cache.old }
     ensures not { IfOk result (λ both. both ≡ false →
         HasNone (search_in W.word_chars cache.old one.now) ⊎ HasNone (search_in W.word_chars cache.old other.now)) }
+    ensures both { IfOk result (λ both. both ≡ true →
+        (¬ (HasNone (search_in W.word_chars cache.old one.now))) × (¬ (HasNone (search_in W.word_chars cache.old other.now)))) }
 {
+    laws::there_is_one_first_match();
     match cache.find(one, captures)? {
         None => return Ok(false),
         Some(_) => {}
@@ -256,6 +261,7 @@ pub fn first_of_iteration<W: WordClass + AsciiWordClass>(
 ) -> Result<Option<(usize, usize)>, Error>
     ensures some { IfOk result (λ found. IfSome found (λ ends.
         Goes (record { haystack = haystack.now; terminator = 10; word_chars = W.word_chars word_class }) (pattern_of part.entry) ends.0 ends.1)) }
+    ensures within { IfOk result (λ found. IfSome found (λ ends. ends.1 ≤ length haystack.now)) }
     ensures first { IfOk result (λ found. IfSome found (λ ends. (i j : ℕ) → i < ends.0 → j ≤ length haystack.now →
         ¬ (Goes (record { haystack = haystack.now; terminator = 10; word_chars = W.word_chars word_class }) (pattern_of part.entry) i j))) }
     ensures none { IfOk result (λ found. IfNone found ((i j : ℕ) → i ≤ length haystack.now → j ≤ length haystack.now →
@@ -270,6 +276,30 @@ pub fn first_of_iteration<W: WordClass + AsciiWordClass>(
     match matches.next(&mut captures)? {
         None => Ok(None),
         Some(found) => Ok(Some((found.start(), found.end()))),
+    }
+}
+
+/// Where the first match of an iteration is that leaves out empty matches within characters, of a part that takes a byte: of such a part it leaves out none.
+pub fn first_in_text<W: WordClass + AsciiWordClass>(
+    alloc: Global,
+    word_class: W,
+    part: Part<'_>,
+    text: &[u8],
+) -> Result<Option<Match>, Error>
+    requires { may_be_empty (pattern_of part) ≡ false }
+    ensures first { IfOk result (λ found. IfSome found (λ m. (i j : ℕ) → i < m.span.start → j ≤ length text.now →
+        ¬ (Goes (record { haystack = text.now; terminator = 10; word_chars = W.word_chars word_class }) (pattern_of part.entry) i j))) }
+    ensures none { IfOk result (λ found. IfNone found ((i j : ℕ) → j ≤ length text.now →
+        ¬ (Goes (record { haystack = text.now; terminator = 10; word_chars = W.word_chars word_class }) (pattern_of part.entry) i j))) }
+{
+    laws::no_match_is_left_out::<W>();
+    let program = Builder::new(alloc).build(word_class, true, part)?;
+    let mut captures = program.captures(alloc)?;
+    let input = Input::new(text);
+    let mut matches = Matches::new(alloc, &program, input)?;
+    match matches.next(&mut captures)? {
+        None => Ok(None),
+        Some(found) => Ok(Some(found)),
     }
 }
 
@@ -291,17 +321,23 @@ pub fn first_end_of_part<W: WordClass + AsciiWordClass>(
     Ok(answer)
 }
 
-/// A position to which a part goes: the end of its first match.
+/// The position to which the first match of a part goes: from the first position from which it goes anywhere, to the first end if its loops take bytes.
 pub fn leftmost_end_of_part<W: WordClass + AsciiWordClass>(
     alloc: Global,
     word_class: W,
     part: Part<'_>,
     haystack: &[u8],
 ) -> Result<Option<usize>, Error>
-    ensures { IfOk result (λ found. IfSome found (λ end.
-        (i : ℕ) × Goes (record { haystack = haystack.now; terminator = 10; word_chars = W.word_chars word_class }) (pattern_of part.entry) i end)) }
+    ensures within { IfOk result (λ found. IfSome found (λ end. end ≤ length haystack.now)) }
+    ensures first { IfOk result (λ found. IfSome found (λ end.
+        (i : ℕ) × Goes (record { haystack = haystack.now; terminator = 10; word_chars = W.word_chars word_class }) (pattern_of part.entry) i end
+        × ((k j : ℕ) → k < i → j ≤ length haystack.now →
+        ¬ (Goes (record { haystack = haystack.now; terminator = 10; word_chars = W.word_chars word_class }) (pattern_of part.entry) k j))
+        × (loops_take_bytes (pattern_of part.entry) ≡ true →
+        IsFirstEnd (record { haystack = haystack.now; terminator = 10; word_chars = W.word_chars word_class }) (pattern_of part.entry)
+        (λ j. j ≤ length haystack.now) i end))) }
 {
-    laws::a_leftmost_end_is_of_a_pattern::<W>();
+    laws::a_leftmost_end_is_of_the_first_match::<W>();
     let program = Builder::new(alloc).build(word_class, true, part)?;
     let input = Input::new(haystack);
     let mut dfa = Dfa::new(alloc, &program, 100);

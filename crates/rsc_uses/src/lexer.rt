@@ -1,14 +1,15 @@
 //! A lexer: the tokens of a text, which an engine finds side by side, and the bytes of a group.
-ghost use Rattle.std.specs.Prelude.{◌≡◌, ◌≤◌, ◌⊎◌, ◌++◌, [], ◌∷◌, true, false, length, IfOk, IfSome, IfNone};
+ghost use Rattle.std.specs.Prelude.{◌≡◌, ◌≤◌, ◌⊎◌, ◌++◌, [], ◌∷◌, true, false, ℕ, None, length, slice_range, IfOk, IfSome, IfNone};
 ghost use Rattle.rsc_engine.specs.FirstEnds.{loops_take_bytes};
 ghost use Rattle.std.specs.List.{list_any};
-ghost use Rattle.rsc_engine.specs.Patterns.{may_be_empty};
+ghost use Rattle.rsc_primitives.specs.Utf8.{is_word_byte};
+ghost use Rattle.rsc_engine.specs.Patterns.{Class, Repeat, Goes, may_be_empty};
 ghost use Rattle.rsc_engine.specs.Parts.{pattern_of, patterns_of};
 ghost use Rattle.rsc_uses.specs.Lexed.{AreLexed};
 
 use crate::engine::all_matches;
 use rsc_engine::{AsciiWordClass, Builder, Error, Part, find, laws};
-use rsc_look::WordClass;
+use rsc_look::{AsciiWord, WordClass};
 use rsc_search::{Anchored, Input, Match};
 use std::alloc::Global;
 
@@ -36,6 +37,20 @@ pub fn tokens_of<'n, W: WordClass + AsciiWordClass>(
     Ok(tokens)
 }
 
+/// The tokens of a text in three kinds: runs of small letters, runs of digits, and single bytes of any kind.
+pub fn letters_and_digits(alloc: Global, text: &[u8]) -> Result<Vec<Match>, Error>
+    ensures { IfOk result (λ tokens. AreLexed (record { haystack = text.now; terminator = 10; word_chars = is_word_byte })
+        (Repeat 1 None true (Class ((97, 122) ∷ [])) ∷ Repeat 1 None true (Class ((48, 57) ∷ [])) ∷ Class ((0, 255) ∷ []) ∷ []) 0 tokens.items) }
+{
+    let mut builder = Builder::new(alloc);
+    let letters = builder.plus(builder.range(b'a', b'z'))?;
+    builder.pattern(letters)?;
+    let digits = builder.plus(builder.range(b'0', b'9'))?;
+    builder.pattern(digits)?;
+    let other = builder.range(0, 255);
+    tokens_of(alloc, AsciiWord, builder, other, text)
+}
+
 /// A part as a token's pattern, or `None` if it may match no byte, or if a part of it that may be empty is repeated without a limit: so `tokens_of` takes it,
 /// and says where its tokens end.
 pub fn as_token<'n>(part: Part<'n>) -> Option<Part<'n>>
@@ -49,8 +64,7 @@ pub fn as_token<'n>(part: Part<'n>) -> Option<Part<'n>>
     Some(part)
 }
 
-/// The bytes of a group of the first match of a part, if there is one and the group is set. They can be cut out: the group's start is at most its end, and
-/// both are within the match.
+/// The bytes of a group of the first match of a part, if there is one and the group is set: a cut of that match.
 pub fn bytes_of_group<'h, W: WordClass + AsciiWordClass>(
     alloc: Global,
     word_class: W,
@@ -58,15 +72,18 @@ pub fn bytes_of_group<'h, W: WordClass + AsciiWordClass>(
     group: usize,
     text: &'h [u8],
 ) -> Result<Option<&'h [u8]>, Error>
-    ensures { IfOk result (λ found. IfSome found (λ bytes. length bytes.now ≤ length text.now)) }
+    ensures { IfOk result (λ found. IfSome found (λ bytes. (i s t j : ℕ) × (i ≤ s) × (s ≤ t) × (t ≤ j) × (j ≤ length text.now)
+        × (bytes.now ≡ slice_range text.now s t)
+        × Goes (record { haystack = text.now; terminator = 10; word_chars = W.word_chars word_class }) (pattern_of part.entry) i j)) }
 {
     laws::a_group_that_begins_ends::<W>();
+    laws::a_first_match_is_of_a_pattern::<W>();
     let program = Builder::new(alloc).build(word_class, true, part)?;
     let mut captures = program.captures(alloc)?;
     let input = Input::new(text);
     match find(alloc, &program, &input, &mut captures)? {
         None => Ok(None),
-        Some(_) => match captures.get_group(group) {
+        Some(whole) => match captures.get_group(group) {
             None => Ok(None),
             Some(span) => Ok(Some(&text[span.start..span.end])),
         },

@@ -199,3 +199,27 @@ fn a_token_takes_a_byte(rt: HostRuntime) -> Result<(), Fail> {
     assert!(rt; lexer::as_token(builder.then(loops, digits)?).is_none());
     Ok(())
 }
+
+#[test]
+fn no_match_that_takes_a_byte_is_left_out(rt: HostRuntime) -> Result<(), Fail> {
+    let builder = Builder::new(rt.alloc());
+    // The second byte of `ß`.
+    let found = engine::first_in_text(
+        rt.alloc(),
+        AsciiWord,
+        builder.range(0x9F, 0x9F),
+        "aß".as_bytes(),
+    )?;
+    assert!(rt; found.map(|m| m.range()) == Some(2..3));
+    Ok(())
+}
+
+#[test]
+fn letters_and_digits_are_tokens(rt: HostRuntime) -> Result<(), Fail> {
+    let tokens = lexer::letters_and_digits(rt.alloc(), b"ab12-")?;
+    assert!(rt; tokens.len() == 3);
+    for (token, (pattern, end)) in tokens.iter().zip([(0, 2), (1, 4), (2, 5)]) {
+        assert!(rt; token.pattern().as_usize() == pattern && token.end() == end);
+    }
+    Ok(())
+}

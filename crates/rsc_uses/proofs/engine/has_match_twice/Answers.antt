@@ -9,12 +9,12 @@ some_then_true : {H : Type 0} (b : Bool) → (b ≡ false → H) → ¬ H → b 
 some_then_true true none some = refl
 some_then_true false none some = absurd (some (none refl))
 
-pub returns-in-None : goal.returns-in-None
-returns-in-None g c =
+pub returns-in-None-clause-same : goal.returns-in-None-clause-same
+returns-in-None-clause-same g c =
     none_then_false c.in_ok-by_table.by_table c.in_ok-by_table.ensures.some (rw c.requires.of_program (rw c.in-None.is at c.in_ok-find.ensures.none))
 
-pub returns-in-Some : goal.returns-in-Some
-returns-in-Some g c =
+pub returns-in-Some-clause-same : goal.returns-in-Some-clause-same
+returns-in-Some-clause-same g c =
     let found = rw c.in-Some.is at c.in_ok-find.ensures.found in
     some_then_true c.in_ok-by_table.by_table c.in_ok-by_table.ensures.none
     (λ none. c.there_is_one_first_match.ensures.none _ _ (rw c.requires.of_program at none) found.is_first)

@@ -1,18 +1,44 @@
-use Rattle.std.proofs.Common.{[], ◌∷◌, subst}
+use Rattle.std.proofs.Common.{[], ◌∷◌, ◌≤◌, length, sym, subst, arith}
 use Rattle.rsc_search.specs.Inputs.{whole}
 use Rattle.rsc_engine.specs.Parts.{pattern_of}
-use Rattle.rsc_engine.specs.Patterns.{Goes}
-use Rattle.rsc_uses.proofs.EngineLemmas.{goes_of, text}
+use Rattle.rsc_engine.specs.Patterns.{Goes, subject_of}
+use Rattle.rsc_engine.specs.Searches.{search_in}
+use Rattle.rsc_engine.specs.FirstEnds.{IsFirstEnd}
+use Rattle.rsc_uses.proofs.EngineLemmas.{goes_of, first_end_of, match_of, text}
 use Rattle.rsc_uses.proofs.engine.leftmost_end_of_part.Goals as goal
 
-pub returns : goal.returns
-returns g c =
+pub returns-clause-first : goal.returns-clause-first
+returns-clause-first g c =
     let p = pattern_of c.args.part in
     let chars = g.W.WordClass.word_chars in
+    let program = c.in_ok-program.program in
+    let matcher = c.in_ok-program.ensures.matcher in
     let matches = rw c.new.ensures.patterns at c.in_ok-program.ensures.matches in
+    let firsts = rw c.new.ensures.patterns at c.in_ok-program.ensures.first_ends in
     let ends = rw (c.in-Some.is, c.new-input.ensures, c.new-dfa.ensures) at c.in_ok-leftmost_end.ensures.found in
-    let one = c.a_leftmost_end_is_of_a_pattern.ensures c.in_ok-program.program (p ∷ []) (whole c.args.haystack.now) c.in-Some.end matches ends in (
+    let one = c.a_leftmost_end_is_of_the_first_match.ensures program (p ∷ []) (whole c.args.haystack.now) c.in-Some.end matches
+    c.in_ok-program.ensures.prefers firsts ends in (
       one.0.span.start,
-      subst (λ end. Goes (text c.args.haystack.now (chars c.args.word_class)) p one.0.span.start end) one.3
-          (goes_of chars c.in_ok-program.program c.args.word_class p c.args.haystack.now one.0 c.in_ok-program.ensures.matcher one.1),
+      subst (λ end. Goes (text c.args.haystack.now (chars c.args.word_class)) p one.0.span.start end) one.2
+          (goes_of chars program c.args.word_class p c.args.haystack.now one.0 matcher one.1),
+      λ k j before within goes.
+          let least = one.3 _ (match_of chars program c.args.word_class p [] c.args.haystack.now k j matcher within goes) in
+          absurd (omega (arith, least, before)),
+      λ loops.
+          subst (λ end. IsFirstEnd (text c.args.haystack.now (chars c.args.word_class)) p (λ j. j ≤ length c.args.haystack.now) one.0.span.start end) one.2
+          (first_end_of chars program c.args.word_class p c.args.haystack.now one.0 matcher one.1
+          (λ its.
+          subst (λ end.
+          IsFirstEnd (subject_of (search_in chars program (whole c.args.haystack.now))) p (λ j. j ≤ length c.args.haystack.now) one.0.span.start end)
+          (sym one.2) (one.5 p its loops))),
     )
+
+pub returns-clause-within : goal.returns-clause-within
+returns-clause-within g c =
+    let p = pattern_of c.args.part in
+    let matches = rw c.new.ensures.patterns at c.in_ok-program.ensures.matches in
+    let firsts = rw c.new.ensures.patterns at c.in_ok-program.ensures.first_ends in
+    let ends = rw (c.in-Some.is, c.new-input.ensures, c.new-dfa.ensures) at c.in_ok-leftmost_end.ensures.found in
+    let one = c.a_leftmost_end_is_of_the_first_match.ensures c.in_ok-program.program (p ∷ []) (whole c.args.haystack.now) c.in-Some.end matches
+    c.in_ok-program.ensures.prefers firsts ends in
+    omega (arith, one.1.end, one.2)

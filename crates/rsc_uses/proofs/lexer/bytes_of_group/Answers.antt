@@ -1,19 +1,21 @@
-use Rattle.std.proofs.Common.{sym, arith}
+use Rattle.std.proofs.Common.{[], ◌∷◌, refl, sym, arith}
 use Rattle.rsc_search.specs.Inputs.{whole}
+use Rattle.rsc_engine.specs.Parts.{pattern_of}
+use Rattle.rsc_uses.proofs.EngineLemmas.{goes_of}
 use Rattle.rsc_uses.proofs.lexer.bytes_of_group.Goals as goal
 
 pub slice_bounds-result-count : goal.slice_bounds-result-count
 slice_bounds-result-count g c =
     let found = rw (c.in-Some.is, c.new-input.ensures) at c.in_ok-find.ensures.found in
     let span = c.get_group.ensures.span in
-    (c.a_group_that_begins_ends.ensures.first_span c.in_ok-program.program (whole c.args.text.now) c.find.new.captures c.in-Some.field-0 c.args.group
+    (c.a_group_that_begins_ends.ensures.first_span c.in_ok-program.program (whole c.args.text.now) c.find.new.captures c.in-Some.whole c.args.group
     c.in-Some-get_group.span c.in_ok-program.ensures.closes found (sym (rw c.in-Some-get_group.is at span))).1
 
 pub slice_bounds-result-start : goal.slice_bounds-result-start
 slice_bounds-result-start g c =
     let found = rw (c.in-Some.is, c.new-input.ensures) at c.in_ok-find.ensures.found in
     let span = c.get_group.ensures.span in
-    (c.a_group_that_begins_ends.ensures.first_span c.in_ok-program.program (whole c.args.text.now) c.find.new.captures c.in-Some.field-0 c.args.group
+    (c.a_group_that_begins_ends.ensures.first_span c.in_ok-program.program (whole c.args.text.now) c.find.new.captures c.in-Some.whole c.args.group
     c.in-Some-get_group.span c.in_ok-program.ensures.closes found (sym (rw c.in-Some-get_group.is at span))).1
 
 pub slice_bounds-result-end : goal.slice_bounds-result-end
@@ -21,6 +23,29 @@ slice_bounds-result-end g c =
     let found = rw (c.in-Some.is, c.new-input.ensures) at c.in_ok-find.ensures.found in
     let span = c.get_group.ensures.span in
     let within = rw (c.in-Some.is, c.new-input.ensures) at c.in_ok-find.ensures.within in
-    let order = c.a_group_that_begins_ends.ensures.first_span c.in_ok-program.program (whole c.args.text.now) c.find.new.captures c.in-Some.field-0
+    let order = c.a_group_that_begins_ends.ensures.first_span c.in_ok-program.program (whole c.args.text.now) c.find.new.captures c.in-Some.whole
     c.args.group c.in-Some-get_group.span c.in_ok-program.ensures.closes found (sym (rw c.in-Some-get_group.is at span)) in
     omega (arith, order.2, within.1)
+
+pub returns : goal.returns
+returns g c =
+    let p = pattern_of c.args.part in
+    let program = c.in_ok-program.program in
+    let matches = rw c.new.ensures.patterns at c.in_ok-program.ensures.matches in
+    let found = rw (c.in-Some.is, c.new-input.ensures) at c.in_ok-find.ensures.found in
+    let within = rw (c.in-Some.is, c.new-input.ensures) at c.in_ok-find.ensures.within in
+    let its = c.get_group.ensures.span in
+    let order = c.a_group_that_begins_ends.ensures.first_span program (whole c.args.text.now) c.find.new.captures c.in-Some.whole
+    c.args.group c.in-Some-get_group.span c.in_ok-program.ensures.closes found (sym (rw c.in-Some-get_group.is at its)) in (
+      c.in-Some.whole.span.start,
+      c.in-Some-get_group.span.start,
+      c.in-Some-get_group.span.end,
+      c.in-Some.whole.span.end,
+      order.0,
+      order.1,
+      order.2,
+      within.2,
+      refl,
+      goes_of g.W.WordClass.word_chars program c.args.word_class p c.args.text.now c.in-Some.whole c.in_ok-program.ensures.matcher
+          (c.a_first_match_is_of_a_pattern.ensures.some program (p ∷ []) (whole c.args.text.now) _ c.in-Some.whole matches found),
+    )
