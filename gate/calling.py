@@ -45,7 +45,8 @@ MARK = re.compile(r"<!-- callers: (.*) -->\n")
 LAWS = """## Laws, and what else can be cited
 
 A law is a public function of `{crate}::laws` that does nothing, and whose contract is the law. A function whose proof needs it calls it at its beginning, as
-`laws::{law}();`: from there on the law is among the facts that the checker searches.
+`laws::{law}();`: from there on the law is among the facts that the checker
+searches. What the search doesn't find, as often of a law with premises on patterns, a proof file says by hand.
 
 A contract or a proof of yours may use all of `Rattle.{crate}.specs`: a name `{module}.{name}` of the table below by
 `ghost use Rattle.{crate}.specs.{module}.{{{name}}};`, and a struct or an enum `TYPE` of `src/FILE.rt` by
@@ -201,7 +202,11 @@ def callers(path, names):
     first = f"From `crates/rsc_uses/src/{path}`, proved from the contracts below alone. {files}{own}"
     loops = [ROOT / folder / it / "Invariants.antt" for it in shown if (ROOT / folder / it / "Invariants.antt").exists()]
     invariants = "".join(f"\nThe invariant of a loop, `{it.relative_to(ROOT)}`:\n\n```text\n{it.read_text(encoding='utf-8')}```\n" for it in loops)
-    return f"{first}\n\n```rust\n{used}\n\n{quoted}\n```\n{invariants}"
+    # Of the functions that call a law the one with the shortest proof shows how a law is applied by hand.
+    answers = [ROOT / folder / it / "Answers.antt" for it in shown if "laws::" in shown[it] and (ROOT / folder / it / "Answers.antt").exists()]
+    shortest = min((it.read_text(encoding="utf-8") for it in answers), key=len, default="")
+    by_hand = next((f"\nA law is applied by hand in `{it.relative_to(ROOT)}`:\n\n```text\n{shortest}```\n" for it in answers if it.read_text(encoding="utf-8") == shortest), "")
+    return f"{first}\n\n```rust\n{used}\n\n{quoted}\n```\n{invariants}{by_hand}"
 
 
 def imports(path, quoted):

@@ -63,9 +63,9 @@ def with_quotes(text):
 def by_hand(text):
     """Returns README.md with how much is taken without a proof, and what is proved by hand."""
     found = [it for it in sorted((ROOT / "crates").glob("*/**/*")) if it.suffix in (".antt", ".rt") and "out" not in it.parts]
-    texts = [re.sub(r"//.*|--.*", "", it.read_text(encoding="utf-8")) for it in found]
-    patterns = {"axioms": r"^\s*(?:pub )?axiom ", "holes": r"= \?(?:\s|$)", "`unsafe` blocks": r"\bunsafe \{"}
-    counts = [f"{sum(len(re.findall(pattern, it, flags=re.M)) for it in texts)} {name}" for name, pattern in patterns.items()]
+    texts = [(it.suffix, re.sub(r"//.*|--.*", "", it.read_text(encoding="utf-8"))) for it in found]
+    patterns = {"axioms": (".antt", r"\baxiom\b"), "holes": (".antt", r"(?<![\w`])\?(?=[\s),]|$)"), "`unsafe` blocks": (".rt", r"\bunsafe (?:\{|fn|impl|trait)")}
+    counts = [f"{sum(len(re.findall(its, it, flags=re.M)) for suffix, it in texts if suffix == kind)} {name}" for name, (kind, its) in patterns.items()]
     hands = [f"`{'::'.join(it.parts[-3:-1])}`" for it in found if it.name == "Proof.antt"]
     said = f"{', '.join(counts)}; {len(hands)} proofs by hand ({', '.join(hands)})"
     return re.sub(r"<!-- by hand -->.*?<!-- end -->", lambda _: f"<!-- by hand -->{said}<!-- end -->", text, flags=re.S)

@@ -81,7 +81,7 @@ ENGINE = (("rsc_engine", "first.rt", ("find",)), ("rsc_engine", "iterate.rt", ("
           ("rsc_engine", "builder/part.rt", ("may_be_empty", "loops_take_bytes")),
           ("rsc_engine", "builder/repeat.rt", tuple(f"{it}{end}" for it in ("optional", "star", "plus", "repeat") for end in ("", "_lazy"))),
           ("rsc_engine", "dfa.rt", ("new", "earliest_end", "is_match", "find", "leftmost_end")), ("rsc_engine", "cache.rt", ("new", "find", "matches")),
-          ("rsc_engine", "program.rt", ("new", "captures")), ("rsc_captures", "captures.rt", ("get_group",)),
+          ("rsc_engine", "program.rt", ("new", "captures")), ("rsc_captures", "captures.rt", ("get_group", "get_group_by_name")),
           ("rsc_search", "input.rt", ("new", "range", "anchored")), ("rsc_engine", "laws.rt", ()))
 ENGINE_MEANT = (("rsc_look/src/word.rt", r"ghost word_chars = .*?;"), ("rsc_engine/src/iterate.rt", r"impl<[^{]*Model for Matches.*?^\}"))
 ENGINE_SEEN = (("rsc_engine", "program.rt", "Program"), ("rsc_engine", "dfa.rt", "Dfa"), ("rsc_engine", "cache.rt", "Cache"),

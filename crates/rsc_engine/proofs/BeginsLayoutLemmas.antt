@@ -327,12 +327,12 @@ run_from e found (suc n) s i low x =
 accepting : (wanted : Option ℕ) (o : Option State) (q : ℕ) → o ≡ Some (Accept q) → is_wanted wanted q ≡ is_accepting wanted o
 accepting wanted o q e = rw e refl
 
-has_match : (e : Search) (patterns : List Pattern) (found : Matched) → Begins e.states e.first (IsOfSome 0 patterns)
+has_match : (e : Search) (patterns : List Pattern) (found : Matched) → Begins e.states e.start_state (IsOfSome 0 patterns)
     → HasRunOf e found → IsMatchIn patterns e found
 has_match e patterns found b h =
     let r = h.is_match in
     let way = way_from e found h.run r.is_run h.makes (length h.run - 1) 0 (omega (arith, r.some)) in
-    let here : Ends e.states (aim_of e found) (length h.run - 1) e.first found.span.start =
+    let here : Ends e.states (aim_of e found) (length h.run - 1) e.start_state found.span.start =
     subst (λ (p : ℕ × ℕ). Ends e.states (aim_of e found) (length h.run - 1) p.0 p.1) r.begins way in
     let s = b.sound (aim_of e found) (length h.run - 1) found.span.start here in
     record {
@@ -344,11 +344,11 @@ has_match e patterns found b h =
       goes = s.3;
     }
 
-has_run : (e : Search) (patterns : List Pattern) (found : Matched) → Begins e.states e.first (IsOfSome 0 patterns)
+has_run : (e : Search) (patterns : List Pattern) (found : Matched) → Begins e.states e.start_state (IsOfSome 0 patterns)
     → IsMatchIn patterns e found → HasRunOf e found
 has_run e patterns found b m =
     let h = b.complete (aim_of e found) found.span.start (omega arith, m.pattern, m.its, m.goes) m.end in
-    let r = run_from e found h.steps e.first found.span.start m.start h.ends in
+    let r = run_from e found h.steps e.start_state found.span.start m.start h.ends in
     record {
       run = r.run;
       is_match = record {

@@ -18,7 +18,7 @@ use Rattle.rsc_engine.proofs.RowsLayoutLemmas.{Reaches-start, start_of, none_end
 -- ---- where no match that began earlier goes on
 
 -- a step that goes on by a byte leaves a state that leads over one
-step_over : (e : Search) (p q : ℕ × ℕ) → IsNeverEntered (machine_of e) → Leads e p q → q.1 ≡ p.1 + 1 → ¬ (q.0 ≡ e.first)
+step_over : (e : Search) (p q : ℕ × ℕ) → IsNeverEntered (machine_of e) → Leads e p q → q.1 ≡ p.1 + 1 → ¬ (q.0 ≡ e.start_state)
 step_over e p q never l on first = go (slice_get e.states p.0) refl l
   where
     go : (o : Option State) → slice_get e.states p.0 ≡ o
@@ -37,7 +37,7 @@ only_one : (x y : ℕ) → Contains (x ∷ []) y → y ≡ x
 only_one x y there = sym (⊎_elim (λ (none : Contains [] y). absurd (none_there y none)) (λ (h : x ≡ y). h) (Contains-push_cases [] x y there))
 
 -- if the row's only state is the first one, and no byte leads to it, each match begins at the position or later
-pub none_before_row : Lawful → (e : Search) (i : ℕ) (set : List ℕ) → IsRowAt e i set → e.mode ≡ No → IsNeverEntered (machine_of e) → set ≡ e.first ∷ []
+pub none_before_row : Lawful → (e : Search) (i : ℕ) (set : List ℕ) → IsRowAt e i set → e.mode ≡ No → IsNeverEntered (machine_of e) → set ≡ e.start_state ∷ []
     → (at : ℕ) → e.start ≤ at → at < i → HasNoMatch e at
 none_before_row w e i set row free never is at low early run m =
     row.none_before (place run last).1 (below last within) record {
@@ -68,13 +68,13 @@ none_before_row w e i set row free never is at low early run m =
         (λ (on : ((place run (k + 1)).1 ≡ (place run k).1 + 1) × ((place run k).1 < e.end)). ⊎_elim
         (λ (less : (place run (k + 1)).1 < i). less)
         (λ (here : i ≤ (place run (k + 1)).1). absurd (step_over e (place run k) (place run (k + 1)) never (m.is_run.steps k h) on.0
-        (only_one e.first (place run (k + 1)).0 (subst (λ (x : List ℕ). Contains x (place run (k + 1)).0) is
+        (only_one e.start_state (place run (k + 1)).0 (subst (λ (x : List ℕ). Contains x (place run (k + 1)).0) is
         (row.all run starts (k + 1) h (omega (arith, here, on.0, before)) (λ j e. let j_is : j ≡ k = omega (arith, e) in rw j_is before))))))
         (cases_lt (place run (k + 1)).1 i))
         (w.position e.states e.terminator e.word_chars e.haystack e.end (place run k) (place run (k + 1)) (m.is_run.steps k h)))
 
 -- if the row has no state, no match begins where one may
-pub no_state_row : Lawful → (e : Search) (i : ℕ) (set : List ℕ) → IsRowAt e i set → set ≡ [] → e.first < length e.states → e.start ≤ i → i ≤ e.end
+pub no_state_row : Lawful → (e : Search) (i : ℕ) (set : List ℕ) → IsRowAt e i set → set ≡ [] → e.start_state < length e.states → e.start ≤ i → i ≤ e.end
     → HasNone e
 unfolding Reaches-start
 no_state_row w e i set row is there low high = none_ends e none
@@ -84,8 +84,8 @@ no_state_row w e i set row is there low high = none_ends e none
 
     anchored : ¬ (e.mode ≡ No)
     anchored free =
-        let starts : IsStartRun e ((e.first, i) ∷ []) = (Reaches-start w e i there low high (λ a. absurd (a free))).from_start in
-        empty e.first (row.all ((e.first, i) ∷ []) starts 0 (omega arith) refl (λ j none. absurd (omega (arith, none))))
+        let starts : IsStartRun e ((e.start_state, i) ∷ []) = (Reaches-start w e i there low high (λ a. absurd (a free))).from_start in
+        empty e.start_state (row.all ((e.start_state, i) ∷ []) starts 0 (omega arith) refl (λ j none. absurd (omega (arith, none))))
 
     none : (j : ℕ) → ¬ (IsMatchEnd e j)
     none j x = row.none_before j (subst (λ (y : ℕ). y < i) x.ends (below (length x.run - 1) (omega (arith, x.is_match.some)))) x

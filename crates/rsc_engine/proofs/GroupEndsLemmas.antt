@@ -221,7 +221,7 @@ last_is p (q ∷ rest) =
     let one : length (p ∷ (q ∷ rest)) - 1 ≡ suc (length (q ∷ rest) - 1) = omega arith in
     ap (λ (n : ℕ). place (p ∷ (q ∷ rest)) n) one ∙ last_is q rest
 
-ends_of : (e : Search) (run : List (ℕ × ℕ)) (found : Matched) → RecordsFrom e.states e.first → IsMatchRun e (e.first, found.span.start) run
+ends_of : (e : Search) (run : List (ℕ × ℕ)) (found : Matched) → RecordsFrom e.states e.start_state → IsMatchRun e (e.start_state, found.span.start) run
     → IsMatchOf e run found
     → (recorded e.states run (2 * found.pattern) ≡ Some found.span.start) × (recorded e.states run (2 * found.pattern + 1) ≡ Some found.span.end)
 ends_of e [] found b m f = absurd (omega (arith, m.some))
@@ -243,11 +243,11 @@ RecordsEnds-built chars program b = record {
 -- ---- the slots of captures
 
 pub slot_holds : (e : Search) (run : List (ℕ × ℕ)) (captures : Captured) (found : Matched) (slot i : ℕ)
-    → (IsMatchRun e (e.first, found.span.start) run → IsMatchOf e run found → recorded e.states run slot ≡ Some i)
-    → IsMatchRun e (e.first, (place run 0).1) run → IsOf e run found captures → slot < length captures.offsets
+    → (IsMatchRun e (e.start_state, found.span.start) run → IsMatchOf e run found → recorded e.states run slot ≡ Some i)
+    → IsMatchRun e (e.start_state, (place run 0).1) run → IsOf e run found captures → slot < length captures.offsets
     → slice_index_or captures.offsets slot None ≡ Some i
 slot_holds e run captures found slot i r m o l =
-    o.records slot l ∙ r (subst (λ (at : ℕ). IsMatchRun e (e.first, at) run) (sym o.ends.start) m) o.ends
+    o.records slot l ∙ r (subst (λ (at : ℕ). IsMatchRun e (e.start_state, at) run) (sym o.ends.start) m) o.ends
 
 -- ---- the span of the first group
 

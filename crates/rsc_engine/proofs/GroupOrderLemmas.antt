@@ -117,7 +117,7 @@ closes e pair number p (q ∷ rest) i c steps at is =
         let same : j ≡ i = same_Some j i (sym (kept e.states p q rest (2 * pair) j later) ∙ is) in
         (r.0, kept e.states p q rest (2 * pair + 1) r.0 r.1, omega (arith, r.2, same))
 
-closed_run : (e : Search) (run : List (ℕ × ℕ)) (at pair i : ℕ) → IsClosed e.states pair → IsMatchRun e (e.first, at) run
+closed_run : (e : Search) (run : List (ℕ × ℕ)) (at pair i : ℕ) → IsClosed e.states pair → IsMatchRun e (e.start_state, at) run
     → recorded e.states run (2 * pair) ≡ Some i → (j : ℕ) × (recorded e.states run (2 * pair + 1) ≡ Some j) × (i ≤ j)
 closed_run e [] at pair i c m is = absurd (omega (arith, m.some))
 closed_run e (p ∷ rest) at pair i c m is =

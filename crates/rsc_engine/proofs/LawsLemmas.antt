@@ -13,7 +13,7 @@ use Rattle.rsc_engine.specs.Searches.{Search}
 use Rattle.rsc_engine.specs.Runs.{IsMatchRun, is_accepting}
 use Rattle.rsc_captures.specs.Captured.{Captured}
 use Rattle.rsc_engine.specs.Preferred.{IsFirstMatch, MayBegin, HasNone}
-use Rattle.rsc_engine.specs.NextMatches.{IsEmpty, IsRepeated, IsSplitAt, IsPassed, IsOver, IsNextMatch}
+use Rattle.rsc_engine.specs.NextMatches.{IsOpen, IsEmpty, IsRepeated, IsSplitAt, IsPassed, IsOver, IsNextMatch}
 use Rattle.rsc_engine.specs.Ends.{IsMatchEnd, IsEarliestEnd}
 use Rattle.rsc_engine.proofs.PatternsLemmas.{goes-forward, goes-takes, takes-at}
 
@@ -23,7 +23,7 @@ pub first_is_in : (e : Search) (patterns : List Pattern) (captures : Captured) (
     → ((other : Matched) → HasRunOf e other ↔ IsMatchIn patterns e other) → IsFirstMatch e captures found → IsMatchIn patterns e found
 first_is_in e patterns captures found both f = (both found).0 (record {
   run = f.run;
-  is_match = subst (λ (i : ℕ). IsMatchRun e (e.first, i) f.run) (sym f.is_of.ends.start) f.is_first.preferred.is_match;
+  is_match = subst (λ (i : ℕ). IsMatchRun e (e.start_state, i) f.run) (sym f.is_of.ends.start) f.is_first.preferred.is_match;
   makes = f.is_of.ends;
 })
 
@@ -46,7 +46,7 @@ pub next_is_in : (e : Search) (patterns : List Pattern) (last : Option ℕ) (cap
     → ((other : Matched) → HasRunOf e other ↔ IsMatchIn patterns e other) → IsNextMatch e last captures found → IsMatchIn patterns e found
 next_is_in e patterns last captures found both f = (both found).0 (record {
   run = f.run;
-  is_match = subst (λ (i : ℕ). IsMatchRun e (e.first, i) f.run) (sym f.is_of.ends.start) f.is_next.preferred.is_match;
+  is_match = subst (λ (i : ℕ). IsMatchRun e (e.start_state, i) f.run) (sym f.is_of.ends.start) f.is_next.preferred.is_match;
   makes = f.is_of.ends;
 })
 
@@ -96,7 +96,7 @@ none_ends_before e patterns i other both h begins l m =
 
 -- where no pattern may be empty, no match run is
 not_empty : (e : Search) (patterns : List Pattern) (at : ℕ) (run : List (ℕ × ℕ)) → ((other : Matched) → HasRunOf e other ↔ IsMatchIn patterns e other)
-    → list_any may_be_empty patterns ≡ false → IsMatchRun e (e.first, at) run → IsEmpty run → ⊥
+    → list_any may_be_empty patterns ≡ false → IsMatchRun e (e.start_state, at) run → IsEmpty run → ⊥
 not_empty e patterns at run both none m empty =
     let begins : (place run 0).1 ≡ at = ap (λ (p : ℕ × ℕ). p.1) m.begins in
     let q = accepted (pattern_of_mode e.mode) (slice_get e.states (place run (length run - 1)).0) m.ends in
@@ -116,18 +116,42 @@ next_at_start e patterns last captures found both none anchored f =
     (λ (l : (place f.run 0).1 ≤ e.start). omega (arith, l, opens.start, f.is_of.ends.start))
     (cases_lt e.start (place f.run 0).1)
 
+-- so a position from which one matches isn't passed
+not_passed : (e : Search) (patterns : List Pattern) (last : Option ℕ) (other : Matched) → ((other : Matched) → HasRunOf e other ↔ IsMatchIn patterns e other)
+    → list_any may_be_empty patterns ≡ false → IsPassed e last other.span.start → IsMatchIn patterns e other → ⊥
+not_passed e patterns last other both none passed m = ⊎_elim
+    (λ no. let r = (both other).1 m in no r.run r.is_match)
+    (λ why. ⊎_elim
+    (λ (x : IsRepeated e last other.span.start). not_empty e patterns other.span.start x.run both none x.preferred.is_match x.repeats.empty)
+    (λ (x : IsSplitAt e other.span.start). not_empty e patterns other.span.start x.run both none x.preferred.is_match x.splits.empty)
+    why)
+    passed
+
+its_start : (e : Search) (patterns : List Pattern) (other : Matched) → IsMatchIn patterns e other → other.span.start ≤ e.end
+its_start e patterns other m =
+    let forward = goes-forward (subject_of e) m.pattern other.span.start other.span.end m.goes in omega (arith, forward, m.end)
+
 pub none_at_start : (e : Search) (patterns : List Pattern) (last : Option ℕ) (other : Matched)
     → ((other : Matched) → HasRunOf e other ↔ IsMatchIn patterns e other) → list_any may_be_empty patterns ≡ false → IsOver e last
     → other.span.start ≡ e.start → IsMatchIn patterns e other → ⊥
 none_at_start e patterns last other both none over same m =
-    let r = (both other).1 m in
-    let forward = goes-forward (subject_of e) m.pattern other.span.start other.span.end m.goes in
-    let passed = over e.start
-    (record { start = omega arith; end = omega (arith, forward, m.end, same); anchored = λ a earlier l h. absurd (omega (arith, l, h)) }) in
-    ⊎_elim
-    (λ no. no r.run (subst (λ (i : ℕ). IsMatchRun e (e.first, i) r.run) same r.is_match))
-    (λ why. ⊎_elim
-    (λ (x : IsRepeated e last e.start). not_empty e patterns e.start x.run both none x.preferred.is_match x.repeats.empty)
-    (λ (x : IsSplitAt e e.start). not_empty e patterns e.start x.run both none x.preferred.is_match x.splits.empty)
-    why)
-    passed
+    not_passed e patterns last other both none
+    (over other.span.start
+    (record { start = m.start; end = its_start e patterns other m; anchored = λ a earlier l h. absurd (omega (arith, l, h, same)) })) m
+
+-- in a search that isn't anchored each position of the span is open
+free : (e : Search) (patterns : List Pattern) (last : Option ℕ) (other : Matched) → e.mode ≡ No → IsMatchIn patterns e other → IsOpen e last other.span.start
+free e patterns last other unanchored m = record { start = m.start; end = its_start e patterns other m; anchored = λ a. absurd (a unanchored) }
+
+pub none_between : (e : Search) (patterns : List Pattern) (last : Option ℕ) (captures : Captured) (found other : Matched)
+    → ((other : Matched) → HasRunOf e other ↔ IsMatchIn patterns e other) → list_any may_be_empty patterns ≡ false → e.mode ≡ No
+    → IsNextMatch e last captures found → other.span.start < found.span.start → IsMatchIn patterns e other → ⊥
+none_between e patterns last captures found other both none unanchored f l m =
+    not_passed e patterns last other both none
+    (f.is_next.passed other.span.start (omega (arith, l, f.is_of.ends.start)) (free e patterns last other unanchored m)) m
+
+pub none_after_all : (e : Search) (patterns : List Pattern) (last : Option ℕ) (other : Matched)
+    → ((other : Matched) → HasRunOf e other ↔ IsMatchIn patterns e other) → list_any may_be_empty patterns ≡ false → e.mode ≡ No → IsOver e last
+    → IsMatchIn patterns e other → ⊥
+none_after_all e patterns last other both none unanchored over m =
+    not_passed e patterns last other both none (over other.span.start (free e patterns last other unanchored m)) m

@@ -30,8 +30,8 @@ module _ (e : Search) (i start : ℕ) (last : Option ℕ) (run : List (ℕ × �
       (λ (le : i ≤ at). inl (none_shift e i start at le (f.leftmost at le high)))
       (cases_lt at i)
 
-  from_there : IsPreferred (record e { start = start }) (e.first, (place run 0).1) run
-  from_there = preferred_shift e i start (e.first, (place run 0).1) run f.begins.start (omega (arith, f.begins.start, v.up)) f.preferred
+  from_there : IsPreferred (record e { start = start }) (e.start_state, (place run 0).1) run
+  from_there = preferred_shift e i start (e.start_state, (place run 0).1) run f.begins.start (omega (arith, f.begins.start, v.up)) f.preferred
 
   opens_there : IsOpen (record e { start = start }) last (place run 0).1
   opens_there = record {
@@ -100,7 +100,7 @@ module _ (e : Search) (i start : ℕ) (last : Option ℕ) (run : List (ℕ × �
         let r : IsRepeated (record e { start = start }) last (place run 0).1 =
         o.anchored anchored (place run 0).1 (omega (arith, v.up, f.begins.start)) (omega (arith, le, apart)) in
         absurd (no_repeat (subst (λ (x : List (ℕ × ℕ)). IsRepeat last x)
-        (one_preferred (record e { start = start }) (e.first, (place run 0).1) r.run run r.preferred from_there) r.repeats)))
+        (one_preferred (record e { start = start }) (e.start_state, (place run 0).1) r.run run r.preferred from_there) r.repeats)))
         (cases_eq at (place run 0).1))
         (cases_lt at (place run 0).1);
     opens = λ within. absurd (omega (arith, within));
@@ -251,18 +251,19 @@ module _ {W : Type 0} (chars : W → ℕ → Bool) (p q : Compiled W) (input now
 next_not_passed : (e : Search) (last : Option ℕ) (run : List (ℕ × ℕ)) → IsNext e last run → IsPassed e last (place run 0).1 → ⊥
 next_not_passed e last run x (inl none) = none run x.preferred.is_match
 next_not_passed e last run x (inr (inl r)) =
-    x.no_repeat (subst (λ (y : List (ℕ × ℕ)). IsRepeat last y) (one_preferred e (e.first, (place run 0).1) r.run run r.preferred x.preferred) r.repeats)
+    x.no_repeat (subst (λ (y : List (ℕ × ℕ)). IsRepeat last y) (one_preferred e (e.start_state, (place run 0).1) r.run run r.preferred x.preferred) r.repeats)
 next_not_passed e last run x (inr (inr s)) =
-    x.splits_none (subst (λ (y : List (ℕ × ℕ)). IsSplit e y) (one_preferred e (e.first, (place run 0).1) s.run run s.preferred x.preferred) s.splits)
+    x.splits_none (subst (λ (y : List (ℕ × ℕ)). IsSplit e y) (one_preferred e (e.start_state, (place run 0).1) s.run run s.preferred x.preferred) s.splits)
 
 pub next_not_over : (e : Search) (last : Option ℕ) (run : List (ℕ × ℕ)) → IsOver e last → ¬ (IsNext e last run)
 next_not_over e last run over x = next_not_passed e last run x (over (place run 0).1 x.opens)
 
 -- two preferred runs that begin at one position are one
-same_start : (e : Search) (one other : List (ℕ × ℕ)) → IsPreferred e (e.first, (place one 0).1) one → IsPreferred e (e.first, (place other 0).1) other
+same_start : (e : Search) (one other : List (ℕ × ℕ)) → IsPreferred e (e.start_state, (place one 0).1) one
+    → IsPreferred e (e.start_state, (place other 0).1) other
     → (place one 0).1 ≡ (place other 0).1 → one ≡ other
 same_start e one other x y same =
-    one_preferred e (e.first, (place other 0).1) one other (subst (λ (n : ℕ). IsPreferred e (e.first, n) one) same x) y
+    one_preferred e (e.start_state, (place other 0).1) one other (subst (λ (n : ℕ). IsPreferred e (e.start_state, n) one) same x) y
 
 -- there is one next match at most
 pub one_next : (e : Search) (last : Option ℕ) (one other : List (ℕ × ℕ)) → IsNext e last one → IsNext e last other → one ≡ other

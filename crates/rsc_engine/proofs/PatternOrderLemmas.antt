@@ -134,8 +134,9 @@ before_is e p (q ∷ one) (r ∷ other) (inr s) =
     subst (λ (z : ℕ × ℕ). IsPreferredTo e (p ∷ (q ∷ one)) (p ∷ (z ∷ other))) s.0
     (before_more e p (q ∷ one) (q ∷ other) (before_is e q one other s.1))
 
-lesser_of : (e : Search) (one other : List (ℕ × ℕ)) (found beaten : Matched) → PrefersFrom e.states e.first
-    → IsMatchRun e (e.first, found.span.start) one → IsMatchOf e one found → IsMatchRun e (e.first, found.span.start) other → IsMatchOf e other beaten
+lesser_of : (e : Search) (one other : List (ℕ × ℕ)) (found beaten : Matched) → PrefersFrom e.states e.start_state
+    → IsMatchRun e (e.start_state, found.span.start) one → IsMatchOf e one found
+    → IsMatchRun e (e.start_state, found.span.start) other → IsMatchOf e other beaten
     → found.pattern < beaten.pattern → IsPreferredTo e one other
 lesser_of e [] other found beaten b m f n g l = absurd (omega (arith, m.some))
 lesser_of e (p ∷ one) [] found beaten b m f n g l = absurd (omega (arith, n.some))
@@ -162,11 +163,11 @@ PrefersLesser-built chars program b = record {
 -- a run to a match that comes to no place twice
 record Once (e : Search) (found : Matched) : Type 0 where
   run : List (ℕ × ℕ)
-  is_match : IsMatchRun e (e.first, found.span.start) run
+  is_match : IsMatchRun e (e.start_state, found.span.start) run
   makes : IsMatchOf e run found
   once : IsOnce run
 
-once_run : (e : Search) (found : Matched) (run : List (ℕ × ℕ)) → IsMatchRun e (e.first, found.span.start) run → IsMatchOf e run found → Once e found
+once_run : (e : Search) (found : Matched) (run : List (ℕ × ℕ)) → IsMatchRun e (e.start_state, found.span.start) run → IsMatchOf e run found → Once e found
 once_run e found [] m f = absurd (omega (arith, m.some))
 once_run e found (p ∷ rest) m f = record {
   run = p ∷ s.rest;
@@ -196,17 +197,17 @@ once_run e found (p ∷ rest) m f = record {
 
 -- in the search, of runs from one place to matches of two patterns, the lesser pattern's is preferred
 abbrev Prefers : Search → Type 0
-Prefers e = (one other : List (ℕ × ℕ)) (found beaten : Matched) → IsMatchRun e (e.first, found.span.start) one → IsMatchOf e one found
-    → IsMatchRun e (e.first, found.span.start) other → IsMatchOf e other beaten → found.pattern < beaten.pattern → IsPreferredTo e one other
+Prefers e = (one other : List (ℕ × ℕ)) (found beaten : Matched) → IsMatchRun e (e.start_state, found.span.start) one → IsMatchOf e one found
+    → IsMatchRun e (e.start_state, found.span.start) other → IsMatchOf e other beaten → found.pattern < beaten.pattern → IsPreferredTo e one other
 
-pub is_least : (e : Search) (run : List (ℕ × ℕ)) (found other : Matched) → Prefers e → IsPreferred e (e.first, (place run 0).1) run
+pub is_least : (e : Search) (run : List (ℕ × ℕ)) (found other : Matched) → Prefers e → IsPreferred e (e.start_state, (place run 0).1) run
     → IsMatchOf e run found → HasRunOf e other → other.span.start ≡ found.span.start → found.pattern ≤ other.pattern
 is_least e run found other prefers first f h same = ⊎_elim
     (λ (l : other.pattern < found.pattern).
     let o = once_run e other h.run h.is_match h.makes in
     let start : other.span.start ≡ (place run 0).1 = same ∙ f.start in
-    absurd (first.first o.run (subst (λ (i : ℕ). IsMatchRun e (e.first, i) o.run) start o.is_match) o.once
-    (prefers o.run run other found o.is_match o.makes (subst (λ (i : ℕ). IsMatchRun e (e.first, i) run) (sym start) first.is_match) f l)))
+    absurd (first.first o.run (subst (λ (i : ℕ). IsMatchRun e (e.start_state, i) o.run) start o.is_match) o.once
+    (prefers o.run run other found o.is_match o.makes (subst (λ (i : ℕ). IsMatchRun e (e.start_state, i) run) (sym start) first.is_match) f l)))
     (λ (le : found.pattern ≤ other.pattern). le)
     (cases_lt other.pattern found.pattern)
 
@@ -218,57 +219,58 @@ same_accepts : (e : Search) (p q : ℕ × ℕ) (m : ℕ) → slice_get e.states 
 same_accepts e p q m here there a = rw there (rw here at a)
 
 -- the steps of a preferred run are the first to its pattern, if there are few
-is_first : (e : Search) (m i most : ℕ) (rest : List (ℕ × ℕ)) → IsPreferred e (e.first, i) ((e.first, i) ∷ rest)
-    → slice_get e.states (last_place (e.first, i) rest).0 ≡ Some (Accept m)
-    → ((a : Aim) (n j : ℕ) → a.end ≡ e.end → a.pattern ≡ m → Ends e.states a n e.first j → n ≤ most)
-    → IsLeast e.states (subject_of e) e.end m (e.first, i) rest
+is_first : (e : Search) (m i most : ℕ) (rest : List (ℕ × ℕ)) → IsPreferred e (e.start_state, i) ((e.start_state, i) ∷ rest)
+    → slice_get e.states (last_place (e.start_state, i) rest).0 ≡ Some (Accept m)
+    → ((a : Aim) (n j : ℕ) → a.end ≡ e.end → a.pattern ≡ m → Ends e.states a n e.start_state j → n ≤ most)
+    → IsLeast e.states (subject_of e) e.end m (e.start_state, i) rest
 is_first e m i most rest preferred accepted few = record {
   way = record {
     within = (preferred.is_match.is_run.places 0 preferred.is_match.some).2;
-    steps = steps_of e (e.first, i) rest preferred.is_match.is_run;
+    steps = steps_of e (e.start_state, i) rest preferred.is_match.is_run;
     accepts = accepted;
   };
   least = λ other w b. ⊎_elim
-      (λ (d : AreDistinct ((e.first, i) ∷ other)).
-      preferred.first ((e.first, i) ∷ other)
+      (λ (d : AreDistinct ((e.start_state, i) ∷ other)).
+      preferred.first ((e.start_state, i) ∷ other)
       (record {
-        is_run = is_run_of e (e.first, i) other (slice_get_within e.states (last_place (e.first, i) other).0 (Accept m) w.accepts)
+        is_run = is_run_of e (e.start_state, i) other (slice_get_within e.states (last_place (e.start_state, i) other).0 (Accept m) w.accepts)
             ((preferred.is_match.is_run.places 0 preferred.is_match.some).1) w.within w.steps;
         some = omega arith;
         begins = refl;
-        ends = subst (λ (z : ℕ × ℕ). accepts e z ≡ true) (sym (last_is (e.first, i) other))
-            (same_accepts e (last_place (e.first, i) rest) (last_place (e.first, i) other) m accepted w.accepts
-            (subst (λ (z : ℕ × ℕ). accepts e z ≡ true) (last_is (e.first, i) rest) preferred.is_match.ends));
+        ends = subst (λ (z : ℕ × ℕ). accepts e z ≡ true) (sym (last_is (e.start_state, i) other))
+            (same_accepts e (last_place (e.start_state, i) rest) (last_place (e.start_state, i) other) m accepted w.accepts
+            (subst (λ (z : ℕ × ℕ). accepts e z ≡ true) (last_is (e.start_state, i) rest) preferred.is_match.ends));
       })
-      (λ j k l h same. once_of ((e.first, i) ∷ other) d j k l h same)
-      (before_is e (e.first, i) other rest b))
-      (λ (h : HasMore e.states (subject_of e) e.end most (e.first, i) (last_place (e.first, i) other)).
-      let a : Aim = aim_at (subject_of e) e.end m (last_place (e.first, i) h.rest) in
-      let less = few a (length h.rest) i refl refl (way_of e.states (subject_of e) e.end m (e.first, i) h.rest w.within h.steps
+      (λ j k l h same. once_of ((e.start_state, i) ∷ other) d j k l h same)
+      (before_is e (e.start_state, i) other rest b))
+      (λ (h : HasMore e.states (subject_of e) e.end most (e.start_state, i) (last_place (e.start_state, i) other)).
+      let a : Aim = aim_at (subject_of e) e.end m (last_place (e.start_state, i) h.rest) in
+      let less = few a (length h.rest) i refl refl (way_of e.states (subject_of e) e.end m (e.start_state, i) h.rest w.within h.steps
       (subst (λ (z : ℕ × ℕ). slice_get e.states z.0 ≡ Some (Accept m)) (sym h.ends) w.accepts)) in
       let many = h.many in
       absurd (omega (arith, less, many)))
-      (once_or_more e.states (subject_of e) e.end most (e.first, i) other w.steps);
+      (once_or_more e.states (subject_of e) e.end most (e.start_state, i) other w.steps);
 }
 
-first_end : (e : Search) (patterns : List Pattern) (run : List (ℕ × ℕ)) (found : Matched) (p : Pattern) → OrdersSome e.states e.first 0 patterns
-    → IsPreferred e (e.first, (place run 0).1) run → IsMatchOf e run found → slice_get patterns found.pattern ≡ Some p → loops_take_bytes p ≡ true
+first_end : (e : Search) (patterns : List Pattern) (run : List (ℕ × ℕ)) (found : Matched) (p : Pattern) → OrdersSome e.states e.start_state 0 patterns
+    → IsPreferred e (e.start_state, (place run 0).1) run → IsMatchOf e run found → slice_get patterns found.pattern ≡ Some p → loops_take_bytes p ≡ true
     → IsFirstEnd (subject_of e) p (λ j. j ≤ e.end) found.span.start found.span.end
 first_end e patterns [] found p all preferred makes its loops = let none = preferred.is_match.some in absurd (omega (arith, none))
 first_end e patterns (q ∷ rest) found p all preferred makes its loops =
     let o = all found.pattern p (omega arith) its in
-    let here : q ≡ (e.first, q.1) = preferred.is_match.begins in
-    let its_run : IsPreferred e (e.first, q.1) ((e.first, q.1) ∷ rest) = subst (λ (z : ℕ × ℕ). IsPreferred e (e.first, q.1) (z ∷ rest)) here preferred in
+    let here : q ≡ (e.start_state, q.1) = preferred.is_match.begins in
+    let its_run : IsPreferred e (e.start_state, q.1) ((e.start_state, q.1) ∷ rest) =
+    subst (λ (z : ℕ × ℕ). IsPreferred e (e.start_state, q.1) (z ∷ rest)) here preferred in
     let accepted : slice_get e.states (last_place q rest).0 ≡ Some (Accept found.pattern) =
     ap (λ (z : ℕ × ℕ). slice_get e.states z.0) (sym (last_is q rest)) ∙ makes.pattern in
     let least = is_first e found.pattern q.1 (o.cost e.end) rest its_run
     (subst (λ (z : ℕ × ℕ). slice_get e.states (last_place z rest).0 ≡ Some (Accept found.pattern)) here accepted)
     (λ a n j end number way. subst (λ (k : ℕ). n ≤ o.cost k) end (o.few loops a n j number way)) in
-    let first : IsFirstEnd (subject_of e) p (λ j. j ≤ e.end) q.1 (last_place (e.first, q.1) rest).1 = o.goes loops (subject_of e) e.end q.1 rest least in
-    let end : (last_place (e.first, q.1) rest).1 ≡ found.span.end =
+    let first : IsFirstEnd (subject_of e) p (λ j. j ≤ e.end) q.1 (last_place (e.start_state, q.1) rest).1 = o.goes loops (subject_of e) e.end q.1 rest least in
+    let end : (last_place (e.start_state, q.1) rest).1 ≡ found.span.end =
     ap (λ (z : ℕ × ℕ). (last_place z rest).1) (sym here) ∙ (ap (λ (z : ℕ × ℕ). z.1) (sym (last_is q rest)) ∙ sym makes.end) in
     subst (λ (j : ℕ). IsFirstEnd (subject_of e) p (λ k. k ≤ e.end) found.span.start j) end
-    (subst (λ (i : ℕ). IsFirstEnd (subject_of e) p (λ k. k ≤ e.end) i (last_place (e.first, q.1) rest).1) (sym makes.start) first)
+    (subst (λ (i : ℕ). IsFirstEnd (subject_of e) p (λ k. k ≤ e.end) i (last_place (e.start_state, q.1) rest).1) (sym makes.start) first)
 
 pub PrefersFirstEnds-built : {W : Type 0} (chars : W → ℕ → Bool) (program : Compiled W) (patterns : List Pattern)
     → OrdersSome program.automaton.states program.start 0 patterns → PrefersFirstEnds chars program patterns

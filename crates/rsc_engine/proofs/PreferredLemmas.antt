@@ -166,7 +166,7 @@ preferred_shift e i j from run here there r = record {
 }
 
 pub none_shift : (e : Search) (i j at : ℕ) → i ≤ at → HasNoMatch (record e { start = i }) at → HasNoMatch (record e { start = j }) at
-none_shift e i j at here none run m = none run (match_shift e j i (e.first, at) run here m)
+none_shift e i j at here none run m = none run (match_shift e j i (e.start_state, at) run here m)
 
 -- ---- the leftmost match
 
@@ -176,7 +176,7 @@ is_no No = inl refl
 is_no Yes = inr (λ e. absurd (cc))
 is_no (Pattern p) = inr (λ e. absurd (cc))
 
-pub leftmost_first : (e : Search) (at last : ℕ) (run : List (ℕ × ℕ)) → IsPreferred e (e.first, at) run → e.start ≤ at → at ≤ last → last ≤ e.end
+pub leftmost_first : (e : Search) (at last : ℕ) (run : List (ℕ × ℕ)) → IsPreferred e (e.start_state, at) run → e.start ≤ at → at ≤ last → last ≤ e.end
     → (¬ (e.mode ≡ No) → last ≡ e.start) → ((p : ℕ) → e.start ≤ p → p < at → HasNoMatch e p) → IsLeftmostFirst e run
 leftmost_first e at last run r low high end anchored none =
     let here : (place run 0).1 ≡ at = ap (λ (q : ℕ × ℕ). q.1) r.is_match.begins in

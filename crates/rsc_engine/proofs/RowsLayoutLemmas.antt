@@ -44,12 +44,12 @@ Reaches-more w e s i u j r there leads =
     }
 
 -- the run of one place
-unfoldable pub Reaches-start : Lawful → (e : Search) (i : ℕ) → e.first < length e.states → e.start ≤ i → i ≤ e.end → (¬ (e.mode ≡ No) → i ≡ e.start)
-    → Reaches e e.first i
+unfoldable pub Reaches-start : Lawful → (e : Search) (i : ℕ) → e.start_state < length e.states → e.start ≤ i → i ≤ e.end → (¬ (e.mode ≡ No) → i ≡ e.start)
+    → Reaches e e.start_state i
 Reaches-start w e i there low high a = record {
-  run = (e.first, i) ∷ [];
+  run = (e.start_state, i) ∷ [];
   from_start = record {
-    is_run = w.one e.states e.terminator e.word_chars e.haystack e.start e.end (e.first, i) (there, low, high);
+    is_run = w.one e.states e.terminator e.word_chars e.haystack e.start e.end (e.start_state, i) (there, low, high);
     some = omega arith;
     begins = refl;
     at_start = a;
@@ -82,7 +82,7 @@ match_end e s i r accepted = record {
   is_match = record {
     is_run = r.from_start.is_run;
     some = r.from_start.some;
-    begins = same_place (place r.run 0) e.first r.from_start.begins;
+    begins = same_place (place r.run 0) e.start_state r.from_start.begins;
     ends = subst (λ (x : ℕ). is_accepting (pattern_of_mode e.mode) (slice_get e.states x) ≡ true) (sym r.state) accepted;
   };
   ends = r.position;
@@ -188,7 +188,7 @@ some_first Yes s = inl (λ e. absurd (cc))
 some_first (Pattern p) s = inl (λ e. absurd (cc))
 
 pub next_row : Lawful → (e : Search) (i : ℕ) (near : List ℕ) (at : ℕ) (set next : List ℕ) → IsRowAt e i set → IsNear e i near at
-    → e.first < length e.states → ((s : ℕ) → Contains next s → s < length e.states) → e.start ≤ i → i < e.end
+    → e.start_state < length e.states → ((s : ℕ) → Contains next s → s < length e.states) → e.start ≤ i → i < e.end
     → IsSuccessor (machine_of e) e.mode near at set false next → IsRowAt e (i + 1) next
 next_row w e i near at set next row is_near start there low high s = record { only = only; all = all; none_before = none }
   where
@@ -198,19 +198,19 @@ next_row w e i near at set next row is_near start there low high s = record { on
     only : (u : ℕ) → Contains next u → Reaches e u (i + 1)
     only u has = go ((s.next refl).only u has)
       where
-        go : IsMoved (machine_of e) near at s.closure u ⊎ (first_unless e.mode e.first ≡ Some u) → Reaches e u (i + 1)
+        go : IsMoved (machine_of e) near at s.closure u ⊎ (first_unless e.mode e.start_state ≡ Some u) → Reaches e u (i + 1)
         go (inl x) = Reaches-more w e x.from i u (i + 1) (reached x.from x.there) (there u has) ((is_near.moves x.from u high).1 x.moves)
-        go (inr x) = let f = no_first e.mode e.first u x in
+        go (inr x) = let f = no_first e.mode e.start_state u x in
             subst (λ (y : ℕ). Reaches e y (i + 1)) f.1
             (Reaches-start w e (i + 1) start (omega (arith, low)) (omega (arith, high)) (λ a. absurd (a f.0)))
 
     all : (run : List (ℕ × ℕ)) → IsStartRun e run → (k : ℕ) → k < length run → (place run k).1 ≡ i + 1
         → ((j : ℕ) → j + 1 ≡ k → (place run j).1 < i + 1) → Contains next (place run k).0
-    all run r zero l here enters = first (some_first e.mode e.first)
+    all run r zero l here enters = first (some_first e.mode e.start_state)
       where
-        first : (¬ (e.mode ≡ No)) ⊎ (first_unless e.mode e.first ≡ Some e.first) → Contains next (place run 0).0
+        first : (¬ (e.mode ≡ No)) ⊎ (first_unless e.mode e.start_state ≡ Some e.start_state) → Contains next (place run 0).0
         first (inl a) = absurd (omega (arith, r.at_start a, here, low))
-        first (inr f) = subst (λ (y : ℕ). Contains next y) (sym r.begins) ((s.next refl).first e.first f)
+        first (inr f) = subst (λ (y : ℕ). Contains next y) (sym r.begins) ((s.next refl).first e.start_state f)
     all run r (suc k) l here enters =
         go (w.position e.states e.terminator e.word_chars e.haystack e.end (place run k) (place run (k + 1)) step)
       where
@@ -257,19 +257,19 @@ end_within e j x =
     let there = x.is_match.is_run.places (length x.run - 1) last in
     (subst (λ (y : ℕ). e.start ≤ y) x.ends there.1, subst (λ (y : ℕ). y ≤ e.end) x.ends there.2)
 
-pub first_row : Lawful → (e : Search) → e.first < length e.states → e.start ≤ e.end → IsRowAt e e.start (e.first ∷ [])
+pub first_row : Lawful → (e : Search) → e.start_state < length e.states → e.start ≤ e.end → IsRowAt e e.start (e.start_state ∷ [])
 first_row w e there order = record {
   only = λ s has. only s has;
   all = all;
   none_before = λ j below x. omega (arith, below, end_within e j x);
 }
   where
-    only : (s : ℕ) → Contains (e.first ∷ []) s → Reaches e s e.start
+    only : (s : ℕ) → Contains (e.start_state ∷ []) s → Reaches e s e.start
     only s (zero, l, is) = subst (λ (y : ℕ). Reaches e y e.start) is (Reaches-start w e e.start there (omega arith) order (λ a. refl))
     only s (suc k, l, is) = absurd (omega (arith, l))
 
     all : (run : List (ℕ × ℕ)) → IsStartRun e run → (k : ℕ) → k < length run → (place run k).1 ≡ e.start
-        → ((j : ℕ) → j + 1 ≡ k → (place run j).1 < e.start) → Contains (e.first ∷ []) (place run k).0
+        → ((j : ℕ) → j + 1 ≡ k → (place run j).1 < e.start) → Contains (e.start_state ∷ []) (place run k).0
     all run r zero l here enters = (0, omega arith, sym r.begins)
     all run r (suc k) l here enters = absurd (omega (arith, enters k (omega arith), (r.is_run.places k (omega (arith, l))).1))
 

@@ -72,7 +72,7 @@ HasNone-part e n le none at may run m = none at may_begin run is_match
     may_begin : MayBegin e at
     may_begin = record { start = may.start; end = omega (arith, may.end, le); anchored = may.anchored }
 
-    is_match : IsMatchRun e (e.first, at) run
+    is_match : IsMatchRun e (e.start_state, at) run
     is_match = record {
       is_run = record {
         places = λ k l. let w = m.is_run.places k l in (w.0, w.1, omega (arith, w.2, le));

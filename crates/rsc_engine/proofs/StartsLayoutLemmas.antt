@@ -36,7 +36,7 @@ AreStarts-each states first marks bytes has each = record {
 }
 
 -- from a marked state a step leads to a marked one at the same position, unless the byte there is marked
-step : (e : Search) (marks bytes : List Bool) → AreStarts e.states e.first marks bytes → (at : ℕ)
+step : (e : Search) (marks bytes : List Bool) → AreStarts e.states e.start_state marks bytes → (at : ℕ)
     → ((b : ℕ) → at < e.end → slice_get e.haystack at ≡ Some b → slice_index_or bytes b false ≡ false)
     → (p q : ℕ × ℕ) → p.1 ≡ at → IsMarked marks p.0 → Leads e p q → (q.1 ≡ at) × IsMarked marks q.0
 step e marks bytes x at off p q here marked l = go (slice_get e.states p.0) refl l
@@ -60,7 +60,7 @@ step e marks bytes x at off p q here marked l = go (slice_get e.states p.0) refl
     go (Some (Accept p)) is l = absurd l
 
 -- no match begins at a position whose byte isn't marked
-pub none_begins : (e : Search) (marks bytes : List Bool) (at : ℕ) → AreStarts e.states e.first marks bytes
+pub none_begins : (e : Search) (marks bytes : List Bool) (at : ℕ) → AreStarts e.states e.start_state marks bytes
     → ((b : ℕ) → at < e.end → slice_get e.haystack at ≡ Some b → slice_index_or bytes b false ≡ false) → HasNoMatch e at
 none_begins e marks bytes at x off run m = go (slice_get e.states (place run last).0) refl m.ends
   where

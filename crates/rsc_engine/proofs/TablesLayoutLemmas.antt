@@ -291,7 +291,7 @@ module _ (e : Search) (classes : List ℕ) (width : ℕ) (unicode : Bool) (s : I
       }
 
   pub StandsAt-first : (rows : List Row) (k i : ℕ) (before : Option ℕ) (set : List ℕ) → e.start ≤ e.end → before ≡ byte_before e.haystack i → i ≡ e.start
-      → set ≡ e.first ∷ [] → IsPlainUnit (machine_of e) before → IsRow classes rows k e.mode before set → StandsAt e classes rows k i
+      → set ≡ e.start_state ∷ [] → IsPlainUnit (machine_of e) before → IsRow classes rows k e.mode before set → StandsAt e classes rows k i
   StandsAt-first rows k i before set order is at alone plain r = record {
     row = r.to;
     there = r.there;
@@ -303,7 +303,7 @@ module _ (e : Search) (classes : List ℕ) (width : ℕ) (unicode : Bool) (s : I
         (subst (λ (k : ℕ). IsPlainUnit (machine_of e) (byte_before e.haystack k)) same
         (subst (λ (b : Option ℕ). IsPlainUnit (machine_of e) b) is plain));
     is_row = subst (λ (x : List ℕ). IsRowAt e i x) (sym (r.is_set ∙ alone))
-        (subst (λ (j : ℕ). IsRowAt e j (e.first ∷ [])) (sym at) (first_row s.laws e s.plan.there order));
+        (subst (λ (j : ℕ). IsRowAt e j (e.start_state ∷ [])) (sym at) (first_row s.laws e s.plan.there order));
   }
 
   pub StandsAt-none : (rows : List Row) (k i : ℕ) → e.start ≤ i → i ≤ e.end → StandsAt e classes rows k i
@@ -336,7 +336,7 @@ begins_first e k is = record { start = omega (arith, is); none = λ at low high.
 
 -- nor before a row whose only state is the first one
 pub begins_at_row : Lawful → (e : Search) (classes : List ℕ) (rows : List Row) (k i : ℕ) → StandsAt e classes rows k i → e.mode ≡ No
-    → IsNeverEntered (machine_of e) → ((row : Row) → slice_get rows k ≡ Some row → row.set.items ≡ e.first ∷ []) → e.start ≤ i → BeginsFrom e i
+    → IsNeverEntered (machine_of e) → ((row : Row) → slice_get rows k ≡ Some row → row.set.items ≡ e.start_state ∷ []) → e.start ≤ i → BeginsFrom e i
 begins_at_row w e classes rows k i on free never first low = record {
   start = low;
   none = none_before_row w e i on.row.set.items on.is_row free never (first on.row on.there);

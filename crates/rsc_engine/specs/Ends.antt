@@ -13,7 +13,7 @@ pub record IsMatchEnd (e : Search) (i : ℕ) : Type 0 where
   pub from : ℕ
   pub run : List (ℕ × ℕ)
   pub begins : MayBegin e from
-  pub is_match : IsMatchRun e (e.first, from) run
+  pub is_match : IsMatchRun e (e.start_state, from) run
   pub ends : (place run (length run - 1)).1 ≡ i
 
 -- some match run ends at the position, and none ends earlier

@@ -28,13 +28,13 @@ pub record IsSplit (e : Search) (run : List (ℕ × ℕ)) : Type 0 where
 -- the preferred match from the position is a repeat
 pub record IsRepeated (e : Search) (last : Option ℕ) (at : ℕ) : Type 0 where
   pub run : List (ℕ × ℕ)
-  pub preferred : IsPreferred e (e.first, at) run
+  pub preferred : IsPreferred e (e.start_state, at) run
   pub repeats : IsRepeat last run
 
 -- the preferred match from the position splits a character
 pub record IsSplitAt (e : Search) (at : ℕ) : Type 0 where
   pub run : List (ℕ × ℕ)
-  pub preferred : IsPreferred e (e.first, at) run
+  pub preferred : IsPreferred e (e.start_state, at) run
   pub splits : IsSplit e run
 
 -- no match begins at the position, or the preferred one is a repeat or splits a character
@@ -50,7 +50,7 @@ pub record IsOpen (e : Search) (last : Option ℕ) (at : ℕ) : Type 0 where
 -- the run begins at an open position, it's the preferred one from there, no repeat and splits no character, and each earlier open position is passed
 pub record IsNext (e : Search) (last : Option ℕ) (run : List (ℕ × ℕ)) : Type 0 where
   pub opens : IsOpen e last (place run 0).1
-  pub preferred : IsPreferred e (e.first, (place run 0).1) run
+  pub preferred : IsPreferred e (e.start_state, (place run 0).1) run
   pub no_repeat : ¬ (IsRepeat last run)
   pub splits_none : ¬ (IsSplit e run)
   pub passed : (at : ℕ) → at < (place run 0).1 → IsOpen e last at → IsPassed e last at

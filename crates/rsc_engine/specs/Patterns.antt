@@ -104,7 +104,7 @@ pub record IsMatchIn (patterns : List Pattern) (e : Search) (found : Matched) : 
 -- some run from the state at which matches begin makes the match
 pub record HasRunOf (e : Search) (found : Matched) : Type 0 where
   pub run : List (ℕ × ℕ)
-  pub is_match : IsMatchRun e (e.first, found.span.start) run
+  pub is_match : IsMatchRun e (e.start_state, found.span.start) run
   pub makes : IsMatchOf e run found
 
 -- in every input the runs of the program are the matches of the patterns

@@ -40,7 +40,7 @@ pub record MayBegin (e : Search) (at : ℕ) : Type 0 where
 -- the run may begin where it does, it's the preferred one from there, and no match begins at an earlier position
 pub record IsLeftmostFirst (e : Search) (run : List (ℕ × ℕ)) : Type 0 where
   pub begins : MayBegin e (place run 0).1
-  pub preferred : IsPreferred e (e.first, (place run 0).1) run
+  pub preferred : IsPreferred e (e.start_state, (place run 0).1) run
   pub leftmost : (at : ℕ) → e.start ≤ at → at < (place run 0).1 → HasNoMatch e at
 
 -- no match begins where one may

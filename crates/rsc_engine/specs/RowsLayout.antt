@@ -33,7 +33,7 @@ machine chars p = record {
 }
 
 abbrev pub machine_of : Search → Machine
-machine_of e = record { states = e.states; terminator = e.terminator; word_chars = e.word_chars; first = e.first }
+machine_of e = record { states = e.states; terminator = e.terminator; word_chars = e.word_chars; first = e.start_state }
 
 -- the byte before a position and the byte after it as a haystack, and the position in it
 abbrev pub around : Option ℕ → Option ℕ → List ℕ
@@ -119,7 +119,7 @@ AddsSome old (Some s) new = AddsOne old s new
 pub record IsStartRun (e : Search) (run : List (ℕ × ℕ)) : Type 0 where
   pub is_run : IsRun e.states e.terminator e.word_chars e.haystack e.start e.end run
   pub some : 0 < length run
-  pub begins : (place run 0).0 ≡ e.first
+  pub begins : (place run 0).0 ≡ e.start_state
   pub at_start : ¬ (e.mode ≡ No) → (place run 0).1 ≡ e.start
 
 -- such a run ends at the state and the position

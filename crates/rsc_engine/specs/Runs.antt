@@ -37,7 +37,7 @@ pub record IsMatchRun (e : Search) (from : ℕ × ℕ) (run : List (ℕ × ℕ))
 
 -- no run leads to a match from the state at which matches begin, at the position
 abbrev pub HasNoMatch : Search → ℕ → Type 0
-HasNoMatch e at = (run : List (ℕ × ℕ)) → ¬ (IsMatchRun e (e.first, at) run)
+HasNoMatch e at = (run : List (ℕ × ℕ)) → ¬ (IsMatchRun e (e.start_state, at) run)
 
 -- the match has the ends of the run and the pattern of its last state
 pub record IsMatchOf (e : Search) (run : List (ℕ × ℕ)) (found : Matched) : Type 0 where

@@ -29,7 +29,7 @@ pub record Search : Type 0 where
   pub states : List State
   pub terminator : ℕ
   pub word_chars : ℕ → Bool
-  pub first : ℕ
+  pub start_state : ℕ
   pub utf8 : Bool
   pub haystack : List ℕ
   pub start : ℕ
@@ -42,7 +42,7 @@ search_in chars p input = record {
   states = p.automaton.states;
   terminator = p.automaton.matcher.0;
   word_chars = chars p.automaton.matcher.1;
-  first = p.start;
+  start_state = p.start;
   utf8 = p.utf8;
   haystack = input.haystack;
   start = input.span.start;

@@ -63,7 +63,7 @@ ends_at states trail = (place (run_of states trail) (length (run_of states trail
 
 -- its run is one from the state at which matches begin to a match
 abbrev pub IsMatchTrail : Search → List Visit → Type 0
-IsMatchTrail e trail = IsMatchRun e (e.first, (place (run_of e.states trail) 0).1) (run_of e.states trail)
+IsMatchTrail e trail = IsMatchRun e (e.start_state, (place (run_of e.states trail) 0).1) (run_of e.states trail)
 
 -- what WalksLayout says of a run and the other ways at its places, for a trail
 abbrev pub HasTrail : Search → ℕ × ℕ → List Visit → Type 0

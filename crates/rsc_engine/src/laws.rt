@@ -78,7 +78,8 @@ pub fn a_next_match_is_of_a_pattern<W: WordClass>()
         IsRepeated (search_in W.word_chars program input) last other.span.start ⊎ IsSplitAt (search_in W.word_chars program input) other.span.start }
 {}
 
-/// Which of several patterns matches, where more than one does from the start of a first or next match: the one with the least number.
+/// Which of several patterns matches, where more than one that the input allows does in the span from the start of a first or next match: the one
+/// with the least number.
 pub fn a_match_is_of_the_least_pattern<W: WordClass>()
     ensures first { (program : Compiled W) (patterns : List Pattern) (input : InputParts) (captures : Captured) (found other : Matched) →
         Recognizes W.word_chars program patterns → PrefersLesser W.word_chars program →
@@ -96,7 +97,7 @@ pub fn patterns_take_bytes()
 {}
 
 /// Tokens: in an anchored search for patterns of which none may be empty, the next match begins where the search does, which is where the last one ended.
-/// If there is no next one, no pattern goes on from there, anchored or not.
+/// If there is no next one, no pattern that the input allows goes on from there, anchored or not.
 pub fn anchored_matches_are_side_by_side<W: WordClass>()
     ensures next { (program : Compiled W) (patterns : List Pattern) (input : InputParts) (last : Option ℕ) (captures : Captured) (found : Matched) →
         Recognizes W.word_chars program patterns → list_any may_be_empty patterns ≡ false → ¬ (input.anchored ≡ No) →
@@ -104,6 +105,18 @@ pub fn anchored_matches_are_side_by_side<W: WordClass>()
     ensures over { (program : Compiled W) (patterns : List Pattern) (input : InputParts) (last : Option ℕ) (other : Matched) →
         Recognizes W.word_chars program patterns → list_any may_be_empty patterns ≡ false → IsOver (search_in W.word_chars program input) last →
         other.span.start ≡ input.span.start → ¬ (IsMatchIn patterns (search_in W.word_chars program input) other) }
+{}
+
+/// In a search that isn't anchored, for patterns of which none may be empty, an iteration leaves out no match but those that begin within another: between
+/// the last match and the next one none begins, and when the iteration is over none does.
+pub fn no_match_is_left_out<W: WordClass>()
+    ensures next { (program : Compiled W) (patterns : List Pattern) (input : InputParts) (last : Option ℕ) (captures : Captured) (found other : Matched) →
+        Recognizes W.word_chars program patterns → list_any may_be_empty patterns ≡ false → input.anchored ≡ No →
+        IsNextMatch (search_in W.word_chars program input) last captures found → other.span.start < found.span.start →
+        ¬ (IsMatchIn patterns (search_in W.word_chars program input) other) }
+    ensures over { (program : Compiled W) (patterns : List Pattern) (input : InputParts) (last : Option ℕ) (other : Matched) →
+        Recognizes W.word_chars program patterns → list_any may_be_empty patterns ≡ false → input.anchored ≡ No →
+        IsOver (search_in W.word_chars program input) last → ¬ (IsMatchIn patterns (search_in W.word_chars program input) other) }
 {}
 
 /// What the earliest end of a program of patterns is: the end of a match of one of them, before which no match of theirs ends that begins where one may.
@@ -140,6 +153,19 @@ pub fn a_match_ends_at_its_first_end<W: WordClass>()
         slice_get patterns found.pattern ≡ Some p → loops_take_bytes p ≡ true →
         IsFirstEnd (subject_of (search_in W.word_chars program input)) p (λ j. j ≤ input.span.end) found.span.start found.span.end }
     ensures one { (x : Subject) (p : Pattern) (end i j k : ℕ) → IsFirstEnd x p (λ l. l ≤ end) i j → IsFirstEnd x p (λ l. l ≤ end) i k → j ≡ k }
+{}
+
+/// Which match a leftmost end is of: of those that begin first that of the least pattern, to this pattern's first end, if its loops take bytes.
+pub fn a_leftmost_end_is_of_the_first_match<W: WordClass>()
+    ensures { (program : Compiled W) (patterns : List Pattern) (input : InputParts) (end : ℕ) →
+        Recognizes W.word_chars program patterns → PrefersLesser W.word_chars program → PrefersFirstEnds W.word_chars program patterns →
+        IsLeftmostEnd (search_in W.word_chars program input) end →
+        (found : Matched) × IsMatchIn patterns (search_in W.word_chars program input) found × (found.span.end ≡ end)
+        × ((other : Matched) → IsMatchIn patterns (search_in W.word_chars program input) other → found.span.start ≤ other.span.start)
+        × ((other : Matched) → IsMatchIn patterns (search_in W.word_chars program input) other → other.span.start ≡ found.span.start →
+        found.pattern ≤ other.pattern)
+        × ((p : Pattern) → slice_get patterns found.pattern ≡ Some p → loops_take_bytes p ≡ true →
+        IsFirstEnd (subject_of (search_in W.word_chars program input)) p (λ j. j ≤ input.span.end) found.span.start end) }
 {}
 
 /// Where the captures of a program that records the ends of its matches have room, the two slots of the first group of a match's pattern hold

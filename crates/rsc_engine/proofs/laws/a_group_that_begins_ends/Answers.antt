@@ -20,7 +20,7 @@ returns-clause-first_span g c = λ program input captures found group span r f i
     span_in_order captures group span found.span.start found.span.end
     (λ pair i l from.
     slots_in_order e f.run captures found pair i (r.closed input f.run (place f.run 0).1 pair i f.is_first.preferred.is_match) f.is_of l from)
-    (λ slot i at. offset-within e (e.first, (place f.run 0).1) f.run found captures slot i f.is_first.preferred.is_match f.is_of at) is
+    (λ slot i at. offset-within e (e.start_state, (place f.run 0).1) f.run found captures slot i f.is_first.preferred.is_match f.is_of at) is
 
 pub returns-clause-next_span : goal.returns-clause-next_span
 returns-clause-next_span g c = λ program input last captures found group span r f is.
@@ -28,4 +28,4 @@ returns-clause-next_span g c = λ program input last captures found group span r
     span_in_order captures group span found.span.start found.span.end
     (λ pair i l from.
     slots_in_order e f.run captures found pair i (r.closed input f.run (place f.run 0).1 pair i f.is_next.preferred.is_match) f.is_of l from)
-    (λ slot i at. offset-within e (e.first, (place f.run 0).1) f.run found captures slot i f.is_next.preferred.is_match f.is_of at) is
+    (λ slot i at. offset-within e (e.start_state, (place f.run 0).1) f.run found captures slot i f.is_next.preferred.is_match f.is_of at) is
