@@ -55,7 +55,7 @@ pub fn answer_at<A: Allocator + Copy + Drop>(
     Ok(Some(String::from_str(alloc, if holds { "true" } else { "false" })?))
 }
 
-// The matcher over Unicode's words with that line terminator.
+// The matcher over Unicode's word characters with that line terminator.
 fn matcher(terminator: u8) -> LookMatcher<UnicodeWord> {
     let mut matcher = LookMatcher::new(UnicodeWord);
     let _ = matcher.set_line_terminator(terminator);

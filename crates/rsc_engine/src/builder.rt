@@ -233,7 +233,7 @@ impl<'n> Builder<'n> {
     /// # Errors
     ///
     /// `Names` if a pattern has a name twice; if none has, `Faulty` if a range's first byte is above its last, unless its part is repeated at
-    /// most 0 times; `TooLarge` for more states, patterns or groups than there are numbers for; or out of memory, which may come first.
+    /// most 0 times. Before that may come out of memory, or `TooLarge`, which is meant for more states, patterns or groups than there are numbers for.
     pub fn build<W: WordClass>(
         self,
         word_class: W,

@@ -1,4 +1,4 @@
-//! Where a match ends: of what comes preferably often as late as it can, of what comes preferably seldom as early.
+//! Where a match ends: after a greedy loop over a range the byte isn't in it, and a lazy loop ends at the first mark.
 ghost use Rattle.std.specs.Prelude.{◌≡◌, ◌+◌, ◌<◌, ◌≤◌, ℕ, Some, IfOk, IfSome, IfNone, IsTrue, slice_get};
 ghost use Rattle.rsc_nfa.specs.Steps.{is_between};
 
