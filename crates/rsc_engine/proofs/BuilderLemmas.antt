@@ -97,176 +97,176 @@ Adds-written old middle new state written id P a p = record {
 
 -- the states from low to high are a part's
 abbrev pub IsPart : ℕ × ℕ → ℕ → ℕ → ℕ → ℕ → Pattern → List State → Type 0
-IsPart slot low high first next p all =
-    Realizes all first next p × Encloses slot.0 low high first next all × Names slot.1 (has_reversed_range p) low high all × Orders all first next p
+IsPart slots low high first next p all =
+    Realizes all first next p × Encloses slots.0 low high first next all × Names slots.1 (has_reversed_range p) low high all × Orders all first next p
 
-part-then : (slot : ℕ × ℕ) (low middle high first between next : ℕ) (p q : Pattern) (all : List State) → low ≤ middle → middle ≤ high
-    → IsPart slot low middle between next q all → IsPart slot middle high first between p all → IsPart slot low high first next (Then p q) all
-part-then slot low middle high first between next p q all l h a b = (
+part-then : (slots : ℕ × ℕ) (low middle high first between next : ℕ) (p q : Pattern) (all : List State) → low ≤ middle → middle ≤ high
+    → IsPart slots low middle between next q all → IsPart slots middle high first between p all → IsPart slots low high first next (Then p q) all
+part-then slots low middle high first between next p q all l h a b = (
   Realizes-then all first between next p q a.0 b.0,
-  Encloses-then slot.0 low middle high first between next all l h a.1 b.1,
-  Names-joined slot.1 (has_reversed_range (Then p q)) (has_reversed_range q) (has_reversed_range p) low middle high all
+  Encloses-then slots.0 low middle high first between next all l h a.1 b.1,
+  Names-joined slots.1 (has_reversed_range (Then p q)) (has_reversed_range q) (has_reversed_range p) low middle high all
       (either_back (has_reversed_range q) (has_reversed_range p)) l h a.2 b.2,
   Orders-then all first between next p q a.0 a.3 b.3,
 )
 
-pub Builds-then : (slot : ℕ × ℕ) (old middle new : List State) (first between next : ℕ) (p q : Pattern) → Builds slot old middle between next q
-    → Builds slot middle new first between p → Builds slot old new first next (Then p q)
-Builds-then slot old middle new first between next p q x y =
-    Adds-both old middle new (IsPart slot (length old) (length middle) between next q) (IsPart slot (length middle) (length new) first between p)
-    (IsPart slot (length old) (length new) first next (Then p q)) x y
-    (λ all a b. part-then slot (length old) (length middle) (length new) first between next p q all x.longer y.longer a b)
+pub Builds-then : (slots : ℕ × ℕ) (old middle new : List State) (first between next : ℕ) (p q : Pattern) → Builds slots old middle between next q
+    → Builds slots middle new first between p → Builds slots old new first next (Then p q)
+Builds-then slots old middle new first between next p q x y =
+    Adds-both old middle new (IsPart slots (length old) (length middle) between next q) (IsPart slots (length middle) (length new) first between p)
+    (IsPart slots (length old) (length new) first next (Then p q)) x y
+    (λ all a b. part-then slots (length old) (length middle) (length new) first between next p q all x.longer y.longer a b)
 
 -- a part is what goes where it goes
-pub Builds-is : (slot : ℕ × ℕ) (old new : List State) (first next : ℕ) (p q : Pattern) → ((x : Subject) (i j : ℕ) → Goes x p i j → Goes x q i j)
+pub Builds-is : (slots : ℕ × ℕ) (old new : List State) (first next : ℕ) (p q : Pattern) → ((x : Subject) (i j : ℕ) → Goes x p i j → Goes x q i j)
     → ((x : Subject) (i j : ℕ) → Goes x q i j → Goes x p i j) → HasFirst p q → (loops_take_bytes q ≡ true → loops_take_bytes p ≡ true)
-    → has_reversed_range p ≡ has_reversed_range q → Builds slot old new first next p → Builds slot old new first next q
-Builds-is slot old new first next p q to back first-is loops same x =
-    Adds-is old new (IsPart slot (length old) (length new) first next p) (IsPart slot (length old) (length new) first next q)
+    → has_reversed_range p ≡ has_reversed_range q → Builds slots old new first next p → Builds slots old new first next q
+Builds-is slots old new first next p q to back first-is loops same x =
+    Adds-is old new (IsPart slots (length old) (length new) first next p) (IsPart slots (length old) (length new) first next q)
     (λ all r. (
       Realizes-is all first next p q to back loops r.0,
       r.1,
-      subst (λ (b : Bool). Names slot.1 b (length old) (length new) all) same r.2,
+      subst (λ (b : Bool). Names slots.1 b (length old) (length new) all) same r.2,
       Orders-is all first next p q first-is loops r.3,
     )) x
 
 -- no state
-pub Builds-empty : (slot : ℕ × ℕ) (states : List State) (next : ℕ) → Builds slot states states next next Empty
-Builds-empty slot states next = record {
+pub Builds-empty : (slots : ℕ × ℕ) (states : List State) (next : ℕ) → Builds slots states states next next Empty
+Builds-empty slots states next = record {
   longer = omega arith;
   kept = λ k l. refl;
   holds = λ all is. (
     Realizes-empty all next,
     record { begins = inr refl; stays = λ k state l h. absurd (omega (arith, l, h)) },
-    Names-none slot.1 (length states) (length states) all (omega arith),
+    Names-none slots.1 (length states) (length states) all (omega arith),
     Orders-empty all next,
   );
 }
 
-pub Builds-no_byte : (slot : ℕ × ℕ) (states : List State) (next : ℕ) → Builds slot states states next next (Literal [])
-Builds-no_byte slot states next =
-    Builds-is slot states states next next Empty (Literal []) (λ x i j g. g) (λ x i j g. g) (λ x w i j f. f) (λ e. e) refl (Builds-empty slot states next)
+pub Builds-no_byte : (slots : ℕ × ℕ) (states : List State) (next : ℕ) → Builds slots states states next next (Literal [])
+Builds-no_byte slots states next =
+    Builds-is slots states states next next Empty (Literal []) (λ x i j g. g) (λ x i j g. g) (λ x w i j f. f) (λ e. e) refl (Builds-empty slots states next)
 
 -- ---- single states
 
 pub grown : (old new : List State) (state : State) (id : ℕ) → IsAdded old new state id → length new ≡ length old + 1
 grown old new state id a = ap length a.added ∙ length-append old (state ∷ [])
 
-Builds-state : (slot : ℕ × ℕ) (old new : List State) (state : State) (id next : ℕ) (p : Pattern) → IsAdded old new state id
-    → StaysOnWay (λ (s : ℕ). IsOnWay (length old) (length new) next s) slot.0 state
-    → ((all : List State) → RecordsInPairs slot.1 all state) → (has_reversed_range p ≡ false → IsOrdered state)
+Builds-state : (slots : ℕ × ℕ) (old new : List State) (state : State) (id next : ℕ) (p : Pattern) → IsAdded old new state id
+    → StaysOnWay (λ (s : ℕ). IsOnWay (length old) (length new) next s) slots.0 state
+    → ((all : List State) → RecordsInPairs slots.1 all state) → (has_reversed_range p ≡ false → IsOrdered state)
     → (has_reversed_range p ≡ true → IsOrdered state → ⊥) → ((all : List State) → slice_get all id ≡ Some state → Realizes all id next p × Orders all id next p)
-    → Builds slot old new id next p
-Builds-state slot old new state id next p a stays below ordered reversed realizes =
-    Adds-is old new (λ (all : List State). slice_get all id ≡ Some state) (IsPart slot (length old) (length new) id next p)
+    → Builds slots old new id next p
+Builds-state slots old new state id next p a stays below ordered reversed realizes =
+    Adds-is old new (λ (all : List State). slice_get all id ≡ Some state) (IsPart slots (length old) (length new) id next p)
     (λ all is. (
       (realizes all is).0,
-      Encloses-one slot.0 (length old) (length new) id next all state a.last (grown old new state id a) is stays,
-      Names-one slot.1 (has_reversed_range p) (length old) (length new) id all state a.last (grown old new state id a) is (below all) ordered reversed,
+      Encloses-one slots.0 (length old) (length new) id next all state a.last (grown old new state id a) is stays,
+      Names-one slots.1 (has_reversed_range p) (length old) (length new) id all state a.last (grown old new state id a) is (below all) ordered reversed,
       (realizes all is).1,
     ))
     (Adds-one old new state id a)
 
-pub Builds-never : (slot : ℕ × ℕ) (old new : List State) (this id next : ℕ) → this ≡ length old → IsAdded old new (Fork this this) id
-    → Builds slot old new id next Never
-Builds-never slot old new this id next e a =
+pub Builds-never : (slots : ℕ × ℕ) (old new : List State) (this id next : ℕ) → this ≡ length old → IsAdded old new (Fork this this) id
+    → Builds slots old new id next Never
+Builds-never slots old new this id next e a =
     let same : this ≡ id = e ∙ sym a.last in
     let here : IsOnWay (length old) (length new) next this = inl (omega (arith, e), omega (arith, e, grown old new (Fork this this) id a)) in
-    Builds-state slot old new (Fork this this) id next Never a (here, here) (λ all. tt) (λ e. tt) (λ e. absurd (true≢false (sym e)))
+    Builds-state slots old new (Fork this this) id next Never a (here, here) (λ all. tt) (λ e. tt) (λ e. absurd (true≢false (sym e)))
     (λ all is.
     let loop = is ∙ ap (λ (n : ℕ). Some (Fork n n)) same in
     (Realizes-never all id next loop, Orders-never all id next loop))
 
-pub Builds-range : (slot : ℕ × ℕ) (old new : List State) (x y id next : ℕ) → IsAdded old new (ByteRange x y next) id
-    → Builds slot old new id next (Class ((x, y) ∷ []))
-Builds-range slot old new x y id next a =
-    Builds-state slot old new (ByteRange x y next) id next (Class ((x, y) ∷ [])) a (inr refl) (λ all. tt) (range-ordered x y next) (range-reversed x y next)
+pub Builds-range : (slots : ℕ × ℕ) (old new : List State) (x y id next : ℕ) → IsAdded old new (ByteRange x y next) id
+    → Builds slots old new id next (Class ((x, y) ∷ []))
+Builds-range slots old new x y id next a =
+    Builds-state slots old new (ByteRange x y next) id next (Class ((x, y) ∷ [])) a (inr refl) (λ all. tt) (range-ordered x y next) (range-reversed x y next)
     (λ all is. (Realizes-range all id x y next is, Orders-range all id x y next is))
 
-pub Builds-assert : (slot : ℕ × ℕ) (old new : List State) (look : Look) (id next : ℕ) → IsAdded old new (Assert look next) id
-    → Builds slot old new id next (Assertion look)
-Builds-assert slot old new look id next a =
-    Builds-state slot old new (Assert look next) id next (Assertion look) a (inr refl) (λ all. tt) (λ e. tt) (λ e. absurd (true≢false (sym e)))
+pub Builds-assert : (slots : ℕ × ℕ) (old new : List State) (look : Look) (id next : ℕ) → IsAdded old new (Assert look next) id
+    → Builds slots old new id next (Assertion look)
+Builds-assert slots old new look id next a =
+    Builds-state slots old new (Assert look next) id next (Assertion look) a (inr refl) (λ all. tt) (λ e. tt) (λ e. absurd (true≢false (sym e)))
     (λ all is. (Realizes-assert all id next look is, Orders-assert all id next look is))
 
-part-capture : (slot : ℕ × ℕ) (low high c id next : ℕ) (all : List State) → id ≡ low → high ≡ low + 1 → slice_get all id ≡ Some (Capture c next)
-    → slot.0 < c → c < slot.1 → ((pair : ℕ) → c ≡ 2 * pair → HasClose all pair next) → IsPart slot low high id next Empty all
-part-capture slot low high c id next all same one is l m closed = (
+part-capture : (slots : ℕ × ℕ) (low high c id next : ℕ) (all : List State) → id ≡ low → high ≡ low + 1 → slice_get all id ≡ Some (Capture c next)
+    → slots.0 < c → c < slots.1 → ((pair : ℕ) → c ≡ 2 * pair → HasClose all pair next) → IsPart slots low high id next Empty all
+part-capture slots low high c id next all same one is l m closed = (
   Realizes-capture all id c next is,
-  Encloses-one slot.0 low high id next all (Capture c next) same one is (l, inr refl),
-  Names-one slot.1 false low high id all (Capture c next) same one is (m, closed) (λ e. tt) (λ e. absurd (true≢false (sym e))),
+  Encloses-one slots.0 low high id next all (Capture c next) same one is (l, inr refl),
+  Names-one slots.1 false low high id all (Capture c next) same one is (m, closed) (λ e. tt) (λ e. absurd (true≢false (sym e))),
   Orders-capture all id c next is,
 )
 
 -- ---- states after parts
 
-pub Builds-either : (slot : ℕ × ℕ) (old middle last new : List State) (one other id next : ℕ) (p q : Pattern) → Builds slot old middle other next q
-    → Builds slot middle last one next p → IsAdded last new (Fork one other) id → Builds slot old new id next (Either p q)
-Builds-either slot old middle last new one other id next p q x y a =
+pub Builds-either : (slots : ℕ × ℕ) (old middle last new : List State) (one other id next : ℕ) (p q : Pattern) → Builds slots old middle other next q
+    → Builds slots middle last one next p → IsAdded last new (Fork one other) id → Builds slots old new id next (Either p q)
+Builds-either slots old middle last new one other id next p q x y a =
     Adds-both old last new Both (λ (all : List State). slice_get all id ≡ Some (Fork one other))
-    (IsPart slot (length old) (length new) id next (Either p q))
-    (Adds-both old middle last (IsPart slot (length old) (length middle) other next q) (IsPart slot (length middle) (length last) one next p) Both x y
+    (IsPart slots (length old) (length new) id next (Either p q))
+    (Adds-both old middle last (IsPart slots (length old) (length middle) other next q) (IsPart slots (length middle) (length last) one next p) Both x y
     (λ all b c. (b, c)))
     (Adds-one last new (Fork one other) id a)
     (λ all b is. (
       Realizes-either all id one other next p q is b.1.0 b.0.0,
-      Encloses-either slot.0 (length old) (length middle) (length last) (length new) one other id next all x.longer y.longer a.last
+      Encloses-either slots.0 (length old) (length middle) (length last) (length new) one other id next all x.longer y.longer a.last
           (grown last new (Fork one other) id a) b.0.1 b.1.1 is,
-      Names-above slot.1 (has_reversed_range (Either p q)) (length old) (length last) (length new) id one other all
+      Names-above slots.1 (has_reversed_range (Either p q)) (length old) (length last) (length new) id one other all
           (omega (arith, x.longer, y.longer)) a.last (grown last new (Fork one other) id a) is
-          (Names-joined slot.1 (has_reversed_range (Either p q)) (has_reversed_range q) (has_reversed_range p) (length old) (length middle) (length last) all
+          (Names-joined slots.1 (has_reversed_range (Either p q)) (has_reversed_range q) (has_reversed_range p) (length old) (length middle) (length last) all
           (either_back (has_reversed_range q) (has_reversed_range p)) x.longer y.longer b.0.2 b.1.2),
       Orders-either all id one other next p q is b.1.0 b.1.3 b.0.3,
     ))
   where
     Both : List State → Type 0
-    Both all = IsPart slot (length old) (length middle) other next q all × IsPart slot (length middle) (length last) one next p all
+    Both all = IsPart slots (length old) (length middle) other next q all × IsPart slots (length middle) (length last) one next p all
 
 -- a part before others
-pub Builds-one_of : (slot : ℕ × ℕ) (old middle last new : List State) (one other id next : ℕ) (p : Pattern) (rest : List Pattern) → 0 < length rest
-    → Builds slot old middle other next (one_of rest) → Builds slot middle last one next p → IsAdded last new (Fork one other) id
-    → Builds slot old new id next (one_of (p ∷ rest))
-Builds-one_of slot old middle last new one other id next p [] some x y a = absurd (omega (arith, some))
-Builds-one_of slot old middle last new one other id next p (q ∷ rest) some x y a =
-    Builds-either slot old middle last new one other id next p (one_of (q ∷ rest)) x y a
+pub Builds-one_of : (slots : ℕ × ℕ) (old middle last new : List State) (one other id next : ℕ) (p : Pattern) (rest : List Pattern) → 0 < length rest
+    → Builds slots old middle other next (one_of rest) → Builds slots middle last one next p → IsAdded last new (Fork one other) id
+    → Builds slots old new id next (one_of (p ∷ rest))
+Builds-one_of slots old middle last new one other id next p [] some x y a = absurd (omega (arith, some))
+Builds-one_of slots old middle last new one other id next p (q ∷ rest) some x y a =
+    Builds-either slots old middle last new one other id next p (one_of (q ∷ rest)) x y a
 
 -- a range before others, in a class
-pub Builds-class : (slot : ℕ × ℕ) (old middle last new : List State) (x y one other id next : ℕ) (rest : List (ℕ × ℕ))
-    → Builds slot old middle other next (Class rest)
-    → IsAdded middle last (ByteRange x y next) one → IsAdded last new (Fork one other) id → Builds slot old new id next (Class ((x, y) ∷ rest))
-Builds-class slot old middle last new x y one other id next rest r a b =
-    Builds-is slot old new id next (Either (Class ((x, y) ∷ [])) (Class rest)) (Class ((x, y) ∷ rest)) (class-is x y rest) (class-back x y rest)
+pub Builds-class : (slots : ℕ × ℕ) (old middle last new : List State) (x y one other id next : ℕ) (rest : List (ℕ × ℕ))
+    → Builds slots old middle other next (Class rest)
+    → IsAdded middle last (ByteRange x y next) one → IsAdded last new (Fork one other) id → Builds slots old new id next (Class ((x, y) ∷ rest))
+Builds-class slots old middle last new x y one other id next rest r a b =
+    Builds-is slots old new id next (Either (Class ((x, y) ∷ [])) (Class rest)) (Class ((x, y) ∷ rest)) (class-is x y rest) (class-back x y rest)
     (class-first x y rest) (λ e. e) (class-same x y rest)
-    (Builds-either slot old middle last new one other id next (Class ((x, y) ∷ [])) (Class rest) r (Builds-range slot middle last x y one next a) b)
+    (Builds-either slots old middle last new one other id next (Class ((x, y) ∷ [])) (Class rest) r (Builds-range slots middle last x y one next a) b)
 
 -- a byte before others
-pub Builds-byte : (slot : ℕ × ℕ) (old middle new : List State) (b first id next : ℕ) (rest : List ℕ) → Builds slot old middle first next (Literal rest)
-    → IsAdded middle new (ByteRange b b first) id → Builds slot old new id next (Literal (b ∷ rest))
-Builds-byte slot old middle new b first id next rest r a =
-    Builds-is slot old new id next (Then (Class ((b, b) ∷ [])) (Literal rest)) (Literal (b ∷ rest)) (literal-is b rest) (literal-back b rest)
+pub Builds-byte : (slots : ℕ × ℕ) (old middle new : List State) (b first id next : ℕ) (rest : List ℕ) → Builds slots old middle first next (Literal rest)
+    → IsAdded middle new (ByteRange b b first) id → Builds slots old new id next (Literal (b ∷ rest))
+Builds-byte slots old middle new b first id next rest r a =
+    Builds-is slots old new id next (Then (Class ((b, b) ∷ [])) (Literal rest)) (Literal (b ∷ rest)) (literal-is b rest) (literal-back b rest)
     (literal-first b rest) (λ e. e) (literal-same b rest)
-    (Builds-then slot old middle new id first next (Class ((b, b) ∷ [])) (Literal rest) r (Builds-range slot middle new b b id first a))
+    (Builds-then slots old middle new id first next (Class ((b, b) ∷ [])) (Literal rest) r (Builds-range slots middle new b b id first a))
 
 -- a part between two records, which are in the slots of a pair
-pub Builds-group : (slot : ℕ × ℕ) (old middle last new : List State) (start end body after id next : ℕ) (p : Pattern)
-    → slot.0 < start → start % 2 ≡ 0 → end ≡ start + 1 → end < slot.1
-    → IsAdded old middle (Capture end next) after → Builds slot middle last body after p → IsAdded last new (Capture start body) id
-    → Builds slot old new id next p
-Builds-group slot old middle last new start end body after id next p l even second m a x b =
-    Builds-is slot old new id next (Then Empty (Then p Empty)) p (between-is p) (between-back p) (between-first p) (between-loops p) (between-same p)
+pub Builds-group : (slots : ℕ × ℕ) (old middle last new : List State) (start end body after id next : ℕ) (p : Pattern)
+    → slots.0 < start → start % 2 ≡ 0 → end ≡ start + 1 → end < slots.1
+    → IsAdded old middle (Capture end next) after → Builds slots middle last body after p → IsAdded last new (Capture start body) id
+    → Builds slots old new id next p
+Builds-group slots old middle last new start end body after id next p l even second m a x b =
+    Builds-is slots old new id next (Then Empty (Then p Empty)) p (between-is p) (between-back p) (between-first p) (between-loops p) (between-same p)
     (Adds-both old last new Two (λ (all : List State). slice_get all id ≡ Some (Capture start body))
-    (IsPart slot (length old) (length new) id next (Then Empty (Then p Empty)))
-    (Adds-both old middle last (λ (all : List State). slice_get all after ≡ Some (Capture end next)) (IsPart slot (length middle) (length last) body after p)
+    (IsPart slots (length old) (length new) id next (Then Empty (Then p Empty)))
+    (Adds-both old middle last (λ (all : List State). slice_get all after ≡ Some (Capture end next)) (IsPart slots (length middle) (length last) body after p)
     Two (Adds-one old middle (Capture end next) after a) x (λ all y z. (y, z)))
     (Adds-one last new (Capture start body) id b)
     (λ all y is.
-    part-then slot (length old) (length last) (length new) id body next Empty (Then p Empty) all (omega (arith, x.longer, one)) (omega (arith, two))
-    (part-then slot (length old) (length middle) (length last) body after next p Empty all (omega (arith, one)) x.longer
-    (part-capture slot (length old) (length middle) end after next all a.last one y.0 (omega (arith, l, second)) m (λ pair e. absurd (odd pair e))) y.1)
-    (part-capture slot (length last) (length new) start id body all b.last two is l (omega (arith, m, second)) (λ pair e. closed all y pair e))))
+    part-then slots (length old) (length last) (length new) id body next Empty (Then p Empty) all (omega (arith, x.longer, one)) (omega (arith, two))
+    (part-then slots (length old) (length middle) (length last) body after next p Empty all (omega (arith, one)) x.longer
+    (part-capture slots (length old) (length middle) end after next all a.last one y.0 (omega (arith, l, second)) m (λ pair e. absurd (odd pair e))) y.1)
+    (part-capture slots (length last) (length new) start id body all b.last two is l (omega (arith, m, second)) (λ pair e. closed all y pair e))))
   where
     Two : List State → Type 0
-    Two all = (slice_get all after ≡ Some (Capture end next)) × IsPart slot (length middle) (length last) body after p all
+    Two all = (slice_get all after ≡ Some (Capture end next)) × IsPart slots (length middle) (length last) body after p all
 
     one : length middle ≡ length old + 1
     one = grown old middle (Capture end next) after a
@@ -279,7 +279,7 @@ Builds-group slot old middle last new start end body after id next p l even seco
 
     closed : (all : List State) → Two all → (pair : ℕ) → start ≡ 2 * pair → HasClose all pair body
     closed all y pair e = record {
-      slot = slot.0;
+      slot = slots.0;
       low = length middle;
       high = length last;
       close = after;
@@ -299,15 +299,15 @@ pub drop-one : {A : Type 0} (xs : List A) (d : A) → 0 < length xs → drop (le
 drop-one {A = A} xs d some = drop-last xs (length xs) d some (omega arith) ∙ ap (λ (ys : List A). get_or xs (length xs - 1) d ∷ ys) (drop-length xs)
 
 -- without a part there is no match
-pub Builds-nothing : (slot : ℕ × ℕ) (old new : List State) (first next : ℕ) (parts : List Pattern) → length parts ≡ 0 → Builds slot old new first next Never
-    → Builds slot old new first next (one_of parts)
-Builds-nothing slot old new first next [] none x = x
-Builds-nothing slot old new first next (p ∷ rest) none x = absurd (omega (arith, none))
+pub Builds-nothing : (slots : ℕ × ℕ) (old new : List State) (first next : ℕ) (parts : List Pattern) → length parts ≡ 0 → Builds slots old new first next Never
+    → Builds slots old new first next (one_of parts)
+Builds-nothing slots old new first next [] none x = x
+Builds-nothing slots old new first next (p ∷ rest) none x = absurd (omega (arith, none))
 
 -- a class without a range has no byte
-pub Builds-none : (slot : ℕ × ℕ) (old new : List State) (first next : ℕ) (ranges : List (ℕ × ℕ)) → length ranges ≡ 0 → Builds slot old new first next Never
-    → Builds slot old new first next (Class ranges)
-Builds-none slot old new first next [] none x =
-    Builds-is slot old new first next Never (Class []) (λ t i j g. absurd g) (λ t i j g. absurd (true≢false (sym g.0)))
+pub Builds-none : (slots : ℕ × ℕ) (old new : List State) (first next : ℕ) (ranges : List (ℕ × ℕ)) → length ranges ≡ 0 → Builds slots old new first next Never
+    → Builds slots old new first next (Class ranges)
+Builds-none slots old new first next [] none x =
+    Builds-is slots old new first next Never (Class []) (λ t i j g. absurd g) (λ t i j g. absurd (true≢false (sym g.0)))
     (λ t w i j f. absurd f.0) (λ e. e) refl x
-Builds-none slot old new first next (r ∷ rest) none x = absurd (omega (arith, none))
+Builds-none slots old new first next (r ∷ rest) none x = absurd (omega (arith, none))

@@ -15,7 +15,7 @@ use Rattle.rsc_engine.specs.OrderLayout.{HasWay, Orders}
 use Rattle.rsc_engine.proofs.FirstEndsLemmas.{first-alike}
 use Rattle.rsc_engine.proofs.OrderLayoutLemmas.{Way, from_fork, aim_at, way_of, Orders-between, Orders-capture}
 use Rattle.rsc_engine.proofs.LinksLayoutLemmas.{Realizes-between, Realizes-capture, choice_to}
-use Rattle.rsc_engine.proofs.GroupEndsLemmas.{IsWhole}
+use Rattle.rsc_engine.specs.BeginsLayout.{IsWhole}
 
 -- ---- one pattern
 

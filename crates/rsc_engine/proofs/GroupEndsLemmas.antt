@@ -1,10 +1,10 @@
 -- What the runs of a program that was built record in the slots of the whole match.
-use Rattle.std.proofs.Common.{nat_eq, ◌≡◌, ℕ, ◌+◌, ◌*◌, suc, ◌-◌, ◌<◌, ◌≤◌, ◌⊎◌, inl, inr, ⊎_elim, Bool, true, false, cond, List, [], ◌∷◌, length, slice_get, slice_index_or, refl, sym, ap, ◌∙◌, subst, arith, Option, Some, None, MatchOption}
+use Rattle.std.proofs.Common.{nat_eq, ◌≡◌, ℕ, ◌+◌, ◌*◌, ◌<◌, ◌≤◌, ◌⊎◌, inl, inr, ⊎_elim, Bool, true, false, cond, List, [], ◌∷◌, length, slice_get, slice_index_or, refl, sym, ap, ◌∙◌, subst, arith, Option, Some, None, MatchOption}
 use Rattle.std.proofs.lemmas.Bool.{ne_eqb, eq-eqb, lt-ltb}
 use Rattle.std.proofs.lemmas.Bool.Decides.{nat_tests}
 use Rattle.rsc_nfa.specs.declared.state.State.{State}
 use Rattle.rsc_nfa.specs.declared.state.State.TheVariants.{ByteRange, Assert, Fork, Capture, Accept}
-use Rattle.rsc_nfa.specs.Steps.{StepsTo, IsStep, IsRun, place, is_capture_of, or_earlier, recorded}
+use Rattle.rsc_nfa.specs.Steps.{StepsTo, IsStep, place, is_capture_of, or_earlier, recorded}
 use Rattle.rsc_search.specs.Matches.{Matched}
 use Rattle.rsc_captures.specs.Groups.{GroupLists, group_count, slot_of}
 use Rattle.rsc_captures.specs.Captured.{Captured, first_slot, group_span}
@@ -16,7 +16,8 @@ use Rattle.rsc_engine.specs.Patterns.{Subject, subject_of}
 use Rattle.rsc_engine.specs.GroupEnds.{RecordsEnds}
 use Rattle.rsc_engine.specs.EnclosesLayout.{IsOnWay, StaysOnWay, Encloses}
 use Rattle.rsc_engine.specs.StepsLayout.{AreSteps, last_place}
-use Rattle.rsc_engine.specs.BeginsLayout.{RecordsFrom}
+use Rattle.rsc_engine.specs.BeginsLayout.{IsWhole, RecordsFrom}
+use Rattle.rsc_engine.proofs.StepsLayoutLemmas.{step_of, steps_of, last_is}
 
 -- ---- one step more
 
@@ -80,13 +81,6 @@ step_within states x end slot low high first next p q e l h step = go (slice_get
 
 -- ---- from within a pattern to a match
 
--- the states of a pattern: the accepting one, a record of where the match ends, a part, and a record of where the match begins
-pub record IsWhole (states : List State) (number low high accept after body first : ℕ) : Type 0 where
-  pub accepting : slice_get states accept ≡ Some (Accept number)
-  pub ending : slice_get states after ≡ Some (Capture (2 * number + 1) accept)
-  pub encloses : Encloses (2 * number + 1) low high body after states
-  pub starting : slice_get states first ≡ Some (Capture (2 * number) body)
-
 -- its pattern is accepted, the last position is recorded, and nothing in an earlier slot
 record Finds (states : List State) (number accepted : ℕ) (p : ℕ × ℕ) (rest : List (ℕ × ℕ)) : Type 0 where
   its : accepted ≡ number
@@ -98,13 +92,6 @@ no_capture c next q e = absurd (cc)
 
 one_pattern : (p q : ℕ) → Some (Accept p) ≡ Some (Accept q) → p ≡ q
 one_pattern p q e = cc
-
--- where a step leads from a state that is known
-pub step_of : (states : List State) (x : Subject) (end s : ℕ) (p q : ℕ × ℕ) (state : State) → p.0 ≡ s → slice_get states s ≡ Some state
-    → IsStep states x.terminator x.word_chars x.haystack end p q → StepsTo state x.terminator x.word_chars x.haystack end p.1 q
-step_of states x end s p q state same is step =
-    subst (λ (o : Option State). MatchOption o ⊥ (λ (y : State). StepsTo y x.terminator x.word_chars x.haystack end p.1 q))
-    (ap (λ (t : ℕ). slice_get states t) same ∙ is) step
 
 -- a state that records does so in its slot, and in no other
 pub records_in : (states : List State) (s c next slot : ℕ) (p : ℕ × ℕ) → p.0 ≡ s → slice_get states s ≡ Some (Capture c next) → c ≡ slot
@@ -200,26 +187,6 @@ RecordsFrom-fork states s one other is b c = record { ends = each }
         )
 
 -- ---- runs of a search
-
-rest_is_run : (e : Search) (p q : ℕ × ℕ) (rest : List (ℕ × ℕ)) → IsRun e.states e.terminator e.word_chars e.haystack e.start e.end (p ∷ (q ∷ rest))
-    → IsRun e.states e.terminator e.word_chars e.haystack e.start e.end (q ∷ rest)
-rest_is_run e p q rest r = record {
-  places = λ k l. r.places (suc k) (omega (arith, l));
-  steps = λ k l.
-      let one : suc k + 1 ≡ suc (k + 1) = omega arith in
-      rw one at (r.steps (suc k) (omega (arith, l)));
-}
-
-pub steps_of : (e : Search) (p : ℕ × ℕ) (rest : List (ℕ × ℕ)) → IsRun e.states e.terminator e.word_chars e.haystack e.start e.end (p ∷ rest)
-    → AreSteps e.states (subject_of e) e.end p rest
-steps_of e p [] r = tt
-steps_of e p (q ∷ rest) r = (r.steps 0 (omega arith), steps_of e q rest (rest_is_run e p q rest r))
-
-pub last_is : (p : ℕ × ℕ) (rest : List (ℕ × ℕ)) → place (p ∷ rest) (length (p ∷ rest) - 1) ≡ last_place p rest
-last_is p [] = refl
-last_is p (q ∷ rest) =
-    let one : length (p ∷ (q ∷ rest)) - 1 ≡ suc (length (q ∷ rest) - 1) = omega arith in
-    ap (λ (n : ℕ). place (p ∷ (q ∷ rest)) n) one ∙ last_is q rest
 
 ends_of : (e : Search) (run : List (ℕ × ℕ)) (found : Matched) → RecordsFrom e.states e.start_state → IsMatchRun e (e.start_state, found.span.start) run
     → IsMatchOf e run found

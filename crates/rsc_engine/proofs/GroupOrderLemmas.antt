@@ -22,7 +22,8 @@ use Rattle.rsc_engine.specs.StepsLayout.{AreSteps, last_place}
 use Rattle.rsc_engine.specs.GroupOrder.{ClosesGroups}
 use Rattle.rsc_engine.proofs.WalksLayoutLemmas.{leads-rises}
 use Rattle.rsc_engine.proofs.LawsLemmas.{accepted}
-use Rattle.rsc_engine.proofs.GroupEndsLemmas.{unrecorded, kept, first_recorded, step_within, records_in, no_capture, step_of, steps_of, last_is}
+use Rattle.rsc_engine.proofs.StepsLayoutLemmas.{step_of, steps_of, last_is}
+use Rattle.rsc_engine.proofs.GroupEndsLemmas.{unrecorded, kept, first_recorded, step_within, records_in, no_capture}
 
 -- ---- from a record on
 

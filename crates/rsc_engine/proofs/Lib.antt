@@ -1,36 +1,37 @@
-pub mod GroupsLayoutLemmas  -- what a trail's run records, from its end on
-pub mod FlagsLayoutLemmas  -- flags, by the bits of their blocks
-pub mod WalksLayoutLemmas  -- a trail grows by a place and goes back to one; places that are settled, and runs that come to no place of a trail
-pub mod StartsLayoutLemmas  -- no match begins with a byte that isn't marked
 pub mod BacktrackLemmas  -- what is known of the places that were seen, from visit to visit
-pub mod NumbersLemmas  -- the numbers of places: the flags that have them, and what they say where a search begins later
-pub mod RunsLemmas  -- runs with a place before them, or in a part of a span; and what a run records is between its first position and its last
-pub mod TrailsLayoutLemmas  -- the stops of a trail, as it grows and goes back
-pub mod TrailLemmas  -- where a trail begins and ends, and what its visits are
-pub mod TurnsLemmas  -- turns of a loop, one after the other
-pub mod TurnsLayoutLemmas  -- the flags of a loop's turns that are in the same blocks, and what such turns do
-pub mod PreferredLemmas  -- there is at most one preferred match, wherever a search's start is; the leftmost one, and that there is none
-pub mod StepsLayoutLemmas  -- where steps lead; those that come to no place twice, and that there are any number of them if they come to one twice
-pub mod NextMatchesLemmas  -- which match is next, as the search's start moves on
-pub mod RowsLayoutLemmas  -- a row at a position is exact, and so is the next one
-pub mod EndsLemmas  -- where no match that began earlier goes on from a row
-pub mod NeededLayoutLemmas  -- no match is where no byte of the one range is directly after one of the other
-pub mod LawfulLayoutLemmas  -- what follows from the laws of steps: the bytes on both sides, or others of their classes, stand for a position
-pub mod DfaLemmas  -- a closure as it grows
-pub mod TablesLayoutLemmas  -- what the table of a DFA says is so, and stays so as it grows
-pub mod RefusalsLemmas  -- why there is no program
-pub mod PartsLemmas  -- the pattern of a tree, by its variants; and what is so of parts in order, or of one of them, as the list grows
-pub mod PatternsLemmas  -- patterns that go where others go: bytes, classes and repetitions
-pub mod FirstEndsLemmas  -- the first end of a pattern is an end, depends on what is wanted alone, and is the only one; patterns that have the same one
-pub mod LinksLayoutLemmas  -- how single states lead on, and what follows for parts made of parts
-pub mod OrderLayoutLemmas  -- of the ways to a match the first one goes by the first ends of patterns
-pub mod EnclosesLayoutLemmas  -- where the states of parts lead that are made of parts
-pub mod NamesLayoutLemmas  -- what the states of parts name that are made of parts, and whether a range of theirs is reversed
+pub mod BeginsLayoutLemmas  -- the runs of a program that was built: from the state at which a pattern begins its matches are found, and no others
 pub mod BuilderLemmas  -- how lists of states grow, part by part
-pub mod LoopsLemmas  -- how lists of states grow by repetitions
+pub mod DfaLemmas  -- a closure as it grows
+pub mod EnclosesLayoutLemmas  -- where the states of parts lead that are made of parts
+pub mod EndsLemmas  -- where no match that began earlier goes on from a row
+pub mod FirstEndsLemmas  -- the first end of a pattern is an end, depends on what is wanted alone, and is the only one; patterns that have the same one
 pub mod FirstsLayoutLemmas  -- the first way to a pattern's match leads to the pattern's first end
+pub mod FlagsLayoutLemmas  -- flags, by the bits of their blocks
 pub mod GroupEndsLemmas  -- what the runs of a program that was built record in the slots of the whole match
 pub mod GroupOrderLemmas  -- a group that begins in a run of a program that was built ends there or later
-pub mod PatternOrderLemmas  -- of the matches from a position that of the pattern with the least number is preferred, and of its ends the first
+pub mod GroupsLayoutLemmas  -- what a trail's run records, from its end on
+pub mod LawfulLayoutLemmas  -- what follows from the laws of steps: the bytes on both sides, or others of their classes, stand for a position
 pub mod LawsLemmas  -- what first and next matches and ends are, of a program that recognizes patterns
-pub mod BeginsLayoutLemmas  -- the runs of a program that was built: from the state at which a pattern begins its matches are found, and no others
+pub mod LinksLayoutLemmas  -- how single states lead on, and what follows for parts made of parts
+pub mod LoopsLemmas  -- how lists of states grow by repetitions
+pub mod NamesLayoutLemmas  -- what the states of parts name that are made of parts, and whether a range of theirs is reversed
+pub mod NeededLayoutLemmas  -- no match is where no byte of the one range is directly after one of the other
+pub mod NextMatchesLemmas  -- which match is next, as the search's start moves on
+pub mod NumbersLemmas  -- the numbers of places: the flags that have them, and what they say where a search begins later
+pub mod OrderLayoutLemmas  -- of the ways to a match the first one goes by the first ends of patterns
+pub mod PartsLemmas  -- what is so of parts in order, or of one of them, as the list grows
+pub mod PatternOrderLemmas  -- of the matches from a position that of the pattern with the least number is preferred, and of its ends the first
+pub mod PatternsLemmas  -- patterns that go where others go: bytes, classes and repetitions
+pub mod PreferredLemmas  -- there is at most one preferred match, wherever a search's start is; the leftmost one, and that there is none
+pub mod RefusalsLemmas  -- why there is no program
+pub mod RowsLayoutLemmas  -- a row at a position is exact, and so is the next one
+pub mod RunsLemmas  -- runs with a place before them, or in a part of a span; and what a run records is between its first position and its last
+pub mod StartsLayoutLemmas  -- no match begins with a byte that isn't marked
+pub mod StepsLayoutLemmas  -- where steps lead; those that come to no place twice, and that there are any number of them if they come to one twice
+pub mod TablesLayoutLemmas  -- what the table of a DFA says is so, and stays so as it grows
+pub mod TrailLemmas  -- where a trail begins and ends, and what its visits are
+pub mod TrailsLayoutLemmas  -- the stops of a trail, as it grows and goes back
+pub mod TreesLemmas  -- the pattern of a tree, by its variants
+pub mod TurnsLayoutLemmas  -- the flags of a loop's turns that are in the same blocks, and what such turns do
+pub mod TurnsLemmas  -- turns of a loop, one after the other
+pub mod WalksLayoutLemmas  -- a trail grows by a place and goes back to one; places that are settled, and runs that come to no place of a trail

@@ -17,117 +17,117 @@ use Rattle.rsc_engine.proofs.OrderLayoutLemmas.{Orders-choice, Orders-star, Orde
 use Rattle.rsc_engine.proofs.BuilderLemmas.{Adds-one, Adds-both, Adds-is, Adds-written, IsPart, grown, Builds-then, Builds-is}
 
 -- the part or nothing
-pub Builds-optional : (slot : ℕ × ℕ) (old last new : List State) (one id next : ℕ) (often : Bool) (p : Pattern) → Builds slot old last one next p
-    → IsAdded last new (choice_of often one next) id → Builds slot old new id next (optional often p)
-Builds-optional slot old last new one id next often p x a =
-    Adds-both old last new (IsPart slot (length old) (length last) one next p) (λ (all : List State). slice_get all id ≡ Some (choice_of often one next))
-    (IsPart slot (length old) (length new) id next (optional often p)) x (Adds-one last new (choice_of often one next) id a)
+pub Builds-optional : (slots : ℕ × ℕ) (old last new : List State) (one id next : ℕ) (often : Bool) (p : Pattern) → Builds slots old last one next p
+    → IsAdded last new (choice_of often one next) id → Builds slots old new id next (optional often p)
+Builds-optional slots old last new one id next often p x a =
+    Adds-both old last new (IsPart slots (length old) (length last) one next p) (λ (all : List State). slice_get all id ≡ Some (choice_of often one next))
+    (IsPart slots (length old) (length new) id next (optional often p)) x (Adds-one last new (choice_of often one next) id a)
     (λ all r is. (
       Realizes-choice all id one next often p is r.0,
-      Encloses-choice slot.0 (length old) (length last) (length new) one id next all x.longer a.last (grown last new (choice_of often one next) id a) r.1
+      Encloses-choice slots.0 (length old) (length last) (length new) one id next all x.longer a.last (grown last new (choice_of often one next) id a) r.1
           (is_choice all id one next often is),
-      subst (λ (b : Bool). Names slot.1 b (length old) (length new) all) (sym (optional-same often p))
-          (Names-choice slot.1 (has_reversed_range p) (length old) (length last) (length new) id one next all x.longer a.last
+      subst (λ (b : Bool). Names slots.1 b (length old) (length new) all) (sym (optional-same often p))
+          (Names-choice slots.1 (has_reversed_range p) (length old) (length last) (length new) id one next all x.longer a.last
           (grown last new (choice_of often one next) id a) (is_choice all id one next often is) r.2),
       Orders-choice all id one next often p is r.0 r.3,
     ))
 
-pub Builds-star : (slot : ℕ × ℕ) (old last new : List State) (one id next : ℕ) (often : Bool) (p : Pattern)
-    → Builds slot old last one next (Repeat 1 None often p) → IsAdded last new (choice_of often one next) id
-    → Builds slot old new id next (Repeat 0 None often p)
-Builds-star slot old last new one id next often p x a =
-    Builds-is slot old new id next (optional often (Repeat 1 None often p)) (Repeat 0 None often p) (star-is often p) (star-back often p) (star-first often p)
+pub Builds-star : (slots : ℕ × ℕ) (old last new : List State) (one id next : ℕ) (often : Bool) (p : Pattern)
+    → Builds slots old last one next (Repeat 1 None often p) → IsAdded last new (choice_of often one next) id
+    → Builds slots old new id next (Repeat 0 None often p)
+Builds-star slots old last new one id next often p x a =
+    Builds-is slots old new id next (optional often (Repeat 1 None often p)) (Repeat 0 None often p) (star-is often p) (star-back often p) (star-first often p)
     (star-loops often p) (optional-same often (Repeat 1 None often p))
-    (Builds-optional slot old last new one id next often (Repeat 1 None often p) x a)
+    (Builds-optional slots old last new one id next often (Repeat 1 None often p) x a)
 
 -- a loop: its fork, its part, and the fork written anew
-record LoopsOver (slot : ℕ × ℕ) (low high first again next : ℕ) (often : Bool) (p : Pattern) (all : List State) : Type 0 where
+record LoopsOver (slots : ℕ × ℕ) (low high first again next : ℕ) (often : Bool) (p : Pattern) (all : List State) : Type 0 where
   choice : slice_get all again ≡ Some (choice_of often first next)
   part : Realizes all first again p
-  encloses : Encloses slot.0 low high again next all × Encloses slot.0 low high first next all
-  names : Names slot.1 (has_reversed_range p) low high all
+  encloses : Encloses slots.0 low high again next all × Encloses slots.0 low high first next all
+  names : Names slots.1 (has_reversed_range p) low high all
   orders : Orders all first again p
 
-Adds-loop : (slot : ℕ × ℕ) (old middle last : List State) (state : State) (first again next : ℕ) (often : Bool) (p : Pattern) → IsAdded old middle state again
-    → Builds slot middle last first again p
+Adds-loop : (slots : ℕ × ℕ) (old middle last : List State) (state : State) (first again next : ℕ) (often : Bool) (p : Pattern) → IsAdded old middle state again
+    → Builds slots middle last first again p
     → Adds old (set last again (choice_of often first next))
-    (LoopsOver slot (length old) (length (set last again (choice_of often first next))) first again next often p)
-Adds-loop slot old middle last state first again next often p a x =
+    (LoopsOver slots (length old) (length (set last again (choice_of often first next))) first again next often p)
+Adds-loop slots old middle last state first again next often p a x =
     let written : State = choice_of often first next in
     Adds-is old (set last again written)
-    (λ (all : List State). (slice_get all again ≡ Some written) × IsPart slot (length middle) (length last) first again p all)
-    (LoopsOver slot (length old) (length (set last again written)) first again next often p)
+    (λ (all : List State). (slice_get all again ≡ Some written) × IsPart slots (length middle) (length last) first again p all)
+    (LoopsOver slots (length old) (length (set last again written)) first again next often p)
     (λ all is.
     let fork = is_choice all again first next often is.0 in
     record {
       choice = is.0;
       part = is.1.0;
-      encloses = Encloses-loop slot.0 (length old) (length middle) (length last) (length (set last again written)) first again next all a.last
+      encloses = Encloses-loop slots.0 (length old) (length middle) (length last) (length (set last again written)) first again next all a.last
           (grown old middle state again a) x.longer (length-set last again written) fork is.1.1;
-      names = Names-loop slot.1 (has_reversed_range p) (length old) (length middle) (length last) (length (set last again written)) again first next all a.last
+      names = Names-loop slots.1 (has_reversed_range p) (length old) (length middle) (length last) (length (set last again written)) again first next all a.last
           (grown old middle state again a) x.longer (length-set last again written) fork is.1.2;
       orders = is.1.3;
     })
-    (Adds-written old middle last state written again (IsPart slot (length middle) (length last) first again p) a x)
+    (Adds-written old middle last state written again (IsPart slots (length middle) (length last) first again p) a x)
 
-pub Builds-again : (slot : ℕ × ℕ) (old middle last : List State) (state : State) (first again next : ℕ) (often : Bool) (p : Pattern)
-    → IsAdded old middle state again → Builds slot middle last first again p
-    → Builds slot old (set last again (choice_of often first next)) again next (Repeat 0 None often p)
-Builds-again slot old middle last state first again next often p a x =
+pub Builds-again : (slots : ℕ × ℕ) (old middle last : List State) (state : State) (first again next : ℕ) (often : Bool) (p : Pattern)
+    → IsAdded old middle state again → Builds slots middle last first again p
+    → Builds slots old (set last again (choice_of often first next)) again next (Repeat 0 None often p)
+Builds-again slots old middle last state first again next often p a x =
     let new : List State = set last again (choice_of often first next) in
-    Adds-is old new (LoopsOver slot (length old) (length new) first again next often p)
-    (IsPart slot (length old) (length new) again next (Repeat 0 None often p))
+    Adds-is old new (LoopsOver slots (length old) (length new) first again next often p)
+    (IsPart slots (length old) (length new) again next (Repeat 0 None often p))
     (λ all b. (
       Realizes-star all again first next often p (is_choice all again first next often b.choice) b.part,
       b.encloses.0,
       b.names,
       Orders-star all again first next often p b.choice b.part b.orders,
     ))
-    (Adds-loop slot old middle last state first again next often p a x)
+    (Adds-loop slots old middle last state first again next often p a x)
 
-pub Builds-plus : (slot : ℕ × ℕ) (old middle last : List State) (state : State) (first again next : ℕ) (often : Bool) (p : Pattern)
-    → IsAdded old middle state again → Builds slot middle last first again p
-    → Builds slot old (set last again (choice_of often first next)) first next (Repeat 1 None often p)
-Builds-plus slot old middle last state first again next often p a x =
+pub Builds-plus : (slots : ℕ × ℕ) (old middle last : List State) (state : State) (first again next : ℕ) (often : Bool) (p : Pattern)
+    → IsAdded old middle state again → Builds slots middle last first again p
+    → Builds slots old (set last again (choice_of often first next)) first next (Repeat 1 None often p)
+Builds-plus slots old middle last state first again next often p a x =
     let new : List State = set last again (choice_of often first next) in
-    Adds-is old new (LoopsOver slot (length old) (length new) first again next often p)
-    (IsPart slot (length old) (length new) first next (Repeat 1 None often p))
+    Adds-is old new (LoopsOver slots (length old) (length new) first again next often p)
+    (IsPart slots (length old) (length new) first next (Repeat 1 None often p))
     (λ all b. (
       Realizes-plus all again first next often p (is_choice all again first next often b.choice) b.part,
       b.encloses.1,
       b.names,
       Orders-plus all again first next often p b.choice b.part b.orders,
     ))
-    (Adds-loop slot old middle last state first again next often p a x)
+    (Adds-loop slots old middle last state first again next often p a x)
 
 -- at most a number of times
-Builds-up_to : (slot : ℕ × ℕ) (old new : List State) (first next n : ℕ) (often : Bool) (p : Pattern) → Builds slot old new first next (up_to often n p)
-    → Builds slot old new first next (Repeat 0 (Some n) often p)
-Builds-up_to slot old new first next n often p x =
-    Builds-is slot old new first next (up_to often n p) (Repeat 0 (Some n) often p) (up_to-is often n p) (up_to-back often n p) (up_to-first often n p)
+Builds-up_to : (slots : ℕ × ℕ) (old new : List State) (first next n : ℕ) (often : Bool) (p : Pattern) → Builds slots old new first next (up_to often n p)
+    → Builds slots old new first next (Repeat 0 (Some n) often p)
+Builds-up_to slots old new first next n often p x =
+    Builds-is slots old new first next (up_to often n p) (Repeat 0 (Some n) often p) (up_to-is often n p) (up_to-back often n p) (up_to-first often n p)
     (up_to-loops often n p) (up_to-same often n p) x
 
 -- a number of times, and then at least another
-Builds-counted : (slot : ℕ × ℕ) (old middle new : List State) (n m rest first next : ℕ) (max : Option ℕ) (often : Bool) (p : Pattern)
-    → Builds slot old middle rest next (Repeat m (limit_less max n) often p) → Builds slot middle new first rest (copies n p)
-    → Builds slot old new first next (Repeat (n + m) max often p)
-Builds-counted slot old middle new n m rest first next max often p x y =
-    Builds-is slot old new first next (Then (copies n p) (Repeat m (limit_less max n) often p)) (Repeat (n + m) max often p) (counted-is n m max often p)
+Builds-counted : (slots : ℕ × ℕ) (old middle new : List State) (n m rest first next : ℕ) (max : Option ℕ) (often : Bool) (p : Pattern)
+    → Builds slots old middle rest next (Repeat m (limit_less max n) often p) → Builds slots middle new first rest (copies n p)
+    → Builds slots old new first next (Repeat (n + m) max often p)
+Builds-counted slots old middle new n m rest first next max often p x y =
+    Builds-is slots old new first next (Then (copies n p) (Repeat m (limit_less max n) often p)) (Repeat (n + m) max often p) (counted-is n m max often p)
     (counted-back n m max often p) (counted-first n m max often p) (counted-loops n m max often p) (counted-same n m max often p)
-    (Builds-then slot old middle new first rest next (copies n p) (Repeat m (limit_less max n) often p) x y)
+    (Builds-then slots old middle new first rest next (copies n p) (Repeat m (limit_less max n) often p) x y)
 
-pub Builds-limited : (slot : ℕ × ℕ) (old middle new : List State) (min max rest first next : ℕ) (often : Bool) (p : Pattern)
-    → Builds slot old middle rest next (up_to often (max - min) p)
-    → Builds slot middle new first rest (copies min p) → Builds slot old new first next (Repeat min (Some max) often p)
-Builds-limited slot old middle new min max rest first next often p x y =
+pub Builds-limited : (slots : ℕ × ℕ) (old middle new : List State) (min max rest first next : ℕ) (often : Bool) (p : Pattern)
+    → Builds slots old middle rest next (up_to often (max - min) p)
+    → Builds slots middle new first rest (copies min p) → Builds slots old new first next (Repeat min (Some max) often p)
+Builds-limited slots old middle new min max rest first next often p x y =
     let none : min + 0 ≡ min = omega arith in
-    subst (λ (n : ℕ). Builds slot old new first next (Repeat n (Some max) often p)) none
-    (Builds-counted slot old middle new min 0 rest first next (Some max) often p (Builds-up_to slot old middle rest next (max - min) often p x) y)
+    subst (λ (n : ℕ). Builds slots old new first next (Repeat n (Some max) often p)) none
+    (Builds-counted slots old middle new min 0 rest first next (Some max) often p (Builds-up_to slots old middle rest next (max - min) often p x) y)
 
-pub Builds-unlimited : (slot : ℕ × ℕ) (old middle new : List State) (min last first next : ℕ) (often : Bool) (p : Pattern)
-    → 0 < min → Builds slot old middle last next (Repeat 1 None often p)
-    → Builds slot middle new first last (copies (min - 1) p) → Builds slot old new first next (Repeat min None often p)
-Builds-unlimited slot old middle new min last first next often p some x y =
+pub Builds-unlimited : (slots : ℕ × ℕ) (old middle new : List State) (min last first next : ℕ) (often : Bool) (p : Pattern)
+    → 0 < min → Builds slots old middle last next (Repeat 1 None often p)
+    → Builds slots middle new first last (copies (min - 1) p) → Builds slots old new first next (Repeat min None often p)
+Builds-unlimited slots old middle new min last first next often p some x y =
     let one : min - 1 + 1 ≡ min = omega (arith, some) in
-    subst (λ (n : ℕ). Builds slot old new first next (Repeat n None often p)) one
-    (Builds-counted slot old middle new (min - 1) 1 last first next None often p x y)
+    subst (λ (n : ℕ). Builds slots old new first next (Repeat n None often p)) one
+    (Builds-counted slots old middle new (min - 1) 1 last first next None often p x y)

@@ -96,12 +96,13 @@ arrives states x end m next p state i last o same first =
       ends = subst (λ (s : ℕ). last_place (s, o.position) o.rest ≡ last) same o.ends;
     }
 
--- from a fork it goes the first way, or there is none on that way
+-- the first way from a state, which ends at a place
 pub record Way (states : List State) (x : Subject) (end m s i : ℕ) (last : ℕ × ℕ) : Type 0 where
   pub rest : List (ℕ × ℕ)
   pub least : IsLeast states x end m (s, i) rest
   pub ends : last_place (s, i) rest ≡ last
 
+-- from a fork it goes the first way, or there is none on that way
 pub from_fork : (states : List State) (x : Subject) (end m s a b i : ℕ) (rest : List (ℕ × ℕ)) → slice_get states s ≡ Some (Fork a b)
     → IsLeast states x end m (s, i) rest
     → Way states x end m a i (last_place (s, i) rest) ⊎ ((HasWay states x end m a i → ⊥) × Way states x end m b i (last_place (s, i) rest))

@@ -1,44 +1,11 @@
--- The pattern of a tree, by its variants; and what is so of parts in order, or of one of them, as the list grows.
-use Rattle.std.proofs.Common.{◌≡◌, ℕ, ◌+◌, ◌<◌, List, [], ◌∷◌, ◌++◌, map, take, length, get_or, ◌&&◌, ◌||◌, Bool, true, false, Box, Vec, Global, refl, sym, ap, ◌∙◌}
+-- What is so of parts in order, or of one of them, as the list grows.
+use Rattle.std.proofs.Common.{◌≡◌, ℕ, ◌+◌, ◌<◌, List, [], ◌∷◌, ◌++◌, map, take, length, get_or, ◌&&◌, ◌||◌, Bool, true, false, refl, sym, ap, ◌∙◌}
 use Rattle.std.proofs.lemmas.List.{map_more}
-use Rattle.rsc_look.specs.declared.assertion.Look.{Look}
-use Rattle.rsc_engine.specs.Patterns.{Pattern, Empty, Never, Class, Literal, Assertion, Then, Either, in_order, one_of, may_be_empty}
+use Rattle.rsc_engine.specs.Patterns.{Pattern, in_order, one_of, may_be_empty}
 use Rattle.rsc_engine.specs.FirstEnds.{loops_take_bytes}
-use Rattle.rsc_engine.specs.Trees.{pattern_in, pattern_of_node}
 use Rattle.rsc_engine.specs.Parts.{pattern_of}
+use Rattle.rsc_engine.proofs.NamesLayoutLemmas.{or_none}
 use Rattle.rsc_engine.specs.declared.builder.part.Part.{Part}
-use Rattle.rsc_engine.specs.declared.builder.tree.Tree.{Tree, Tree-F, fold-roll-Tree}
-use Rattle.rsc_engine.specs.declared.builder.tree.Tree.TheVariants as variants
-
-pub pattern-empty : pattern_in variants.Empty ≡ Empty
-pattern-empty = ap pattern_in (sym variants.rolls-Empty) ∙ fold-roll-Tree Pattern pattern_of_node Tree-F.Empty
-
-pub pattern-never : pattern_in variants.Never ≡ Never
-pattern-never = ap pattern_in (sym variants.rolls-Never) ∙ fold-roll-Tree Pattern pattern_of_node Tree-F.Never
-
-pub pattern-class : (ranges : Vec (ℕ × ℕ) Global) → pattern_in (variants.Class ranges) ≡ Class ranges.items
-pattern-class ranges = ap pattern_in (sym (variants.rolls-Class ranges)) ∙ fold-roll-Tree Pattern pattern_of_node (Tree-F.Class ranges)
-
-pub pattern-literal : (bytes : Vec ℕ Global) → pattern_in (variants.Literal bytes) ≡ Literal bytes.items
-pattern-literal bytes = ap pattern_in (sym (variants.rolls-Literal bytes)) ∙ fold-roll-Tree Pattern pattern_of_node (Tree-F.Literal bytes)
-
-pub pattern-range : (a b : ℕ) → pattern_in (variants.Range a b) ≡ Class ((a, b) ∷ [])
-pattern-range a b = ap pattern_in (sym (variants.rolls-Range a b)) ∙ fold-roll-Tree Pattern pattern_of_node (Tree-F.Range a b)
-
-pub pattern-assertion : (look : Look) → pattern_in (variants.Assertion look) ≡ Assertion look
-pattern-assertion look = ap pattern_in (sym (variants.rolls-Assertion look)) ∙ fold-roll-Tree Pattern pattern_of_node (Tree-F.Assertion look)
-
-pub pattern-then : (one other : Box Tree Global) → pattern_in (variants.Then one other) ≡ Then (pattern_in one.value) (pattern_in other.value)
-pattern-then one other = ap pattern_in (sym (variants.rolls-Then one other)) ∙ fold-roll-Tree Pattern pattern_of_node (Tree-F.Then one other)
-
-pub pattern-either : (one other : Box Tree Global) → pattern_in (variants.Either one other) ≡ Either (pattern_in one.value) (pattern_in other.value)
-pattern-either one other = ap pattern_in (sym (variants.rolls-Either one other)) ∙ fold-roll-Tree Pattern pattern_of_node (Tree-F.Either one other)
-
-pub pattern-concat : (trees : Vec Tree Global) → pattern_in (variants.Concat trees) ≡ in_order (map pattern_in trees.items)
-pattern-concat trees = ap pattern_in (sym (variants.rolls-Concat trees)) ∙ fold-roll-Tree Pattern pattern_of_node (Tree-F.Concat trees)
-
-pub pattern-one_of : (trees : Vec Tree Global) → pattern_in (variants.OneOf trees) ≡ one_of (map pattern_in trees.items)
-pattern-one_of trees = ap pattern_in (sym (variants.rolls-OneOf trees)) ∙ fold-roll-Tree Pattern pattern_of_node (Tree-F.OneOf trees)
 
 -- ---- one more pattern at the end of a list
 
@@ -50,10 +17,6 @@ patterns_more parts k part l is =
 and_one : (a : Bool) → (a && true) ≡ a
 and_one true = refl
 and_one false = refl
-
-or_none : (a : Bool) → (a || false) ≡ a
-or_none true = refl
-or_none false = refl
 
 and_more : (a b c : Bool) → (a && (b && c)) ≡ ((a && b) && c)
 and_more true b c = refl

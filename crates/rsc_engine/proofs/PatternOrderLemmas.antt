@@ -18,7 +18,7 @@ use Rattle.rsc_engine.specs.BeginsLayout.{PrefersFrom, Begins, IsOfOne}
 use Rattle.rsc_engine.specs.FirstsLayout.{OrdersSome}
 use Rattle.rsc_engine.specs.FirstEnds.{loops_take_bytes, IsFirstEnd}
 use Rattle.rsc_engine.proofs.OrderLayoutLemmas.{aim_at, way_of}
-use Rattle.rsc_engine.proofs.GroupEndsLemmas.{step_of, steps_of, last_is}
+use Rattle.rsc_engine.proofs.StepsLayoutLemmas.{step_of, steps_of, last_is}
 use Rattle.rsc_engine.proofs.PreferredLemmas.{same_place}
 use Rattle.rsc_engine.proofs.StepsLayoutLemmas.{Short, shorten, once_of, is_run_of, HasMore, once_or_more, AreDistinct}
 
@@ -213,7 +213,7 @@ is_least e run found other prefers first f h same = ⊎_elim
 
 -- ---- the first end
 
--- the same state accepts as is wanted
+-- a place whose state accepts the same pattern accepts too
 same_accepts : (e : Search) (p q : ℕ × ℕ) (m : ℕ) → slice_get e.states p.0 ≡ Some (Accept m) → slice_get e.states q.0 ≡ Some (Accept m) → accepts e p ≡ true
     → accepts e q ≡ true
 same_accepts e p q m here there a = rw there (rw here at a)

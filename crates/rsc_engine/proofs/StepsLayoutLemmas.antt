@@ -1,5 +1,5 @@
 -- Where steps lead; those that come to no place twice, and that there are any number of them if they come to one twice.
-use Rattle.std.proofs.Common.{◌≡◌, ℕ, zero, suc, ◌<◌, ◌≤◌, ◌⊎◌, inl, inr, ⊎_elim, List, [], ◌∷◌, ◌++◌, length, length-append, slice_get, refl, sym, ap, ◌∙◌, subst, arith, Option, Some, None, MatchOption}
+use Rattle.std.proofs.Common.{◌≡◌, ℕ, zero, suc, ◌+◌, ◌-◌, ◌<◌, ◌≤◌, ◌⊎◌, inl, inr, ⊎_elim, List, [], ◌∷◌, ◌++◌, length, length-append, slice_get, refl, sym, ap, ◌∙◌, subst, arith, Option, Some, None, MatchOption}
 use Rattle.std.proofs.lemmas.Bool.{cases_eq}
 use Rattle.rsc_nfa.specs.declared.state.State.{State}
 use Rattle.rsc_nfa.specs.declared.state.State.TheVariants.{ByteRange, Assert, Fork, Capture, Accept}
@@ -28,6 +28,35 @@ leads_end states x end p q step l = go (slice_get states p.0) step
     go : (o : Option State) → MatchOption o ⊥ (λ (state : State). StepsTo state x.terminator x.word_chars x.haystack end p.1 q) → q.1 ≤ end
     go None s = absurd s
     go (Some state) s = step_end state x end p.1 q s l
+
+-- where a step leads from a state that is known
+pub step_of : (states : List State) (x : Subject) (end s : ℕ) (p q : ℕ × ℕ) (state : State) → p.0 ≡ s → slice_get states s ≡ Some state
+    → IsStep states x.terminator x.word_chars x.haystack end p q → StepsTo state x.terminator x.word_chars x.haystack end p.1 q
+step_of states x end s p q state same is step =
+    subst (λ (o : Option State). MatchOption o ⊥ (λ (y : State). StepsTo y x.terminator x.word_chars x.haystack end p.1 q))
+    (ap (λ (t : ℕ). slice_get states t) same ∙ is) step
+
+-- ---- the steps of a run
+
+rest_is_run : (e : Search) (p q : ℕ × ℕ) (rest : List (ℕ × ℕ)) → IsRun e.states e.terminator e.word_chars e.haystack e.start e.end (p ∷ (q ∷ rest))
+    → IsRun e.states e.terminator e.word_chars e.haystack e.start e.end (q ∷ rest)
+rest_is_run e p q rest r = record {
+  places = λ k l. r.places (suc k) (omega (arith, l));
+  steps = λ k l.
+      let one : suc k + 1 ≡ suc (k + 1) = omega arith in
+      rw one at (r.steps (suc k) (omega (arith, l)));
+}
+
+pub steps_of : (e : Search) (p : ℕ × ℕ) (rest : List (ℕ × ℕ)) → IsRun e.states e.terminator e.word_chars e.haystack e.start e.end (p ∷ rest)
+    → AreSteps e.states (subject_of e) e.end p rest
+steps_of e p [] r = tt
+steps_of e p (q ∷ rest) r = (r.steps 0 (omega arith), steps_of e q rest (rest_is_run e p q rest r))
+
+pub last_is : (p : ℕ × ℕ) (rest : List (ℕ × ℕ)) → place (p ∷ rest) (length (p ∷ rest) - 1) ≡ last_place p rest
+last_is p [] = refl
+last_is p (q ∷ rest) =
+    let one : length (p ∷ (q ∷ rest)) - 1 ≡ suc (length (q ∷ rest) - 1) = omega arith in
+    ap (λ (n : ℕ). place (p ∷ (q ∷ rest)) n) one ∙ last_is q rest
 
 -- ---- steps that come to no place twice
 

@@ -1,12 +1,20 @@
 -- At which state the matches of a pattern, or of several, begin.
 use Rattle.std.specs.Prelude.{◌≡◌, ℕ, ◌+◌, ◌*◌, ◌<◌, ◌≤◌, List, ◌∷◌, slice_get, Some}
 use Rattle.rsc_nfa.specs.declared.state.State.{State}
-use Rattle.rsc_nfa.specs.declared.state.State.TheVariants.{Accept}
+use Rattle.rsc_nfa.specs.declared.state.State.TheVariants.{Capture, Accept}
 use Rattle.rsc_nfa.specs.Steps.{recorded}
 use Rattle.rsc_engine.specs.Patterns.{Pattern, Subject, Goes}
+use Rattle.rsc_engine.specs.EnclosesLayout.{Encloses}
 use Rattle.rsc_engine.specs.LinksLayout.{Aim, Ends, HasEnd}
 use Rattle.rsc_engine.specs.StepsLayout.{AreSteps, last_place}
 use Rattle.rsc_engine.specs.OrderLayout.{IsBefore}
+
+-- the states of a pattern: the accepting one, a record of where the match ends, a part, and a record of where the match begins
+pub record IsWhole (states : List State) (number low high accept after body first : ℕ) : Type 0 where
+  pub accepting : slice_get states accept ≡ Some (Accept number)
+  pub ending : slice_get states after ≡ Some (Capture (2 * number + 1) accept)
+  pub encloses : Encloses (2 * number + 1) low high body after states
+  pub starting : slice_get states first ≡ Some (Capture (2 * number) body)
 
 -- what steps from the state `first` to a match record in the slots of the whole match: its ends
 pub record RecordsFrom (states : List State) (first : ℕ) : Type 0 where

@@ -1,31 +1,31 @@
-pub mod Searches  -- a program, what a search is over, and why it has no answer
-pub mod Refusals  -- why there is no program
-pub mod Runs  -- runs that are matches
-pub mod GroupsLayout  -- slots without a match
-pub mod StartsLayout  -- the bytes with which a match may begin
+pub mod BeginsLayout  -- at which state the matches of a pattern, or of several, begin
+pub mod EnclosesLayout  -- where the states of a part lead, and in which slots they record
+pub mod Ends  -- where matches end, and what a DFA answers
+pub mod FirstEnds  -- which end of a pattern is preferred
+pub mod FirstsLayout  -- that ways to a pattern's match are few, and which of them is the first
 pub mod FlagsLayout  -- how the code holds flags: 64 to a block
-pub mod Preferred  -- which match is first
-pub mod NextMatches  -- which match is next; `last` is where the last one ended, if there was one
-pub mod MovesLayout  -- what a state does at a position
-pub mod WalksLayout  -- what a backtracker has on hand
-pub mod TrailsLayout  -- a trail: which places each of its visits stands for, and which other ways are left to try there
-pub mod TurnsLayout  -- the flags of a loop's turns, and what turns do
-pub mod Patterns  -- what a pattern matches, and which programs match it
 pub mod GroupEnds  -- the group of the whole match: what runs record in its slots
 pub mod GroupOrder  -- where groups begin and end
-pub mod PatternOrder  -- which match of a program's patterns is preferred
-pub mod FirstEnds  -- which end of a pattern is preferred
-pub mod Trees  -- which pattern a tree is
-pub mod Parts  -- which pattern a part is, and which groups it has
-pub mod EnclosesLayout  -- where the states of a part lead, and in which slots they record
-pub mod NamesLayout  -- what the states of a part or of patterns name, and whether a range of theirs is reversed
-pub mod StepsLayout  -- steps from a place on
-pub mod OrderLayout  -- in which order ways to a match are tried
-pub mod LinksLayout  -- how the states of a part lead on
-pub mod FirstsLayout  -- that ways to a pattern's match are few, and which of them is the first
-pub mod BeginsLayout  -- at which state the matches of a pattern, or of several, begin
-pub mod Ends  -- where matches end, and what a DFA answers
-pub mod RowsLayout  -- the rows of a DFA, and where a byte leads from one
-pub mod NeededLayout  -- two bytes that stand side by side in every match
-pub mod TablesLayout  -- the table of a DFA
+pub mod GroupsLayout  -- slots without a match
 pub mod LawfulLayout  -- the laws of steps and runs that the proof of `dfa` rests on, as one record: each is a law of a library below
+pub mod LinksLayout  -- how the states of a part lead on
+pub mod MovesLayout  -- what a state does at a position
+pub mod NamesLayout  -- what the states of a part or of patterns name, and whether a range of theirs is reversed
+pub mod NeededLayout  -- two bytes that stand side by side in every match
+pub mod NextMatches  -- which match is next; `last` is where the last one ended, if there was one
+pub mod OrderLayout  -- in which order ways to a match are tried
+pub mod Parts  -- which pattern a part is, and which groups it has
+pub mod PatternOrder  -- which match of a program's patterns is preferred
+pub mod Patterns  -- what a pattern matches, and which programs match it
+pub mod Preferred  -- which match is first
+pub mod Refusals  -- why there is no program
+pub mod RowsLayout  -- the rows of a DFA, and where a byte leads from one
+pub mod Runs  -- runs that are matches
+pub mod Searches  -- a program, what a search is over, and why it has no answer
+pub mod StartsLayout  -- the bytes with which a match may begin
+pub mod StepsLayout  -- steps from a place on
+pub mod TablesLayout  -- the table of a DFA
+pub mod TrailsLayout  -- a trail: which places each of its visits stands for, and which other ways are left to try there
+pub mod Trees  -- which pattern a tree is
+pub mod TurnsLayout  -- the flags of a loop's turns, and what turns do
+pub mod WalksLayout  -- what a backtracker has on hand

@@ -48,7 +48,7 @@ fn contained(span: Span) -> [bool; 5] {
 }
 
 #[test]
-fn spans_contain_all_but_their_end(rt: HostRuntime) {
+fn spans_contain_their_end(rt: HostRuntime) {
     let ordered = span(2, 4);
     assert!(rt; contained(ordered) == [false, true, true, true, false]);
     assert!(rt; ordered.len() == 2 && ordered.offset(3) == span(5, 7));

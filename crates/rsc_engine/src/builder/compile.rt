@@ -23,8 +23,8 @@ use std::alloc::Global;
 #[derive(Drop)]
 pub struct Compiler {
     pub states: Vec<State>,
-    // How many groups of the pattern that is compiled open before the end of the part that is next. No clause speaks of it: it decides which slots a group
-    // has, as tests of `build` show.
+    // The number of the pattern's groups that open before the end of the next part. No clause speaks of it: it decides which slots a group has, as tests of
+    // `build` show.
     pub left: usize,
 }
 

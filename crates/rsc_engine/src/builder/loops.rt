@@ -76,6 +76,7 @@ impl Compiler {
     {
         let left = self.left;
         let mut first = next;
+        // The proof names how often the part is done.
         for done in 0..count {
             self.left = left;
             first = self.part(slots, sub, first)?;

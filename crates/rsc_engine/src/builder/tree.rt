@@ -2,7 +2,7 @@
 
 use rsc_look::Look;
 
-/// A part of a pattern, made of smaller ones. `pattern_in` in `specs/Parts.antt` says which pattern it is.
+/// A part of a pattern, made of smaller ones. `pattern_in` in `specs/Trees.antt` says which pattern it is.
 #[derive(Drop)]
 pub enum Tree {
     /// No byte.

@@ -4,7 +4,8 @@ use Rattle.rsc_engine.specs.FirstEnds.{loops_take_bytes}
 use Rattle.rsc_engine.specs.Parts.{pattern_of}
 use Rattle.rsc_engine.specs.Trees.{pattern_in}
 use Rattle.rsc_engine.specs.declared.builder.tree.Tree.TheVariants as variants
-use Rattle.rsc_engine.proofs.PartsLemmas.{pattern-concat, patterns_more, in_order_empty, in_order_loops}
+use Rattle.rsc_engine.proofs.TreesLemmas.{pattern-concat}
+use Rattle.rsc_engine.proofs.PartsLemmas.{patterns_more, in_order_empty, in_order_loops}
 use Rattle.rsc_engine.proofs.builder.Builder.concat.Goals as goal
 
 pub loop-part-preserved : goal.loop-part-preserved

@@ -4,7 +4,8 @@ use Rattle.rsc_engine.specs.FirstEnds.{loops_take_bytes}
 use Rattle.rsc_engine.specs.Parts.{pattern_of}
 use Rattle.rsc_engine.specs.Trees.{pattern_in}
 use Rattle.rsc_engine.specs.declared.builder.tree.Tree.TheVariants as variants
-use Rattle.rsc_engine.proofs.PartsLemmas.{pattern-one_of, patterns_more, one_of_empty, one_of_loops}
+use Rattle.rsc_engine.proofs.TreesLemmas.{pattern-one_of}
+use Rattle.rsc_engine.proofs.PartsLemmas.{patterns_more, one_of_empty, one_of_loops}
 use Rattle.rsc_engine.proofs.builder.Builder.one_of.Goals as goal
 
 pub loop-part-preserved : goal.loop-part-preserved
