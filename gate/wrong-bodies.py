@@ -251,14 +251,17 @@ def refused_tasks(wanted, names, known, room):
 
 
 def state_of(kind, crate, known, tested):
-    """Returns a checksum of all that the edits of a kind of a crate rest on: the toolchain, this folder's scripts, the crate, and those below and above."""
+    """Returns a checksum of all that the edits of a kind of a crate rest on: the toolchain, the scripts that try them, the crate and those below it, and, of
+    edits over which a test must fail, the crates of the tests."""
     others = {it[2]["tests"] for it in tested if it[0] == crate and "tests" in it[2]} if kind == "tested-bodies" else set()
     folders = sorted({low for it in {crate, *others} for low in below(it, known)})
+    scripts = ("edits", "wrong-bodies", *(("tested", "stored-runs") if kind == "tested-bodies" else ("heads",)))
     found = hashlib.sha256(subprocess.run(["rt", "version"], stdout=subprocess.PIPE, check=True).stdout)
-    for folder in [ROOT + "/gate", *(f"{ROOT}/crates/{it}" for it in folders)]:
-        for path in sorted(pathlib.Path(folder).rglob("*")):
-            if path.is_file() and not {"out", "__pycache__"} & {*path.relative_to(folder).parts} and path.suffix != ".md":
-                found.update(str(path.relative_to(ROOT)).encode() + b"\0" + path.read_bytes() + b"\0")
+    files = [pathlib.Path(ROOT, "gate", f"{it}.py") for it in scripts]
+    for folder in (pathlib.Path(ROOT, "crates", it) for it in folders):
+        files += [it for it in sorted(folder.rglob("*")) if it.is_file() and "out" not in it.relative_to(folder).parts and it.suffix != ".md"]
+    for path in files:
+        found.update(str(path.relative_to(ROOT)).encode() + b"\0" + path.read_bytes() + b"\0")
     return found.hexdigest()
 
 
@@ -268,35 +271,40 @@ def kept_file(kind, crate):
 
 
 def try_new(kinds, wanted, names, known, tested):
-    """Tries the edits of these kinds but those of crates of which all have passed in this state, and keeps which crates' do; counts as `try_all` does."""
+    """Tries the edits of these kinds but those of crates of which all have passed in this state; keeps a crate's state when all of a kind have passed; counts
+    as `try_all` does."""
     its = {"wrong-bodies": {it: len(edits_of(it, names)) for it in wanted}, "tested-bodies": collections.Counter(it[0] for it in tested)}
     states = {(kind, crate): state_of(kind, crate, known, tested) for kind in kinds for crate in its[kind] if not names}
     kept = {it for it, state in states.items() if "--anew" not in sys.argv and kept_file(*it).exists() and kept_file(*it).read_text() == state}
     for kind, crate in sorted(kept):
         print(f"{crate}: {its[kind][crate]} {kind} have passed in this state")
-    left = [it for it in wanted if ("wrong-bodies", it) not in kept]
-    counts, failed = try_all(kinds, left, names, known, [it for it in tested if ("tested-bodies", it[0]) not in kept])
-    for kind, crate in {*states} - kept - failed:
-        kept_file(kind, crate).parent.mkdir(exist_ok=True)
-        kept_file(kind, crate).write_text(states[kind, crate])
+    left = {(kind, crate): count for kind in kinds for crate, count in its[kind].items()}
+
+    def told(kind, crate, is_well):
+        left[kind, crate] -= is_well
+        if not left[kind, crate] and (kind, crate) in states:
+            kept_file(kind, crate).parent.mkdir(exist_ok=True)
+            kept_file(kind, crate).write_text(states[kind, crate])
+
+    others = [it for it in wanted if ("wrong-bodies", it) not in kept]
+    counts = try_all(kinds, others, names, known, [it for it in tested if ("tested-bodies", it[0]) not in kept], told)
     for kind, crate in kept:
         counts[kind][0] += its[kind][crate]
     return counts
 
 
-def try_all(kinds, wanted, names, known, tested):
-    """Tries the edits of these kinds; prints a line for each, and returns how many of each kind passed and failed, and the crates of which one failed."""
-    counts, failed = {kind: [0, 0] for kind in kinds}, set()
+def try_all(kinds, wanted, names, known, tested, told):
+    """Tries the edits of these kinds; prints a line for each, tells of each whether it passed, and counts those of each kind that passed and that failed."""
+    counts = {kind: [0, 0] for kind in kinds}
     with tempfile.TemporaryDirectory(prefix="wrong-bodies-") as room:
         first, others = refused_tasks(wanted, names, known, room) if "wrong-bodies" in kinds else ({}, {})
         among = tested_tasks(tested, room) if "tested-bodies" in kinds else {}
-        for (kind, *_), results in in_lanes(first | among | others):
+        for (kind, crate, *_), results in in_lanes(first | among | others):
             for is_well, line in results if kind in kinds else ():
                 print(line, flush=True)
                 counts[kind][not is_well] += 1
-                if not is_well:
-                    failed.add((kind, (re.search(r"(\w+)/\w+ isn't tried$", line) or re.match(r"(\w+)/", line))[1]))
-    return counts, failed
+                told(kind, crate, is_well)
+    return counts
 
 
 def main():
