@@ -21,7 +21,7 @@ use Rattle.rsc_engine.specs.FirstsLayout.{OrdersOne, OrdersSome}
 use Rattle.rsc_engine.proofs.FirstsLayoutLemmas.{OrdersOne-is, OrdersSome-last, OrdersSome-more}
 use Rattle.rsc_engine.specs.OrderLayout.{Orders}
 use Rattle.rsc_engine.proofs.LinksLayoutLemmas.{Realizes-between, Realizes-capture, choice_to, choice_first, choice_next}
-use Rattle.rsc_engine.proofs.BuilderLemmas.{Adds-one, Adds-both, Adds-is, grown}
+use Rattle.rsc_engine.proofs.CompileLemmas.{Adds-one, Adds-both, Adds-is, grown}
 use Rattle.rsc_engine.specs.BeginsLayout.{IsWhole}
 use Rattle.rsc_engine.proofs.GroupEndsLemmas.{RecordsFrom-one, RecordsFrom-fork}
 use Rattle.rsc_search.specs.Matches.{Matched}

@@ -1,9 +1,8 @@
 pub mod BacktrackLemmas  -- what is known of the places that were seen, from visit to visit
 pub mod BeginsLayoutLemmas  -- the runs of a program that was built: from the state at which a pattern begins its matches are found, and no others
-pub mod BuilderLemmas  -- how lists of states grow, part by part
-pub mod DfaLemmas  -- a closure as it grows
+pub mod CompileLemmas  -- how lists of states grow, part by part
 pub mod EnclosesLayoutLemmas  -- where the states of parts lead that are made of parts
-pub mod EndsLemmas  -- where no match that began earlier goes on from a row
+pub mod EntriesLemmas  -- where no match that began earlier goes on from a row
 pub mod FirstEndsLemmas  -- the first end of a pattern is an end, depends on what is wanted alone, and is the only one; patterns that have the same one
 pub mod FirstsLayoutLemmas  -- the first way to a pattern's match leads to the pattern's first end
 pub mod FlagsLayoutLemmas  -- flags, by the bits of their blocks
@@ -28,6 +27,7 @@ pub mod RowsLayoutLemmas  -- a row at a position is exact, and so is the next on
 pub mod RunsLemmas  -- runs with a place before them, or in a part of a span; and what a run records is between its first position and its last
 pub mod StartsLayoutLemmas  -- no match begins with a byte that isn't marked
 pub mod StepsLayoutLemmas  -- where steps lead; those that come to no place twice, and that there are any number of them if they come to one twice
+pub mod SuccessorLemmas  -- a closure as it grows
 pub mod TablesLayoutLemmas  -- what the table of a DFA says is so, and stays so as it grows
 pub mod TrailLemmas  -- where a trail begins and ends, and what its visits are
 pub mod TrailsLayoutLemmas  -- the stops of a trail, as it grows and goes back

@@ -14,7 +14,7 @@ use Rattle.rsc_engine.proofs.PatternsLemmas.{star-is, star-back, up_to-is, up_to
 use Rattle.rsc_engine.specs.OrderLayout.{Orders}
 use Rattle.rsc_engine.proofs.FirstEndsLemmas.{star-first, star-loops, up_to-first, up_to-loops, counted-first, counted-loops}
 use Rattle.rsc_engine.proofs.OrderLayoutLemmas.{Orders-choice, Orders-star, Orders-plus}
-use Rattle.rsc_engine.proofs.BuilderLemmas.{Adds-one, Adds-both, Adds-is, Adds-written, IsPart, grown, Builds-then, Builds-is}
+use Rattle.rsc_engine.proofs.CompileLemmas.{Adds-one, Adds-both, Adds-is, Adds-written, IsPart, grown, Builds-then, Builds-is}
 
 -- the part or nothing
 pub Builds-optional : (slots : ℕ × ℕ) (old last new : List State) (one id next : ℕ) (often : Bool) (p : Pattern) → Builds slots old last one next p

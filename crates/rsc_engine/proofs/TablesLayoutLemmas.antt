@@ -25,7 +25,7 @@ use Rattle.rsc_search.specs.declared.anchored.Anchored.TheVariants.{No, Yes, Pat
 use Rattle.rsc_engine.specs.RowsLayout.{Machine, machine_of, Alike, IsPlainUnit, IsPlan, IsNeverEntered, IsSuccessor, IsNear, IsRowAt, around, middle}
 use Rattle.rsc_engine.specs.TablesLayout.{column, step_of, IsSoundRow, IsRow, IsLed, LeadsTo, IsStepTo, IsBeyond, IsExact, IsGrown, StandsAt}
 use Rattle.rsc_engine.proofs.LawfulLayoutLemmas.{IsNear-from, Alike-self, Alike-trans}
-use Rattle.rsc_engine.proofs.EndsLemmas.{no_state_row, none_before_row}
+use Rattle.rsc_engine.proofs.EntriesLemmas.{no_state_row, none_before_row}
 use Rattle.rsc_engine.proofs.RowsLayoutLemmas.{first_row, match_here, next_row, last_row}
 
 -- ---- rows stay where they are

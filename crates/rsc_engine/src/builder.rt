@@ -228,7 +228,7 @@ impl<'n> Builder<'n> {
     }
 
     /// The program of the finished patterns and of a last one. If haystacks are text, an iteration leaves out empty matches within
-    /// characters. The first group of a pattern is the whole match, and of the patterns that match from a position the first is preferred.
+    /// characters. Group 0 of a pattern is the whole match, and of the patterns that match from a position the first is preferred.
     ///
     /// # Errors
     ///

@@ -168,7 +168,7 @@ pub fn a_leftmost_end_is_of_the_first_match<W: WordClass>()
         IsFirstEnd (subject_of (search_in W.word_chars program input)) p (λ j. j ≤ input.span.end) found.span.start end) }
 {}
 
-/// Where the captures of a program that records the ends of its matches have room, the two slots of the first group of a match's pattern hold
+/// Where the captures of a program that records the ends of its matches have room, the two slots of group 0 of a match's pattern hold
 /// the match's start and end; so where that pattern has a group, `get_group(0)` is the match's span.
 pub fn the_first_group_is_the_match<W: WordClass>()
     ensures first_start { (program : Compiled W) (input : InputParts) (captures : Captured) (found : Matched) → RecordsEnds W.word_chars program →

@@ -49,7 +49,7 @@ pub fn find_part<W: WordClass + AsciiWordClass>(
     }
 }
 
-/// The first match of a part, with captures whose first two slots hold where it starts and ends; so its first group has its span.
+/// The first match of a part, with captures whose first two slots hold where it starts and ends; so its group 0 has its span.
 pub fn find_with_slots<W: WordClass + AsciiWordClass>(
     alloc: Global,
     word_class: W,
@@ -70,7 +70,7 @@ pub fn find_with_slots<W: WordClass + AsciiWordClass>(
     }
 }
 
-/// The first match of a part, with its first group, which has its span.
+/// The first match of a part, with its group 0, which has its span.
 pub fn find_with_group<W: WordClass + AsciiWordClass>(
     alloc: Global,
     word_class: W,
@@ -122,8 +122,8 @@ pub fn has_match_twice<W: WordClass + AsciiWordClass>(
     }
 }
 
-/// Where the first match ends, by a DFA and by the backtracker: they never differ.
-pub fn first_end_twice<W: WordClass + AsciiWordClass>(
+/// Where the leftmost match ends, by a DFA and by the backtracker: they never differ.
+pub fn leftmost_end_twice<W: WordClass + AsciiWordClass>(
     alloc: Global,
     program: &Program<W>,
     dfa: &mut Dfa<'_, W>,
@@ -304,7 +304,7 @@ pub fn first_in_text<W: WordClass + AsciiWordClass>(
 }
 
 /// A position to which a part goes, by a DFA: the earliest end. It quits before it at a byte above 7F, if an assertion of the part looks at characters.
-pub fn first_end_of_part<W: WordClass + AsciiWordClass>(
+pub fn earliest_end_of_part<W: WordClass + AsciiWordClass>(
     alloc: Global,
     word_class: W,
     part: Part<'_>,

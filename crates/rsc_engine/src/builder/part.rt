@@ -15,9 +15,9 @@ pub struct Part<'n> {
     pub(super) tree: Tree,
     // The names of its groups, in the order in which they open.
     pub(super) names: Vec<Option<&'n str>>,
-    // Whether it can match nothing: so which match a loop over it prefers, as tests of `build` and `loops` show.
+    // Whether it may match no byte: a loop over it is entered by a choice of its own, as tests of `build` and `loops` show.
     pub(super) may_be_empty: bool,
-    // Whether no loop in it is over what can match nothing.
+    // Whether no loop in it is over what may match no byte.
     pub(super) loops_take_bytes: bool,
     ghost emptiness: { may_be_empty ≡ patterns.may_be_empty (pattern_in tree) },
     ghost loops: { loops_take_bytes ≡ ends.loops_take_bytes (pattern_in tree) },

@@ -27,7 +27,7 @@ impl<'n> Builder<'n> {
         self.times(part, 0, Some(1), false)
     }
 
-    /// The part any number of times, preferably often. Of a part that can match nothing it is `(part+)?`, as in the original.
+    /// The part any number of times, preferably often. Of a part that may match no byte it is `(part+)?`, as in the original.
     pub fn star(&self, part: Part<'n>) -> Result<Part<'n>, Error>
         ensures part { IfOk result (λ whole. pattern_of whole ≡ Repeat 0 None true (pattern_of part.entry)) }
         ensures groups { IfOk result (λ whole. groups_of_part whole ≡ groups_of_part part.entry) }

@@ -41,7 +41,7 @@ pub struct Times {
     pub max: Option<usize>,
     /// Preferably often.
     pub is_greedy: bool,
-    /// The part can match nothing: a loop over it is entered by a choice of its own.
+    /// The part may match no byte: a loop over it is entered by a choice of its own.
     pub may_be_empty: bool,
     /// How many groups the part has.
     pub groups: usize,

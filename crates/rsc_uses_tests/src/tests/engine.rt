@@ -59,7 +59,7 @@ fn ends_agree(rt: HostRuntime) -> Result<(), Fail> {
     let mut captures = program.captures(rt.alloc())?;
     let mut dfa = Dfa::new(rt.alloc(), &program, 4);
     let input = Input::new(b"-a b");
-    let ends = engine::first_end_twice(rt.alloc(), &program, &mut dfa, &input, &mut captures)?;
+    let ends = engine::leftmost_end_twice(rt.alloc(), &program, &mut dfa, &input, &mut captures)?;
     assert!(rt; ends == (Some(2), Some(2)));
     Ok(())
 }
@@ -71,7 +71,7 @@ fn answers_are_of_parts(rt: HostRuntime) -> Result<(), Fail> {
     let first = engine::first_of_iteration(rt.alloc(), AsciiWord, whole, b"-a b")?;
     assert!(rt; first == Some((1, 2)));
     let whole = builder.range(b'a', b'z');
-    let end = engine::first_end_of_part(rt.alloc(), AsciiWord, whole, b"-a b")?;
+    let end = engine::earliest_end_of_part(rt.alloc(), AsciiWord, whole, b"-a b")?;
     assert!(rt; end == Answer::End(2));
     let whole = builder.plus(builder.range(b'a', b'z'))?;
     let end = engine::leftmost_end_of_part(rt.alloc(), AsciiWord, whole, b"-ab c")?;

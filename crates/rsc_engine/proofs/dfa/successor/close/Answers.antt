@@ -1,7 +1,7 @@
 use Rattle.std.proofs.Common.{◌<◌, ◌∙◌, sym, length, rules, arith, subst, ℕ}
 use Rattle.std.proofs.lemmas.List.{get_or_read}
 use Rattle.std.proofs.lemmas.Grind.{common_steps}
-use Rattle.rsc_engine.proofs.DfaLemmas.{IsStarted-more, IsSoFar-start, IsSoFar-step, IsClosure-from, AreStates-gathered}
+use Rattle.rsc_engine.proofs.SuccessorLemmas.{IsStarted-more, IsSoFar-start, IsSoFar-step, IsClosure-from, AreStates-gathered}
 use Rattle.rsc_engine.proofs.dfa.successor.close.Goals as goal
 
 pub set-preserved : goal.set-preserved

@@ -1,6 +1,6 @@
 use Rattle.std.proofs.Common.{◌≡◌, ◌+◌, ◌*◌, ◌-◌, not, count_by, length}
 use Rattle.rsc_engine.specs.RowsLayout.{Gathers, machine}
-use Rattle.rsc_engine.proofs.DfaLemmas.{IsStarted, IsSoFar}
+use Rattle.rsc_engine.proofs.SuccessorLemmas.{IsStarted, IsSoFar}
 use Rattle.rsc_engine.proofs.dfa.successor.close.Given as goal
 
 abbrev pub invariant-set : goal.invariant-set

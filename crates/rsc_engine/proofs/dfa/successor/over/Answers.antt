@@ -1,6 +1,6 @@
 use Rattle.std.proofs.Common.{◌<◌, ◌∙◌, length, rules}
 use Rattle.std.proofs.lemmas.List.{get_or_read}
-use Rattle.rsc_engine.proofs.DfaLemmas.{IsOver-more, IsAfterByte-from, AreStates-gathered}
+use Rattle.rsc_engine.proofs.SuccessorLemmas.{IsOver-more, IsAfterByte-from, AreStates-gathered}
 use Rattle.rsc_engine.proofs.dfa.successor.over.Goals as goal
 
 pub closure-preserved : goal.closure-preserved

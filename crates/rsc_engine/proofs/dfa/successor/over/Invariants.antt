@@ -1,6 +1,6 @@
 use Rattle.std.proofs.Common.{◌≡◌, length}
 use Rattle.rsc_engine.specs.RowsLayout.{Gathers, machine}
-use Rattle.rsc_engine.proofs.DfaLemmas.{IsOver}
+use Rattle.rsc_engine.proofs.SuccessorLemmas.{IsOver}
 use Rattle.rsc_engine.proofs.dfa.successor.over.Given as goal
 
 abbrev pub invariant-closure : goal.invariant-closure

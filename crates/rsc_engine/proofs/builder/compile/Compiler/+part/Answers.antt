@@ -4,7 +4,7 @@ use Rattle.std.proofs.lemmas.List.{length-map}
 use Rattle.std.proofs.Math.Seq.{drop-length}
 use Rattle.rsc_engine.specs.Trees.{pattern_in}
 use Rattle.rsc_engine.proofs.TreesLemmas.{pattern-empty, pattern-never, pattern-class, pattern-literal, pattern-range, pattern-assertion, pattern-then, pattern-either}
-use Rattle.rsc_engine.proofs.BuilderLemmas.{Builds-empty, Builds-range, Builds-assert, Builds-then, Builds-either, Builds-group, Builds-one_of, Builds-nothing, drop-last, drop-one}
+use Rattle.rsc_engine.proofs.CompileLemmas.{Builds-empty, Builds-range, Builds-assert, Builds-then, Builds-either, Builds-group, Builds-one_of, Builds-nothing, drop-last, drop-one}
 use Rattle.rsc_engine.proofs.LoopsLemmas.{Builds-optional, Builds-star, Builds-again, Builds-plus, Builds-limited, Builds-unlimited}
 use Rattle.rsc_engine.proofs.builder.compile.Compiler.+part.Goals as goal
 

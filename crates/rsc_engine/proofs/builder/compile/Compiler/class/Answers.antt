@@ -1,6 +1,6 @@
 use Rattle.std.proofs.Common.{◌≡◌, ◌<◌, arith, length, rules}
 use Rattle.rsc_engine.proofs.RefusalsLemmas.{built-weaker}
-use Rattle.rsc_engine.proofs.BuilderLemmas.{Builds-none, Builds-range, Builds-class, drop-one, drop-last}
+use Rattle.rsc_engine.proofs.CompileLemmas.{Builds-none, Builds-range, Builds-class, drop-one, drop-last}
 use Rattle.rsc_engine.proofs.builder.compile.Compiler.class.Goals as goal
 
 pub returns-then-is_empty : goal.returns-then-is_empty

@@ -1,6 +1,6 @@
 use Rattle.std.proofs.Common.{◌≡◌, arith}
 use Rattle.std.proofs.Math.Seq.{drop-length}
-use Rattle.rsc_engine.proofs.BuilderLemmas.{Builds-no_byte, Builds-byte, drop-last}
+use Rattle.rsc_engine.proofs.CompileLemmas.{Builds-no_byte, Builds-byte, drop-last}
 use Rattle.rsc_engine.proofs.builder.compile.Compiler.literal.Goals as goal
 
 pub loop-index-init : goal.loop-index-init

@@ -1,5 +1,5 @@
 use Rattle.rsc_engine.proofs.RefusalsLemmas.{built-weaker}
-use Rattle.rsc_engine.proofs.BuilderLemmas.{Builds-never}
+use Rattle.rsc_engine.proofs.CompileLemmas.{Builds-never}
 use Rattle.rsc_engine.proofs.builder.compile.Compiler.never.Goals as goal
 
 pub returns : goal.returns

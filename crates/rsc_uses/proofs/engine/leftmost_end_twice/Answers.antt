@@ -3,7 +3,7 @@ use Rattle.rsc_nfa.specs.Steps.{place}
 use Rattle.rsc_engine.specs.Searches.{Search, search_in}
 use Rattle.rsc_engine.specs.Preferred.{IsLeftmostFirst, HasNone}
 use Rattle.rsc_engine.specs.Ends.{IsLeftmostEnd}
-use Rattle.rsc_uses.proofs.engine.first_end_twice.Goals as goal
+use Rattle.rsc_uses.proofs.engine.leftmost_end_twice.Goals as goal
 
 -- without a match there is no end
 no_end : (e : Search) (o : Option ℕ) → ((run : List (ℕ × ℕ)) → HasNone e → ¬ (IsLeftmostFirst e run)) → IfSome o (IsLeftmostEnd e) → HasNone e → o ≡ None
