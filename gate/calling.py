@@ -46,7 +46,7 @@ LAWS = """## Laws, and what else can be cited
 
 A law is a public function of `{crate}::laws` that does nothing, and whose contract is the law. A function whose proof needs it calls it at its beginning, as
 `laws::{law}();`: from there on the law is among the facts that the checker
-searches. What the search doesn't find, as often of a law with premises on patterns, a proof file says by hand.
+searches. What the search doesn't find, as often of a law with premises, a proof file says by hand.
 
 A contract or a proof of yours may use all of `Rattle.{crate}.specs`: a name `{module}.{name}` of the table below by
 `ghost use Rattle.{crate}.specs.{module}.{{{name}}};`, and a struct or an enum `TYPE` of `src/FILE.rt` by
@@ -196,9 +196,12 @@ def callers(path, names):
     quoted = "\n\n".join(shown.values())
     folder = f"crates/rsc_uses/proofs/{path.removesuffix('.rt')}"
     proved = [f"`{it}`" for it in shown if (ROOT / folder / it).exists()]
-    files = f"Their proof files are in `{folder}`: {', '.join(proved)}; the others need none." if proved else "None needs a proof file."
+    others = "; the others need none" if len(proved) < len(shown) else ""
+    files = f"Their proof files are in `{folder}`: {', '.join(proved)}{others}." if proved else "None needs a proof file."
     used = imports(path, quoted)
-    own = " To copy one, copy what it names of `Rattle.rsc_uses` too." if "Rattle.rsc_uses." in used else ""
+    own = " To copy one, copy its proof file, and what both name of `Rattle.rsc_uses`, too." if proved or "Rattle.rsc_uses." in used else ""
+    specs = [ROOT / f"crates/rsc_uses/specs/{it}.antt" for it in re.findall(r"use Rattle\.rsc_uses\.specs\.(\w+)\.", used)]
+    defined = "".join(f"\nTheir own definitions, `{it.relative_to(ROOT)}`:\n\n```text\n{without_imports(it)}```\n" for it in specs)
     first = f"From `crates/rsc_uses/src/{path}`, proved from the contracts below alone. {files}{own}"
     loops = [ROOT / folder / it / "Invariants.antt" for it in shown if (ROOT / folder / it / "Invariants.antt").exists()]
     invariants = "".join(f"\nThe invariant of a loop, `{it.relative_to(ROOT)}`:\n\n```text\n{it.read_text(encoding='utf-8')}```\n" for it in loops)
@@ -206,7 +209,12 @@ def callers(path, names):
     answers = [ROOT / folder / it / "Answers.antt" for it in shown if "laws::" in shown[it] and (ROOT / folder / it / "Answers.antt").exists()]
     shortest = min((it.read_text(encoding="utf-8") for it in answers), key=len, default="")
     by_hand = next((f"\nA law is applied by hand in `{it.relative_to(ROOT)}`:\n\n```text\n{shortest}```\n" for it in answers if it.read_text(encoding="utf-8") == shortest), "")
-    return f"{first}\n\n```rust\n{used}\n\n{quoted}\n```\n{invariants}{by_hand}"
+    return f"{first}\n\n```rust\n{used}\n\n{quoted}\n```\n{defined}{invariants}{by_hand}"
+
+
+def without_imports(path):
+    """Returns the definitions of a file of specs/."""
+    return re.sub(r"\A--.*\n(?:use .*\n)*\n*", "", path.read_text(encoding="utf-8"))
 
 
 def imports(path, quoted):
