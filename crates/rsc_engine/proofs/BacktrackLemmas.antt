@@ -11,7 +11,7 @@ use Rattle.rsc_engine.specs.MovesLayout.{IsMove, other_of}
 use Rattle.rsc_engine.specs.WalksLayout.{IsTrail, IsOnward, IsOn, IsFutile, IsSettled, IsDone, IsClosed, IsBarred, IsFirstWay, IsExplored, StandsAfter}
 use Rattle.rsc_engine.specs.declared.moves.Move.{Move}
 use Rattle.rsc_engine.specs.declared.moves.Move.TheVariants.{Fails, Goes, Forks, Accepts}
-use Rattle.rsc_engine.proofs.WalksLayoutLemmas.{IsTrail-more, IsOnward-more, IsMatchRun-more, place-before, place-after, fork_leads, fork_steps, pair_is, none_is_number, same_number, settled_seen, settled_cases, kept_settled, match_drop, barred}
+use Rattle.rsc_engine.proofs.WalksLayoutLemmas.{IsTrail-more, IsOnward-more, IsMatchRun-more, place-before, place-after, fork_leads, fork_steps, first_of_fork, pair_is, none_is_number, same_number, settled_seen, settled_cases, kept_settled, match_drop, barred}
 
 -- ---- the beginning and the end of a walk
 
@@ -296,9 +296,6 @@ preferred-more e from seen run others p t n x fresh accepted = record {
         (once j (b.at + 1 + k) (omega (arith, short)) (omega (arith, h, length-drop (b.at + 1) other)))
 
 -- what a step makes of what is on hand
-some_fork : (a b c d : ℕ) → Some (Fork a b) ≡ Some (Fork c d) → a ≡ c
-some_fork a b c d h = cc
-
 pub StandsAfter-more : (e : Search) (from : ℕ × ℕ) (seen after : ℕ × ℕ → Bool) (run : List (ℕ × ℕ)) (others : List (Option ℕ)) (p : ℕ × ℕ) (step : Move)
     → IsTrail e from run others → IsOnward e from run p → IsExplored e from seen run others (Some p) → IsSeenMore e seen p after → IsMove e p step
     → StandsAfter e from p after (run ++ p ∷ []) (others ++ other_of step ∷ []) step
@@ -327,6 +324,6 @@ StandsAfter-more e from seen after run others p (Forks a b) t n x g m = (
       (λ (first : q.0 ≡ a). inr (inr (ap (λ (r : ℕ × ℕ). Some r) (pair_is q a p.1 first (m.5 q l).1))))
       (λ (second : q.0 ≡ b). inr (inl (ap (λ (c : ℕ). Some c) (sym second), (m.5 q l).1)))
       (m.5 q l).0)
-      (λ q h c d fork. inl (ap (λ (r : ℕ × ℕ). r.0) (sym (some_same (a, p.1) q h)) ∙ some_fork a b c d (sym m.6 ∙ fork))),
+      (λ q h c d fork. inl (ap (λ (r : ℕ × ℕ). r.0) (sym (some_same (a, p.1) q h)) ∙ first_of_fork a b c d (sym m.6 ∙ fork))),
 )
 StandsAfter-more e from seen after run others p Accepts t n x g m = preferred-more e from seen run others p t n x g.fresh m

@@ -74,7 +74,7 @@ Adds-is old new P Q f p = record {
   holds = λ states is. f states (p.holds states is);
 }
 
--- a state is added, then others, and then the state is written anew
+-- a state is added, then others, and then the state is overwritten
 pub Adds-written : (old middle new : List State) (state written : State) (id : ℕ) (P : List State → Type 0) → IsAdded old middle state id
     → Adds middle new P → Adds old (set new id written) (λ states. (slice_get states id ≡ Some written) × P states)
 Adds-written old middle new state written id P a p = record {

@@ -14,7 +14,7 @@ use Rattle.rsc_engine.specs.FlagsLayout.{flag_in, flags_of}
 pub count_is : (count : ℕ) (blocks : List ℕ) → length (flags_of count blocks) ≡ count
 count_is count blocks = length-map-range_with_len (flag_in blocks) 0 count
 
--- and so behind the view
+-- and so in the blocks
 pub length_is : (v : List Bool) (count : ℕ) (blocks : List ℕ) → flags_of count blocks ≡ v → length v ≡ count
 length_is v count blocks e = sym (ap (λ (x : List Bool). length x) e) ∙ count_is count blocks
 

@@ -18,7 +18,7 @@ pub mod NeededLayoutLemmas  -- no match is where no byte of the one range is dir
 pub mod NextMatchesLemmas  -- which match is next, as the search's start moves on
 pub mod NumbersLemmas  -- the numbers of places: the flags that have them, and what they say where a search begins later
 pub mod OrderLayoutLemmas  -- of the ways to a match the first one goes by the first ends of patterns
-pub mod PartsLemmas  -- what is so of parts in order, or of one of them, as the list grows
+pub mod PartsLemmas  -- what holds for parts in order, or for one of them, as the list grows
 pub mod PatternOrderLemmas  -- of the matches from a position that of the pattern with the least number is preferred, and of its ends the first
 pub mod PatternsLemmas  -- patterns that go where others go: bytes, classes and repetitions
 pub mod PreferredLemmas  -- there is at most one preferred match, wherever a search's start is; the leftmost one, and that there is none
@@ -26,7 +26,7 @@ pub mod RefusalsLemmas  -- why there is no program
 pub mod RowsLayoutLemmas  -- a row at a position is exact, and so is the next one
 pub mod RunsLemmas  -- runs with a place before them, or in a part of a span; and what a run records is between its first position and its last
 pub mod StartsLayoutLemmas  -- no match begins with a byte that isn't marked
-pub mod StepsLayoutLemmas  -- where steps lead; those that come to no place twice, and that there are any number of them if they come to one twice
+pub mod StepsLayoutLemmas  -- where steps lead
 pub mod SuccessorLemmas  -- a closure as it grows
 pub mod TablesLayoutLemmas  -- what the table of a DFA says is so, and stays so as it grows
 pub mod TrailLemmas  -- where a trail begins and ends, and what its visits are

@@ -40,7 +40,7 @@ Builds-star slots old last new one id next often p x a =
     (star-loops often p) (optional-same often (Repeat 1 None often p))
     (Builds-optional slots old last new one id next often (Repeat 1 None often p) x a)
 
--- a loop: its fork, its part, and the fork written anew
+-- a loop: its fork, its part, and the fork overwritten
 record LoopsOver (slots : ℕ × ℕ) (low high first again next : ℕ) (often : Bool) (p : Pattern) (all : List State) : Type 0 where
   choice : slice_get all again ≡ Some (choice_of often first next)
   part : Realizes all first again p

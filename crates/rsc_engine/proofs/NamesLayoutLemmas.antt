@@ -158,7 +158,7 @@ up_to-none : (often : Bool) (n : ℕ) (p : Pattern) → has_reversed_range p ≡
 up_to-none often zero p e = refl
 up_to-none often (suc n) p e = optional-same often (Then p (up_to often n p)) ∙ rw (e, up_to-none often n p e) refl
 
--- more of what is so already, or isn't
+-- one more, where some state has it already, or none has
 absorbed : (r q : Bool) → (r ≡ false → q ≡ false) → (r || q) ≡ r
 absorbed true q f = refl
 absorbed false q f = f refl

@@ -102,7 +102,7 @@ pub record Way (states : List State) (x : Subject) (end m s i : ℕ) (last : ℕ
   pub least : IsLeast states x end m (s, i) rest
   pub ends : last_place (s, i) rest ≡ last
 
--- from a fork it goes the first way, or there is none on that way
+-- from a fork it goes the first way, or no way leads on from there
 pub from_fork : (states : List State) (x : Subject) (end m s a b i : ℕ) (rest : List (ℕ × ℕ)) → slice_get states s ≡ Some (Fork a b)
     → IsLeast states x end m (s, i) rest
     → Way states x end m a i (last_place (s, i) rest) ⊎ ((HasWay states x end m a i → ⊥) × Way states x end m b i (last_place (s, i) rest))

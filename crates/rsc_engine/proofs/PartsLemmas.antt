@@ -1,4 +1,4 @@
--- What is so of parts in order, or of one of them, as the list grows.
+-- What holds for parts in order, or for one of them, as the list grows.
 use Rattle.std.proofs.Common.{◌≡◌, ℕ, ◌+◌, ◌<◌, List, [], ◌∷◌, ◌++◌, map, take, length, get_or, ◌&&◌, ◌||◌, Bool, true, false, refl, sym, ap, ◌∙◌}
 use Rattle.std.proofs.lemmas.List.{map_more}
 use Rattle.rsc_engine.specs.Patterns.{Pattern, in_order, one_of, may_be_empty}

@@ -17,7 +17,7 @@ use Rattle.rsc_engine.specs.Refusals.{is_out_of_memory, RunsOut, RepeatsName, Re
 use Rattle.rsc_engine.specs.NamesLayout.{AreSound}
 use Rattle.rsc_engine.proofs.NamesLayoutLemmas.{sound-faultless}
 
--- what is so of a result that is built, where errors stay
+-- what holds for a result that is built, where errors stay
 pub built-weaker : {X : Type 0} (r : Result X Error) (P Q : X → Type 0) → ((x : X) → P x → Q x) → MatchResult r P RunsOut → MatchResult r Q RunsOut
 built-weaker r P Q f x = MatchResult-weaker r x f (λ e y. y)
 
@@ -45,7 +45,7 @@ explicit_repeats limit lists p g q name e = decide (nat_lt limit (2 * (explicit_
         let both = name_repeats (groups_of lists p) p g (name_of lists p g) q name f in
         record { pattern = p; group = g; name = name; its = both.0; lesser = both.1 }
 
--- the fault of a pattern is none of a name
+-- the fault of a pattern isn't that of a name
 pattern_apart : (a b c : Bool) (p q : ℕ) (name : List ℕ)
     → cond a (Some (TooManyPatterns p)) (cond b (Some (MissingGroups p)) (cond c (Some (FirstMustBeUnnamed p)) None)) ≡ Some (Duplicate q name) → ⊥
 pattern_apart true b c p q name e = cc

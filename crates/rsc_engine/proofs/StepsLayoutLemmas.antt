@@ -1,4 +1,4 @@
--- Where steps lead; those that come to no place twice, and that there are any number of them if they come to one twice.
+-- Where steps lead. Steps that come to no place twice; if steps come to a place twice, there are steps of any number.
 use Rattle.std.proofs.Common.{◌≡◌, ℕ, zero, suc, ◌+◌, ◌-◌, ◌<◌, ◌≤◌, ◌⊎◌, inl, inr, ⊎_elim, List, [], ◌∷◌, ◌++◌, length, length-append, slice_get, refl, sym, ap, ◌∙◌, subst, arith, Option, Some, None, MatchOption}
 use Rattle.std.proofs.lemmas.Bool.{cases_eq}
 use Rattle.rsc_nfa.specs.declared.state.State.{State}

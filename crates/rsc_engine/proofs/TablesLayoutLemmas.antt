@@ -126,7 +126,7 @@ map_some : {X : Type 0} → (o : Option X) (P Q : X → Type 0) → ((x : X) →
 map_some None P Q f x = x
 map_some (Some y) P Q f x = f y x
 
--- an entry that says nothing, or what is so
+-- an entry that says nothing, or what holds
 written_so : (o : Option Step) (step : Step) (P : Step → Type 0) → (o ≡ None) ⊎ (o ≡ Some step) → P step → IfSome o P
 written_so None step P w x = tt
 written_so (Some y) step P (inl e) x = absurd (cc)

@@ -11,6 +11,7 @@ use Rattle.rsc_engine.specs.MovesLayout.{IsMove}
 use Rattle.rsc_engine.specs.WalksLayout.{HasFlags, number_in}
 use Rattle.rsc_engine.specs.TrailsLayout.{IsApart, IsLoop, IsTurned}
 use Rattle.rsc_engine.specs.TurnsLayout.{turned_flags}
+use Rattle.rsc_engine.proofs.WalksLayoutLemmas.{first_of_fork}
 use Rattle.rsc_engine.proofs.TurnsLemmas.{IsFree, apart_at, set-three, turned-more}
 
 -- ---- the flags alone
@@ -55,7 +56,7 @@ one_turn v a b c x la lb lc is = ⊎_elim
     third : get_or (set (set v a true) b true) x false ≡ true → get_or (set (set (set v a true) b true) c true) x false ≡ true
     third was = stays_set (set (set v a true) b true) c x was lc_in
 
--- a number that is none of three turns' keeps its flag
+-- a number keeps its flag if no turn sets it
 other_turn : (v : List Bool) (a b c x : ℕ) → x ≢ a → x ≢ b → x ≢ c → get_or (set (set (set v a true) b true) c true) x false ≡ get_or v x false
 other_turn v a b c x no_a no_b no_c =
     get_or-set_other (set (set v a true) b true) c x true false no_c ∙ get_or-set_other (set v a true) b x true false no_b
@@ -207,9 +208,6 @@ fork_apart e fork body range exit first last i l m = (no_body, no_range)
     kinds : (a b s t : ℕ) → Some (ByteRange a b fork) ≡ Some (Fork s t) → ⊥
     kinds a b s t h = absurd (cc)
 
-    firsts : (a b c d : ℕ) → Some (Fork a b) ≡ Some (Fork c d) → a ≡ c
-    firsts a b c d h = cc
-
     no_range : range ≢ fork
     no_range same = kinds first last body exit (sym l.back ∙ ap (λ (s : ℕ). slice_get e.states s) same ∙ is_fork)
 
@@ -217,7 +215,7 @@ fork_apart e fork body range exit first last i l m = (no_body, no_range)
     no_body same = ⊎_elim
         (λ (one : body ≡ range). no_range (sym one ∙ same))
         (λ (h : (rest : ℕ) × (slice_get e.states body ≡ Some (Fork range rest)) × IsApart e.states first last rest).
-        no_range (sym (firsts body exit range h.0 (sym is_fork ∙ ap (λ (s : ℕ). slice_get e.states s) (sym same) ∙ h.1)) ∙ same))
+        no_range (sym (first_of_fork body exit range h.0 (sym is_fork ∙ ap (λ (s : ℕ). slice_get e.states s) (sym same) ∙ h.1)) ∙ same))
         l.leads
 
 -- what a turn after others reads

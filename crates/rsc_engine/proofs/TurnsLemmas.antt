@@ -12,7 +12,7 @@ use Rattle.rsc_engine.specs.WalksLayout.{IsTrail, IsOnward, IsFutile, IsExplored
 use Rattle.rsc_engine.specs.TrailsLayout.{Stop, stops_from, stops_of, IsApart, IsLoop, IsTurned}
 use Rattle.rsc_engine.proofs.TrailsLayoutLemmas.{stops-one, stops-more}
 use Rattle.rsc_engine.proofs.BacktrackLemmas.{StandsAfter-more}
-use Rattle.rsc_engine.proofs.WalksLayoutLemmas.{futile_fork, pair_is}
+use Rattle.rsc_engine.proofs.WalksLayoutLemmas.{futile_fork, pair_is, first_of_fork}
 use Rattle.rsc_engine.proofs.NumbersLemmas.{flagged_more, number_below, one_number, IsLess-flags}
 
 -- ---- moves of a turn
@@ -50,9 +50,6 @@ loop_body e body range rest first last i x there in_states within apart is low h
       here.0),
   (λ a b fork. inl (first_of_fork range rest a b (sym there ∙ fork))),
 )
-  where
-    first_of_fork : (a b c d : ℕ) → Some (Fork a b) ≡ Some (Fork c d) → a ≡ c
-    first_of_fork a b c d h = cc
 
 fork_again : (e : Search) (fork body exit i j : ℕ) → IsMove e (fork, i) (Forks body exit) → IsMove e (fork, j) (Forks body exit)
 fork_again e fork body exit i j m = (

@@ -165,6 +165,9 @@ run-rises e run j k r le l =
 
 -- ---- what a fork's steps are
 
+pub first_of_fork : (a b c d : ℕ) → Some (Fork a b) ≡ Some (Fork c d) → a ≡ c
+first_of_fork a b c d h = cc
+
 pub fork_leads : (e : Search) (p : ℕ × ℕ) (a b : ℕ) → slice_get e.states p.0 ≡ Some (Fork a b) → Leads e p (a, p.1)
 fork_leads e p a b fork = rw fork (inl refl, refl)
 
@@ -244,7 +247,7 @@ closed_none e seen p closed settled run m = ⊎_elim
     (λ (futile : IsFutile e p). futile run m)
     (settled_cases e seen p settled)
 
--- no run leads to a match from a place that is none, and whose steps lead to no place from which one does
+-- no run leads to a match from a place that isn't one, if its steps lead to no place from which a run does
 pub futile_steps : (e : Search) (p : ℕ × ℕ) → accepts e p ≡ false → ((q : ℕ × ℕ) → Leads e p q → IsFutile e q) → IsFutile e p
 futile_steps e p rejected steps run m = ⊎_elim
     (λ (more : 1 < length run).

@@ -22,7 +22,7 @@ pub record RecordsFrom (states : List State) (first : ℕ) : Type 0 where
       slice_get states (last_place p rest).0 ≡ Some (Accept number) →
       (recorded states (p ∷ rest) (2 * number) ≡ Some p.1) × (recorded states (p ∷ rest) (2 * number + 1) ≡ Some (last_place p rest).1)
 
--- of steps from the state `first` to matches of two patterns, those to the lesser pattern's are before the others
+-- steps from the state `first` to a match of the lesser of two patterns are before steps to a match of the other
 pub record PrefersFrom (states : List State) (first : ℕ) : Type 0 where
   pub before : (x : Subject) (end m n : ℕ) (p : ℕ × ℕ) (one other : List (ℕ × ℕ)) → p.0 ≡ first → p.1 ≤ end →
       AreSteps states x end p one → AreSteps states x end p other → slice_get states (last_place p one).0 ≡ Some (Accept m) →

@@ -14,11 +14,11 @@ loops_take_bytes (Either a b) = loops_take_bytes a && loops_take_bytes b
 loops_take_bytes (Repeat min None often a) = not (may_be_empty a) && loops_take_bytes a
 loops_take_bytes (Repeat min (Some max) often a) = loops_take_bytes a
 
--- a wanted position is an end from here: `R` says where what comes leads
+-- `R` leads from here to a wanted position
 abbrev pub HasEndIn : (ℕ → Type 0) → (ℕ → ℕ → Type 0) → ℕ → Type 0
 HasEndIn Wanted R i = (j : ℕ) × R i j × Wanted j
 
--- how often a part may come at most, after it came once
+-- how often a part may still come at most, after it has come once
 abbrev pub limit_after : Option ℕ → Option ℕ
 limit_after None = None
 limit_after (Some max) = Some (max - 1)
@@ -32,15 +32,15 @@ MayRepeat min (Some max) = (0 < min) ⊎ (0 < max)
 abbrev pub CanRepeat : (ℕ → ℕ → Type 0) → ℕ → Option ℕ → (ℕ → Type 0) → ℕ → Type 0
 CanRepeat R min max Wanted i = MayRepeat min max × HasEndIn (HasEndIn Wanted (SomeTimes R (min - 1) (limit_after max))) R i
 
--- the part comes n times, each time to its first end from which the rest leads to a wanted position; and then it comes no more: preferably often, since it
--- can't, or preferably seldom, as soon as it can be left
+-- the part comes n times, each time to its first end from which the rest leads to a wanted position. Then it stops: if it prefers to come often, since it
+-- can't come again; if it prefers to come seldom, at the first wanted position at which it has come often enough
 abbrev pub AreFirstTimes : ((ℕ → Type 0) → ℕ → ℕ → Type 0) → (ℕ → ℕ → Type 0) → Bool → ℕ → ℕ → Option ℕ → (ℕ → Type 0) → ℕ → ℕ → Type 0
 AreFirstTimes First R often zero min max Wanted i j = (min ≡ 0) × (i ≡ j) × Wanted j × (often ≡ true → ¬ (CanRepeat R min max Wanted i))
 AreFirstTimes First R often (suc n) min max Wanted i j =
     MayRepeat min max × (often ≡ false → min ≡ 0 → ¬ (Wanted i))
     × (k : ℕ) × First (HasEndIn Wanted (SomeTimes R (min - 1) (limit_after max))) i k × AreFirstTimes First R often n (min - 1) (limit_after max) Wanted k j
 
--- of the positions to which the pattern goes from i, and which are wanted, j is the first that is tried
+-- j is tried first among the wanted positions to which the pattern goes from i
 abbrev pub IsFirstEnd : Subject → Pattern → (ℕ → Type 0) → ℕ → ℕ → Type 0
 IsFirstEnd x Empty Wanted i j = Goes x Empty i j × Wanted j
 IsFirstEnd x Never Wanted i j = Goes x Never i j × Wanted j

@@ -6,7 +6,7 @@ use Rattle.rsc_nfa.specs.Steps.{recorded}
 use Rattle.rsc_engine.specs.Searches.{Compiled, search_in}
 use Rattle.rsc_engine.specs.Runs.{IsMatchRun, IsMatchOf}
 
--- in every input each run to a match from the state at which matches begin records the match's start and end in the two slots of its pattern's first group
+-- in every input, each run from the start state to a match records the match's start and end in the two slots of its pattern's first group
 pub record RecordsEnds {W : Type 0} (chars : W → ℕ → Bool) (program : Compiled W) : Type 0 where
   pub start : (input : InputParts) (run : List (ℕ × ℕ)) (found : Matched) →
       IsMatchRun (search_in chars program input) (program.start, found.span.start) run → IsMatchOf (search_in chars program input) run found →

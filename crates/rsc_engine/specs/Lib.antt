@@ -2,7 +2,7 @@ pub mod BeginsLayout  -- at which state the matches of a pattern, or of several,
 pub mod EnclosesLayout  -- where the states of a part lead, and in which slots they record
 pub mod Ends  -- where matches end, and what a DFA answers
 pub mod FirstEnds  -- which end of a pattern is preferred
-pub mod FirstsLayout  -- that ways to a pattern's match are few, and which of them is the first
+pub mod FirstsLayout  -- how many ways lead to a pattern's match at most, and which of them is the first
 pub mod FlagsLayout  -- how the code holds flags: 64 to a block
 pub mod GroupEnds  -- the group of the whole match: what runs record in its slots
 pub mod GroupOrder  -- where groups begin and end

@@ -23,8 +23,8 @@ Ends states a zero s i = (slice_get states s ≡ Some (Accept a.pattern)) × (i 
 Ends states a (suc n) s i =
     (i ≤ a.end) × (t : ℕ) × (k : ℕ) × IsStep states a.text.terminator a.text.word_chars a.text.haystack a.end (s, i) (t, k) × Ends states a n t k
 
--- n steps lead from the state s at i to the match: `left` of them from the state `next`, to which the pattern goes; if its loops take bytes, at most as
--- many before them as it costs
+-- of the n steps to the match, `left` begin at the state `next`, at the position to which the pattern goes; if its loops take bytes, at most `cost` steps
+-- come before them
 pub record GoesOn (states : List State) (a : Aim) (next : ℕ) (p : Pattern) (cost n i : ℕ) : Type 0 where
   pub to : ℕ
   pub left : ℕ
@@ -38,7 +38,7 @@ pub record HasEnd (states : List State) (a : Aim) (s i : ℕ) : Type 0 where
   pub steps : ℕ
   pub ends : Ends states a steps s i
 
--- from the state `first` matches are those from the state `next` after the pattern; `cost` says how many steps the pattern takes, by a text's end
+-- matches from the state `first` are those of the pattern and then from the state `next`; `cost` bounds the steps of the pattern, for the end of a text
 pub record Realizes (states : List State) (first next : ℕ) (p : Pattern) : Type 0 where
   pub cost : ℕ → ℕ
   pub sound : (a : Aim) (n i : ℕ) → Ends states a n first i → GoesOn states a next p (cost a.end) n i
@@ -48,13 +48,13 @@ pub record Realizes (states : List State) (first next : ℕ) (p : Pattern) : Typ
 abbrev pub IsIn : ℕ → List State → List State → Type 0
 IsIn n states others = (k : ℕ) → n ≤ k → k < length states → slice_get others k ≡ slice_get states k
 
--- states were added by which something is so in whatever list they are
+-- states were added, and they make something hold in each list that has them
 pub record Adds (old new : List State) (Holds : List State → Type 0) : Type 0 where
   pub longer : length old ≤ length new
   pub kept : (k : ℕ) → k < length old → slice_get new k ≡ slice_get old k
   pub holds : (states : List State) → IsIn (length old) new states → Holds states
 
--- states were added by which a pattern leads from the state `first` to the state `next`, and which record only in slots between the given ones
+-- states were added that lead by the pattern from the state `first` to the state `next`, and record only in slots between the given ones
 abbrev pub Builds : ℕ × ℕ → List State → List State → ℕ → ℕ → Pattern → Type 0
 Builds slots old new first next p =
     Adds old new (λ states. Realizes states first next p × Encloses slots.0 (length old) (length new) first next states

@@ -6,7 +6,7 @@ use Rattle.rsc_nfa.specs.declared.state.State.TheVariants.{ByteRange, Assert, Fo
 use Rattle.rsc_nfa.specs.Classes.{IsOrdered}
 use Rattle.rsc_engine.specs.EnclosesLayout.{Encloses}
 
--- so it is with each state from low on and below high
+-- this holds for each state from low on and below high
 abbrev pub EachOf : (State → Type 0) → ℕ → ℕ → List State → Type 0
 EachOf P low high states = (k : ℕ) (state : State) → low ≤ k → k < high → slice_get states k ≡ Some state → P state
 
@@ -34,7 +34,7 @@ pub record HasReversed (low high : ℕ) (states : List State) : Type 0 where
   pub here : slice_get states state ≡ Some its
   pub reversed : IsOrdered its → ⊥
 
--- these states record in no slot from `most` on, what they record in the first slot of a pair is closed, and they have a reversed range exactly if it is said
+-- these states record in no slot from `most` on, what they record in the first slot of a pair is closed, and they have a reversed range exactly if `reversed`
 pub record Names (most : ℕ) (reversed : Bool) (low high : ℕ) (states : List State) : Type 0 where
   pub slots : EachOf (RecordsInPairs most states) low high states
   pub ordered : reversed ≡ false → EachOf IsOrdered low high states
@@ -55,6 +55,6 @@ pub record AreSound (most count : ℕ) (reversed : Bool) (low high first : ℕ) 
   pub leads : EachOf (LeadsBelow high count) low high states
   pub names : Names most reversed low high states
 
--- the states that were added name what is there of these groups
+-- the added states name slots and patterns of these groups
 abbrev pub AreSoundIn : GroupLists → Bool → List State → List State → ℕ → List State → Type 0
 AreSoundIn groups reversed old new first states = AreSound (2 * all_groups groups) (length groups) reversed (length old) (length new) first states

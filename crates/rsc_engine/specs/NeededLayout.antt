@@ -18,7 +18,7 @@ HasNoPair a b haystack start end = (i : ℕ) → start < i → i < end →
 abbrev pub mark_of : ℕ → Bool → ℕ
 mark_of s after = 2 * s + (if after then 1 else 0)
 
--- what the state leads to is marked, but over bytes of the second range where one of the first is before; and it's no match
+-- each state that it leads to is marked, except over bytes of the second range directly after one of the first; and it's no match
 abbrev pub PassesMarksOn : ℕ × ℕ → ℕ × ℕ → List Bool → Bool → State → Type 0
 PassesMarksOn a b marks after (ByteRange low high next) =
     (x : ℕ) → low ≤ x → x ≤ high → (after ≡ true → ¬ (is_in b x ≡ true)) → IsMarked marks (mark_of next (is_in a x))

@@ -79,7 +79,7 @@ from_start input at = record input { span = record { start = at; end = input.spa
 abbrev pub after : {W : Type 0} → Left W → Matched → Left W
 after left found = record { program = left.program; input = from_start left.input found.span.end; last = Some found.span.end }
 
--- of what is left the match is the next one, in some captures
+-- the match is the next one of what is left, in some captures
 abbrev pub IsNextOf : {W : Type 0} → (W → ℕ → Bool) → Left W → Matched → Type 0
 IsNextOf chars left found = (captures : Captured) × IsNextMatch (search_in chars left.program left.input) left.last captures found
 

@@ -6,7 +6,7 @@ use Rattle.rsc_engine.specs.Patterns.{Pattern, Subject}
 use Rattle.rsc_engine.specs.StepsLayout.{AreSteps, last_place}
 use Rattle.rsc_engine.specs.FirstEnds.{loops_take_bytes, IsFirstEnd}
 
--- of two lists of steps from a place: they go together up to a fork, at which the one goes the first way and the other doesn't
+-- two lists of steps from a place go together up to a fork, at which the one goes the first way and the other doesn't
 abbrev pub IsBefore : List State → ℕ × ℕ → List (ℕ × ℕ) → List (ℕ × ℕ) → Type 0
 IsBefore states p [] other = ⊥
 IsBefore states p (q ∷ one) [] = ⊥
@@ -23,12 +23,12 @@ pub record IsWay (states : List State) (x : Subject) (end m : ℕ) (p : ℕ × �
 abbrev pub HasWay : List State → Subject → ℕ → ℕ → ℕ → ℕ → Type 0
 HasWay states x end m s i = (rest : List (ℕ × ℕ)) × IsWay states x end m (s, i) rest
 
--- these do, and none that do are before them
+-- these steps lead there, and no others that do are before them
 pub record IsLeast (states : List State) (x : Subject) (end m : ℕ) (p : ℕ × ℕ) (rest : List (ℕ × ℕ)) : Type 0 where
   pub way : IsWay states x end m p rest
   pub least : (other : List (ℕ × ℕ)) → IsWay states x end m p other → ¬ (IsBefore states p other rest)
 
--- a pattern goes to its first end from which steps from the state `next` lead to a match, and of these the first lead to the last of these places
+-- a pattern goes to its first end from which steps from the state `next` lead to a match; the first of these steps lead to the place `last`
 pub record GoesFirst (states : List State) (x : Subject) (end m next : ℕ) (p : Pattern) (i : ℕ) (last : ℕ × ℕ) : Type 0 where
   pub to : ℕ
   pub rest : List (ℕ × ℕ)
@@ -36,7 +36,7 @@ pub record GoesFirst (states : List State) (x : Subject) (end m next : ℕ) (p :
   pub least : IsLeast states x end m (next, to) rest
   pub ends : last_place (next, to) rest ≡ last
 
--- of the steps from the state `first` to a match the first go by the pattern's first end, if its loops take bytes
+-- the first steps from the state `first` to a match go by the pattern's first end, if its loops take bytes
 pub record Orders (states : List State) (first next : ℕ) (p : Pattern) : Type 0 where
   pub goes : loops_take_bytes p ≡ true → (x : Subject) (end m i : ℕ) (rest : List (ℕ × ℕ)) → IsLeast states x end m (first, i) rest →
       GoesFirst states x end m next p i (last_place (first, i) rest)

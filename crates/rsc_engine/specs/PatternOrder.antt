@@ -9,14 +9,14 @@ use Rattle.rsc_engine.specs.Preferred.{IsPreferredTo, IsPreferred}
 use Rattle.rsc_engine.specs.Patterns.{Pattern, subject_of}
 use Rattle.rsc_engine.specs.FirstEnds.{loops_take_bytes, IsFirstEnd}
 
--- in every input, of runs from the state at which matches begin, at one position, to matches of two patterns, that of the lesser pattern is preferred
+-- in every input, a run to a match of a lesser pattern is preferred to one from the same position to a match of another; both begin in the start state
 pub record PrefersLesser {W : Type 0} (chars : W → ℕ → Bool) (program : Compiled W) : Type 0 where
   pub lesser : (input : InputParts) (one other : List (ℕ × ℕ)) (found beaten : Matched) →
       IsMatchRun (search_in chars program input) (program.start, found.span.start) one → IsMatchOf (search_in chars program input) one found →
       IsMatchRun (search_in chars program input) (program.start, found.span.start) other → IsMatchOf (search_in chars program input) other beaten →
       found.pattern < beaten.pattern → IsPreferredTo (search_in chars program input) one other
 
--- in every input a preferred run is of a match that ends at the first end of its pattern in the span, if the pattern's loops take bytes
+-- in every input, the match of a preferred run ends at the first end of its pattern in the span, if the pattern's loops take bytes
 pub record PrefersFirstEnds {W : Type 0} (chars : W → ℕ → Bool) (program : Compiled W) (patterns : List Pattern) : Type 0 where
   pub first : (input : InputParts) (run : List (ℕ × ℕ)) (found : Matched) (p : Pattern) →
       IsPreferred (search_in chars program input) (program.start, (place run 0).1) run → IsMatchOf (search_in chars program input) run found →

@@ -25,7 +25,7 @@ pub record IsPreferredTo (e : Search) (one other : List (ℕ × ℕ)) : Type 0 w
   pub first : (place one (at + 1)).0 ≡ a
   pub apart : (place other (at + 1)).0 ≢ a
 
--- of the runs from a place to a match that come to no place twice, none is preferred to it
+-- no run is preferred to it, among the runs from a place to a match that come to no place twice
 pub record IsPreferred (e : Search) (from : ℕ × ℕ) (run : List (ℕ × ℕ)) : Type 0 where
   pub is_match : IsMatchRun e from run
   pub once : IsOnce run

@@ -17,7 +17,7 @@ use Rattle.rsc_engine.specs.Searches.{Search, Compiled}
 use Rattle.rsc_engine.specs.Runs.{is_accepting}
 use Rattle.rsc_engine.specs.Ends.{IsMatchEnd}
 
--- what of a search is the program's
+-- the part of a search that comes from the program
 pub record Machine : Type 0 where
   pub states : List State
   pub terminator : ℕ
@@ -82,13 +82,13 @@ first_unless No s = Some s
 first_unless Yes s = None
 first_unless (Pattern p) s = None
 
--- the states after the second byte: those to which the list leads over it, and the first unless the search is anchored
+-- the states after the second byte: the states to which the list leads over it, and the start state unless the search is anchored
 pub record IsAfterByte (m : Machine) (mode : Anchored) (near : List ℕ) (at : ℕ) (closure next : List ℕ) : Type 0 where
   pub only : (u : ℕ) → Contains next u → IsMoved m near at closure u ⊎ (first_unless mode m.first ≡ Some u)
   pub moved : (u : ℕ) → IsMoved m near at closure u → Contains next u
   pub first : (u : ℕ) → first_unless mode m.first ≡ Some u → Contains next u
 
--- what the bytes on both sides make of a set: whether a match ends between them, and if none does the states after the second byte
+-- what the bytes on both sides make of a set: whether a match ends between them; if not, the states after the second byte
 pub record IsSuccessor (m : Machine) (mode : Anchored) (near : List ℕ) (at : ℕ) (set : List ℕ) (found : Bool) (after : List ℕ) : Type 0 where
   pub closure : List ℕ
   pub is_closure : IsClosure m near at set closure

@@ -8,7 +8,7 @@ use Rattle.rsc_nfa.specs.declared.state.State.TheVariants.{ByteRange, Assert, Fo
 abbrev pub IsMarked : List Bool → ℕ → Type 0
 IsMarked marks n = slice_index_or marks n false ≡ true
 
--- each state to which the state leads without a byte is marked, each byte over which it leads is, and it's no match
+-- each state to which it leads without a byte is marked, and so is each byte over which it leads; and it's no match
 abbrev pub IsOpened : List Bool → List Bool → State → Type 0
 IsOpened states bytes (ByteRange a b next) = (x : ℕ) → a ≤ x → x ≤ b → IsMarked bytes x
 IsOpened states bytes (Assert l next) = IsMarked states next

@@ -72,7 +72,7 @@ IsMade m classes old new row unit Matches = IsStepTo m classes old new row unit 
 IsMade m classes old new row unit (Goes next) = IsStepTo m classes old new row unit (Goes next)
 IsMade m classes old new row unit Quits = IsBeyond m unit
 
--- each row is of states, and each entry says what is so
+-- each row is of states, and each entry says what holds
 pub record IsExact (m : Machine) (classes : List ℕ) (width : ℕ) (rows : List Row) (leads : List Lead) : Type 0 where
   pub sound : All (IsSoundRow m) rows
   pub room : length rows * width ≤ length leads

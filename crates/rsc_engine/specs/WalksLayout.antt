@@ -79,7 +79,7 @@ StandsAfter e from p seen run others Accepts = IsPreferred e from run
 -- ---- the flags of places: a block has those of a state at 64 positions side by side; those of the last positions come first, so that they stay where they
 -- are as a search's start moves on
 
--- that many are enough for a flag for each state and each position of the span
+-- n flags are enough for each state and each position of the span
 abbrev pub AreEnough : Search → ℕ → Type 0
 AreEnough e n = 64 * (((e.end - e.start) / 64 + 1) * length e.states) ≤ n
 

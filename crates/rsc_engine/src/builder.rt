@@ -193,8 +193,8 @@ impl<'n> Builder<'n> {
         })
     }
 
-    /// The part as a group. The groups of a pattern are numbered from 1 in the order in which they open: each before those in it, and those of
-    /// a part before those of the next one.
+    /// The part as a group. The groups of a pattern are numbered from 1 in the order in which they open: a group comes before the groups within it, and
+    /// the groups of a part before those of the next part.
     pub fn group(&self, name: Option<&'n str>, part: Part<'n>) -> Result<Part<'n>, Error>
         ensures part { IfOk result (λ group. pattern_of group ≡ pattern_of part.entry) }
         ensures groups { IfOk result (λ group. groups_of_part group ≡ groups_in (name.entry ∷ []) ++ groups_of_part part.entry) }
@@ -232,8 +232,8 @@ impl<'n> Builder<'n> {
     ///
     /// # Errors
     ///
-    /// `Names` if a pattern has a name twice; if none has, `Faulty` if a range's first byte is above its last, unless its part is repeated at
-    /// most 0 times. Before that may come out of memory, or `TooLarge`, which is meant for more states, patterns or groups than there are numbers for.
+    /// `Names` if a pattern has a name twice; otherwise `Faulty` if a range's first byte is above its last, unless its part is repeated at most 0 times.
+    /// Out of memory may come before both, and so may `TooLarge`, which is meant for more states, patterns or groups than there are numbers for.
     pub fn build<W: WordClass>(
         self,
         word_class: W,

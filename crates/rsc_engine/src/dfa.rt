@@ -142,7 +142,7 @@ impl<'p, W: WordClass + AsciiWordClass> Dfa<'p, W> {
         needed.are_missing(self.plan.program, input)
     }
 
-    /// The least position at which a match ends that begins where one may, in the span of the input.
+    /// The least position in the input's span at which a match ends, among the matches that begin where one may.
     ///
     /// # Errors
     ///
@@ -204,8 +204,8 @@ impl<'p, W: WordClass + AsciiWordClass> Dfa<'p, W> {
         }
     }
 
-    /// The leftmost-first match in an input's span, as [`find`](crate::find) answers it. Where there is none, the DFA mostly says so, and the
-    /// backtracker isn't asked.
+    /// The leftmost-first match in an input's span, as [`find`](crate::find) answers it. If there is no match, the DFA mostly finds that out without the
+    /// backtracker.
     ///
     /// # Errors
     ///

@@ -101,9 +101,9 @@ impl<'p, 'h, W: WordClass + AsciiWordClass> Matches<'p, 'h, W> {
         }
     }
 
-    /// The next match, whose groups are in the captures afterwards; without one, and after an error, no slot is set. As in the original,
-    /// a match is left out that is empty and where the last one ended; and if the program's haystacks are text, one that is empty and
-    /// within a character. After the last one it is `None` for good, but for an error.
+    /// The next match, whose groups are in the captures afterwards; without one, and after an error, no slot is set. As in the original, an empty match
+    /// where the last one ended is left out, and if the program's haystacks are text, an empty match within a character. After the last match each
+    /// call returns `None`, or an error.
     ///
     /// # Errors
     ///
@@ -264,7 +264,7 @@ impl<'p, 'h, W: WordClass + AsciiWordClass> Rest<'p, 'h, W> {
         self.program.is_utf8() && found.is_empty() && !self.input.is_char_boundary(found.end())
     }
 
-    // Where the search goes on after an empty match within a character: as in the original, nowhere if it's anchored.
+    // Where the search goes on after an empty match within a character. As in the original, an anchored one ends there.
     fn after_split(&self, end: usize) -> usize
         requires { end ≤ self.now.input.span.end }
         ensures on { end < result }
@@ -280,8 +280,8 @@ impl<'p, 'h, W: WordClass + AsciiWordClass> Rest<'p, 'h, W> {
     }
 }
 
-// A position before which no match begins; `None` only if none begins where one may. If the last match was far, the DFA tells; if that is out
-// of memory, the backtracker looks from the start on.
+// A position before which no match begins; `None` only if none begins where one may. After a far match the DFA tells the position; if it is out of
+// memory, the backtracker looks from the start on.
 fn begin_of<W: WordClass + AsciiWordClass>(
     dfa: &mut Dfa<'_, W>,
     is_far: bool,

@@ -48,7 +48,7 @@ pub fn offsets_are_within_the_match()
         slice_index_or captures.offsets slot None ≡ Some i → (found.span.start ≤ i) × (i ≤ found.span.end) }
 {}
 
-/// What the first match of a program of patterns is: a match of one of them, before which none begins. Without a first match they have none.
+/// What the first match of a program of patterns is: a match of one of them, and no match of theirs begins earlier. Without a first match they have none.
 pub fn a_first_match_is_of_a_pattern<W: WordClass>()
     ensures some { (program : Compiled W) (patterns : List Pattern) (input : InputParts) (captures : Captured) (found : Matched) →
         Recognizes W.word_chars program patterns → IsFirstMatch (search_in W.word_chars program input) captures found →
@@ -61,8 +61,8 @@ pub fn a_first_match_is_of_a_pattern<W: WordClass>()
         MayBegin (search_in W.word_chars program input) other.span.start → ¬ (IsMatchIn patterns (search_in W.word_chars program input) other) }
 {}
 
-/// What the next match of a program of patterns is: a match of one of them. Where one of theirs begins earlier and might be the next, the preferred
-/// match from there is left out; so it is with each of theirs that is left when the iteration is over.
+/// What the next match of a program of patterns is: a match of one of them. From an earlier position where one might begin, the preferred match is left out:
+/// it is empty, and where the last one ended or within a character. The same holds for each such position when the iteration is over.
 pub fn a_next_match_is_of_a_pattern<W: WordClass>()
     ensures some { (program : Compiled W) (patterns : List Pattern) (input : InputParts) (last : Option ℕ) (captures : Captured) (found : Matched) →
         Recognizes W.word_chars program patterns → IsNextMatch (search_in W.word_chars program input) last captures found →
@@ -78,8 +78,8 @@ pub fn a_next_match_is_of_a_pattern<W: WordClass>()
         IsRepeated (search_in W.word_chars program input) last other.span.start ⊎ IsSplitAt (search_in W.word_chars program input) other.span.start }
 {}
 
-/// Which of several patterns matches, where more than one that the input allows does in the span from the start of a first or next match: the one
-/// with the least number.
+/// Which of several patterns a first or next match is of: the one with the least number, if more than one that the input allows matches from its start
+/// within the span.
 pub fn a_match_is_of_the_least_pattern<W: WordClass>()
     ensures first { (program : Compiled W) (patterns : List Pattern) (input : InputParts) (captures : Captured) (found other : Matched) →
         Recognizes W.word_chars program patterns → PrefersLesser W.word_chars program →
@@ -96,8 +96,8 @@ pub fn patterns_take_bytes()
     ensures { (x : Subject) (p : Pattern) (i j : ℕ) → may_be_empty p ≡ false → Goes x p i j → i < j }
 {}
 
-/// Tokens: in an anchored search for patterns of which none may be empty, the next match begins where the search does, which is where the last one ended.
-/// If there is no next one, no pattern that the input allows goes on from there, anchored or not.
+/// Tokens: if the search is anchored and no pattern may be empty, the next match begins where the search does, which is where the last one ended. If there
+/// is no next one, no pattern that the input allows matches from there, anchored or not.
 pub fn anchored_matches_are_side_by_side<W: WordClass>()
     ensures next { (program : Compiled W) (patterns : List Pattern) (input : InputParts) (last : Option ℕ) (captures : Captured) (found : Matched) →
         Recognizes W.word_chars program patterns → list_any may_be_empty patterns ≡ false → ¬ (input.anchored ≡ No) →
@@ -107,8 +107,8 @@ pub fn anchored_matches_are_side_by_side<W: WordClass>()
         other.span.start ≡ input.span.start → ¬ (IsMatchIn patterns (search_in W.word_chars program input) other) }
 {}
 
-/// In a search that isn't anchored, for patterns of which none may be empty, an iteration leaves out no match but those that begin within another: between
-/// the last match and the next one none begins, and when the iteration is over none does.
+/// If the search isn't anchored and no pattern may be empty, an iteration leaves out only matches that begin within another: no match begins between the
+/// last one and the next one, and none is left when the iteration is over.
 pub fn no_match_is_left_out<W: WordClass>()
     ensures next { (program : Compiled W) (patterns : List Pattern) (input : InputParts) (last : Option ℕ) (captures : Captured) (found other : Matched) →
         Recognizes W.word_chars program patterns → list_any may_be_empty patterns ≡ false → input.anchored ≡ No →
@@ -119,7 +119,7 @@ pub fn no_match_is_left_out<W: WordClass>()
         IsOver (search_in W.word_chars program input) last → ¬ (IsMatchIn patterns (search_in W.word_chars program input) other) }
 {}
 
-/// What the earliest end of a program of patterns is: the end of a match of one of them, before which no match of theirs ends that begins where one may.
+/// What the earliest end of a program of patterns is: the end of a match of one of them. No match of theirs that begins where one may ends earlier.
 pub fn an_earliest_end_is_of_a_pattern<W: WordClass>()
     ensures some { (program : Compiled W) (patterns : List Pattern) (input : InputParts) (end : ℕ) →
         Recognizes W.word_chars program patterns → IsEarliestEnd (search_in W.word_chars program input) end →
@@ -131,7 +131,7 @@ pub fn an_earliest_end_is_of_a_pattern<W: WordClass>()
         ¬ (IsMatchIn patterns (search_in W.word_chars program input) other) }
 {}
 
-/// What the leftmost end of a program of patterns is: the end of a match of one of them, before which none begins.
+/// What the leftmost end of a program of patterns is: the end of a match of one of them. No match of theirs begins earlier.
 pub fn a_leftmost_end_is_of_a_pattern<W: WordClass>()
     ensures { (program : Compiled W) (patterns : List Pattern) (input : InputParts) (end : ℕ) →
         Recognizes W.word_chars program patterns → IsLeftmostEnd (search_in W.word_chars program input) end →
@@ -140,8 +140,8 @@ pub fn a_leftmost_end_is_of_a_pattern<W: WordClass>()
         × ((other : Matched) → other.span.start < found.span.start → ¬ (IsMatchIn patterns (search_in W.word_chars program input) other)) }
 {}
 
-/// Where a match ends: at the first end of its pattern that is in the span, in the order in which its ways are tried, if each part that is
-/// repeated without a limit takes a byte. There is at most one first end.
+/// Where a match ends if each part that is repeated without a limit takes a byte: at the first end of its pattern in the span, in the order in which ends
+/// are tried. There is at most one first end.
 pub fn a_match_ends_at_its_first_end<W: WordClass>()
     ensures first { (program : Compiled W) (patterns : List Pattern) (input : InputParts) (captures : Captured) (found : Matched) (p : Pattern) →
         PrefersFirstEnds W.word_chars program patterns → IsFirstMatch (search_in W.word_chars program input) captures found →
@@ -155,7 +155,7 @@ pub fn a_match_ends_at_its_first_end<W: WordClass>()
     ensures one { (x : Subject) (p : Pattern) (end i j k : ℕ) → IsFirstEnd x p (λ l. l ≤ end) i j → IsFirstEnd x p (λ l. l ≤ end) i k → j ≡ k }
 {}
 
-/// Which match a leftmost end is of: of those that begin first that of the least pattern, to this pattern's first end, if its loops take bytes.
+/// Which match a leftmost end is of: the one of the least pattern, among the matches that begin first. It is this pattern's first end, if its loops take bytes.
 pub fn a_leftmost_end_is_of_the_first_match<W: WordClass>()
     ensures { (program : Compiled W) (patterns : List Pattern) (input : InputParts) (end : ℕ) →
         Recognizes W.word_chars program patterns → PrefersLesser W.word_chars program → PrefersFirstEnds W.word_chars program patterns →
@@ -168,8 +168,8 @@ pub fn a_leftmost_end_is_of_the_first_match<W: WordClass>()
         IsFirstEnd (subject_of (search_in W.word_chars program input)) p (λ j. j ≤ input.span.end) found.span.start end) }
 {}
 
-/// Where the captures of a program that records the ends of its matches have room, the two slots of group 0 of a match's pattern hold
-/// the match's start and end; so where that pattern has a group, `get_group(0)` is the match's span.
+/// The two slots of group 0 of a match's pattern hold the match's start and end, if the captures have room and the program records the ends of its
+/// matches. So `get_group(0)` is the match's span, if that pattern has a group.
 pub fn the_first_group_is_the_match<W: WordClass>()
     ensures first_start { (program : Compiled W) (input : InputParts) (captures : Captured) (found : Matched) → RecordsEnds W.word_chars program →
         IsFirstMatch (search_in W.word_chars program input) captures found → 2 * found.pattern < length captures.offsets →
@@ -191,8 +191,8 @@ pub fn the_first_group_is_the_match<W: WordClass>()
         2 * found.pattern + 1 < length captures.offsets → 0 < group_count captures.groups found.pattern → group_span captures 0 ≡ Some found.span }
 {}
 
-/// Where the first slot of a group is set by a match, its second is set too, at that position or after it; so a group's span is in order, and within
-/// the match. The two slots of a group are a pair: 2p and 2p + 1.
+/// If a match sets the first slot of a group, it sets the second too, to that position or a later one; so a group's span is in order, and within the
+/// match. The two slots of a group are a pair: 2p and 2p + 1.
 pub fn a_group_that_begins_ends<W: WordClass>()
     ensures first { (program : Compiled W) (input : InputParts) (captures : Captured) (found : Matched) (pair i : ℕ) → ClosesGroups W.word_chars program →
         IsFirstMatch (search_in W.word_chars program input) captures found → 2 * pair + 1 < length captures.offsets →

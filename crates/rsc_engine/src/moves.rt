@@ -88,7 +88,7 @@ pub fn move_of<W: WordClass>(
     }
 }
 
-// Whether the state is a range that hasn't the byte at the position, so that no match is reached from there.
+// Whether the state is a range that doesn't have the byte at the position, so that no match is reached from there.
 #[inline(always)]
 fn is_dead<W: WordClass>(program: &Program<W>, input: &Input<'_>, sid: StateID, at: usize) -> bool
     requires { sid < length program.now.automaton.states }

@@ -1,5 +1,5 @@
-//! The numbers of places, by which their flags are found: a block has those of a state at 64 positions side by side, and those of the last positions come
-//! first.
+//! The numbers of places. A place's number says where its flag is: a block has the flags of a state at 64 positions side by side, and the flags of the last
+//! positions come first.
 ghost use Rattle.std.specs.Prelude.{◌≡◌, ◌+◌, ◌*◌, ◌/◌, ◌%◌, ◌<◌, ◌≤◌, IfOk, IfErr};
 ghost use Rattle.rsc_engine.specs.Searches.{search_in, FailsFor};
 ghost use Rattle.rsc_engine.specs.WalksLayout.{AreEnough};
@@ -35,8 +35,7 @@ pub fn first_block(to_end: usize, states: usize, len: usize) -> usize
 ///
 /// # Errors
 ///
-/// `TooLarge` where the span has too many positions for the number of states. Where there are more flags than numbers, but only since blocks are
-/// whole, no memory has that many: out of memory.
+/// `TooLarge` if the span has too many positions for the number of states; out of memory if only whole blocks make more flags than there are numbers.
 pub fn flags_needed<W: WordClass>(program: &Program<W>, input: &Input<'_>) -> Result<usize, Error>
     ensures enough { IfOk result (AreEnough (search_in W.word_chars program.now input.now)) }
     ensures refused { IfErr result (FailsFor (search_in W.word_chars program.now input.now)) }

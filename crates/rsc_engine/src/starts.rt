@@ -20,7 +20,7 @@ pub struct Starts {
     pub marks: Vec<bool>,
     // A mark for each byte.
     pub bytes: Vec<bool>,
-    // Whether each match begins with such a byte. If not, a match may be empty, and begin anywhere.
+    // Whether each match begins with such a byte. If not, a match may be empty and begin anywhere.
     pub known: bool,
 }
 

@@ -17,6 +17,12 @@ use Rattle.rsc_engine.specs.FirstEnds.{IsFirstEnd}
 abbrev pub text : List ℕ → (ℕ → Bool) → Subject
 text haystack chars = record { haystack = haystack; terminator = 10; word_chars = chars }
 
+pub goes_to : (x : Subject) (p : Pattern) (i j end : ℕ) → j ≡ end → Goes x p i j → Goes x p i end
+goes_to x p i j end e goes = subst (λ (k : ℕ). Goes x p i k) e goes
+
+pub ends_to : (x : Subject) (p : Pattern) (Wanted : ℕ → Type 0) (i j end : ℕ) → j ≡ end → IsFirstEnd x p Wanted i j → IsFirstEnd x p Wanted i end
+ends_to x p Wanted i j end e first = subst (λ (k : ℕ). IsFirstEnd x p Wanted i k) e first
+
 its_only : (p q : Pattern) (n : ℕ) → slice_get (p ∷ []) n ≡ Some q → q ≡ p
 its_only p q zero e = cc
 its_only p q (suc n) e = absurd (cc)

@@ -1,9 +1,11 @@
 //! Where a match ends: after a greedy loop over a range the byte isn't in it, and a lazy loop ends at the first mark.
-ghost use Rattle.std.specs.Prelude.{◌≡◌, ◌+◌, ◌<◌, ◌≤◌, ℕ, Some, IfOk, IfSome, IfNone, IsTrue, slice_get};
+ghost use Rattle.std.specs.Prelude.{◌≡◌, ◌+◌, ◌<◌, ◌≤◌, ℕ, [], ◌∷◌, false, Some, None, IfOk, IfSome, IfNone, IsTrue, slice_get};
 ghost use Rattle.rsc_nfa.specs.Steps.{is_between};
+ghost use Rattle.rsc_engine.specs.Patterns.{Class, Literal, Then, Repeat};
+ghost use Rattle.rsc_engine.specs.Parts.{pattern_of};
 
 use crate::engine::find_part;
-use rsc_engine::{Builder, Error};
+use rsc_engine::{Builder, Error, Part};
 use rsc_look::AsciiWord;
 use std::alloc::Global;
 
@@ -29,6 +31,16 @@ pub fn find_run(
     }
 }
 
+/// A quotation mark, any bytes up to the next one, and that.
+pub fn quotation<'n>(alloc: Global) -> Result<Part<'n>, Error>
+    ensures { IfOk result (λ part. pattern_of part ≡ Then (Literal (34 ∷ [])) (Then (Repeat 0 None false (Class ((0, 255) ∷ []))) (Literal (34 ∷ [])))) }
+{
+    let builder = Builder::new(alloc);
+    let bytes = builder.star_lazy(builder.range(0, 255))?;
+    let rest = builder.then(bytes, builder.literal(b"\"")?)?;
+    builder.then(builder.literal(b"\"")?, rest)
+}
+
 /// The first quoted part of a text: from a quotation mark to after the next one.
 pub fn find_quoted(alloc: Global, haystack: &[u8]) -> Result<Option<(usize, usize)>, Error>
     ensures earlier { IfOk result (λ found. IfSome found (λ ends. (k : ℕ) → k < ends.0 → ¬ (slice_get haystack.now k ≡ Some 34))) }
@@ -37,11 +49,8 @@ pub fn find_quoted(alloc: Global, haystack: &[u8]) -> Result<Option<(usize, usiz
     ensures closes { IfOk result (λ found. IfSome found (λ ends. (at : ℕ) × (ends.0 < at) × (slice_get haystack.now at ≡ Some 34) × (ends.1 ≡ at + 1)
         × ((k : ℕ) → ends.0 < k → k < at → ¬ (slice_get haystack.now k ≡ Some 34)))) }
 {
-    let builder = Builder::new(alloc);
-    let quoted = builder.star_lazy(builder.range(0, 255))?;
-    let rest = builder.then(quoted, builder.literal(b"\"")?)?;
-    let all = builder.then(builder.literal(b"\"")?, rest)?;
-    match find_part(alloc, AsciiWord, all, haystack)? {
+    let part = quotation(alloc)?;
+    match find_part(alloc, AsciiWord, part, haystack)? {
         None => Ok(None),
         Some(ends) => Ok(Some(ends)),
     }

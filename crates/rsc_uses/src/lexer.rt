@@ -1,5 +1,5 @@
 //! A lexer: the tokens of a text, which an engine finds side by side, and the bytes of a group.
-ghost use Rattle.std.specs.Prelude.{◌≡◌, ◌≤◌, ◌⊎◌, ◌++◌, [], ◌∷◌, true, false, ℕ, None, length, slice_range, IfOk, IfSome, IfNone};
+ghost use Rattle.std.specs.Prelude.{◌≡◌, ◌≤◌, ◌⊎◌, ◌↔◌, ◌++◌, [], ◌∷◌, true, false, IsTrue, ℕ, None, is_none, length, map, slice_range, IfOk, IfSome, IfNone};
 ghost use Rattle.rsc_engine.specs.FirstEnds.{loops_take_bytes};
 ghost use Rattle.std.specs.List.{list_any};
 ghost use Rattle.rsc_primitives.specs.Utf8.{is_word_byte};
@@ -35,6 +35,33 @@ pub fn tokens_of<'n, W: WordClass + AsciiWordClass>(
     let input = Input::new(text).anchored(Anchored::Yes);
     let tokens = all_matches(alloc, &program, input)?;
     Ok(tokens)
+}
+
+/// The tokens of a text in the patterns of a list and of a last part, as `tokens_of` finds them; `None` exactly if one of them may be empty.
+pub fn tokens_of_parts<'n, W: WordClass + AsciiWordClass>(
+    alloc: Global,
+    word_class: W,
+    parts: Vec<Part<'n>>,
+    last: Part<'n>,
+    text: &[u8],
+) -> Result<Option<Vec<Match>>, Error>
+    ensures some { IfOk result (λ found. IfSome found (λ tokens.
+        AreLexed (record { haystack = text.now; terminator = 10; word_chars = W.word_chars word_class })
+        (map pattern_of parts.entry.items ++ pattern_of last.entry ∷ []) 0 tokens.items)) }
+    ensures none { IfOk result (λ found. IsTrue (is_none found) ↔
+        IsTrue (list_any may_be_empty (map pattern_of parts.entry.items ++ pattern_of last.entry ∷ []))) }
+{
+    let mut builder = Builder::new(alloc);
+    for part in parts {
+        if part.may_be_empty() {
+            return Ok(None);
+        }
+        builder.pattern(part)?;
+    }
+    if last.may_be_empty() {
+        return Ok(None);
+    }
+    Ok(Some(tokens_of(alloc, word_class, builder, last, text)?))
 }
 
 /// The tokens of a text in three kinds: runs of small letters, runs of digits, and single bytes of any kind.

@@ -23,17 +23,16 @@ use std::alloc::Global;
 #[derive(Drop)]
 pub struct Compiler {
     pub states: Vec<State>,
-    // The number of the pattern's groups that open before the end of the next part. No clause speaks of it: it decides which slots a group has, as tests of
-    // `build` show.
+    // How many of the pattern's groups open before the next part ends. It decides which slots a group has; no clause says so, but tests of `build` do.
     pub left: usize,
 }
 
 /// The slots of the groups of a pattern.
 #[derive(Drop)]
 pub struct Slots {
-    // That of the end of the whole match, which no part records in.
+    // The slot of the end of the whole match, in which no part records.
     pub end: SmallIndex,
-    // Those of each group, that of the whole match first.
+    // The slots of each group, those of the whole match first.
     pub groups: Vec<(SmallIndex, SmallIndex)>,
     // How many slots the groups of all patterns have.
     pub limit: usize,
@@ -51,7 +50,7 @@ impl Slots {
         let Some((start, end)) = self.groups.get(group).copied() else {
             return Err(Error::TooLarge);
         };
-        // No test fails: a group's slots are a pair, they come after those of the whole match, and the group info counts them. They tell the prover so.
+        // These conditions never hold. They tell the prover that a group's slots are a pair, come after those of the whole match, and are below the limit.
         if start.as_usize() % 2 != 0 || end.as_usize() != start.as_usize() + 1 {
             return Err(Error::TooLarge);
         }
@@ -68,9 +67,9 @@ pub fn compile(
     info: &GroupInfo,
     patterns: &[Part<'_>],
 ) -> Result<(Vec<State>, StateID), Error>
+    requires { length patterns.now ≤ length info.now }
     ensures { MatchResult result (λ made. Begins made.0.items made.1 (IsOfSome 0 (map pattern_of patterns.now))
-        × (length patterns.now ≤ length info.now →
-        AreSoundIn info.now (has_a_reversed_range (map pattern_of patterns.now)) [] made.0.items made.1 made.0.items)
+        × AreSoundIn info.now (has_a_reversed_range (map pattern_of patterns.now)) [] made.0.items made.1 made.0.items
         × OrdersSome made.0.items made.1 0 (map pattern_of patterns.now)) RunsOut }
 {
     let mut compiler = Compiler {

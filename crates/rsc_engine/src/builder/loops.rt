@@ -76,7 +76,7 @@ impl Compiler {
     {
         let left = self.left;
         let mut first = next;
-        // The proof names how often the part is done.
+        // The proof needs a name for the number of copies so far.
         for done in 0..count {
             self.left = left;
             first = self.part(slots, sub, first)?;

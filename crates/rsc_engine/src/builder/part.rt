@@ -8,16 +8,15 @@ use super::tree::Tree;
 
 /// A part of a pattern.
 ///
-/// Parts nest as the calls that made them, but for `literal`, `class`, `concat` and `one_of`, which stay flat: to build or drop a part takes stack for each
-/// level.
+/// Parts nest as the calls that made them, except that `literal`, `class`, `concat` and `one_of` stay flat. To build or drop a part takes stack for each level.
 #[derive(Drop)]
 pub struct Part<'n> {
     pub(super) tree: Tree,
     // The names of its groups, in the order in which they open.
     pub(super) names: Vec<Option<&'n str>>,
-    // Whether it may match no byte: a loop over it is entered by a choice of its own, as tests of `build` and `loops` show.
+    // Whether it may match no byte. A loop over such a part is entered by a choice of its own, as tests of `build` and `loops` show.
     pub(super) may_be_empty: bool,
-    // Whether no loop in it is over what may match no byte.
+    // Whether no loop in it repeats a part that may match no byte.
     pub(super) loops_take_bytes: bool,
     ghost emptiness: { may_be_empty ≡ patterns.may_be_empty (pattern_in tree) },
     ghost loops: { loops_take_bytes ≡ ends.loops_take_bytes (pattern_in tree) },
@@ -28,7 +27,7 @@ impl<'n> Part<'n> {
     ghost use Rattle.rsc_engine.specs.Patterns.{may_be_empty};
     ghost use Rattle.rsc_engine.specs.FirstEnds.{loops_take_bytes};
 
-    /// Whether the part may match no byte, as it is built: if not, each match of it has a byte. An assertion may, and so may what is repeated from 0 times on.
+    /// Whether the part may match no byte, as it is built; if not, each match of it has a byte. Assertions may, and so may a part that is repeated 0 times.
     pub fn may_be_empty(&self) -> bool
         ensures { result ≡ may_be_empty (pattern_of self.now) }
     {

@@ -31,8 +31,8 @@ pub enum Tree {
     Group(usize, Box<Tree>),
 }
 
-/// How a part is repeated, and what its states need to know of it. No clause speaks of `may_be_empty` and `groups` here: the one decides which match a loop
-/// prefers that can take no byte, and the other which slots groups have, as tests of `build` and `loops` show.
+/// How a part is repeated, and what its states need to know of it. `may_be_empty` decides which match is preferred by a loop over a part that may take no
+/// byte, and `groups` which slots groups have; no clause says so, but tests of `build` and `loops` do.
 #[derive(Clone, Copy)]
 pub struct Times {
     /// At least this often.

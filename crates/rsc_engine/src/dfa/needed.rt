@@ -1,9 +1,9 @@
 //! Two neighbouring bytes that each match has: one of a first range, and directly after it one of a second. A haystack without them has no match,
-//! and to look for them takes less time than a table's steps, since 64 bytes are looked at at once.
+//! and to look for them takes less time than a table's steps, since 64 bytes are read at once.
 //!
-//! That each match has them is shown by marks. A state has two: one for runs whose last byte is of the first range, one for all other runs. The
-//! start state has both, and a marked state's steps mark the states that they lead to; but a step over a byte of the second range, directly after
-//! one of the first, marks nothing, since such a run has the two bytes. If no marked state accepts, each match has them.
+//! Marks show that each match has them. A state may have two: one for runs whose last byte is of the first range, one for all other runs. The start
+//! state has both, and the steps of a marked state mark the states that they lead to. A step over a byte of the second range directly after one of the
+//! first marks nothing, since such a run has the two bytes. If no marked state accepts, each match has them.
 ghost use Rattle.std.specs.Prelude.{◌≡◌, ◌+◌, ◌-◌, ◌<◌, ◌≤◌, ℕ, IfSome, true, false, length, slice_get, slice_index, slice_index_or, Some};
 ghost use Rattle.rsc_engine.specs.Searches.{search_in};
 ghost use Rattle.rsc_engine.specs.Preferred.{HasNone};

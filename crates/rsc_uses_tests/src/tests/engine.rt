@@ -170,6 +170,31 @@ fn tokens_stand_side_by_side(rt: HostRuntime) -> Result<(), Fail> {
 }
 
 #[test]
+fn tokens_in_the_patterns_of_a_list(rt: HostRuntime) -> Result<(), Fail> {
+    let builder = Builder::new(rt.alloc());
+    let mut keywords = Vec::new(rt.alloc());
+    for keyword in ["for", "fn"] {
+        keywords.push(builder.literal(keyword.as_bytes())?)?;
+    }
+    let other = builder.range(0, 0xFF);
+    let found = lexer::tokens_of_parts(rt.alloc(), AsciiWord, keywords, other, b"fn-for")?;
+    assert!(rt; found.is_some());
+    if let Some(tokens) = &found {
+        assert!(rt; tokens.len() == 3);
+        for (token, (pattern, end)) in tokens.iter().zip([(1, 2), (2, 3), (0, 6)]) {
+            assert!(rt; token.pattern().as_usize() == pattern && token.end() == end);
+        }
+    }
+
+    let mut parts = Vec::new(rt.alloc());
+    parts.push(builder.empty())?;
+    let other = builder.range(0, 0xFF);
+    let refused = lexer::tokens_of_parts(rt.alloc(), AsciiWord, parts, other, b"fn-for")?;
+    assert!(rt; refused.is_none());
+    Ok(())
+}
+
+#[test]
 fn the_bytes_of_a_group_are_cut_out(rt: HostRuntime) -> Result<(), Fail> {
     let builder = Builder::new(rt.alloc());
     let digits = builder.plus(builder.range(b'0', b'9'))?;

@@ -1,10 +1,9 @@
-use Rattle.std.proofs.Common.{[], ◌∷◌, ◌≤◌, length, sym, subst, arith}
+use Rattle.std.proofs.Common.{[], ◌∷◌, ◌≤◌, length, arith}
 use Rattle.rsc_search.specs.Inputs.{whole}
 use Rattle.rsc_engine.specs.Parts.{pattern_of}
-use Rattle.rsc_engine.specs.Patterns.{Goes, subject_of}
+use Rattle.rsc_engine.specs.Patterns.{subject_of}
 use Rattle.rsc_engine.specs.Searches.{search_in}
-use Rattle.rsc_engine.specs.FirstEnds.{IsFirstEnd}
-use Rattle.rsc_uses.proofs.EngineLemmas.{goes_of, first_end_of, match_of, text}
+use Rattle.rsc_uses.proofs.EngineLemmas.{goes_of, goes_to, first_end_of, ends_to, match_of, text}
 use Rattle.rsc_uses.proofs.engine.leftmost_end_of_part.Goals as goal
 
 pub returns-clause-first : goal.returns-clause-first
@@ -19,18 +18,18 @@ returns-clause-first g c =
     let one = c.a_leftmost_end_is_of_the_first_match.ensures program (p ∷ []) (whole c.args.haystack.now) c.in-Some.end matches
     c.in_ok-program.ensures.prefers firsts ends in (
       one.0.span.start,
-      subst (λ end. Goes (text c.args.haystack.now (chars c.args.word_class)) p one.0.span.start end) one.2
+      goes_to (text c.args.haystack.now (chars c.args.word_class)) p one.0.span.start one.0.span.end c.in-Some.end one.2
           (goes_of chars program c.args.word_class p c.args.haystack.now one.0 matcher one.1),
       λ k j before within goes.
           let least = one.3 _ (match_of chars program c.args.word_class p [] c.args.haystack.now k j matcher within goes) in
           absurd (omega (arith, least, before)),
       λ loops.
-          subst (λ end. IsFirstEnd (text c.args.haystack.now (chars c.args.word_class)) p (λ j. j ≤ length c.args.haystack.now) one.0.span.start end) one.2
+          ends_to (text c.args.haystack.now (chars c.args.word_class)) p (λ j. j ≤ length c.args.haystack.now) one.0.span.start one.0.span.end c.in-Some.end
+          one.2
           (first_end_of chars program c.args.word_class p c.args.haystack.now one.0 matcher one.1
           (λ its.
-          subst (λ end.
-          IsFirstEnd (subject_of (search_in chars program (whole c.args.haystack.now))) p (λ j. j ≤ length c.args.haystack.now) one.0.span.start end)
-          (sym one.2) (one.5 p its loops))),
+          ends_to (subject_of (search_in chars program (whole c.args.haystack.now))) p (λ j. j ≤ length c.args.haystack.now) one.0.span.start c.in-Some.end
+          one.0.span.end (omega (arith, one.2)) (one.5 p its loops))),
     )
 
 pub returns-clause-within : goal.returns-clause-within

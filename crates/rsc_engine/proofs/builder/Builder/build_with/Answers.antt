@@ -1,4 +1,4 @@
-use Rattle.std.proofs.Common.{◌≡◌, ◌∙◌, ◌*◌, ◌≤◌, ◌++◌, [], ◌∷◌, ap, arith, length, map}
+use Rattle.std.proofs.Common.{◌≡◌, ◌∙◌, ◌*◌, ◌++◌, [], ◌∷◌, ap, arith, length, map}
 use Rattle.std.proofs.lemmas.List.{length-map}
 use Rattle.std.proofs.lemmas.Result.{err_from_is_err_and}
 use Rattle.rsc_captures.specs.Groups.{all_groups}
@@ -11,6 +11,16 @@ use Rattle.rsc_engine.proofs.PatternOrderLemmas.{PrefersLesser-built, PrefersFir
 use Rattle.rsc_engine.proofs.NamesLayoutLemmas.{sound-faulty}
 use Rattle.rsc_engine.proofs.RefusalsLemmas.{faulty-refused}
 use Rattle.rsc_engine.proofs.builder.Builder.build_with.Goals as goal
+
+pub compile-requires : goal.compile-requires
+compile-requires g c =
+    omega (
+      arith,
+      ap length c.in_ok-info.ensures.groups,
+      length-map c.as_slice.result.now groups_of_pattern,
+      ap length c.as_slice.ensures.value,
+      ap length c.as_slice-2.ensures.value,
+    )
 
 pub returns-clause-matches : goal.returns-clause-matches
 returns-clause-matches g c =
@@ -42,17 +52,9 @@ returns-clause-first_ends g c =
 
 pub returns-clause-closes : goal.returns-clause-closes
 returns-clause-closes g c =
-    let room : length c.as_slice-2.result.now ≤ length c.in_ok-info.info =
-    omega (
-      arith,
-      ap length c.in_ok-info.ensures.groups,
-      length-map c.as_slice.result.now groups_of_pattern,
-      ap length c.as_slice.ensures.value,
-      ap length c.as_slice-2.ensures.value,
-    ) in
     rw c.in-Some.ensures.made
     (ClosesGroups-built _ _ (2 * all_groups c.in_ok-info.info) (length c.in_ok-info.info) (has_a_reversed_range (map pattern_of c.as_slice-2.result.now))
-    (rw (c.in_ok-nfa.ensures.made, c.deref.ensures.value) (c.in_ok-states.ensures.1 room)))
+    (rw (c.in_ok-nfa.ensures.made, c.deref.ensures.value) c.in_ok-states.ensures.1))
 
 pub returns-in_err-nfa-clause-refused : goal.returns-in_err-nfa-clause-refused
 returns-in_err-nfa-clause-refused g c =
@@ -60,32 +62,16 @@ returns-in_err-nfa-clause-refused g c =
     ap (map pattern_of) c.as_slice-2.ensures.value ∙ c.in_ok-pattern.ensures.added in
     let lists : c.in_ok-info.info ≡ lists_of c.args.self ++ groups_of_pattern c.args.last ∷ [] =
     c.in_ok-info.ensures.groups ∙ (ap (map groups_of_pattern) c.as_slice.ensures.value ∙ c.in_ok-pattern.ensures.groups) in
-    let room : length c.as_slice-2.result.now ≤ length c.in_ok-info.info =
-    omega (
-      arith,
-      ap length c.in_ok-info.ensures.groups,
-      length-map c.as_slice.result.now groups_of_pattern,
-      ap length c.as_slice.ensures.value,
-      ap length c.as_slice-2.ensures.value,
-    ) in
     let error = err_from_is_err_and c.from_residual-in_err-nfa.result c.from_residual-in_err-nfa.ensures.1 in
     rw (error.1, error.2, ← patterns, ← lists)
     (faulty-refused c.in_ok-info.info c.in_ok-states.states.items (map pattern_of c.as_slice-2.result.now) c.in_ok-states.first c.in_err-nfa.field-0.0
-    (c.in_ok-states.ensures.1 room) (rw c.deref.ensures.value at c.in_err-nfa.ensures.refused)
+    c.in_ok-states.ensures.1 (rw c.deref.ensures.value at c.in_err-nfa.ensures.refused)
     (rw c.in_ok-info.ensures.groups c.in_ok-info.ensures.names))
 
 pub returns-clause-ordered : goal.returns-clause-ordered
 returns-clause-ordered g c =
     let patterns : map pattern_of c.as_slice-2.result.now ≡ patterns_of c.args.self ++ pattern_of c.args.last ∷ [] =
     ap (map pattern_of) c.as_slice-2.ensures.value ∙ c.in_ok-pattern.ensures.added in
-    let room : length c.as_slice-2.result.now ≤ length c.in_ok-info.info =
-    omega (
-      arith,
-      ap length c.in_ok-info.ensures.groups,
-      length-map c.as_slice.result.now groups_of_pattern,
-      ap length c.as_slice.ensures.value,
-      ap length c.as_slice-2.ensures.value,
-    ) in
     rw (← patterns)
     (sound-faulty c.in_ok-info.info c.in_ok-states.states.items (has_a_reversed_range (map pattern_of c.as_slice-2.result.now)) c.in_ok-states.first
-    (c.in_ok-states.ensures.1 room) (rw c.deref.ensures.value at c.in_ok-nfa.ensures.faultless))
+    c.in_ok-states.ensures.1 (rw c.deref.ensures.value at c.in_ok-nfa.ensures.faultless))

@@ -24,4 +24,4 @@ pub returns : goal.returns
 returns c =
     let start : c.loop-index.index ≡ 0 = omega (arith, c.loop-index-test.false) in
     let all = rw start at (Adds-now _ _ _ c.loop-index.invariant) in
-    (all.0, λ l. all.1 (omega (arith, l, length-map c.args.patterns.now pattern_of)), all.2)
+    (all.0, all.1 (omega (arith, c.requires, length-map c.args.patterns.now pattern_of)), all.2)
