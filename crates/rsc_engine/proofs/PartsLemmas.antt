@@ -1,7 +1,8 @@
 -- What holds for parts in order, or for one of them, as the list grows.
-use Rattle.std.proofs.Common.{◌≡◌, ℕ, ◌+◌, ◌<◌, List, [], ◌∷◌, ◌++◌, map, take, length, get_or, ◌&&◌, ◌||◌, Bool, true, false, refl, sym, ap, ◌∙◌}
+use Rattle.std.proofs.Common.{◌≡◌, nat_eq, ℕ, zero, suc, ◌+◌, ◌<◌, Option, Some, None, is_some, not, List, [], ◌∷◌, ◌++◌, map, take, length, get_or, ◌&&◌, ◌||◌, Bool, true, false, refl, sym, ap, ◌∙◌, arith}
+use Rattle.std.proofs.lemmas.Bool.{ne_eqb}
 use Rattle.std.proofs.lemmas.List.{map_more}
-use Rattle.rsc_engine.specs.Patterns.{Pattern, in_order, one_of, may_be_empty}
+use Rattle.rsc_engine.specs.Patterns.{Pattern, Repeat, in_order, one_of, may_be_empty}
 use Rattle.rsc_engine.specs.FirstEnds.{loops_take_bytes}
 use Rattle.rsc_engine.specs.Parts.{pattern_of}
 use Rattle.rsc_engine.proofs.NamesLayoutLemmas.{or_none}
@@ -17,6 +18,25 @@ patterns_more parts k part l is =
 and_one : (a : Bool) → (a && true) ≡ a
 and_one true = refl
 and_one false = refl
+
+and_turned : (a b : Bool) → (a && b) ≡ (b && a)
+and_turned true true = refl
+and_turned true false = refl
+and_turned false true = refl
+and_turned false false = refl
+
+-- ---- a part that is repeated
+
+pub repeat_empty : (min : ℕ) (max : Option ℕ) (often : Bool) (p : Pattern) → may_be_empty (Repeat min max often p) ≡ (nat_eq min 0 || may_be_empty p)
+repeat_empty zero max often p = refl
+repeat_empty (suc min) max often p = sym (ap (λ (b : Bool). b || may_be_empty p) (ne_eqb (suc min) 0 (λ e. absurd (omega (arith, e)))))
+
+pub repeat_loops : (min : ℕ) (max : Option ℕ) (often : Bool) (p : Pattern)
+    → loops_take_bytes (Repeat min max often p) ≡ (loops_take_bytes p && (is_some max || not (may_be_empty p)))
+repeat_loops min None often p = and_turned (not (may_be_empty p)) (loops_take_bytes p)
+repeat_loops min (Some max) often p = sym (and_one (loops_take_bytes p))
+
+-- ---- several parts
 
 and_more : (a b c : Bool) → (a && (b && c)) ≡ ((a && b) && c)
 and_more true b c = refl

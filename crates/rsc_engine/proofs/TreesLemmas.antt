@@ -1,10 +1,11 @@
 -- The pattern of a tree, by its variants.
 use Rattle.std.proofs.Common.{◌≡◌, ℕ, [], ◌∷◌, map, Box, Vec, Global, sym, ap, ◌∙◌}
 use Rattle.rsc_look.specs.declared.assertion.Look.{Look}
-use Rattle.rsc_engine.specs.Patterns.{Pattern, Empty, Never, Class, Literal, Assertion, Then, Either, in_order, one_of}
+use Rattle.rsc_engine.specs.Patterns.{Pattern, Empty, Never, Class, Literal, Assertion, Then, Either, Repeat, in_order, one_of}
 use Rattle.rsc_engine.specs.Trees.{pattern_in, pattern_of_node}
 use Rattle.rsc_engine.specs.declared.builder.tree.Tree.{Tree, Tree-F, fold-roll-Tree}
 use Rattle.rsc_engine.specs.declared.builder.tree.Tree.TheVariants as variants
+use Rattle.rsc_engine.specs.declared.builder.tree.Times.{Times}
 
 pub pattern-empty : pattern_in variants.Empty ≡ Empty
 pattern-empty = ap pattern_in (sym variants.rolls-Empty) ∙ fold-roll-Tree Pattern pattern_of_node Tree-F.Empty
@@ -35,3 +36,7 @@ pattern-concat trees = ap pattern_in (sym (variants.rolls-Concat trees)) ∙ fol
 
 pub pattern-one_of : (trees : Vec Tree Global) → pattern_in (variants.OneOf trees) ≡ one_of (map pattern_in trees.items)
 pattern-one_of trees = ap pattern_in (sym (variants.rolls-OneOf trees)) ∙ fold-roll-Tree Pattern pattern_of_node (Tree-F.OneOf trees)
+
+pub pattern-repeat : (times : Times) (part : Box Tree Global)
+    → pattern_in (variants.Repeat times part) ≡ Repeat times.min times.max times.is_greedy (pattern_in part.value)
+pattern-repeat times part = ap pattern_in (sym (variants.rolls-Repeat times part)) ∙ fold-roll-Tree Pattern pattern_of_node (Tree-F.Repeat times part)

@@ -117,11 +117,10 @@ impl<'n> Builder<'n> {
     {
         let may_be_empty = one.may_be_empty && other.may_be_empty;
         let loops_take_bytes = one.loops_take_bytes && other.loops_take_bytes;
-        let names = joined(one.names, other.names)?;
-        let tree = Tree::Then(
-            Box::new(self.alloc, one.tree)?,
-            Box::new(self.alloc, other.tree)?,
-        );
+        let (one, names) = one.into_tree_and_names();
+        let (other, more) = other.into_tree_and_names();
+        let names = joined(names, more)?;
+        let tree = Tree::Then(Box::new(self.alloc, one)?, Box::new(self.alloc, other)?);
         Ok(Part {
             tree,
             names,
@@ -180,11 +179,10 @@ impl<'n> Builder<'n> {
     {
         let may_be_empty = one.may_be_empty || other.may_be_empty;
         let loops_take_bytes = one.loops_take_bytes && other.loops_take_bytes;
-        let names = joined(one.names, other.names)?;
-        let tree = Tree::Either(
-            Box::new(self.alloc, one.tree)?,
-            Box::new(self.alloc, other.tree)?,
-        );
+        let (one, names) = one.into_tree_and_names();
+        let (other, more) = other.into_tree_and_names();
+        let names = joined(names, more)?;
+        let tree = Tree::Either(Box::new(self.alloc, one)?, Box::new(self.alloc, other)?);
         Ok(Part {
             tree,
             names,
@@ -205,8 +203,9 @@ impl<'n> Builder<'n> {
         let loops_take_bytes = part.loops_take_bytes;
         let mut first = Vec::new(self.alloc);
         first.push(name)?;
-        let names = joined(first, part.names)?;
-        let tree = Tree::Group(groups, Box::new(self.alloc, part.tree)?);
+        let (tree, names) = part.into_tree_and_names();
+        let names = joined(first, names)?;
+        let tree = Tree::Group(groups, Box::new(self.alloc, tree)?);
         Ok(Part {
             tree,
             names,
@@ -299,8 +298,9 @@ impl<'n> Builder<'n> {
         let mut trees = Vec::new(self.alloc);
         let mut names = Vec::new(self.alloc);
         for part in parts {
-            names = joined(names, part.names)?;
-            trees.push(part.tree)?;
+            let (tree, more) = part.into_tree_and_names();
+            names = joined(names, more)?;
+            trees.push(tree)?;
         }
         Ok((trees, names))
     }

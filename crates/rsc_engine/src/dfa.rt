@@ -57,7 +57,6 @@ pub enum Answer {
 ///
 /// A search takes time in proportion to the bytes that it reads, once the rows that it comes to are there. It ends where the first match to
 /// end does, which is not where the leftmost-first match ends.
-#[derive(Drop)]
 pub struct Dfa<'p, W: WordClass> {
     alloc: Global,
     plan: Plan<'p, W>,
@@ -65,6 +64,19 @@ pub struct Dfa<'p, W: WordClass> {
     // What each match has, if that is known, and whether it was looked for.
     needed: Option<Needed>,
     is_sought: bool,
+}
+
+// Written out, so that a caller's proof has one step where a DFA is dropped.
+impl<W: WordClass> Drop for Dfa<'_, W> {
+    fn drop(self) {
+        let Dfa {
+            alloc: _,
+            plan: _,
+            table: _,
+            needed: _,
+            is_sought: _,
+        } = self;
+    }
 }
 
 impl<'p, W: WordClass> Model for Dfa<'p, W> {

@@ -29,9 +29,15 @@ const FAR: usize = 64;
 /// The matches in an input that are left, in order.
 ///
 /// One walk serves all searches: a state is tried at a position again only where a match ended.
-#[derive(Drop)]
 pub struct Matches<'p, 'h, W: WordClass> {
     rest: Rest<'p, 'h, W>,
+}
+
+// Written out, so that a caller's proof has one step where they are dropped.
+impl<W: WordClass> Drop for Matches<'_, '_, W> {
+    fn drop(self) {
+        let Matches { rest: _ } = self;
+    }
 }
 
 impl<'p, 'h, W: WordClass> Model for Matches<'p, 'h, W> {
@@ -92,12 +98,13 @@ impl<'p, 'h, W: WordClass + AsciiWordClass> Matches<'p, 'h, W> {
     pub fn into_cache(self) -> Cache<'p, W>
         ensures { result ≡ self.entry.program }
     {
+        let Matches { rest } = self;
         Cache {
-            alloc: self.rest.alloc,
-            program: self.rest.program,
-            starts: self.rest.starts,
-            dfa: self.rest.dfa,
-            walk: self.rest.walk,
+            alloc: rest.alloc,
+            program: rest.program,
+            starts: rest.starts,
+            dfa: rest.dfa,
+            walk: rest.walk,
         }
     }
 

@@ -9,7 +9,6 @@ use super::tree::Tree;
 /// A part of a pattern.
 ///
 /// Parts nest as the calls that made them, except that `literal`, `class`, `concat` and `one_of` stay flat. To build or drop a part takes stack for each level.
-#[derive(Drop)]
 pub struct Part<'n> {
     pub(super) tree: Tree,
     // The names of its groups, in the order in which they open.
@@ -20,6 +19,18 @@ pub struct Part<'n> {
     pub(super) loops_take_bytes: bool,
     ghost emptiness: { may_be_empty ≡ patterns.may_be_empty (pattern_in tree) },
     ghost loops: { loops_take_bytes ≡ ends.loops_take_bytes (pattern_in tree) },
+}
+
+// Written out, so that a caller's proof has one step where a part is dropped, instead of one for each variant of a tree.
+impl Drop for Part<'_> {
+    fn drop(self) {
+        let Part {
+            tree: _,
+            names: _,
+            may_be_empty: _,
+            loops_take_bytes: _,
+        } = self;
+    }
 }
 
 impl<'n> Part<'n> {
@@ -39,5 +50,19 @@ impl<'n> Part<'n> {
         ensures { result ≡ loops_take_bytes (pattern_of self.now) }
     {
         self.loops_take_bytes
+    }
+
+    // The tree, and the names of its groups.
+    pub(super) fn into_tree_and_names(self) -> (Tree, Vec<Option<&'n str>>)
+        ensures tree { result.0 ≡ self.entry.tree }
+        ensures names { result.1 ≡ self.entry.names }
+    {
+        let Part {
+            tree,
+            names,
+            may_be_empty: _,
+            loops_take_bytes: _,
+        } = self;
+        (tree, names)
     }
 }

@@ -105,12 +105,13 @@ impl<'n> Builder<'n> {
             may_be_empty: part.may_be_empty,
             groups: part.names.len(),
         };
-        let may_be_empty = min == 0 || part.may_be_empty;
-        let loops_take_bytes = part.loops_take_bytes && (max.is_some() || !part.may_be_empty);
-        let tree = Tree::Repeat(times, Box::new(self.alloc, part.tree)?);
+        let may_be_empty = (min == 0) | part.may_be_empty;
+        let loops_take_bytes = part.loops_take_bytes & (max.is_some() | !part.may_be_empty);
+        let (tree, names) = part.into_tree_and_names();
+        let tree = Tree::Repeat(times, Box::new(self.alloc, tree)?);
         Ok(Part {
             tree,
-            names: part.names,
+            names,
             may_be_empty,
             loops_take_bytes,
         })
