@@ -10,6 +10,7 @@
 # This script also makes a repository by own/new-repository.sh and runs its tests.
 set -u
 cd "$(dirname "$0")/.."
+gate=$PWD/gate
 copy=$(mktemp -d)
 trap 'rm -rf "$copy"' EXIT
 passed=0
@@ -68,7 +69,7 @@ for snippet in crates/*/must-not-compile/*.snippet; do
 done
 for snippet in crates/*/must-run/*.snippet; do
   add "$snippet" "$(sed -n '1s/^\/\/ added to: //p' "$snippet")"
-  answer=$(cd "$copy/repository/${snippet%%/must-*}" && rt try --test 2>&1)
+  answer=$(cd "$copy/repository/${snippet%%/must-*}" && python3 "$gate/edits.py" 2>&1)
   is_passed "$snippet" "$answer"
   count "$snippet" passed "$answer"
 done

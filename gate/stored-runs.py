@@ -2,7 +2,7 @@
 r"""Runs programs as people do, and compares what they write and their status with what is stored.
 
     gate/stored-runs.py [CRATE ..]         # by the programs that `rt ci` or `rt run` left in crates/CRATE/out; all crates that have runs without a name
-    gate/stored-runs.py --unproved         # proves nothing: all tests, every program on its stored input, and the plain runs, by `rt try`
+    gate/stored-runs.py --unproved         # proves nothing: all tests, every program on its stored input, and the plain runs
     gate/stored-runs.py --joined CRATE DIR # writes the plain runs to DIR as `rt try --cases` takes them, with standard error after standard output
 
 The runs of a crate are in crates/CRATE/runs/*.txt, which read as a session does:
@@ -35,7 +35,7 @@ import tempfile
 import time
 import tty
 
-from edits import ROOT, rt_try
+from edits import ROOT, run_unproved
 
 UNREADABLE, FAILING = "@ input unreadable", "@ input fails"
 SHORT = "@ output short"
@@ -190,10 +190,10 @@ def write_cases(crate, folder, is_joined=False):
 
 
 def unproved_jobs(folder):
-    """Returns what `rt try` runs without a proof: the name of each job, its crate's folder and its options."""
+    """Returns what is run without a proof: the name of each job, its crate's folder and its options."""
     found = {}
     for path in sorted(glob.glob(f"{ROOT}/crates/*")):
-        crate, cases = os.path.basename(path), ("--steps", "0", "--cases")
+        crate, cases = os.path.basename(path), ("--cases",)
         sources = glob.glob(f"{path}/src/**/*.rt", recursive=True)
         if any("#[test]" in open(it, encoding="utf-8").read() for it in sources):
             found[f"{crate}-tests"] = path, "--test", "--seconds", "300"
@@ -216,11 +216,11 @@ def try_unproved():
     failed = []
     with tempfile.TemporaryDirectory(prefix="unproved-") as folder, concurrent.futures.ThreadPoolExecutor(len(os.sched_getaffinity(0))) as pool:
         jobs = unproved_jobs(folder)
-        running = {pool.submit(rt_try, *job): name for name, job in jobs.items()}
+        running = {pool.submit(run_unproved, *job): name for name, job in jobs.items()}
         for it in concurrent.futures.as_completed(running):
-            status, said = it.result()
+            status, *written = it.result()
             print(f"{running[it]}: {'FAILED' if status else 'passed'}", flush=True)
-            failed += [f"== {running[it]}", *said.splitlines()[-20:]] if status else []
+            failed += [f"== {running[it]}", *"".join(written).splitlines()[-20:]] if status else []
     print(*failed, sep="\n", end="\n" if failed else "")
     failures = sum(it.startswith("== ") for it in failed)
     print(f"{len(jobs) - failures} passed, {failures} failed")

@@ -13,11 +13,13 @@ The edits stand in crates/CRATE/tested-bodies.edits; gate/edits.py explains the 
     also: src/span.rt: start: usize ⇒ pub(crate) start: usize      if there: a private field of another file that it needs
 
 Each is compiled and run without a proof, in a copy of the repository. It passes if a test fails, or if the tests don't compile because a type lacks a
-trait. The compiler takes half a minute for the toolchain's library alone, so a crate's edits are compiled together: edit 3 of a part of those of
+trait. The compiler takes 20 seconds for the toolchain's library alone, so a crate's edits are compiled together: edit 3 of a part of those of
 `rsc_search` as a crate `rsc_search_3`, with its tests in a module `v3`, and edits of a program as modules of one program, which writes to standard output
-what they write to standard error. For each edit a stored run takes `rt try` a quarter of a second, and more in a larger program, so an edit of a program with
-many runs names the one that refuses it. The edits with a snippet, with seconds or with --fail-alloc are tried alone.
+what they write to standard error. For each edit a stored run takes a quarter of a second, and more in a larger program, so an edit of a program with
+many runs names the one that refuses it. The edits with a snippet, with seconds or with --fail-alloc are tried alone: together they took longer, as most of
+their time goes into tests that run until their time is over.
 """
+import collections
 import os
 import pathlib
 import queue
@@ -28,12 +30,12 @@ import subprocess
 import tempfile
 import threading
 
-from edits import ROOT, edits_in, replaced, rt_try
+from edits import ROOT, edits_in, replaced, run_unproved
 
 FIELDS = ("file", "tests", "modules", "snippet", "seconds", "runs", "also")
 IN_ONE = 20
-# What the unchanged programs answer in single runs, by crate and run.
-UNCHANGED, IS_ASKED = {}, threading.Lock()
+# What the unchanged programs answer in single runs, by crate and run, and for each a lock that is held while it is asked.
+UNCHANGED, IS_ASKED = {}, collections.defaultdict(threading.Lock)
 
 
 def tested_edits(wanted, names=()):
@@ -177,6 +179,11 @@ def reset(copy, *names):
     shutil.copy(f"{ROOT}/crates.txt", copy)
 
 
+def written(folder, *options):
+    """Returns what is written where a crate is compiled and run without a proof."""
+    return "".join(run_unproved(folder, *options)[1:])
+
+
 def run_together(copy, crate, tests, edits, run):
     """Compiles edits of a crate together with the unchanged crate, which is number 0, and runs them. Returns the edits that were compiled, by their numbers,
     what the run says, and whether each other edit passed, with a line that says so."""
@@ -216,7 +223,7 @@ def judged(crate, left, failing):
 
 def judge_together(copy, crate, tests, edits):
     """Tries edits of a crate together by the tests."""
-    left, said, results = run_together(copy, crate, tests, edits, lambda: rt_try(f"{copy}/crates/{tests}", "--test", "--seconds", "240")[1])
+    left, said, results = run_together(copy, crate, tests, edits, lambda: written(f"{copy}/crates/{tests}", "--test", "--seconds", "240"))
     failing = {number: re.findall(rf"^test v{number}::(\S+) \.\.\. FAILED", said, flags=re.M) for number in [0, *left]}
     return results + [*judged(crate, left, failing)]
 
@@ -234,7 +241,7 @@ def judge_programs(copy, crate, edits):
                 pathlib.Path(cases, f"{own}.args").write_bytes(f"v{number}\n".encode() + args.read_bytes())
             for ending in ("", ".args", ".stdout"):
                 args.with_suffix(ending).unlink()
-        left, said, results = run_together(copy, crate, crate, edits, lambda: rt_try(f"{copy}/crates/{crate}", "--steps", "0", "--cases", cases)[1])
+        left, said, results = run_together(copy, crate, crate, edits, lambda: written(f"{copy}/crates/{crate}", "--cases", cases))
     answers = {number: dict(re.findall(rf"^case=v{number}-(\S+) (.*)", said, flags=re.M)) for number in [0, *left]}
     failing = {number: [it for it, answer in answers[number].items() if answer != answers[0].get(it)] for number in left}
     failing[0] = [name for name, answer in answers[0].items() if "output=expected" not in answer]
@@ -256,16 +263,15 @@ def answers_of(copy, crate, run):
     """Returns what the program of a copy prints in a run, line by line: first on standard error, then, after `> `, on standard output."""
     run, _, given = run.partition(" < ")
     arguments = arguments_of(run)
-    flags = ["--steps", "0", *(arguments[:2] if arguments[:1] == [b"--fail-alloc"] else [])]
-    given = given.replace("\\n", "\n").replace("\\t", "\t")
-    ran = subprocess.run(["rt", "try", *flags, "--", *arguments[len(flags) - 2 :]], cwd=f"{copy}/crates/{crate}", input=given, capture_output=True,
-                         encoding="utf-8", errors="replace")
-    return [*ran.stderr.splitlines(), *(f"> {it}" for it in ran.stdout.splitlines())]
+    flags = arguments[:2] if arguments[:1] == [b"--fail-alloc"] else []
+    given = given.replace("\\n", "\n").replace("\\t", "\t").encode()
+    _, stdout, stderr = run_unproved(f"{copy}/crates/{crate}", *flags, arguments=arguments[len(flags) :], given=given)
+    return [*stderr.splitlines(), *(f"> {it}" for it in stdout.splitlines())]
 
 
 def unchanged(copy, crate, run):
     """Returns what the unchanged program answers in a run, which it is asked once."""
-    with IS_ASKED:
+    with IS_ASKED[crate, run]:
         if (crate, run) not in UNCHANGED:
             UNCHANGED[crate, run] = answers_of(copy, crate, run)
     return UNCHANGED[crate, run]
@@ -290,7 +296,7 @@ def judge_tests(copy, crate, name, fields):
         texts[snippet.splitlines()[0].removeprefix("// added to: src/")] += snippet
     shutil.rmtree(tests / "src")
     write(tests / "src", texts)
-    _, said = rt_try(tests, "--test", *(["--seconds", fields["seconds"]] if "seconds" in fields else []))
+    said = written(str(tests), "--test", *(["--seconds", fields["seconds"]] if "seconds" in fields else []))
     failed = re.findall(r"^test (\S+) \.\.\. FAILED", said, flags=re.M)
     if failed:
         return True, f"{crate}/{name}: fails {', '.join(failed)[:150]}"
