@@ -38,7 +38,7 @@ impl<'n> Part<'n> {
     ghost use Rattle.rsc_engine.specs.Patterns.{may_be_empty};
     ghost use Rattle.rsc_engine.specs.FirstEnds.{loops_take_bytes};
 
-    /// Whether the part may match no byte, as it is built; if not, each match of it has a byte. Assertions may, and so may a part that is repeated 0 times.
+    /// Whether the part may match no byte, as it is built; if not, each match of it has a byte. Assertions may, and so may a part that may be repeated 0 times.
     pub fn may_be_empty(&self) -> bool
         ensures { result ≡ may_be_empty (pattern_of self.now) }
     {

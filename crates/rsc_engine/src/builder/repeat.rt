@@ -105,6 +105,7 @@ impl<'n> Builder<'n> {
             may_be_empty: part.may_be_empty,
             groups: part.names.len(),
         };
+        // By `|` and `&`, which make no branches, so the proof has no case for each.
         let may_be_empty = (min == 0) | part.may_be_empty;
         let loops_take_bytes = part.loops_take_bytes & (max.is_some() | !part.may_be_empty);
         let (tree, names) = part.into_tree_and_names();

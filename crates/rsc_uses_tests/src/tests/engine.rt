@@ -210,6 +210,13 @@ fn a_run_and_what_is_quoted_end_where_they_should(rt: HostRuntime) -> Result<(),
 }
 
 #[test]
+fn a_quotation_has_a_byte(rt: HostRuntime) -> Result<(), Fail> {
+    let quotation = ends::quotation(rt.alloc())?;
+    assert!(rt; !quotation.may_be_empty());
+    Ok(())
+}
+
+#[test]
 fn a_token_takes_a_byte(rt: HostRuntime) -> Result<(), Fail> {
     let builder = Builder::new(rt.alloc());
     assert!(rt; lexer::as_token(builder.range(b'a', b'z')).is_some());
