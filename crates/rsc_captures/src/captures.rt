@@ -36,13 +36,24 @@ use std::marker::Model;
 /// // The slots of the last group aren't set.
 /// assert!(rt; captures.get_group(2) == None);
 /// ```
-#[derive(Drop)]
 pub struct Captures<A: Allocator = Global> {
     group_info: GroupInfo<A>,
     pid: Option<PatternID>,
     slots: Vec<Option<NonMaxUsize>, A>,
     // Those of the pattern that matched.
     pairs: Pairs,
+}
+
+// Written out, so that a caller's proof has one step where captures are dropped.
+impl<A: Allocator> Drop for Captures<A> {
+    fn drop(self) {
+        let Captures {
+            group_info: _,
+            pid: _,
+            slots: _,
+            pairs: _,
+        } = self;
+    }
 }
 
 impl<A: Allocator> Model for Captures<A> {

@@ -56,10 +56,16 @@ pub enum GroupInfoErrorKind<A: Allocator = Global> {
 }
 
 /// The refusal of a group list. A contract sees it as the fault of the list, or as none where it is out of memory.
-#[derive(Drop)]
 #[derive_where(Debug)]
 pub struct GroupInfoError<A: Allocator = Global> {
     kind: GroupInfoErrorKind<A>,
+}
+
+// Written out, so that a caller's proof has one step where an error is dropped, instead of one for each kind.
+impl<A: Allocator> Drop for GroupInfoError<A> {
+    fn drop(self) {
+        let GroupInfoError { kind: _ } = self;
+    }
 }
 
 impl<A: Allocator> Model for GroupInfoError<A> {

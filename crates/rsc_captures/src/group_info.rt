@@ -43,10 +43,16 @@ const SLOT_LIMIT: usize = PatternID::LIMIT - 1;
 /// assert!(rt; info.to_index(PatternID::must(1), "m") == Some(2));
 /// assert!(rt; info.to_name(PatternID::must(1), 1) == Some("d"));
 /// ```
-#[derive(Drop)]
 #[derive_where(Debug)]
 pub struct GroupInfo<A: Allocator = Global> {
     inner: Arc<SharedLists<A>, A>,
+}
+
+// Written out, so that a caller's proof has one step where a group info is dropped.
+impl<A: Allocator> Drop for GroupInfo<A> {
+    fn drop(self) {
+        let GroupInfo { inner: _ } = self;
+    }
 }
 
 impl<A: Allocator> Model for GroupInfo<A> {

@@ -29,10 +29,19 @@ use rsc_nfa::Nfa;
 use std::alloc::Global;
 
 /// Makes parts, and keeps the patterns that are finished.
-#[derive(Drop)]
 pub struct Builder<'n> {
     alloc: Global,
     patterns: Vec<Part<'n>>,
+}
+
+// Written out, so that a caller's proof has one step where a builder is dropped.
+impl Drop for Builder<'_> {
+    fn drop(self) {
+        let Builder {
+            alloc: _,
+            patterns: _,
+        } = self;
+    }
 }
 
 impl<'n> Builder<'n> {

@@ -44,11 +44,21 @@ use std::marker::Model;
 /// assert!(rt; nfa.check_run(&Input::new(b"q"), &[(StateID::ZERO, 0), (accept, 1)]));
 /// assert!(rt; nfa.classes().get(b'a') == nfa.classes().get(b'z'));
 /// ```
-#[derive(Drop)]
 pub struct Nfa<W: WordClass, A: Allocator = Global> {
     states: Vec<State, A>,
     group_info: GroupInfo<A>,
     matcher: LookMatcher<W>,
+}
+
+// Written out, so that a caller's proof has one step where an automaton is dropped.
+impl<W: WordClass, A: Allocator> Drop for Nfa<W, A> {
+    fn drop(self) {
+        let Nfa {
+            states: _,
+            group_info: _,
+            matcher: _,
+        } = self;
+    }
 }
 
 impl<W: WordClass, A: Allocator> Model for Nfa<W, A> {
