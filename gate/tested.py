@@ -33,7 +33,7 @@ import threading
 from edits import ROOT, edits_in, replaced, run_unproved
 
 FIELDS = ("file", "tests", "modules", "snippet", "seconds", "runs", "also")
-IN_ONE = 20
+IN_ONE = 50
 # What the unchanged programs answer in single runs, by crate and run, and for each a lock that is held while it is asked.
 UNCHANGED, IS_ASKED = {}, collections.defaultdict(threading.Lock)
 
@@ -199,14 +199,17 @@ def run_together(copy, crate, tests, edits, run):
         if re.search(r"^(test result: |case=)", said, flags=re.M):
             del left[0]
             return left, said, results
-        # An edit that the compiler refuses is judged by that; the others are tried once more.
-        error = re.search(rf"(?:src/v|{crate}_)(\d+)[/.].*error.*", said)
-        if not error or int(error[1]) not in left or error[1] == "0":
+        # Edits that the compiler refuses are judged by that; the others are tried once more.
+        errors = {}
+        for it in re.finditer(rf"(?:src/v|{crate}_)(\d+)[/.].*error.*", said):
+            errors.setdefault(int(it[1]), it[0])
+        if not errors or 0 in errors or errors.keys() - left.keys():
             why = said.strip().splitlines()[-1][:200] if said.strip() else "no output"
             return {}, "", results + [(False, f"{crate}/{name}: NOT JUDGED: {why}") for name, _, _ in [*left.values()][1:]]
-        name = left.pop(int(error[1]))[0]
-        bound = re.search(r"error\[unsatisfied-bound\]: (.*)", error[0])
-        results.append((True, f"{crate}/{name}: its tests don't compile: {bound[1]}") if bound else (False, f"{crate}/{name}: NOT JUDGED: {error[0][:200]}"))
+        for number, error in errors.items():
+            name = left.pop(number)[0]
+            bound = re.search(r"error\[unsatisfied-bound\]: (.*)", error)
+            results.append((True, f"{crate}/{name}: its tests don't compile: {bound[1]}") if bound else (False, f"{crate}/{name}: NOT JUDGED: {error[:200]}"))
     return {}, "", results
 
 
