@@ -16,8 +16,8 @@ Each is compiled and run without a proof, in a copy of the repository. It passes
 trait. The compiler takes 20 seconds for the toolchain's library alone, so a crate's edits are compiled together: edit 3 of a part of those of
 `rsc_search` as a crate `rsc_search_3`, with its tests in a module `v3`, and edits of a program as modules of one program, which writes to standard output
 what they write to standard error. For each edit a stored run takes a quarter of a second, and more in a larger program, so an edit of a program with
-many runs names the one that refuses it. The edits with a snippet, with seconds or with --fail-alloc are tried alone: together they took longer, as most of
-their time goes into tests that run until their time is over.
+many runs names the one that refuses it. The edits with a snippet, with seconds or with --fail-alloc are tried alone: the first two took longer together, and
+in a joined program other requests for memory would come before the one that is refused.
 """
 import collections
 import os
