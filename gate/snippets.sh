@@ -6,6 +6,7 @@
 #
 # crates/NAME/must-run/*.snippet is tests of calls whose callers the checker doesn't cover, or of what no stored run of a program
 # shows: at the end of the file that the first line names, `// added to: FILE`, they are compiled and run without a proof, and each must pass.
+# The snippets of a crate are run together, and its other tests are left out, since `rt ci` runs them.
 #
 # This script also makes a repository by own/new-repository.sh and runs its tests.
 set -u
@@ -16,12 +17,16 @@ trap 'rm -rf "$copy"' EXIT
 passed=0
 failed=0
 
-# Makes a copy of the repository with a snippet at the end of a file of its crate.
-add() {
-  local snippet=$1 file=$2
+# Makes a copy of the repository.
+copied() {
   rm -rf "$copy/repository"
   mkdir -p "$copy/repository"
   tar --exclude=out --exclude=wrong-bodies -cf - crates crates.txt HANDLES | tar -xf - -C "$copy/repository"
+}
+
+# Adds a snippet at the end of a file of its crate in the copy.
+add() {
+  local snippet=$1 file=$2
   if ! [ -f "${snippet%%/must-*}/$file" ]; then
     echo "$snippet: no file $file in its crate" >&2
     exit 1
@@ -62,19 +67,26 @@ is_passed() {
 }
 
 for snippet in crates/*/must-not-compile/*.snippet; do
+  copied
   add "$snippet" src/lib.rt
   answer=$(cd "$copy/repository/${snippet%%/must-*}" && rt check 2>&1)
   is_refused "$snippet" "$answer"
   count "$snippet" refused "$answer"
 done
-for snippet in crates/*/must-run/*.snippet; do
-  add "$snippet" "$(sed -n '1s/^\/\/ added to: //p' "$snippet")"
-  answer=$(cd "$copy/repository/${snippet%%/must-*}" && python3 "$gate/edits.py" 2>&1)
-  is_passed "$snippet" "$answer"
-  count "$snippet" passed "$answer"
+for folder in crates/*/must-run; do
+  copied
+  find "$copy/repository/${folder%/*}/src" -name '*.rt' -exec perl -0pi -e 's/^#\[test\]\nfn .*?^\}\n//msg' {} +
+  for snippet in "$folder"/*.snippet; do
+    add "$snippet" "$(sed -n '1s/^\/\/ added to: //p' "$snippet")"
+  done
+  answer=$(cd "$copy/repository/${folder%/*}" && python3 "$gate/edits.py" 2>&1)
+  for snippet in "$folder"/*.snippet; do
+    is_passed "$snippet" "$answer"
+    count "$snippet" passed "$answer"
+  done
 done
 # The repository of one's own that own/new-repository.sh makes: the tests of its first functions.
-answer=$(own/new-repository.sh "$copy/own" first engine uses && cd "$copy/own/crates/first" && rt try --test 2>&1)
+answer=$(own/new-repository.sh "$copy/own" first engine uses && cd "$copy/own/crates/first" && python3 "$gate/edits.py" 2>&1)
 printf '%s\n' "$answer" | grep -q '^test result: ok. 2 passed'
 count own/new-repository.sh passed "$answer"
 echo "snippets: $passed passed, $failed failed"

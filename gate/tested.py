@@ -5,7 +5,7 @@ The edits stand in crates/CRATE/tested-bodies.edits; gate/edits.py explains the 
     tests: rsc_search_tests              the crate whose tests must fail
     modules: shown sizes::long_names     the test modules that are compiled and run, `tests` for what stands in tests.rt itself, or of a module some tests
                                          alone; without it all but those of cost, which take long
-    snippet: allocators_are_dropped      if there: a snippet of that crate's must-run, whose tests are run too
+    snippet: memory lists_are_dropped    if there: a snippet of that crate's must-run, and its test that is run instead of the crate's
     seconds: 240                         if there: the time that each test has
     runs: looks Start -- ''              instead of tests: the arguments, with \\xHH for bytes, of a plain stored run (gate/stored-runs.py), which must write
                                          something else or end with another status; or files of runs/, as `looks.txt`, or `all`: one of these runs must
@@ -79,6 +79,11 @@ def write(folder, texts):
         pathlib.Path(folder, path).write_text(text, encoding="utf-8")
 
 
+def with_tests(text, wanted):
+    """Leaves of the tests of a text these alone, whose names are joined by `|`."""
+    return re.sub(rf"^#\[test\]\nfn (?!(?:{wanted})\().*?^\}}\n", "", text, flags=re.M | re.S)
+
+
 def with_modules(texts, wanted):
     """Leaves of a crate's sources the wanted test modules and tests alone, with the modules that they name, whose own tests are left out; without a list
     all but those of cost, which take long."""
@@ -92,7 +97,7 @@ def with_modules(texts, wanted):
     left = {path: text for path, text in texts.items() if path not in tests.values()}
     for module, path in tests.items():
         kept_tests = only.get(module, "" if module in wanted else None)
-        text = texts[path] if kept_tests == "" else re.sub(rf"^#\[test\]\nfn (?!(?:{kept_tests})\().*?^\}}\n", "", texts[path], flags=re.M | re.S)
+        text = texts[path] if kept_tests == "" else with_tests(texts[path], kept_tests)
         if module == "tests":
             left[path] = re.sub(r"^(?:pub )?mod (\w+);\n", lambda it: it[0] if it[1] in kept else "", text, flags=re.M)
         elif module in kept:
@@ -295,8 +300,10 @@ def judge_tests(copy, crate, name, fields):
     # A program's tests are its own, so the copy's sources have the edit.
     texts = with_modules(sources_of(fields["tests"], copy), fields.get("modules", "").split())
     if "snippet" in fields:
-        snippet = pathlib.Path(ROOT, "crates", fields["tests"], "must-run", fields["snippet"] + ".snippet").read_text(encoding="utf-8")
+        file, test = fields["snippet"].split()
+        snippet = pathlib.Path(ROOT, "crates", fields["tests"], "must-run", f"{file}.snippet").read_text(encoding="utf-8")
         texts[snippet.splitlines()[0].removeprefix("// added to: src/")] += snippet
+        texts = {path: with_tests(text, test) for path, text in texts.items()}
     shutil.rmtree(tests / "src")
     write(tests / "src", texts)
     said = written(str(tests), "--test", *(["--seconds", fields["seconds"]] if "seconds" in fields else []))
