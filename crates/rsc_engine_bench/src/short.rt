@@ -50,23 +50,29 @@ fn text_of(number: usize) -> [u8; 6] {
 // `Lb|aL(?:a|é)+|(?:b|\n)*?L ` for an assertion L.
 fn made(alloc: Global, look: Look) -> Result<Program<UnicodeWord>, Error> {
     let builder = Builder::new(alloc);
-    let here = builder.look(look);
-    let one = builder.then(here, builder.literal(b"b")?)?;
-    let letter = builder.either(builder.literal(b"a")?, builder.literal(b"\xC3\xA9")?)?;
-    let letters = builder.plus(letter)?;
-    let two = builder.then(builder.literal(b"a")?, builder.look(look))?;
-    let two = builder.then(two, letters)?;
-    let three = three(&builder, look)?;
-    let two = builder.either(two, three)?;
-    let whole = builder.either(one, two)?;
+    let whole = whole(&builder, look)?;
     builder.build(UnicodeWord, false, whole)
 }
 
+// The pattern.
+fn whole(builder: &Builder<'static>, look: Look) -> Result<Part<'static>, Error> {
+    let one = builder.then(builder.look(look), builder.range(b'b', b'b'))?;
+    let two = builder.either(two(builder, look)?, three(builder, look)?)?;
+    builder.either(one, two)
+}
+
+// Its second alternative.
+fn two(builder: &Builder<'static>, look: Look) -> Result<Part<'static>, Error> {
+    let letter = builder.either(builder.range(b'a', b'a'), builder.literal(b"\xC3\xA9")?)?;
+    let a = builder.then(builder.range(b'a', b'a'), builder.look(look))?;
+    builder.then(a, builder.plus(letter)?)
+}
+
+// Its third one.
 fn three(builder: &Builder<'static>, look: Look) -> Result<Part<'static>, Error> {
-    let byte = builder.either(builder.literal(b"b")?, builder.literal(b"\n")?)?;
-    let bytes = builder.star_lazy(byte)?;
-    let last = builder.then(builder.look(look), builder.literal(b" ")?)?;
-    builder.then(bytes, last)
+    let byte = builder.either(builder.range(b'b', b'b'), builder.range(b'\n', b'\n'))?;
+    let last = builder.then(builder.look(look), builder.range(b' ', b' '))?;
+    builder.then(builder.star_lazy(byte)?, last)
 }
 
 // Whether the three agree on a text.
@@ -79,14 +85,7 @@ fn agree(
 ) -> Result<bool, Fail> {
     let input = Input::new(text);
     let found = find(alloc, program, &input, captures)?.map(|m| (m.start(), m.end()));
-    if found != expected(alloc, program, text)? || dfa.is_match(&input)? != found.is_some() {
-        return Ok(false);
-    }
-    if dfa.leftmost_end(&input)? != found.map(|ends| ends.1) {
-        return Ok(false);
-    }
-    let by_dfa = dfa.find(&input, captures)?.map(|m| (m.start(), m.end()));
-    if by_dfa != found {
+    if found != expected(alloc, program, text)? || !answers(dfa, &input, found, captures)? {
         return Ok(false);
     }
     match dfa.earliest_end(&input)? {
@@ -100,6 +99,19 @@ fn agree(
                 && !ends_before(alloc, program, text, at, captures)?,
         ),
     }
+}
+
+// Whether the DFA answers what was found.
+fn answers(
+    dfa: &mut Dfa<'_, UnicodeWord>,
+    input: &Input<'_>,
+    found: Option<(usize, usize)>,
+    captures: &mut Captures,
+) -> Result<bool, Fail> {
+    let is_match = dfa.is_match(input)?;
+    let end = dfa.leftmost_end(input)?;
+    let by_dfa = dfa.find(input, captures)?.map(|m| (m.start(), m.end()));
+    Ok(is_match == found.is_some() && end == found.map(|ends| ends.1) && by_dfa == found)
 }
 
 // Whether a match ends at the position or before.

@@ -1,6 +1,7 @@
 //! Several patterns, as an alternation of Python's `re` has them: of all that match from the leftmost position the first is taken, however long
 //! the others' matches are.
 
+use rsc_captures::Captures;
 use rsc_engine::{Builder, Error, Matches, Program};
 use rsc_look::AsciiWord;
 use rsc_search::Input;
@@ -30,13 +31,22 @@ fn are_all(
     let program = program(alloc, texts)?;
     let mut captures = program.captures(alloc)?;
     let mut matches = Matches::new(alloc, &program, Input::new(text.as_bytes()))?;
+    are_next(&mut matches, &mut captures, wanted)
+}
+
+// Whether these are the matches that are left.
+fn are_next(
+    matches: &mut Matches<'_, '_, AsciiWord>,
+    captures: &mut Captures,
+    wanted: &[(usize, usize, usize)],
+) -> Result<bool, Error> {
     for one in wanted {
-        let found = matches.next(&mut captures)?;
+        let found = matches.next(captures)?;
         if found.map(|m| (m.pattern().as_usize(), m.start(), m.end())) != Some(*one) {
             return Ok(false);
         }
     }
-    Ok(matches.next(&mut captures)?.is_none())
+    Ok(matches.next(captures)?.is_none())
 }
 
 #[test]

@@ -86,12 +86,16 @@ fn refuses_a_name_twice(rt: HostRuntime) -> Result<(), Fail> {
 // `(a){0}(?:(b)|(c)){2}(d)`
 fn repeated_groups(alloc: Global) -> Result<Program<AsciiWord>, Error> {
     let builder = Builder::new(alloc);
-    let a = group_of(&builder, b"a")?;
-    let a = builder.repeat(a, 0, Some(0))?;
-    let twice = two_of_two(&builder)?;
-    let d = group_of(&builder, b"d")?;
-    let whole = builder.concat(vec![in alloc; a, twice, d]?)?;
+    let whole = four_groups(alloc, &builder)?;
     builder.build(AsciiWord, true, whole)
+}
+
+fn four_groups(alloc: Global, builder: &Builder<'static>) -> Result<Part<'static>, Error> {
+    let a = group_of(builder, b"a")?;
+    let none = builder.repeat(a, 0, Some(0))?;
+    let twice = two_of_two(builder)?;
+    let d = group_of(builder, b"d")?;
+    builder.concat(vec![in alloc; none, twice, d]?)
 }
 
 fn group_of(builder: &Builder<'static>, text: &[u8]) -> Result<Part<'static>, Error> {
@@ -331,14 +335,18 @@ fn makes_captures_for_all_groups(rt: HostRuntime) -> Result<(), Fail> {
 fn a_part_says_whether_it_may_be_empty(rt: HostRuntime) -> Result<(), Fail> {
     let builder = Builder::new(rt.alloc());
     let letter = builder.range(b'a', b'z');
-    assert!(rt; !letter.may_be_empty() && letter.loops_take_bytes());
-    let option = builder.optional(letter)?;
-    assert!(rt; option.may_be_empty() && option.loops_take_bytes());
-    let few = builder.repeat(option, 0, Some(3))?;
-    assert!(rt; few.may_be_empty() && few.loops_take_bytes());
+    let of_letter = says(&letter);
+    let few = builder.repeat(builder.optional(letter)?, 0, Some(3))?;
+    let of_few = says(&few);
     let many = builder.plus(few)?;
-    assert!(rt; many.may_be_empty() && !many.loops_take_bytes());
-    let all = builder.then(builder.literal(b"-")?, many)?;
-    assert!(rt; !all.may_be_empty() && !all.loops_take_bytes());
+    let of_many = says(&many);
+    let of_all = says(&builder.then(builder.range(b'-', b'-'), many)?);
+    let wanted = [(false, true), (true, true), (true, false), (false, false)];
+    assert!(rt; [of_letter, of_few, of_many, of_all] == wanted);
     Ok(())
+}
+
+// Whether a part may be empty, and whether its loops take bytes.
+fn says(part: &Part<'_>) -> (bool, bool) {
+    (part.may_be_empty(), part.loops_take_bytes())
 }

@@ -223,12 +223,8 @@ fn sees_the_byte_after_the_span(rt: HostRuntime) -> Result<(), Fail> {
     Ok(())
 }
 
-// `\bé\b`: the first byte that isn't ASCII, from directly before the span to directly after it, ends the search.
-#[test]
-fn quits_at_the_first_byte_that_is_not_ascii(rt: HostRuntime) -> Result<(), Fail> {
-    let alloc = rt.alloc();
-    let program = program_of(alloc, 19)?;
-    let mut dfa = Dfa::new(alloc, &program, 1000);
+// The first span in which the answer of `\bé\b` isn't as wanted.
+fn differing_quit(dfa: &mut Dfa<'_, UnicodeWord>) -> Result<Option<Span>, Error> {
     for (start, end, want) in [
         (0, 5, Answer::Quit(2)),
         (0, 2, Answer::Quit(2)),
@@ -241,9 +237,20 @@ fn quits_at_the_first_byte_that_is_not_ascii(rt: HostRuntime) -> Result<(), Fail
         let mut input = Input::new("abéa".as_bytes());
         if start <= end && end <= input.haystack().len() {
             input.set_span(Span { start, end });
-            assert!(rt; dfa.earliest_end(&input)? == want, "{start}..{end}");
+            if dfa.earliest_end(&input)? != want {
+                return Ok(Some(Span { start, end }));
+            }
         }
     }
+    Ok(None)
+}
+
+// The first byte that isn't ASCII, from directly before the span to directly after it, ends the search.
+#[test]
+fn quits_at_the_first_byte_that_is_not_ascii(rt: HostRuntime) -> Result<(), Fail> {
+    let program = program_of(rt.alloc(), 19)?;
+    let mut dfa = Dfa::new(rt.alloc(), &program, 1000);
+    assert_eq!(rt; differing_quit(&mut dfa)?, None);
     Ok(())
 }
 
@@ -279,38 +286,54 @@ fn answers_for_pair(
     Ok(Some([whole, dfa.earliest_end(&input)?]))
 }
 
+// The position of a pair that isn't found.
+fn missed_pair(alloc: Global, dfa: &mut Dfa<'_, AsciiWord>) -> Result<Option<usize>, Error> {
+    for at in [1usize, 2, 63, 64, 65, 66, 128, 129, 4095, 4096, 4999] {
+        let answers = answers_for_pair(alloc, dfa, at)?;
+        if answers != Some([Answer::End(at + 1), Answer::NoMatch]) {
+            return Ok(Some(at));
+        }
+    }
+    Ok(None)
+}
+
+fn finds_nothing_in_letters(alloc: Global, dfa: &mut Dfa<'_, AsciiWord>) -> Result<bool, Error> {
+    let letters: Vec<u8> = vec![in alloc; b'x'; 5000]?;
+    Ok(dfa.earliest_end(&Input::new(&letters))? == Answer::NoMatch)
+}
+
 // A long text is first looked through for a letter and a digit after it.
 #[test]
 fn finds_a_pair_of_bytes_in_a_long_text(rt: HostRuntime) -> Result<(), Fail> {
     let program = letters_and_digit(rt.alloc())?;
     let mut dfa = Dfa::new(rt.alloc(), &program, 1000);
-    for at in [1usize, 2, 63, 64, 65, 66, 128, 129, 4095, 4096, 4999] {
-        let answers = answers_for_pair(rt.alloc(), &mut dfa, at)?;
-        assert!(rt;
-            answers == Some([Answer::End(at + 1), Answer::NoMatch]),
-            "{at}"
-        );
-    }
-    let letters: Vec<u8> = vec![in rt.alloc(); b'x'; 5000]?;
-    assert!(rt; dfa.earliest_end(&Input::new(&letters))? == Answer::NoMatch);
+    assert_eq!(rt; missed_pair(rt.alloc(), &mut dfa)?, None);
+    assert!(rt; finds_nothing_in_letters(rt.alloc(), &mut dfa)?);
     Ok(())
+}
+
+// The first position of a fortieth of a text from which an anchored search finds something.
+fn found_from(dfa: &mut Dfa<'_, AsciiWord>, text: &[u8]) -> Result<Option<usize>, Error> {
+    let end = text.len();
+    let mut input = Input::new(text);
+    input.set_anchored(Anchored::Yes);
+    for start in 0..end / 40 {
+        if start <= end && end <= input.haystack().len() {
+            input.set_span(Span { start, end });
+            if dfa.earliest_end(&input)? != Answer::NoMatch {
+                return Ok(Some(start));
+            }
+        }
+    }
+    Ok(None)
 }
 
 // Anchored searches from many positions of blanks on. Each ends at once, since no state is left: one that read on to the end would take minutes.
 #[test]
 fn ends_where_no_state_is_left(rt: HostRuntime) -> Result<(), Fail> {
-    let alloc = rt.alloc();
-    let program = letters_and_digit(alloc)?;
-    let mut dfa = Dfa::new(alloc, &program, 1000);
-    let text = blanks(alloc, 4_000_000)?;
-    let end = text.len();
-    let mut input = Input::new(&text);
-    input.set_anchored(Anchored::Yes);
-    for start in 0..end / 40 {
-        if start <= end && end <= input.haystack().len() {
-            input.set_span(Span { start, end });
-            assert!(rt; dfa.earliest_end(&input)? == Answer::NoMatch, "{start}");
-        }
-    }
+    let program = letters_and_digit(rt.alloc())?;
+    let mut dfa = Dfa::new(rt.alloc(), &program, 1000);
+    let text = blanks(rt.alloc(), 4_000_000)?;
+    assert_eq!(rt; found_from(&mut dfa, &text)?, None);
     Ok(())
 }
