@@ -336,13 +336,15 @@ fn a_part_says_whether_it_may_be_empty(rt: HostRuntime) -> Result<(), Fail> {
     let builder = Builder::new(rt.alloc());
     let letter = builder.range(b'a', b'z');
     let of_letter = says(&letter);
-    let few = builder.repeat(builder.optional(letter)?, 0, Some(3))?;
+    let option = builder.optional(letter)?;
+    let of_option = says(&option);
+    let few = builder.repeat(option, 0, Some(3))?;
     let of_few = says(&few);
     let many = builder.plus(few)?;
     let of_many = says(&many);
-    let of_all = says(&builder.then(builder.range(b'-', b'-'), many)?);
-    let wanted = [(false, true), (true, true), (true, false), (false, false)];
-    assert!(rt; [of_letter, of_few, of_many, of_all] == wanted);
+    let of_all = says(&builder.then(builder.literal(b"-")?, many)?);
+    assert!(rt; [of_letter, of_option, of_few] == [(false, true), (true, true), (true, true)]);
+    assert!(rt; [of_many, of_all] == [(true, false), (false, false)]);
     Ok(())
 }
 
