@@ -1,9 +1,9 @@
 -- The slots that a group was written into give its span.
-use Rattle.std.proofs.Common.{◌≡◌, ◌≢◌, ℕ, zero, suc, ◌+◌, ◌-◌, ◌*◌, ◌<◌, nat_eq, nat_lt, cond, Bool, true, false, List, length, Option, Some, None, refl, sym, ap, ◌∙◌, arith, option_and_then, set, get_or-set_same, get_or-set_other, length-set}
-use Rattle.std.proofs.lemmas.Bool.{lt-ltb, eqb-true}
+use Rattle.std.proofs.Common.{◌≡◌, ◌≢◌, ℕ, zero, suc, ◌+◌, ◌*◌, ◌<◌, nat_eq, cond, Bool, true, false, length, Some, None, refl, ap, arith, set, get_or-set_same, get_or-set_other, length-set}
+use Rattle.std.proofs.lemmas.Bool.{lt-ltb}
 use Rattle.std.proofs.lemmas.Bool.Decides.{nat_tests}
 use Rattle.rsc_captures.specs.Groups.{GroupLists, group_count, slot_of, slot_number, explicit_before}
-use Rattle.rsc_captures.specs.Captured.{Captured, first_slot, group_span, span_at}
+use Rattle.rsc_captures.specs.Captured.{Captured, first_slot, group_span}
 
 -- where there is one pattern, a group's slot is twice its number
 alone : (groups : GroupLists) (g : ℕ) → length groups ≡ 1 → 2 * g ≡ slot_number groups 0 g

@@ -1,11 +1,13 @@
 //! A lexer: the tokens of a text, which an engine finds side by side, and the bytes of a group.
-ghost use Rattle.std.specs.Prelude.{◌≡◌, ◌≤◌, ◌⊎◌, ◌↔◌, ◌++◌, [], ◌∷◌, true, false, IsTrue, ℕ, None, is_none, length, map, slice_range, IfOk, IfSome, IfNone};
+ghost use Rattle.std.specs.Prelude.{◌≡◌, ◌≤◌, ◌⊎◌, ◌↔◌, ◌++◌, [], ◌∷◌, true, false, IsTrue, ℕ, None, is_none, length, map, slice_range, IfOk, IfErr, IfSome, IfNone};
 ghost use Rattle.rsc_engine.specs.FirstEnds.{loops_take_bytes};
 ghost use Rattle.std.specs.List.{list_any};
 ghost use Rattle.rsc_primitives.specs.Utf8.{is_word_byte};
 ghost use Rattle.rsc_engine.specs.Patterns.{Class, Repeat, Goes, may_be_empty};
-ghost use Rattle.rsc_engine.specs.Parts.{pattern_of, patterns_of};
+ghost use Rattle.rsc_engine.specs.Parts.{pattern_of, patterns_of, groups_of_pattern, lists_of};
+ghost use Rattle.rsc_engine.specs.Refusals.{FailsToBuild, RunsOut};
 ghost use Rattle.rsc_uses.specs.Lexed.{AreLexed};
+ghost use Rattle.rsc_uses.specs.Texts.{text_of, GoesNowhere};
 
 use crate::engine::all_matches;
 use rsc_engine::{AsciiWordClass, Builder, Error, Part, find, laws};
@@ -23,9 +25,10 @@ pub fn tokens_of<'n, W: WordClass + AsciiWordClass>(
     text: &[u8],
 ) -> Result<Vec<Match>, Error>
     requires { list_any may_be_empty (patterns_of builder ++ pattern_of last ∷ []) ≡ false }
-    ensures { IfOk result (λ tokens.
-        AreLexed (record { haystack = text.now; terminator = 10; word_chars = W.word_chars word_class })
-        (patterns_of builder.entry ++ pattern_of last.entry ∷ []) 0 tokens.items) }
+    ensures tokens { IfOk result (λ tokens.
+        AreLexed (text_of text.now (W.word_chars word_class)) (patterns_of builder.entry ++ pattern_of last.entry ∷ []) 0 tokens.items) }
+    ensures refused { IfErr result (FailsToBuild (patterns_of builder.entry ++ pattern_of last.entry ∷ [])
+        (lists_of builder.entry ++ groups_of_pattern last.entry ∷ [])) }
 {
     laws::a_next_match_is_of_a_pattern::<W>();
     laws::a_match_is_of_the_least_pattern::<W>();
@@ -46,10 +49,11 @@ pub fn tokens_of_parts<'n, W: WordClass + AsciiWordClass>(
     text: &[u8],
 ) -> Result<Option<Vec<Match>>, Error>
     ensures some { IfOk result (λ found. IfSome found (λ tokens.
-        AreLexed (record { haystack = text.now; terminator = 10; word_chars = W.word_chars word_class })
-        (map pattern_of parts.entry.items ++ pattern_of last.entry ∷ []) 0 tokens.items)) }
+        AreLexed (text_of text.now (W.word_chars word_class)) (map pattern_of parts.entry.items ++ pattern_of last.entry ∷ []) 0 tokens.items)) }
     ensures none { IfOk result (λ found. IsTrue (is_none found) ↔
         IsTrue (list_any may_be_empty (map pattern_of parts.entry.items ++ pattern_of last.entry ∷ []))) }
+    ensures refused { IfErr result (FailsToBuild (map pattern_of parts.entry.items ++ pattern_of last.entry ∷ [])
+        (map groups_of_pattern parts.entry.items ++ groups_of_pattern last.entry ∷ [])) }
 {
     let mut builder = Builder::new(alloc);
     for part in parts {
@@ -66,8 +70,9 @@ pub fn tokens_of_parts<'n, W: WordClass + AsciiWordClass>(
 
 /// The tokens of a text in three kinds: runs of small letters, runs of digits, and single bytes of any kind.
 pub fn letters_and_digits(alloc: Global, text: &[u8]) -> Result<Vec<Match>, Error>
-    ensures { IfOk result (λ tokens. AreLexed (record { haystack = text.now; terminator = 10; word_chars = is_word_byte })
+    ensures tokens { IfOk result (λ tokens. AreLexed (text_of text.now is_word_byte)
         (Repeat 1 None true (Class ((97, 122) ∷ [])) ∷ Repeat 1 None true (Class ((48, 57) ∷ [])) ∷ Class ((0, 255) ∷ []) ∷ []) 0 tokens.items) }
+    ensures refused { IfErr result RunsOut }
 {
     let mut builder = Builder::new(alloc);
     let letters = builder.plus(builder.range(b'a', b'z'))?;
@@ -91,7 +96,7 @@ pub fn as_token<'n>(part: Part<'n>) -> Option<Part<'n>>
     Some(part)
 }
 
-/// The bytes of a group of the first match of a part, if there is one and the group is set: a cut of that match.
+/// The bytes of a group of the first match of a part, if there is one and the group is set: a cut of that match. Group 0 is set if there is a match.
 pub fn bytes_of_group<'h, W: WordClass + AsciiWordClass>(
     alloc: Global,
     word_class: W,
@@ -99,12 +104,15 @@ pub fn bytes_of_group<'h, W: WordClass + AsciiWordClass>(
     group: usize,
     text: &'h [u8],
 ) -> Result<Option<&'h [u8]>, Error>
-    ensures { IfOk result (λ found. IfSome found (λ bytes. (i s t j : ℕ) × (i ≤ s) × (s ≤ t) × (t ≤ j) × (j ≤ length text.now)
+    ensures some { IfOk result (λ found. IfSome found (λ bytes. (i s t j : ℕ) × (i ≤ s) × (s ≤ t) × (t ≤ j) × (j ≤ length text.now)
         × (bytes.now ≡ slice_range text.now s t)
-        × Goes (record { haystack = text.now; terminator = 10; word_chars = W.word_chars word_class }) (pattern_of part.entry) i j)) }
+        × Goes (text_of text.now (W.word_chars word_class)) (pattern_of part.entry) i j)) }
+    ensures none { IfOk result (λ found. IfNone found (group ≡ 0 → GoesNowhere (text_of text.now (W.word_chars word_class)) (pattern_of part.entry))) }
+    ensures refused { IfErr result (FailsToBuild (pattern_of part.entry ∷ []) (groups_of_pattern part.entry ∷ [])) }
 {
     laws::a_group_that_begins_ends::<W>();
     laws::a_first_match_is_of_a_pattern::<W>();
+    laws::the_first_group_is_the_match::<W>();
     let program = Builder::new(alloc).build(word_class, true, part)?;
     let mut captures = program.captures(alloc)?;
     let input = Input::new(text);

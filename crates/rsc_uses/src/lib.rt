@@ -9,6 +9,7 @@ pub mod engine;
 pub mod lexer;
 pub mod look;
 pub mod nfa;
+pub mod parts;
 pub mod primitives;
 pub mod search;
 pub mod threads;

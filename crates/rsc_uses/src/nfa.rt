@@ -1,5 +1,5 @@
 //! Runs of an automaton.
-ghost use Rattle.std.specs.Prelude.{◌≡◌, ◌<◌, ◌≤◌, ◌+◌, ℕ, All, IsTrue, IfSome, Some, not, true, length, slice_get, slice_index};
+ghost use Rattle.std.specs.Prelude.{◌≡◌, ◌<◌, ◌≤◌, ◌+◌, ◌⊎◌, ℕ, All, IsTrue, IfSome, IfNone, Some, None, not, true, length, slice_get, slice_index};
 ghost use Rattle.rsc_look.specs.Keeping.{AgreesWithAscii};
 ghost use Rattle.rsc_nfa.specs.Classes.{has_unicode, KeepsRuns};
 ghost use Rattle.rsc_nfa.specs.Steps.{IsRun, recorded, AreClosed};
@@ -67,6 +67,7 @@ pub fn record_match<W: WordClass>(
     ensures start { IfSome result (λ offsets. recorded nfa.now.states run.now 0 ≡ Some offsets.0) }
     ensures end { IfSome result (λ offsets. recorded nfa.now.states run.now 1 ≡ Some offsets.1) }
     ensures order { IfSome result (λ offsets. offsets.0 ≤ offsets.1) }
+    ensures none { IfNone result ((recorded nfa.now.states run.now 0 ≡ None) ⊎ (recorded nfa.now.states run.now 1 ≡ None)) }
 {
     laws::records_are_in_order();
     nfa.record(run, captures);

@@ -1,12 +1,14 @@
 //! Inputs that move on, and sets of patterns.
-ghost use Rattle.std.specs.Prelude.{◌≡◌, ◌↔◌, ◌+◌, ◌<◌, ◌≤◌, ◌++◌, ℕ, All, IsTrue, IfOk, IfSome, is_none, slice_index, slice_range, length, reverse, sum_by, true, ◌%◌, ◌^◌, ◌-◌, ◌⊎◌};
+ghost use Rattle.std.specs.Prelude.{◌≡◌, ◌↔◌, ◌+◌, ◌<◌, ◌≤◌, ◌++◌, ℕ, All, IsTrue, IfOk, IfSome, IfNone, Option, is_none, [], slice_index, slice_range, length, reverse, sum_by, true, ◌%◌, ◌^◌, ◌-◌, ◌⊎◌};
 ghost use Rattle.std.specs.Option.{option_copied};
 ghost use Rattle.std.specs.List.{range_with_len};
 ghost use Rattle.rsc_look.specs.Holds.{Holds};
 ghost use Rattle.rsc_look.specs.Words.{is_unicode_word};
-ghost use Rattle.rsc_search.specs.Inputs.{whole};
+ghost use Rattle.rsc_search.specs.Inputs.{InputParts, whole};
+ghost use Rattle.rsc_search.specs.declared.span.Span as spans;
 ghost use Rattle.rsc_search.specs.PatternSets.{has_member};
 ghost use Rattle.rsc_search.specs.Spans.{cut};
+ghost use Rattle.rsc_uses.specs.Found.{AreFound};
 
 use rsc_look::{Look, LookMatcher, UnicodeWord};
 use rsc_primitives::PatternID;
@@ -15,17 +17,24 @@ use std::alloc::{AllocError, Global};
 
 /// What a search is: it answers a span within the input's own, in order.
 pub trait Search {
+    /// What else the search's answer says of an input.
+    ghost Finds: { Self → InputParts → Option spans.Span → Type 0 };
+
+    /// The span that the search finds in an input, if it finds one.
     fn find(&self, input: &Input<'_>) -> Option<Span>
-        ensures { IfSome result (λ s. (input.now.span.start ≤ s.start) × (s.start ≤ s.end) × (s.end ≤ input.now.span.end)) };
+        ensures found { Finds self.now input.now result }
+        ensures within { IfSome result (λ s. (input.now.span.start ≤ s.start) × (s.start ≤ s.end) × (s.end ≤ input.now.span.end)) };
 }
 
-/// All matches that don't overlap, by any search: after an empty one the search goes on one byte later, so it always ends.
+/// All matches that don't overlap, by any search: each is what it finds from the end of the one before it on. After an empty one the search goes on one byte
+/// later, so it always ends.
 pub fn all_matches<S: Search>(
     alloc: Global,
     search: &S,
     haystack: &[u8],
 ) -> Result<Vec<Span>, AllocError>
-    ensures { IfOk result (λ found. All (λ s. (s.start ≤ s.end) × (s.end ≤ length haystack.now)) found.items) }
+    ensures within { IfOk result (λ found. All (λ s. (s.start ≤ s.end) × (s.end ≤ length haystack.now)) found.items) }
+    ensures found { IfOk result (λ found. AreFound (S.Finds search.now) (whole haystack.now) found.items) }
 {
     let mut found = Vec::new(alloc);
     let mut input = Input::new(haystack);
@@ -173,10 +182,11 @@ pub fn from_both_ends(
     Ok((front, back))
 }
 
-/// The least member.
+/// The least member, or `None` if there is none.
 pub fn least(set: &PatternSet) -> Option<PatternID>
-    ensures { IfSome result (λ p. (has_member set.now.members p ≡ true)
+    ensures some { IfSome result (λ p. (has_member set.now.members p ≡ true)
         × ((q : ℕ) → has_member set.now.members q ≡ true → p ≤ q)) }
+    ensures none { IfNone result (set.now.members ≡ []) }
 {
     laws::members_are_contained();
     let mut left = set.iter();

@@ -1,5 +1,5 @@
 //! Each caller, run on values.
-ghost use Rattle.std.specs.Prelude.{◌≡◌, ◌<◌, ℕ, slice_index};
+ghost use Rattle.std.specs.Prelude.{◌≡◌, ◌<◌, ℕ, Some, IfSome, slice_get, slice_index};
 
 mod engine;
 mod indices;
@@ -174,6 +174,8 @@ fn classes_of_assertions(rt: HostRuntime) -> Result<(), Fail> {
 struct Byte(u8);
 
 impl search::Search for Byte {
+    ghost Finds = { λ byte input found. IfSome found (λ s. slice_get input.haystack s.start ≡ Some byte.0) };
+
     fn find(&self, input: &Input<'_>) -> Option<Span> {
         for at in input.start()..input.end() {
             if input.haystack().get(at).copied() == Some(self.0) {
@@ -191,6 +193,8 @@ impl search::Search for Byte {
 struct Empty;
 
 impl search::Search for Empty {
+    ghost Finds = { λ _ input found. IfSome found (λ s. s.start ≡ input.span.start) };
+
     fn find(&self, input: &Input<'_>) -> Option<Span> {
         if input.start() <= input.end() {
             Some(Span {

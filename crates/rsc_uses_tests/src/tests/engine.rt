@@ -3,7 +3,7 @@ use rsc_engine::{Answer, Builder, Cache, Dfa, Error, Matches, Program};
 use rsc_look::AsciiWord;
 use rsc_primitives::PatternID;
 use rsc_search::Input;
-use rsc_uses::{ends, engine, lexer};
+use rsc_uses::{ends, engine, lexer, parts};
 use std::alloc::Global;
 use std::test::Fail;
 
@@ -17,8 +17,25 @@ fn a_letter(alloc: Global) -> Result<Program<AsciiWord>, Error> {
 #[test]
 fn a_part_is_found(rt: HostRuntime) -> Result<(), Fail> {
     let whole = Builder::new(rt.alloc()).range(b'a', b'z');
-    let found = engine::find_part(rt.alloc(), AsciiWord, whole, b"-a b")?;
+    let found = parts::find_part(rt.alloc(), AsciiWord, whole, b"-a b")?;
     assert!(rt; found == Some((1, 2)));
+    Ok(())
+}
+
+#[test]
+fn the_first_group_of_a_match_is_set(rt: HostRuntime) -> Result<(), Fail> {
+    let builder = Builder::new(rt.alloc());
+    let input = Input::new(b"-a b");
+    let letter = builder.range(b'a', b'z');
+    let found = parts::find_with_slots(rt.alloc(), AsciiWord, letter, &input)?;
+    assert!(rt;
+        found.is_some_and(|both| both.1.slots()[0].map(|at| at.get()) == Some(both.0.start()))
+    );
+    let letter = builder.range(b'a', b'z');
+    let found = parts::find_with_group(rt.alloc(), AsciiWord, letter, &input)?;
+    assert!(rt; found.is_some_and(|both| both.1 == Some(both.0.span())));
+    let digit = builder.range(b'0', b'9');
+    assert!(rt; parts::find_with_group(rt.alloc(), AsciiWord, digit, &input)?.is_none());
     Ok(())
 }
 
@@ -68,13 +85,13 @@ fn ends_agree(rt: HostRuntime) -> Result<(), Fail> {
 fn answers_are_of_parts(rt: HostRuntime) -> Result<(), Fail> {
     let builder = Builder::new(rt.alloc());
     let whole = builder.range(b'a', b'z');
-    let first = engine::first_of_iteration(rt.alloc(), AsciiWord, whole, b"-a b")?;
+    let first = parts::first_of_iteration(rt.alloc(), AsciiWord, whole, b"-a b")?;
     assert!(rt; first == Some((1, 2)));
     let whole = builder.range(b'a', b'z');
-    let end = engine::earliest_end_of_part(rt.alloc(), AsciiWord, whole, b"-a b")?;
+    let end = parts::earliest_end_of_part(rt.alloc(), AsciiWord, whole, b"-a b")?;
     assert!(rt; end == Answer::End(2));
     let whole = builder.plus(builder.range(b'a', b'z'))?;
-    let end = engine::leftmost_end_of_part(rt.alloc(), AsciiWord, whole, b"-ab c")?;
+    let end = parts::leftmost_end_of_part(rt.alloc(), AsciiWord, whole, b"-ab c")?;
     assert!(rt; end == Some(3));
     Ok(())
 }
@@ -84,11 +101,11 @@ fn the_first_of_two_parts_is_preferred(rt: HostRuntime) -> Result<(), Fail> {
     let builder = Builder::new(rt.alloc());
     let letters = builder.plus(builder.range(b'a', b'z'))?;
     let keyword = builder.literal(b"if")?;
-    let found = engine::first_of_two(rt.alloc(), AsciiWord, keyword, letters, b"- if")?;
+    let found = parts::first_of_two(rt.alloc(), AsciiWord, keyword, letters, b"- if")?;
     assert!(rt; found.is_some_and(|it| it.pattern() == PatternID::ZERO && it.start() == 2));
     let letters = builder.plus(builder.range(b'a', b'z'))?;
     let keyword = builder.literal(b"if")?;
-    let found = engine::first_of_two(rt.alloc(), AsciiWord, keyword, letters, b"- it")?;
+    let found = parts::first_of_two(rt.alloc(), AsciiWord, keyword, letters, b"- it")?;
     assert!(rt; found.is_some_and(|it| it.pattern().as_usize() == 1 && it.start() == 2));
     Ok(())
 }
@@ -97,11 +114,11 @@ fn the_first_of_two_parts_is_preferred(rt: HostRuntime) -> Result<(), Fail> {
 fn a_name_is_once_in_a_program(rt: HostRuntime) -> Result<(), Fail> {
     let builder = Builder::new(rt.alloc());
     let one = builder.group(Some("a"), builder.empty())?;
-    assert!(rt; engine::program_of_part(rt.alloc(), AsciiWord, one).is_ok());
+    assert!(rt; parts::program_of_part(rt.alloc(), AsciiWord, one).is_ok());
     let one = builder.group(Some("a"), builder.empty())?;
     let other = builder.group(Some("a"), builder.empty())?;
     let both = builder.then(one, other)?;
-    assert!(rt; engine::program_of_part(rt.alloc(), AsciiWord, both).is_err());
+    assert!(rt; parts::program_of_part(rt.alloc(), AsciiWord, both).is_err());
     Ok(())
 }
 
@@ -110,7 +127,7 @@ fn groups_of_both_parts(rt: HostRuntime) -> Result<(), Fail> {
     let builder = Builder::new(rt.alloc());
     let one = builder.group(Some("a"), builder.range(b'a', b'z'))?;
     let other = builder.group(Some("b"), builder.empty())?;
-    let program = engine::program_of_two(rt.alloc(), AsciiWord, one, other)?;
+    let program = parts::program_of_two(rt.alloc(), AsciiWord, one, other)?;
     let info = program.nfa().group_info();
     assert!(rt; info.to_index(PatternID::ZERO, "b") == Some(2));
     Ok(())
@@ -119,7 +136,7 @@ fn groups_of_both_parts(rt: HostRuntime) -> Result<(), Fail> {
 // `ab|a`
 fn two_texts(alloc: Global) -> Result<Program<AsciiWord>, Error> {
     let builder = Builder::new(alloc);
-    let whole = engine::one_of_two(alloc, &builder, b"ab", b"a")?;
+    let whole = parts::one_of_two(alloc, &builder, b"ab", b"a")?;
     builder.build(AsciiWord, true, whole)
 }
 
@@ -204,6 +221,12 @@ fn the_bytes_of_a_group_are_cut_out(rt: HostRuntime) -> Result<(), Fail> {
 fn a_run_and_what_is_quoted_end_where_they_should(rt: HostRuntime) -> Result<(), Fail> {
     assert!(rt; ends::find_run(rt.alloc(), b'a', b'z', b"-ab1")? == Some((1, 3)));
     assert!(rt; ends::find_run(rt.alloc(), b'a', b'z', b"12")? == None);
+    assert!(rt;
+        matches!(
+            ends::find_run(rt.alloc(), b'z', b'a', b"ab"),
+            Err(Error::Faulty)
+        )
+    );
     assert!(rt; ends::find_quoted(rt.alloc(), b"a \"b\" \"c\"")? == Some((2, 5)));
     assert!(rt; ends::find_quoted(rt.alloc(), b"a \"b")? == None);
     Ok(())
@@ -231,7 +254,7 @@ fn a_token_takes_a_byte(rt: HostRuntime) -> Result<(), Fail> {
 fn no_match_that_takes_a_byte_is_left_out(rt: HostRuntime) -> Result<(), Fail> {
     let builder = Builder::new(rt.alloc());
     // The second byte of `ß`.
-    let found = engine::first_in_text(
+    let found = parts::first_in_text(
         rt.alloc(),
         AsciiWord,
         builder.range(0x9F, 0x9F),

@@ -1,8 +1,4 @@
 use Rattle.std.proofs.Common.{◌∙◌, sym, ap, arith, slice_index, length-set}
-use Rattle.std.specs.declared.ops.Bound.TheVariants.{Unbounded}
-use Rattle.rsc_alphabet.specs.Symbols.{byte}
-use Rattle.rsc_alphabet.specs.Iterators.{class_at, end_of, representatives_of}
-use Rattle.rsc_uses.specs.Leads.{lead_of}
 use Rattle.rsc_uses.proofs.AlphabetLemmas.{one_filled, next_is_among, all_filled, one_way, class_within}
 use Rattle.rsc_uses.proofs.alphabet.fill_by_representatives.Goals as goal
 

@@ -19,14 +19,14 @@ same_end e None run end one law found none first at = absurd (law run none first
 same_end e (Some i) run end one law found none first at =
     ap Some (sym found.ends ∙ ap (λ (r : List (ℕ × ℕ)). (place r (length r - 1)).1) (one found.run run found.is_first first) ∙ sym at)
 
-pub returns-in-None : goal.returns-in-None
-returns-in-None g c =
+pub returns-in-None-clause-same : goal.returns-in-None-clause-same
+returns-in-None-clause-same g c =
     no_end (search_in g.W.WordClass.word_chars c.args.program.now c.args.input.now) c.in_ok-by_table.by_table
     (c.there_is_one_first_match.ensures.none _) (rw c.requires.of_program at c.in_ok-by_table.ensures.found)
     (rw c.in-None.is at c.in_ok-find.ensures.none)
 
-pub returns-in-Some : goal.returns-in-Some
-returns-in-Some g c =
+pub returns-in-Some-clause-same : goal.returns-in-Some-clause-same
+returns-in-Some-clause-same g c =
     let found = rw c.in-Some.is at c.in_ok-find.ensures.found in
     same_end (search_in g.W.WordClass.word_chars c.args.program.now c.args.input.now) c.in_ok-by_table.by_table found.run c.end.result
     (c.there_is_one_first_match.ensures.first _) (c.there_is_one_first_match.ensures.none _)

@@ -1,7 +1,7 @@
-use Rattle.std.proofs.Common.{[], ◌∷◌, refl, sym, arith}
+use Rattle.std.proofs.Common.{◌≡◌, [], ◌∷◌, refl, sym, arith}
 use Rattle.rsc_search.specs.Inputs.{whole}
-use Rattle.rsc_engine.specs.Parts.{pattern_of}
-use Rattle.rsc_uses.proofs.EngineLemmas.{goes_of}
+use Rattle.rsc_engine.specs.Parts.{pattern_of, groups_of_part, groups_of_pattern}
+use Rattle.rsc_uses.proofs.PartsLemmas.{goes_of, goes_nowhere, first_group}
 use Rattle.rsc_uses.proofs.lexer.bytes_of_group.Goals as goal
 
 pub slice_bounds-result-count : goal.slice_bounds-result-count
@@ -27,8 +27,8 @@ slice_bounds-result-end g c =
     c.args.group c.in-Some-get_group.span c.in_ok-program.ensures.closes found (sym (rw c.in-Some-get_group.is at span)) in
     omega (arith, order.2, within.1)
 
-pub returns : goal.returns
-returns g c =
+pub returns-clause-some : goal.returns-clause-some
+returns-clause-some g c =
     let p = pattern_of c.args.part in
     let program = c.in_ok-program.program in
     let matches = rw c.new.ensures.patterns at c.in_ok-program.ensures.matches in
@@ -49,3 +49,26 @@ returns g c =
       goes_of g.W.WordClass.word_chars program c.args.word_class p c.args.text.now c.in-Some.whole c.in_ok-program.ensures.matcher
           (c.a_first_match_is_of_a_pattern.ensures.some program (p ∷ []) (whole c.args.text.now) _ c.in-Some.whole matches found),
     )
+
+pub returns-in-None-clause-none : goal.returns-in-None-clause-none
+returns-in-None-clause-none g c = λ first.
+    let p = pattern_of c.args.part in
+    let program = c.in_ok-program.program in
+    let matches = rw c.new.ensures.patterns at c.in_ok-program.ensures.matches in
+    let none = rw (c.in-None.is, c.new-input.ensures) at c.in_ok-find.ensures.none in
+    goes_nowhere g.W.WordClass.word_chars program c.args.word_class (p ∷ []) 0 p c.args.text.now c.in_ok-program.ensures.matcher refl
+    (λ other. c.a_first_match_is_of_a_pattern.ensures.none program (p ∷ []) (whole c.args.text.now) other matches none)
+
+pub returns-in-None-get_group-clause-none : goal.returns-in-None-get_group-clause-none
+returns-in-None-get_group-clause-none g c = λ first.
+    let p = pattern_of c.args.part in
+    let program = c.in_ok-program.program in
+    let matches = rw c.new.ensures.patterns at c.in_ok-program.ensures.matches in
+    let lists : program.automaton.groups ≡ groups_of_pattern c.args.part ∷ [] = rw c.new.ensures.groups at c.in_ok-program.ensures.groups in
+    let found = rw (c.in-Some.is, c.new-input.ensures) at c.in_ok-find.ensures.found in
+    let span = first_group g.W.WordClass.word_chars program p (groups_of_part c.args.part) (whole c.args.text.now) c.in_ok-captures.captures
+    c.find.new.captures c.in-Some.whole lists c.in_ok-captures.ensures.made c.find.ensures.slots c.find.ensures.groups
+    (c.a_first_match_is_of_a_pattern.ensures.some program (p ∷ []) (whole c.args.text.now) _ _ matches found)
+    (c.the_first_group_is_the_match.ensures.first_group program (whole c.args.text.now) _ _ c.in_ok-program.ensures.ends found) in
+    let none = rw (c.in-None-get_group.is, first) at c.get_group.ensures.span in
+    absurd (cc)

@@ -1,7 +1,7 @@
 use Rattle.rsc_uses.proofs.lexer.letters_and_digits.Goals as goal
 
-pub returns : goal.returns
-returns c =
+pub returns-clause-tokens : goal.returns-clause-tokens
+returns-clause-tokens c =
     rw (
       c.in_ok-pattern-2.ensures.added,
       c.in_ok-pattern.ensures.added,
@@ -11,4 +11,4 @@ returns c =
       c.range.ensures.part,
       c.range-2.ensures.part,
       c.range-other.ensures.part,
-    ) at c.tokens_of.ensures
+    ) at c.tokens_of.ensures.tokens

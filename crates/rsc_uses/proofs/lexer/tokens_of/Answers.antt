@@ -4,8 +4,8 @@ use Rattle.rsc_uses.specs.Lexed.{AreLexed}
 use Rattle.rsc_uses.proofs.LexedLemmas.{read_by, lexed}
 use Rattle.rsc_uses.proofs.lexer.tokens_of.Goals as goal
 
-pub returns : goal.returns
-returns g c =
+pub returns-clause-tokens : goal.returns-clause-tokens
+returns-clause-tokens g c =
     let chars = g.W.WordClass.word_chars in
     let program = c.in_ok-program.program in
     let patterns = patterns_of c.args.builder ++ pattern_of c.args.last ∷ [] in
@@ -25,4 +25,4 @@ returns g c =
       over = λ input last other over same m.
           c.anchored_matches_are_side_by_side.ensures.over program patterns input last other matches none over same m;
     })
-    (rw (c.anchored-input.ensures, c.new.ensures) at c.in_ok-tokens.ensures))
+    (rw (c.anchored-input.ensures, c.new.ensures) at c.in_ok-tokens.ensures.all))

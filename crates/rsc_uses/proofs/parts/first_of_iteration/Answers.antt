@@ -2,8 +2,8 @@ use Rattle.std.proofs.Common.{[], ◌∷◌, arith}
 use Rattle.rsc_search.specs.Inputs.{whole}
 use Rattle.rsc_engine.specs.Searches.{search_in}
 use Rattle.rsc_engine.specs.Parts.{pattern_of}
-use Rattle.rsc_uses.proofs.EngineLemmas.{goes_of, match_of, is_open, none_left_out}
-use Rattle.rsc_uses.proofs.engine.first_of_iteration.Goals as goal
+use Rattle.rsc_uses.proofs.PartsLemmas.{goes_of, match_of, is_open, none_left_out}
+use Rattle.rsc_uses.proofs.parts.first_of_iteration.Goals as goal
 
 pub returns-in-None-clause-none : goal.returns-in-None-clause-none
 returns-in-None-clause-none g c = λ i j before within goes.

@@ -3,8 +3,8 @@ use Rattle.std.specs.List.{list_any}
 use Rattle.rsc_search.specs.Inputs.{whole}
 use Rattle.rsc_engine.specs.Patterns.{may_be_empty}
 use Rattle.rsc_engine.specs.Parts.{pattern_of}
-use Rattle.rsc_uses.proofs.EngineLemmas.{match_of}
-use Rattle.rsc_uses.proofs.engine.first_in_text.Goals as goal
+use Rattle.rsc_uses.proofs.PartsLemmas.{match_of}
+use Rattle.rsc_uses.proofs.parts.first_in_text.Goals as goal
 
 pub returns-in-None-clause-none : goal.returns-in-None-clause-none
 returns-in-None-clause-none g c = λ i j within goes.

@@ -1,18 +1,17 @@
-use Rattle.std.proofs.Common.{[], ◌∷◌}
+use Rattle.std.proofs.Common.{[], ◌∷◌, refl}
 use Rattle.rsc_search.specs.Inputs.{whole}
 use Rattle.rsc_engine.specs.Parts.{pattern_of}
-use Rattle.rsc_uses.proofs.EngineLemmas.{goes_of, first_end_of, match_of, may_begin}
-use Rattle.rsc_uses.proofs.engine.find_part.Goals as goal
+use Rattle.rsc_uses.proofs.PartsLemmas.{goes_of, first_end_of, match_of, goes_nowhere}
+use Rattle.rsc_uses.proofs.parts.find_part.Goals as goal
 
 pub returns-in-None-clause-none : goal.returns-in-None-clause-none
-returns-in-None-clause-none g c = λ i j before within goes.
+returns-in-None-clause-none g c =
     let p = pattern_of c.args.part in
-    let chars = g.W.WordClass.word_chars in
+    let program = c.in_ok-program.program in
     let matches = rw c.new.ensures.patterns at c.in_ok-program.ensures.matches in
     let none = rw (c.in-None.is, c.new-input.ensures) at c.in_ok-find.ensures.none in
-    c.a_first_match_is_of_a_pattern.ensures.none c.in_ok-program.program (p ∷ []) (whole c.args.haystack.now) _ matches none
-    (may_begin chars c.in_ok-program.program c.args.haystack.now i before)
-    (match_of chars c.in_ok-program.program c.args.word_class p [] c.args.haystack.now i j c.in_ok-program.ensures.matcher within goes)
+    goes_nowhere g.W.WordClass.word_chars program c.args.word_class (p ∷ []) 0 p c.args.haystack.now c.in_ok-program.ensures.matcher refl
+    (λ other. c.a_first_match_is_of_a_pattern.ensures.none program (p ∷ []) (whole c.args.haystack.now) other matches none)
 
 pub returns-clause-some : goal.returns-clause-some
 returns-clause-some g c =

@@ -1,0 +1,144 @@
+-- What matches of a program say of the pattern that it's built of.
+use Rattle.std.proofs.Common.{◌≡◌, ℕ, zero, suc, ◌+◌, ◌*◌, ◌<◌, ◌≤◌, ◌⊎◌, inl, inr, ◌∙◌, true≢false, true, false, Option, Some, None, Bool, List, [], ◌∷◌, length, slice_get, refl, sym, ap, subst, arith}
+use Rattle.std.proofs.lemmas.List.{length-replicate}
+use Rattle.rsc_nfa.specs.Steps.{place}
+use Rattle.rsc_search.specs.Inputs.{InputParts, whole}
+use Rattle.rsc_search.specs.Matches.{Matched}
+use Rattle.rsc_search.specs.Modes.{pattern_of_mode}
+use Rattle.rsc_captures.specs.Groups.{Groups, GroupLists, group_count, all_groups}
+use Rattle.rsc_captures.specs.Captured.{Captured, no_offsets, group_span}
+use Rattle.rsc_engine.specs.Searches.{Compiled, Search, search_in}
+use Rattle.rsc_engine.specs.Runs.{is_wanted}
+use Rattle.rsc_engine.specs.Preferred.{MayBegin}
+use Rattle.rsc_engine.specs.NextMatches.{IsOpen, IsRepeated, IsSplitAt}
+use Rattle.rsc_engine.specs.Patterns.{Pattern, Subject, Goes, subject_of, IsMatchIn}
+use Rattle.rsc_engine.specs.FirstEnds.{IsFirstEnd}
+use Rattle.rsc_uses.specs.Texts.{text_of, GoesNowhere, GoesNowhereIn}
+
+pub goes_to : (x : Subject) (p : Pattern) (i j end : ℕ) → j ≡ end → Goes x p i j → Goes x p i end
+goes_to x p i j end e goes = subst (λ (k : ℕ). Goes x p i k) e goes
+
+pub ends_to : (x : Subject) (p : Pattern) (Wanted : ℕ → Type 0) (i j end : ℕ) → j ≡ end → IsFirstEnd x p Wanted i j → IsFirstEnd x p Wanted i end
+ends_to x p Wanted i j end e first = subst (λ (k : ℕ). IsFirstEnd x p Wanted i k) e first
+
+its_only : (p q : Pattern) (n : ℕ) → slice_get (p ∷ []) n ≡ Some q → q ≡ p
+its_only p q zero e = cc
+its_only p q (suc n) e = absurd (cc)
+
+-- a match of the only pattern is where it goes
+pub goes_of : {W : Type 0} (chars : W → ℕ → Bool) (program : Compiled W) (word_class : W) (p : Pattern) (haystack : List ℕ) (found : Matched)
+    → program.automaton.matcher ≡ (10, word_class) → IsMatchIn (p ∷ []) (search_in chars program (whole haystack)) found
+    → Goes (text_of haystack (chars word_class)) p found.span.start found.span.end
+goes_of {W = W} chars program word_class p haystack found matcher m =
+    subst (λ (x : ℕ × W). Goes (record { haystack = haystack; terminator = x.0; word_chars = chars x.1 }) p found.span.start found.span.end) matcher
+    (subst (λ (q : Pattern). Goes (record { haystack = haystack; terminator = program.automaton.matcher.0; word_chars = chars program.automaton.matcher.1 }) q
+    found.span.start found.span.end) (its_only p m.pattern found.pattern m.its) m.goes)
+
+-- and ends where the pattern's first end is
+pub first_end_of : {W : Type 0} (chars : W → ℕ → Bool) (program : Compiled W) (word_class : W) (p : Pattern) (haystack : List ℕ) (found : Matched)
+    → program.automaton.matcher ≡ (10, word_class) → IsMatchIn (p ∷ []) (search_in chars program (whole haystack)) found
+    → (slice_get (p ∷ []) found.pattern ≡ Some p
+    → IsFirstEnd (subject_of (search_in chars program (whole haystack))) p (λ j. j ≤ length haystack) found.span.start found.span.end)
+    → IsFirstEnd (text_of haystack (chars word_class)) p (λ j. j ≤ length haystack) found.span.start found.span.end
+first_end_of {W = W} chars program word_class p haystack found matcher m first =
+    subst (λ (x : ℕ × W). IsFirstEnd (record { haystack = haystack; terminator = x.0; word_chars = chars x.1 }) p (λ j. j ≤ length haystack) found.span.start
+    found.span.end) matcher
+    (first (m.its ∙ ap (λ (q : Pattern). Some q) (its_only p m.pattern found.pattern m.its)))
+
+-- and it's of pattern 0
+pub number_of : (p : Pattern) (e : Search) (found : Matched) → IsMatchIn (p ∷ []) e found → found.pattern ≡ 0
+number_of p e found m = only found.pattern m.its
+  where
+    only : (n : ℕ) → slice_get (p ∷ []) n ≡ Some m.pattern → n ≡ 0
+    only zero h = refl
+    only (suc n) h = absurd (cc)
+
+-- its pattern has a first group
+has_first : (lists : GroupLists) (groups : Groups) (p : ℕ) → lists ≡ (None ∷ groups) ∷ [] → p ≡ 0 → 0 < group_count lists p
+has_first lists groups p is zero_is = rw (is, zero_is) (omega arith)
+
+-- the match of a program of one pattern is of pattern 0, and captures that are made for the program have room for its first group
+pub has_room : {W : Type 0} (chars : W → ℕ → Bool) (program : Compiled W) (p : Pattern) (groups : Groups) (input : InputParts) (made after : Captured)
+    (found : Matched) → program.automaton.groups ≡ (None ∷ groups) ∷ []
+    → made ≡ no_offsets program.automaton.groups (2 * all_groups program.automaton.groups) → length after.offsets ≡ length made.offsets
+    → IsMatchIn (p ∷ []) (search_in chars program input) found → (found.pattern ≡ 0) × (1 < length after.offsets)
+has_room chars program p groups input made after found lists is_made same m = (
+  number_of p (search_in chars program input) found m,
+  omega (
+    arith,
+    same,
+    ap (λ (c : Captured). length c.offsets) is_made,
+    length-replicate {A = Option ℕ} (2 * all_groups program.automaton.groups) None,
+    ap all_groups lists,
+  ),
+)
+
+-- so its group 0 is its span, where group 0 of a match is
+pub first_group : {W : Type 0} (chars : W → ℕ → Bool) (program : Compiled W) (p : Pattern) (groups : Groups) (input : InputParts) (made after : Captured)
+    (found : Matched) → program.automaton.groups ≡ (None ∷ groups) ∷ []
+    → made ≡ no_offsets program.automaton.groups (2 * all_groups program.automaton.groups) → length after.offsets ≡ length made.offsets
+    → after.groups ≡ made.groups → IsMatchIn (p ∷ []) (search_in chars program input) found
+    → (2 * found.pattern + 1 < length after.offsets → 0 < group_count after.groups found.pattern → group_span after 0 ≡ Some found.span)
+    → group_span after 0 ≡ Some found.span
+first_group chars program p groups input made after found lists is_made same its m law =
+    let both = has_room chars program p groups input made after found lists is_made same m in
+    law (omega (arith, both.0, both.1))
+    (has_first after.groups groups found.pattern (its ∙ (ap (λ (c : Captured). c.groups) is_made ∙ lists)) both.0)
+
+-- where one of the patterns goes is a match
+pub match_in : {W : Type 0} (chars : W → ℕ → Bool) (program : Compiled W) (word_class : W) (patterns : List Pattern) (n : ℕ) (p : Pattern) (input : InputParts)
+    (i j : ℕ) → program.automaton.matcher ≡ (10, word_class) → slice_get patterns n ≡ Some p → is_wanted (pattern_of_mode input.anchored) n ≡ true
+    → input.span.start ≤ i → j ≤ input.span.end → Goes (text_of input.haystack (chars word_class)) p i j
+    → IsMatchIn patterns (search_in chars program input) (record { pattern = n; span = record { start = i; end = j } })
+match_in {W = W} chars program word_class patterns n p input i j matcher its wanted from within g = record {
+  pattern = p;
+  its = its;
+  wanted = wanted;
+  start = from;
+  end = within;
+  goes = subst (λ (x : ℕ × W). Goes (record { haystack = input.haystack; terminator = x.0; word_chars = chars x.1 }) p i j) (sym matcher) g;
+}
+
+-- and so is where the first of them goes in a whole haystack
+pub match_of : {W : Type 0} (chars : W → ℕ → Bool) (program : Compiled W) (word_class : W) (p : Pattern) (others : List Pattern) (haystack : List ℕ) (i j : ℕ)
+    → program.automaton.matcher ≡ (10, word_class) → j ≤ length haystack → Goes (text_of haystack (chars word_class)) p i j
+    → IsMatchIn (p ∷ others) (search_in chars program (whole haystack)) (record { pattern = 0; span = record { start = i; end = j } })
+match_of chars program word_class p others haystack i j matcher within g =
+    match_in chars program word_class (p ∷ others) 0 p (whole haystack) i j matcher refl refl (omega arith) within g
+
+pub may_begin : {W : Type 0} (chars : W → ℕ → Bool) (program : Compiled W) (haystack : List ℕ) (i : ℕ) → i ≤ length haystack
+    → MayBegin (search_in chars program (whole haystack)) i
+may_begin chars program haystack i l = record { start = omega arith; end = l; anchored = λ other. absurd (other refl) }
+
+-- the same of a first match of an iteration
+pub is_open : {W : Type 0} (chars : W → ℕ → Bool) (program : Compiled W) (haystack : List ℕ) (i : ℕ) → i ≤ length haystack
+    → IsOpen (search_in chars program (whole haystack)) None i
+is_open chars program haystack i l = record { start = omega arith; end = l; anchored = λ other. absurd (other refl) }
+
+-- where no match came before, and the haystack isn't taken for text, none is left out
+pub none_left_out : (e : Search) (at : ℕ) → e.utf8 ≡ false → IsRepeated e None at ⊎ IsSplitAt e at → ⊥
+none_left_out e at plain (inl r) = none_is_some (place r.run 0).1 r.repeats.there
+  where
+    none_is_some : (i : ℕ) → None ≡ Some i → ⊥
+    none_is_some i h = absurd (cc)
+none_left_out e at plain (inr s) = absurd (true≢false (sym s.splits.utf8 ∙ plain))
+
+-- ---- no match
+
+-- if no match of theirs may begin, none of the patterns goes anywhere
+pub goes_nowhere : {W : Type 0} (chars : W → ℕ → Bool) (program : Compiled W) (word_class : W) (patterns : List Pattern) (n : ℕ) (p : Pattern)
+    (haystack : List ℕ) → program.automaton.matcher ≡ (10, word_class) → slice_get patterns n ≡ Some p
+    → ((other : Matched) → MayBegin (search_in chars program (whole haystack)) other.span.start
+    → ¬ (IsMatchIn patterns (search_in chars program (whole haystack)) other)) → GoesNowhere (text_of haystack (chars word_class)) p
+goes_nowhere chars program word_class patterns n p haystack matcher its none = λ i j before within goes.
+    none (record { pattern = n; span = record { start = i; end = j } }) (may_begin chars program haystack i before)
+    (match_in chars program word_class patterns n p (whole haystack) i j matcher its refl (omega arith) within goes)
+
+-- and the only one goes nowhere in an input
+pub goes_nowhere_in : {W : Type 0} (chars : W → ℕ → Bool) (program : Compiled W) (word_class : W) (p : Pattern) (input : InputParts)
+    → program.automaton.matcher ≡ (10, word_class)
+    → ((other : Matched) → MayBegin (search_in chars program input) other.span.start → ¬ (IsMatchIn (p ∷ []) (search_in chars program input) other))
+    → GoesNowhereIn input (chars word_class) p
+goes_nowhere_in chars program word_class p input matcher none = λ i j from before anchored wanted within goes.
+    none (record { pattern = 0; span = record { start = i; end = j } }) (record { start = from; end = before; anchored = anchored })
+    (match_in chars program word_class (p ∷ []) 0 p input i j matcher refl wanted from within goes)

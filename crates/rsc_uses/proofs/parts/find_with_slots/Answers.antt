@@ -1,0 +1,51 @@
+use Rattle.std.proofs.Common.{◌≡◌, [], ◌∷◌, arith}
+use Rattle.rsc_engine.specs.Parts.{pattern_of, groups_of_part, groups_of_pattern}
+use Rattle.rsc_uses.proofs.PartsLemmas.{has_room, first_group, goes_nowhere_in}
+use Rattle.rsc_uses.proofs.parts.find_with_slots.Goals as goal
+
+pub returns-clause-start : goal.returns-clause-start
+returns-clause-start g c =
+    let p = pattern_of c.args.part in
+    let program = c.in_ok-program.program in
+    let matches = rw c.new.ensures.patterns at c.in_ok-program.ensures.matches in
+    let lists : program.automaton.groups ≡ groups_of_pattern c.args.part ∷ [] = rw c.new.ensures.groups at c.in_ok-program.ensures.groups in
+    let found = rw c.in-Some.is at c.in_ok-find.ensures.found in
+    let both = has_room g.W.WordClass.word_chars program p (groups_of_part c.args.part) c.args.input.now c.in_ok-captures.captures c.find.new.captures
+    c.in-Some.found lists c.in_ok-captures.ensures.made c.find.ensures.slots
+    (c.a_first_match_is_of_a_pattern.ensures.some program (p ∷ []) c.args.input.now _ _ matches found) in
+    rw both.0 at (c.the_first_group_is_the_match.ensures.first_start program c.args.input.now _ _ c.in_ok-program.ensures.ends found
+    (omega (arith, both.0, both.1)))
+
+pub returns-clause-end : goal.returns-clause-end
+returns-clause-end g c =
+    let p = pattern_of c.args.part in
+    let program = c.in_ok-program.program in
+    let matches = rw c.new.ensures.patterns at c.in_ok-program.ensures.matches in
+    let lists : program.automaton.groups ≡ groups_of_pattern c.args.part ∷ [] = rw c.new.ensures.groups at c.in_ok-program.ensures.groups in
+    let found = rw c.in-Some.is at c.in_ok-find.ensures.found in
+    let both = has_room g.W.WordClass.word_chars program p (groups_of_part c.args.part) c.args.input.now c.in_ok-captures.captures c.find.new.captures
+    c.in-Some.found lists c.in_ok-captures.ensures.made c.find.ensures.slots
+    (c.a_first_match_is_of_a_pattern.ensures.some program (p ∷ []) c.args.input.now _ _ matches found) in
+    rw both.0 at (c.the_first_group_is_the_match.ensures.first_end program c.args.input.now _ _ c.in_ok-program.ensures.ends found
+    (omega (arith, both.0, both.1)))
+
+pub returns-clause-group : goal.returns-clause-group
+returns-clause-group g c =
+    let p = pattern_of c.args.part in
+    let program = c.in_ok-program.program in
+    let matches = rw c.new.ensures.patterns at c.in_ok-program.ensures.matches in
+    let lists : program.automaton.groups ≡ groups_of_pattern c.args.part ∷ [] = rw c.new.ensures.groups at c.in_ok-program.ensures.groups in
+    let found = rw c.in-Some.is at c.in_ok-find.ensures.found in
+    first_group g.W.WordClass.word_chars program p (groups_of_part c.args.part) c.args.input.now c.in_ok-captures.captures c.find.new.captures
+    c.in-Some.found lists c.in_ok-captures.ensures.made c.find.ensures.slots c.find.ensures.groups
+    (c.a_first_match_is_of_a_pattern.ensures.some program (p ∷ []) c.args.input.now _ _ matches found)
+    (c.the_first_group_is_the_match.ensures.first_group program c.args.input.now _ _ c.in_ok-program.ensures.ends found)
+
+pub returns-in-None-clause-none : goal.returns-in-None-clause-none
+returns-in-None-clause-none g c =
+    let p = pattern_of c.args.part in
+    let program = c.in_ok-program.program in
+    let matches = rw c.new.ensures.patterns at c.in_ok-program.ensures.matches in
+    let none = rw c.in-None.is at c.in_ok-find.ensures.none in
+    goes_nowhere_in g.W.WordClass.word_chars program c.args.word_class p c.args.input.now c.in_ok-program.ensures.matcher
+    (λ other. c.a_first_match_is_of_a_pattern.ensures.none program (p ∷ []) c.args.input.now other matches none)

@@ -1,0 +1,25 @@
+-- Where a pattern goes in a text.
+use Rattle.std.specs.Prelude.{◌≡◌, ℕ, ◌<◌, ◌≤◌, Bool, true, List, length}
+use Rattle.rsc_search.specs.declared.anchored.Anchored.TheVariants.{No}
+use Rattle.rsc_search.specs.Inputs.{InputParts}
+use Rattle.rsc_search.specs.Modes.{pattern_of_mode}
+use Rattle.rsc_engine.specs.Patterns.{Pattern, Subject, Goes}
+use Rattle.rsc_engine.specs.Runs.{is_wanted}
+
+-- a text whose lines end by \n
+abbrev pub text_of : List ℕ → (ℕ → Bool) → Subject
+text_of haystack chars = record { haystack = haystack; terminator = 10; word_chars = chars }
+
+-- the pattern goes nowhere in the text from a position before this one
+abbrev pub GoesNowhereBefore : Subject → Pattern → ℕ → Type 0
+GoesNowhereBefore x p at = (i j : ℕ) → i < at → j ≤ length x.haystack → ¬ (Goes x p i j)
+
+-- the pattern goes nowhere in the text
+abbrev pub GoesNowhere : Subject → Pattern → Type 0
+GoesNowhere x p = (i j : ℕ) → i ≤ length x.haystack → j ≤ length x.haystack → ¬ (Goes x p i j)
+
+-- the only pattern of a program goes nowhere in the input's span from a position at which a match may begin
+abbrev pub GoesNowhereIn : InputParts → (ℕ → Bool) → Pattern → Type 0
+GoesNowhereIn input chars p =
+    (i j : ℕ) → input.span.start ≤ i → i ≤ input.span.end → (¬ (input.anchored ≡ No) → i ≡ input.span.start)
+    → is_wanted (pattern_of_mode input.anchored) 0 ≡ true → j ≤ input.span.end → ¬ (Goes (text_of input.haystack chars) p i j)

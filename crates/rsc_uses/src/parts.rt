@@ -1,0 +1,265 @@
+//! Searches for a part of a pattern: a program is built of it, and what an engine's answer says of the part itself.
+ghost use Rattle.std.specs.Prelude.{◌≡◌, ◌<◌, ◌≤◌, ◌++◌, [], ◌∷◌, ℕ, Some, None, true, false, IfOk, IfErr, OnOk, IfSome, IfNone, length, slice_index, slice_index_or};
+ghost use Rattle.rsc_captures.specs.Captured.{group_span};
+ghost use Rattle.rsc_engine.specs.declared.dfa.Answer.TheVariants.{End, NoMatch, Quit};
+ghost use Rattle.rsc_engine.specs.declared.error.Error.TheVariants.{OutOfMemory};
+ghost use Rattle.rsc_engine.specs.Patterns.{Goes, Then, Either, Literal, may_be_empty};
+ghost use Rattle.rsc_engine.specs.FirstEnds.{loops_take_bytes, IsFirstEnd};
+ghost use Rattle.rsc_engine.specs.Parts.{pattern_of, groups_of_part, groups_of_pattern};
+ghost use Rattle.rsc_engine.specs.Refusals.{FailsToBuild, RepeatsName, has_a_reversed_range};
+ghost use Rattle.rsc_uses.specs.Texts.{text_of, GoesNowhere, GoesNowhereBefore, GoesNowhereIn};
+
+use rsc_captures::Captures;
+use rsc_engine::{Answer, AsciiWordClass, Builder, Dfa, Error, Matches, Part, Program, find, laws};
+use rsc_look::WordClass;
+use rsc_search::{Input, Match, Span};
+use std::alloc::Global;
+
+/// Where a part goes first in a haystack, whose line terminator is `\n`: from where to where, or `None` if it goes nowhere. If its loops take bytes, it's
+/// to the first end.
+///
+/// # Errors
+///
+/// As [`Builder::build`], and too large a search.
+pub fn find_part<W: WordClass + AsciiWordClass>(
+    alloc: Global,
+    word_class: W,
+    part: Part<'_>,
+    haystack: &[u8],
+) -> Result<Option<(usize, usize)>, Error>
+    ensures some { IfOk result (λ found. IfSome found (λ ends.
+        Goes (text_of haystack.now (W.word_chars word_class)) (pattern_of part.entry) ends.0 ends.1)) }
+    ensures within { IfOk result (λ found. IfSome found (λ ends. ends.1 ≤ length haystack.now)) }
+    ensures first { IfOk result (λ found. IfSome found (λ ends.
+        GoesNowhereBefore (text_of haystack.now (W.word_chars word_class)) (pattern_of part.entry) ends.0)) }
+    ensures none { IfOk result (λ found. IfNone found (GoesNowhere (text_of haystack.now (W.word_chars word_class)) (pattern_of part.entry))) }
+    ensures first_end { IfOk result (λ found. IfSome found (λ ends. loops_take_bytes (pattern_of part.entry) ≡ true →
+        IsFirstEnd (text_of haystack.now (W.word_chars word_class)) (pattern_of part.entry) (λ j. j ≤ length haystack.now) ends.0 ends.1)) }
+    ensures refused { IfErr result (FailsToBuild (pattern_of part.entry ∷ []) (groups_of_pattern part.entry ∷ [])) }
+{
+    laws::a_first_match_is_of_a_pattern::<W>();
+    laws::a_match_ends_at_its_first_end::<W>();
+    let program = Builder::new(alloc).build(word_class, true, part)?;
+    let mut captures = program.captures(alloc)?;
+    let input = Input::new(haystack);
+    match find(alloc, &program, &input, &mut captures)? {
+        None => Ok(None),
+        Some(found) => Ok(Some((found.start(), found.end()))),
+    }
+}
+
+/// The first match of a part, with captures whose first two slots hold where it starts and ends; so its group 0 has its span.
+pub fn find_with_slots<W: WordClass + AsciiWordClass>(
+    alloc: Global,
+    word_class: W,
+    part: Part<'_>,
+    input: &Input<'_>,
+) -> Result<Option<(Match, Captures)>, Error>
+    ensures start { IfOk result (λ found. IfSome found (λ both. slice_index_or both.1.offsets 0 None ≡ Some both.0.span.start)) }
+    ensures end { IfOk result (λ found. IfSome found (λ both. slice_index_or both.1.offsets 1 None ≡ Some both.0.span.end)) }
+    ensures group { IfOk result (λ found. IfSome found (λ both. group_span both.1 0 ≡ Some both.0.span)) }
+    ensures none { IfOk result (λ found. IfNone found (GoesNowhereIn input.now (W.word_chars word_class) (pattern_of part.entry))) }
+    ensures refused { IfErr result (FailsToBuild (pattern_of part.entry ∷ []) (groups_of_pattern part.entry ∷ [])) }
+{
+    laws::a_first_match_is_of_a_pattern::<W>();
+    laws::the_first_group_is_the_match::<W>();
+    let program = Builder::new(alloc).build(word_class, true, part)?;
+    let mut captures = program.captures(alloc)?;
+    match find(alloc, &program, input, &mut captures)? {
+        None => Ok(None),
+        Some(found) => Ok(Some((found, captures))),
+    }
+}
+
+/// The first match of a part, with its group 0, which has its span.
+pub fn find_with_group<W: WordClass + AsciiWordClass>(
+    alloc: Global,
+    word_class: W,
+    part: Part<'_>,
+    input: &Input<'_>,
+) -> Result<Option<(Match, Option<Span>)>, Error>
+    ensures group { IfOk result (λ found. IfSome found (λ both. both.1 ≡ Some both.0.span)) }
+    ensures none { IfOk result (λ found. IfNone found (GoesNowhereIn input.now (W.word_chars word_class) (pattern_of part.entry))) }
+    ensures refused { IfErr result (FailsToBuild (pattern_of part.entry ∷ []) (groups_of_pattern part.entry ∷ [])) }
+{
+    match find_with_slots(alloc, word_class, part, input)? {
+        None => Ok(None),
+        Some((found, captures)) => Ok(Some((found, captures.get_group(0)))),
+    }
+}
+
+/// The first match of two parts, of which the first is preferred: the match is of the other one only if the first goes nowhere from its start. `None` if
+/// neither goes anywhere.
+pub fn first_of_two<'n, W: WordClass + AsciiWordClass>(
+    alloc: Global,
+    word_class: W,
+    one: Part<'n>,
+    other: Part<'n>,
+    haystack: &[u8],
+) -> Result<Option<Match>, Error>
+    ensures other { IfOk result (λ found. IfSome found (λ m. m.pattern ≡ 1 → (j : ℕ) → j ≤ length haystack.now →
+        ¬ (Goes (text_of haystack.now (W.word_chars word_class)) (pattern_of one.entry) m.span.start j))) }
+    ensures none { IfOk result (λ found. IfNone found (GoesNowhere (text_of haystack.now (W.word_chars word_class)) (pattern_of one.entry)
+        × GoesNowhere (text_of haystack.now (W.word_chars word_class)) (pattern_of other.entry))) }
+    ensures refused { IfErr result (FailsToBuild (pattern_of one.entry ∷ pattern_of other.entry ∷ [])
+        (groups_of_pattern one.entry ∷ groups_of_pattern other.entry ∷ [])) }
+{
+    laws::a_first_match_is_of_a_pattern::<W>();
+    laws::a_match_is_of_the_least_pattern::<W>();
+    let mut builder = Builder::new(alloc);
+    builder.pattern(one)?;
+    let program = builder.build(word_class, true, other)?;
+    let mut captures = program.captures(alloc)?;
+    let input = Input::new(haystack);
+    match find(alloc, &program, &input, &mut captures)? {
+        None => Ok(None),
+        Some(found) => Ok(Some(found)),
+    }
+}
+
+/// Where the first match of an iteration is: the part goes there, and nowhere from an earlier position; `None` only if it goes nowhere.
+pub fn first_of_iteration<W: WordClass + AsciiWordClass>(
+    alloc: Global,
+    word_class: W,
+    part: Part<'_>,
+    haystack: &[u8],
+) -> Result<Option<(usize, usize)>, Error>
+    ensures some { IfOk result (λ found. IfSome found (λ ends.
+        Goes (text_of haystack.now (W.word_chars word_class)) (pattern_of part.entry) ends.0 ends.1)) }
+    ensures within { IfOk result (λ found. IfSome found (λ ends. ends.1 ≤ length haystack.now)) }
+    ensures first { IfOk result (λ found. IfSome found (λ ends.
+        GoesNowhereBefore (text_of haystack.now (W.word_chars word_class)) (pattern_of part.entry) ends.0)) }
+    ensures none { IfOk result (λ found. IfNone found (GoesNowhere (text_of haystack.now (W.word_chars word_class)) (pattern_of part.entry))) }
+    ensures refused { IfErr result (FailsToBuild (pattern_of part.entry ∷ []) (groups_of_pattern part.entry ∷ [])) }
+{
+    laws::a_next_match_is_of_a_pattern::<W>();
+    // The haystack isn't taken for text, so no match is left out for being within a character.
+    let program = Builder::new(alloc).build(word_class, false, part)?;
+    let mut captures = program.captures(alloc)?;
+    let input = Input::new(haystack);
+    let mut matches = Matches::new(alloc, &program, input)?;
+    match matches.next(&mut captures)? {
+        None => Ok(None),
+        Some(found) => Ok(Some((found.start(), found.end()))),
+    }
+}
+
+/// Where the first match of an iteration is that leaves out empty matches within characters, of a part that takes a byte: of such a part it leaves out none.
+pub fn first_in_text<W: WordClass + AsciiWordClass>(
+    alloc: Global,
+    word_class: W,
+    part: Part<'_>,
+    text: &[u8],
+) -> Result<Option<Match>, Error>
+    requires { may_be_empty (pattern_of part) ≡ false }
+    ensures first { IfOk result (λ found. IfSome found (λ m.
+        GoesNowhereBefore (text_of text.now (W.word_chars word_class)) (pattern_of part.entry) m.span.start)) }
+    ensures none { IfOk result (λ found. IfNone found ((i j : ℕ) → j ≤ length text.now →
+        ¬ (Goes (text_of text.now (W.word_chars word_class)) (pattern_of part.entry) i j))) }
+    ensures refused { IfErr result (FailsToBuild (pattern_of part.entry ∷ []) (groups_of_pattern part.entry ∷ [])) }
+{
+    laws::no_match_is_left_out::<W>();
+    let program = Builder::new(alloc).build(word_class, true, part)?;
+    let mut captures = program.captures(alloc)?;
+    let input = Input::new(text);
+    let mut matches = Matches::new(alloc, &program, input)?;
+    match matches.next(&mut captures)? {
+        None => Ok(None),
+        Some(found) => Ok(Some(found)),
+    }
+}
+
+/// A position to which a part goes, by a DFA: the earliest end. It quits before it at a byte above 7F, if an assertion of the part looks at characters.
+pub fn earliest_end_of_part<W: WordClass + AsciiWordClass>(
+    alloc: Global,
+    word_class: W,
+    part: Part<'_>,
+    haystack: &[u8],
+) -> Result<Answer, Error>
+    ensures end { IfOk result (λ answer. (end : ℕ) → answer ≡ End end →
+        (i : ℕ) × Goes (text_of haystack.now (W.word_chars word_class)) (pattern_of part.entry) i end) }
+    ensures none { IfOk result (λ answer. answer ≡ NoMatch → GoesNowhere (text_of haystack.now (W.word_chars word_class)) (pattern_of part.entry)) }
+    ensures quit { IfOk result (λ answer. (at : ℕ) → answer ≡ Quit at → (at < length haystack.now) × (128 ≤ slice_index haystack.now at)) }
+    ensures refused { IfErr result (FailsToBuild (pattern_of part.entry ∷ []) (groups_of_pattern part.entry ∷ [])) }
+{
+    laws::an_earliest_end_is_of_a_pattern::<W>();
+    laws::a_first_match_is_of_a_pattern::<W>();
+    let program = Builder::new(alloc).build(word_class, true, part)?;
+    let input = Input::new(haystack);
+    let mut dfa = Dfa::new(alloc, &program, 100);
+    let answer = dfa.earliest_end(&input)?;
+    Ok(answer)
+}
+
+/// The position to which the first match of a part goes: from the first position from which it goes anywhere, to the first end if its loops take bytes.
+pub fn leftmost_end_of_part<W: WordClass + AsciiWordClass>(
+    alloc: Global,
+    word_class: W,
+    part: Part<'_>,
+    haystack: &[u8],
+) -> Result<Option<usize>, Error>
+    ensures within { IfOk result (λ found. IfSome found (λ end. end ≤ length haystack.now)) }
+    ensures first { IfOk result (λ found. IfSome found (λ end.
+        (i : ℕ) × Goes (text_of haystack.now (W.word_chars word_class)) (pattern_of part.entry) i end
+        × GoesNowhereBefore (text_of haystack.now (W.word_chars word_class)) (pattern_of part.entry) i
+        × (loops_take_bytes (pattern_of part.entry) ≡ true →
+        IsFirstEnd (text_of haystack.now (W.word_chars word_class)) (pattern_of part.entry) (λ j. j ≤ length haystack.now) i end))) }
+    ensures none { IfOk result (λ found. IfNone found (GoesNowhere (text_of haystack.now (W.word_chars word_class)) (pattern_of part.entry))) }
+    ensures refused { IfErr result (FailsToBuild (pattern_of part.entry ∷ []) (groups_of_pattern part.entry ∷ [])) }
+{
+    laws::a_leftmost_end_is_of_the_first_match::<W>();
+    laws::a_first_match_is_of_a_pattern::<W>();
+    let program = Builder::new(alloc).build(word_class, true, part)?;
+    let input = Input::new(haystack);
+    let mut dfa = Dfa::new(alloc, &program, 100);
+    match dfa.leftmost_end(&input)? {
+        None => Ok(None),
+        Some(end) => Ok(Some(end)),
+    }
+}
+
+/// A part that is one of two texts, preferably the first.
+pub fn one_of_two<'n>(
+    alloc: Global,
+    builder: &Builder<'n>,
+    one: &[u8],
+    other: &[u8],
+) -> Result<Part<'n>, Error>
+    ensures part { IfOk result (λ part. pattern_of part ≡ Either (Literal one.now) (Literal other.now)) }
+    ensures refused { IfErr result (λ e. e ≡ OutOfMemory) }
+{
+    let mut parts = Vec::new(alloc);
+    parts.push(builder.literal(one)?)?;
+    parts.push(builder.literal(other)?)?;
+    builder.one_of(parts)
+}
+
+/// The program of two parts, one after the other: the groups of the first come before those of the second.
+pub fn program_of_two<W: WordClass>(
+    alloc: Global,
+    word_class: W,
+    one: Part<'_>,
+    other: Part<'_>,
+) -> Result<Program<W>, Error>
+    ensures groups { IfOk result (λ program. program.automaton.groups ≡ (None ∷ groups_of_part one.entry ++ groups_of_part other.entry) ∷ []) }
+    ensures refused { IfErr result (FailsToBuild (Then (pattern_of one.entry) (pattern_of other.entry) ∷ [])
+        ((None ∷ groups_of_part one.entry ++ groups_of_part other.entry) ∷ [])) }
+{
+    let builder = Builder::new(alloc);
+    let both = builder.then(one, other)?;
+    builder.build(word_class, true, both)
+}
+
+/// The program of a part. If there is one, the part has no name twice, and no reversed range where it may occur.
+pub fn program_of_part<W: WordClass>(
+    alloc: Global,
+    word_class: W,
+    part: Part<'_>,
+) -> Result<Program<W>, Error>
+    ensures names { OnOk result (¬ (RepeatsName (groups_of_pattern part.entry ∷ []))) }
+    ensures ordered { OnOk result (has_a_reversed_range (pattern_of part.entry ∷ []) ≡ false) }
+    ensures refused { IfErr result (FailsToBuild (pattern_of part.entry ∷ []) (groups_of_pattern part.entry ∷ [])) }
+{
+    let program = Builder::new(alloc).build(word_class, true, part)?;
+    Ok(program)
+}
