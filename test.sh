@@ -5,7 +5,7 @@
 #                      programs; compares the documents with the sources
 #   ./test.sh all      tries the wrong bodies too; this is the gate
 #   ./test.sh quick    proves nothing: compares the documents, and runs all tests and programs, in three minutes on four processors
-set -eu
+set -euo pipefail
 cd "$(dirname "$0")"
 
 kit=$(rt version)
@@ -26,13 +26,19 @@ case ${1:-} in
     gate/pages.py
     gate/unused-lemmas.py
     gate/wrong-bodies.py --texts
-    step "rt ci: proofs, tests, programs. It prints a crate when it has judged it. Beside it the snippets, whose lines come after it"
-    said=$(mktemp)
-    gate/snippets.sh > "$said" 2>&1 &
+    step "rt ci: proofs, tests, programs. It prints a crate when it has judged it. Beside it the snippets and wrong bodies, whose lines come after it"
+    said=$(mktemp -d)
+    gate/snippets.sh > "$said/snippets" 2>&1 &
     snippets=$!
-    trap 'kill "$snippets" 2> /dev/null || true; rm -f "$said"' EXIT
+    bodies=
+    : > "$said/ci"
+    if [ "${1:-}" = all ]; then
+      nice -n 19 gate/wrong-bodies.py --both --beside="$said/ci" > "$said/bodies" 2>&1 &
+      bodies=$!
+    fi
+    trap 'kill "$snippets" $bodies 2> /dev/null || true; rm -rf "$said"' EXIT
     passed=yes
-    rt ci || passed=no
+    rt ci 2>&1 | tee "$said/ci" || passed=no
     step "programs with arguments, on a terminal, without UTF-8, where reading or writing fails"
     if [ "$passed" = yes ]; then
       gate/stored-runs.py || passed=no
@@ -41,13 +47,13 @@ case ${1:-} in
     fi
     step "snippets: misuse that must not compile, and tests that are run without a proof"
     wait "$snippets" || passed=no
-    cat "$said"
-    rm "$said"
-    trap - EXIT
+    cat "$said/snippets"
     [ "$passed" = yes ]
     if [ "${1:-}" = all ]; then
       step "wrong bodies: each must be refused by the function that it changes, or, where no contract refuses it, a test must fail over it"
-      gate/wrong-bodies.py --after-ci --both
+      echo ended >> "$said/ci"
+      tail -n +1 -f --pid="$bodies" "$said/bodies"
+      wait "$bodies"
     fi
     ;;
   quick)

@@ -7,6 +7,7 @@
     gate/wrong-bodies.py --both [CRATE ..]         # the edits of either kind, side by side
     gate/wrong-bodies.py --texts [CRATE ..]        # tries nothing: says in a second which edits of either kind don't fit the sources
     gate/wrong-bodies.py --after-ci [CRATE ..]     # takes the libraries as the `rt ci` before it left them, instead of building them by `rt lib`
+    gate/wrong-bodies.py --beside=FILE ..          # begins beside an `rt ci` which writes to that file, and takes its libraries when they are proved
     gate/wrong-bodies.py --anew ..                 # tries those too that are kept
 
 gate/edits.py explains the format of an edit.
@@ -231,12 +232,27 @@ def faults(crate, names):
             yield f"{crate}/{it.name}: BAD EDIT of {it.file}: {found}"
 
 
+def ready_beside(path):
+    """Returns what says which tasks may begin beside `rt ci`, by what it writes to a file, in which `ended` is the last line: those over libraries that it
+    has proved. A test that fails by its time begins after it."""
+    def ready():
+        said = pathlib.Path(path).read_text(encoding="utf-8", errors="replace")
+        if said.endswith("\nended\n"):
+            return None
+        proved = {*re.findall(r"^rt: (\w+) proved$", said, flags=re.M)}
+        return lambda key: key[0] == "wrong-bodies" or key[0] == "library" and key[1] in proved and is_of_ci(key[1])
+
+    return ready
+
+
 def refused_tasks(wanted, names, known, room):
     """Returns the tasks of the edits that a contract must refuse: those of libraries and of each crate's first batch, and those of the other batches."""
     needed = set().union(*(below(it, known) - {it} for it in wanted))
     if "--after-ci" in sys.argv and all(is_of_ci(it) for it in needed):
         needed = set()
-    first = {("library", it): ([("library", low) for low in known[it]], lambda given, it=it: build(it)) for it in known if it in needed}
+    is_beside = any(it.startswith("--beside=") for it in sys.argv)
+    first = {("library", it): ([("library", low) for low in known[it]], lambda given, it=it: "" if is_beside and is_of_ci(it) else build(it))
+             for it in known if it in needed}
     libraries, others = set(first), {}
     # Those of the crates that take longest begin first.
     for crate in reversed(wanted):
@@ -299,7 +315,8 @@ def try_all(kinds, wanted, names, known, tested, told):
     with tempfile.TemporaryDirectory(prefix="wrong-bodies-") as room:
         first, others = refused_tasks(wanted, names, known, room) if "wrong-bodies" in kinds else ({}, {})
         among = tested_tasks(tested, room) if "tested-bodies" in kinds else {}
-        for (kind, crate, *_), results in in_lanes(first | among | others):
+        beside = [it.partition("=")[2] for it in sys.argv if it.startswith("--beside=")]
+        for (kind, crate, *_), results in in_lanes(first | among | others, *map(ready_beside, beside)):
             for is_well, line in results if kind in kinds else ():
                 print(line, flush=True)
                 counts[kind][not is_well] += 1
