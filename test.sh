@@ -33,6 +33,7 @@ case ${1:-} in
     bodies=
     : > "$said/ci"
     if [ "${1:-}" = all ]; then
+      # While it proves the largest crate, rt ci leaves processors free; at the lowest priority these take no others from it.
       nice -n 19 gate/wrong-bodies.py --both --beside="$said/ci" > "$said/bodies" 2>&1 &
       bodies=$!
     fi
