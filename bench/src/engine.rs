@@ -32,9 +32,9 @@ fn scan(data: &[u8], param: u64, reps: u64) -> u64 {
 
 fn steps(data: &[u8], param: u64, reps: u64) -> u64 {
     let (ranges, haystack) = ranges(data);
-    let mut marks = ByteClassSet::empty();
-    ranges.iter().for_each(|&(start, end)| marks.set_range(start, end));
-    let classes = marks.byte_classes();
+    let mut boundaries = ByteClassSet::empty();
+    ranges.iter().for_each(|&(start, end)| boundaries.set_range(start, end));
+    let classes = boundaries.byte_classes();
     let table = transitions(param, &classes);
     repeat(reps, || {
         let (classes, table) = (black_box(&classes), black_box(&table[..]));

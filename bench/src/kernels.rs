@@ -125,15 +125,15 @@ fn alphabet(kernel: u32, data: &[u8], param: u64, reps: u64) -> u64 {
         return repeat(reps, || last(&classes_of(param as u8, black_box(&looks))));
     }
     let (ranges, rest) = ranges(data);
-    let mut marks = ByteClassSet::empty();
+    let mut boundaries = ByteClassSet::empty();
     let mut members = ByteSet::empty();
     for &(start, end) in &ranges {
-        marks.set_range(start, end);
+        boundaries.set_range(start, end);
         (start..=end).for_each(|b| members.add(b));
     }
-    let classes = marks.byte_classes();
+    let classes = boundaries.byte_classes();
     match kernel {
-        BYTE_CLASSES => repeat(reps, || last(&black_box(&marks).byte_classes())),
+        BYTE_CLASSES => repeat(reps, || last(&black_box(&boundaries).byte_classes())),
         CLASSES_OF_RANGES => repeat(reps, || last(&classes_of_ranges(black_box(&ranges)))),
         MAP_GET => repeat(reps, || {
             let classes = black_box(&classes);

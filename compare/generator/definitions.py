@@ -94,7 +94,7 @@ def ends(data, at):
     return first(encoded(data[at - size:at]) for size in range(1, 5) if size <= at)
 
 
-def is_boundary(data, at):
+def is_char_boundary(data, at):
     return at == len(data) or (at < len(data) and not 0x80 <= data[at] <= 0xBF)
 
 
@@ -235,5 +235,5 @@ class Captures:
         parts = list(self.spans())[:int(count) + 1]
         cuts = all(start <= end <= len(data) for start, end in parts)
         if op[0] == "x":
-            cuts = cuts and all(is_boundary(data, at) for part in parts for at in part)
+            cuts = cuts and all(is_char_boundary(data, at) for part in parts for at in part)
         return cuts and len(parts) == int(count) + 1

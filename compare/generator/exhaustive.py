@@ -5,7 +5,7 @@ from .definitions import (
     LOOKS, PLAIN, Refused, all_characters, class_map, comparable, departs, departs_at, join, moved_span, show_byte, show_hex,
     show_lists, tagged)
 
-EDGES = [0x61, 0x20, 0x0A, 0x0D, 0x80, 0x8F, 0x90, 0x9B, 0x9D, 0x9F, 0xA0, 0xBF, 0xC1, 0xC2, 0xDF, 0xE0,
+AT_LIMITS = [0x61, 0x20, 0x0A, 0x0D, 0x80, 0x8F, 0x90, 0x9B, 0x9D, 0x9F, 0xA0, 0xBF, 0xC1, 0xC2, 0xDF, 0xE0,
          0xE2, 0xED, 0xEF, 0xF0, 0xF4, 0xF5, 0xFF]
 FIRSTS = [0x61, 0x80, 0xC2, 0xDF, 0xE0, 0xE1, 0xEC, 0xED, 0xEE, 0xEF, 0xF0, 0xF1, 0xF3, 0xF4, 0xF5]
 TAILS = [0x61, 0x80, 0x8F, 0x90, 0x9F, 0xA0, 0xBF, 0xC2, 0xF0]
@@ -16,9 +16,9 @@ def byte_lists(most, alphabet=range(256)):
         yield from map(bytes, itertools.product(alphabet, repeat=length))
 
 
-def edge_lists():
-    """Lists of three to five bytes over the edges of the forms."""
-    yield from (data for data in byte_lists(3, EDGES) if len(data) == 3)
+def limit_lists():
+    """Lists of three to five bytes over the limits of the forms."""
+    yield from (data for data in byte_lists(3, AT_LIMITS) if len(data) == 3)
     for first in FIRSTS:
         yield from (bytes([first, *tail]) for tail in itertools.product(TAILS, repeat=3))
     for first in FIRSTS:
@@ -147,10 +147,10 @@ def data_lines(name, haystacks):
 
 MODES = {
     "decode_two": lambda: data_lines("decode", byte_lists(2)),
-    "decode_edges": lambda: data_lines("decode", edge_lists()),
+    "decode_at_limits": lambda: data_lines("decode", limit_lists()),
     "decode_last_two": lambda: decode_last_lines(byte_lists(2)),
-    "decode_last_edges": lambda: decode_last_lines(edge_lists()),
-    "boundaries": lambda: data_lines("boundaries", byte_lists(2)),
+    "decode_last_at_limits": lambda: decode_last_lines(limit_lists()),
+    "char_boundaries": lambda: data_lines("char_boundaries", byte_lists(2)),
     "word_bytes": lambda: byte_lines("is_word_byte"),
     "byte_texts": lambda: byte_lines("byte_text"),
     "haystack_texts": lambda: data_lines(
@@ -163,7 +163,7 @@ MODES = {
     "looks": lambda: (f"look {number}" for number in range(2**18 + 2)),
     "look_sets": lambda: (f"lookset {bits}" for bits in range(2**18)),
     "matches_two": lambda: look_lines("looks", byte_lists(2)),
-    "matches_edges": lambda: look_lines("looks", edge_lists()),
+    "matches_at_limits": lambda: look_lines("looks", limit_lists()),
     "calls_two": lambda: look_lines("is_all", byte_lists(2)),
     "terminators": terminator_lines,
     "spans": span_lines,

@@ -59,7 +59,7 @@ def utf8_command(draw):
     if which == 6:
         at = draw.choice([0, len(data), len(data) + 1, draw.randrange(len(data) + 2), USIZE_MAX])
         return f"is_boundary {show_hex(data)} {at}"
-    return f"boundaries {show_hex(data)}"
+    return f"char_boundaries {show_hex(data)}"
 
 
 def text_command(draw):
@@ -254,7 +254,7 @@ def input_command(draw):
     if draw.random() < 0.15:
         data = any_bytes(draw)
         at = draw.choice([0, len(data), len(data) + 1, draw.randrange(len(data) + 1), USIZE_MAX])
-        return f"input_boundary {show_hex(data)} {at}"
+        return f"input_char_boundary {show_hex(data)} {at}"
     shown = draw.random() < 0.1
     data = bytes(draw.choice(b'ab "\n\x7f') for _ in range(draw.randrange(5))) if shown else any_bytes(draw, 5)
     span, ops = (0, len(data)), []

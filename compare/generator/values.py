@@ -1,14 +1,14 @@
-"""Random values, at the edges above all."""
+"""Random values, at the limits above all."""
 from .definitions import ALLOWED, LOOKS, MAX, USIZE_MAX, class_map, comparable, encode, join, show_byte
 
-EDGE_BYTES = [0x00, 0x01, 0x08, 0x09, 0x0A, 0x0B, 0x0C, 0x0D, 0x0E, 0x19, 0x1A, 0x1F, 0x20, 0x22, 0x27, 0x2F, 0x30,
-              0x39, 0x3A, 0x40, 0x41, 0x5A, 0x5B, 0x5C, 0x5E, 0x5F, 0x60, 0x61, 0x7A, 0x7B, 0x7E,
-              0x7F, 0x80, 0x81, 0x8F, 0x90, 0x9F, 0xA0, 0xBF, 0xC0, 0xC1, 0xC2, 0xDF, 0xE0, 0xE1,
-              0xEC, 0xED, 0xEE, 0xEF, 0xF0, 0xF1, 0xF3, 0xF4, 0xF5, 0xF7, 0xF8, 0xFE, 0xFF]
-EDGE_NUMBERS = [0, 1, 2, 255, 256, 65535, 65536, MAX - 1, MAX, MAX + 1, MAX + 2, 2**31, 2**32 - 1,
-                2**32, 2**63 - 1, 2**63, USIZE_MAX - 1, USIZE_MAX]
-EDGE_CHARACTERS = [0, 0x7F, 0x80, 0x7FF, 0x800, 0xFFF, 0x1000, 0xCFFF, 0xD000, 0xD7FF, 0xE000, 0xFFFF,
-                   0x10000, 0x3FFFF, 0x40000, 0xFFFFF, 0x100000, 0x10FFFF]
+LIMIT_BYTES = [0x00, 0x01, 0x08, 0x09, 0x0A, 0x0B, 0x0C, 0x0D, 0x0E, 0x19, 0x1A, 0x1F, 0x20, 0x22, 0x27, 0x2F, 0x30,
+               0x39, 0x3A, 0x40, 0x41, 0x5A, 0x5B, 0x5C, 0x5E, 0x5F, 0x60, 0x61, 0x7A, 0x7B, 0x7E,
+               0x7F, 0x80, 0x81, 0x8F, 0x90, 0x9F, 0xA0, 0xBF, 0xC0, 0xC1, 0xC2, 0xDF, 0xE0, 0xE1,
+               0xEC, 0xED, 0xEE, 0xEF, 0xF0, 0xF1, 0xF3, 0xF4, 0xF5, 0xF7, 0xF8, 0xFE, 0xFF]
+LIMIT_NUMBERS = [0, 1, 2, 255, 256, 65535, 65536, MAX - 1, MAX, MAX + 1, MAX + 2, 2**31, 2**32 - 1,
+                 2**32, 2**63 - 1, 2**63, USIZE_MAX - 1, USIZE_MAX]
+LIMIT_CHARACTERS = [0, 0x7F, 0x80, 0x7FF, 0x800, 0xFFF, 0x1000, 0xCFFF, 0xD000, 0xD7FF, 0xE000, 0xFFFF,
+                    0x10000, 0x3FFFF, 0x40000, 0xFFFFF, 0x100000, 0x10FFFF]
 BROKEN = [bytes.fromhex(data) for data in (
     "c080", "c1bf", "e08080", "e09f80", "eda080", "edbfbf", "f0808080", "f08f8080", "f4908080", "f5808080", "f7bfbfbf",
     "f888808080", "fe", "ff", "80", "bf", "8080", "808080", "80808080", "8080808080", "c2", "df", "e282", "ed9f", "f09d",
@@ -16,7 +16,7 @@ BROKEN = [bytes.fromhex(data) for data in (
 
 
 def some_byte(draw):
-    return draw.choice(EDGE_BYTES) if draw.random() < 0.6 else draw.randrange(256)
+    return draw.choice(LIMIT_BYTES) if draw.random() < 0.6 else draw.randrange(256)
 
 
 def some_bytes(draw, most):
@@ -24,7 +24,7 @@ def some_bytes(draw, most):
 
 
 def some_number(draw, top=USIZE_MAX):
-    fitting = [number for number in EDGE_NUMBERS if number <= top]
+    fitting = [number for number in LIMIT_NUMBERS if number <= top]
     kind = draw.random()
     if kind < 0.4:
         return draw.choice(fitting)
@@ -77,9 +77,9 @@ def any_bytes(draw, most=9):
 
 
 def any_character(draw):
-    """A character, at the edges of the forms or anywhere."""
+    """A character, at the limits of the forms or anywhere."""
     if draw.random() < 0.4:
-        return draw.choice(EDGE_CHARACTERS)
+        return draw.choice(LIMIT_CHARACTERS)
     code = draw.randrange(draw.choice([0x80, 0x800, 0x10000, 0x110000]))
     return code if not 0xD800 <= code < 0xE000 else 0xE000
 
@@ -156,15 +156,15 @@ def some_span(draw):
 
 
 def members(draw, capacity):
-    """Numbers below a capacity, at the edges of 64 above all."""
+    """Numbers below a capacity, at the limits of 64 above all."""
     if capacity == 0:
         return []
     kind = draw.randrange(4)
     if kind == 0:
         return draw.sample(range(capacity), draw.randrange(min(capacity, 9) + 1))
     if kind == 1:
-        edges = [0, 1, 62, 63, 64, 65, 126, 127, 128, 129, 191, 192, capacity - 1]
-        return [number for number in draw.sample(edges, draw.randrange(len(edges))) if number < capacity]
+        limits = [0, 1, 62, 63, 64, 65, 126, 127, 128, 129, 191, 192, capacity - 1]
+        return [number for number in draw.sample(limits, draw.randrange(len(limits))) if number < capacity]
     if kind == 2:
         return list(range(capacity)) if capacity <= 200 else [0, capacity - 1]
     return [number for number in range(min(capacity, 200)) if draw.random() < 0.3]

@@ -126,7 +126,7 @@ pub fn answer(name: &str, port: bool, args: &[&str]) -> Read<String> {
         ("is_boundary", false, [haystack, i]) => {
             Ok(show_truth(utf8::is_boundary(&bytes(haystack)?, number(i)?)).to_string())
         }
-        ("boundaries", false, [haystack]) => {
+        ("char_boundaries", false, [haystack]) => {
             let haystack = bytes(haystack)?;
             Ok(show_truths((0..=haystack.len() + 1).map(|i| utf8::is_boundary(&haystack, i))))
         }

@@ -254,7 +254,7 @@ pub fn answer(name: &str, port: bool, args: &[&str]) -> Read<String> {
             }
             Ok(format!("{input:?}"))
         }
-        ("input_boundary", false, [haystack, i]) => {
+        ("input_char_boundary", false, [haystack, i]) => {
             Ok(show_truth(Input::new(&bytes(haystack)?).is_char_boundary(number(i)?)).to_string())
         }
         ("half", false, [p, o]) => {

@@ -13,7 +13,7 @@ pub(crate) fn answer(name: &[u8], line: &mut Line<'_>, answer: &mut Answer) -> b
     commands! { name;
         b"input" => states(line, answer),
         b"input_debug" => debug_text(line, answer),
-        b"input_boundary" => { let text = line.bytes(b' '); answer.truth(Input::new(text.as_slice()).is_char_boundary(line.number(b' '))) },
+        b"input_char_boundary" => { let text = line.bytes(b' '); answer.truth(Input::new(text.as_slice()).is_char_boundary(line.number(b' '))) },
     }
 }
 

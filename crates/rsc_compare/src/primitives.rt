@@ -18,7 +18,7 @@ fn answer_bytes(name: &[u8], line: &mut Line<'_>, answer: &mut Answer) -> bool {
         b"decode" => push_decoded(answer, utf8::decode(line.bytes(b' ').as_slice())),
         b"decode_last" => push_decoded(answer, utf8::decode_last(line.bytes(b' ').as_slice())),
         b"is_boundary" => { let text = line.bytes(b' '); answer.truth(utf8::is_boundary(text.as_slice(), line.number(b' '))) },
-        b"boundaries" => char_boundaries(line, answer),
+        b"char_boundaries" => char_boundaries(line, answer),
         b"is_word_byte" => answer.truth(utf8::is_word_byte(line.byte(b' '))),
         b"byte_text" => answer.debug(&DebugByte(line.byte(b' '))),
         b"haystack_text" => answer.debug(&DebugHaystack(line.bytes(b' ').as_slice())),

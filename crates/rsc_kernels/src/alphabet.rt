@@ -49,12 +49,12 @@ pub fn ranges_of(alloc: Global, pairs: &[u8]) -> Result<Option<Vec<(u8, u8)>>, A
 fn over_ranges(kernel: u32, ranges: &[(u8, u8)], haystack: &[u8], param: u64, reps: u64) -> u64
     requires { All (λ r. r.0 ≤ r.1) ranges.now }
 {
-    let mut marks = ByteClassSet::empty();
+    let mut boundaries = ByteClassSet::empty();
     for &(start, end) in ranges {
-        marks.set_range(start, end);
+        boundaries.set_range(start, end);
     }
     match kernel {
-        BYTE_CLASSES => repeat(reps, |sum| classes_of_set(&marks, sum)),
+        BYTE_CLASSES => repeat(reps, |sum| classes_of_set(&boundaries, sum)),
         CLASSES_OF_RANGES => {
             let mut sum = 0u64;
             for _ in 0..reps {
@@ -68,7 +68,7 @@ fn over_ranges(kernel: u32, ranges: &[(u8, u8)], haystack: &[u8], param: u64, re
             haystack,
             reps,
         ),
-        _ => over_map(kernel, &marks.byte_classes(), haystack, param, reps),
+        _ => over_map(kernel, &boundaries.byte_classes(), haystack, param, reps),
     }
 }
 
@@ -117,8 +117,8 @@ pub fn last(classes: &ByteClasses, sum: u64) -> u64 {
 }
 
 #[inline(never)]
-fn classes_of_set(marks: &ByteClassSet, sum: u64) -> u64 {
-    last(&marks.byte_classes(), sum)
+fn classes_of_set(boundaries: &ByteClassSet, sum: u64) -> u64 {
+    last(&boundaries.byte_classes(), sum)
 }
 
 #[inline(never)]

@@ -139,7 +139,7 @@ Tells-boundary l t W b a m = tells_word_bytes l t W b refl refl m
 abbrev pub differs : ℕ → Bool
 differs b = exactly_one (is_word_byte b) (is_word_byte (b + 1))
 
--- below 255 a change is a boundary, and there is no boundary above
+-- such a byte below 255 is at a boundary, and there is no boundary above
 pub differs-is_word_byte_boundary : (b : ℕ) → (ltb b 255 && differs b) ≡ is_word_byte_boundary b
 differs-is_word_byte_boundary b = go (ltb b 255) (is_word_byte_boundary b) refl refl
   where

@@ -305,10 +305,10 @@ pub IsEachNeeded-from : (groups : GroupLists) (states : List State) (t : ℕ) (W
     → AreFaultless groups states → (has_unicode states ≡ true → AgreesWithAscii W) → OneClassIsTogether (sets.contains (boundaries_of_states states t))
     → m ≡ class_map (sets.contains (boundaries_of_states states t)) → IsEachNeeded m states t W
 IsEachNeeded-from groups states t W m boundaries exact faultless ascii law is b lt differ =
-    let marked : sets.contains (boundaries_of_states states t) b ≡ true = true_from_ne_false (sets.contains (boundaries_of_states states t) b) (λ e.
+    let at_boundary : sets.contains (boundaries_of_states states t) b ≡ true = true_from_ne_false (sets.contains (boundaries_of_states states t) b) (λ e.
     let one_class = (law b (b + 1) (omega arith) (omega arith)).1 (next_together (sets.contains (boundaries_of_states states t)) b e) in
     differ (subst (λ x. slice_index x b ≡ slice_index x (b + 1)) (sym is) one_class)) in
-    let y : Any (λ s. sets.contains (boundaries_of_state s t) b ≡ true) states = owner states t b marked in
+    let y : Any (λ s. sets.contains (boundaries_of_state s t) b ≡ true) states = owner states t b at_boundary in
     let at : slice_get states y.0 ≡ Some y.1 = slice_get-get_or states y.0 y.1 y.2 ∙ ap Some y.3 in
     let none : fault_in groups (length states) y.0 (Some y.1) ≡ None = subst (λ o. fault_in groups (length states) y.0 o ≡ None) at (faultless y.0 y.2) in
     step-needed states t W b y.0 y.1 y.2 at (state-tells boundaries groups (length states) y.0 y.1 t W b lt none

@@ -30,9 +30,9 @@ HasBoundariesOfStates-joined states t more s state e q m =
 -- a boundary parts the bytes on both sides of it
 pub parts_neighbours : (p : ℕ → Bool) (classes : List ℕ) (b : ℕ) → OneClassIsTogether p → classes ≡ class_map p → b < 255 → p b ≡ true
     → slice_index classes b ≡ slice_index classes (b + 1) → ⊥
-parts_neighbours p classes b law is l marked same =
+parts_neighbours p classes b law is l at_boundary same =
     (law b (b + 1) (omega (arith, l)) (omega (arith, l))).0 (subst (λ m. slice_index m b ≡ slice_index m (b + 1)) is same)
-    b (omega arith) (omega arith) marked
+    b (omega arith) (omega arith) at_boundary
 
 -- more boundaries make a finer map
 pub finer_from : (p q : ℕ → Bool) (finer : List ℕ) → OneClassIsTogether p → OneClassIsTogether q → finer ≡ class_map q
@@ -40,7 +40,7 @@ pub finer_from : (p q : ℕ → Bool) (finer : List ℕ) → OneClassIsTogether 
 finer_from p q finer of_p of_q is has = record {
   together = λ b c l m same.
       let apart : Together q b c = (of_q b c l m).0 (subst (λ x. slice_index x b ≡ slice_index x c) is same) in
-      (of_p b c l m).1 (λ k low high marked. apart k low high (has k marked));
+      (of_p b c l m).1 (λ k low high at_boundary. apart k low high (has k at_boundary));
 }
 
 -- and a finer map keeps the runs

@@ -1,4 +1,4 @@
-//! Lists of `u64`s: bit `i` of block `w` is that of the number `64 * w + i`.
+//! Lists of `u64`s: bit `i` of block `b` is that of the number `64 * b + i`.
 ghost use Rattle.std.specs.Prelude.{◌≡◌, ℕ, ◌+◌, ◌<◌, ◌≤◌, ◌==◌, ◌||◌, ◌&&◌, ◌↔◌, not, true, false, IsTrue, length, replicate};
 ghost use Rattle.std.specs.Int.{trailing_zeros, w64};
 ghost use Rattle.rsc_primitives.specs.Bits.{has_bit};

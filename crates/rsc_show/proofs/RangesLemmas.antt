@@ -8,11 +8,11 @@ use Rattle.rsc_look.specs.declared.assertion.Look.{Look}
 use Rattle.rsc_look.specs.Boundaries.{boundaries_of}
 use Rattle.rsc_look.specs.Keeping.{IsCoarsestMap, IsExactFor, IsNeeded, Keeps}
 use Rattle.rsc_look.specs.KeepingLaws.{same_as_only}
-use Rattle.rsc_show.specs.Ranges.{HasBoundary, IsCoarsestParting, BoundsRange, IsOfLook, Parts}
+use Rattle.rsc_show.specs.Ranges.{HasBoundary, IsCoarsestParting, BoundsRange, IsOfLook, PartsRanges}
 
 -- one more range parts, if its boundaries are added and no boundary is lost
 pub parts_more : (p q : ℕ → Bool) (ranges : List (ℕ × ℕ)) (r : ℕ × ℕ) → ((b : ℕ) → p b ≡ true → q b ≡ true)
-    → (r.0 ≤ r.1 → (b : ℕ) → b < 255 → BoundsRange b r → q b ≡ true) → Parts p ranges → Parts q (ranges ++ r ∷ [])
+    → (r.0 ≤ r.1 → (b : ℕ) → b < 255 → BoundsRange b r → q b ≡ true) → PartsRanges p ranges → PartsRanges q (ranges ++ r ∷ [])
 parts_more p q ranges r grows added before = λ x inside fills b lt boundary.
     ⊎_elim (λ (old : Contains ranges x). grows b (before x old fills b lt boundary))
     (λ (same : r ≡ x). added (subst (λ y. y.0 ≤ y.1) (sym same) fills) b lt (subst (λ y. BoundsRange b y) (sym same) boundary))
@@ -47,7 +47,7 @@ needed_in b looks l t W listed needed = record {
 
 -- a partition that keeps and parts, and has no boundary but those of assertions and boundaries, is the coarsest one
 pub coarsest_parting : (p : ℕ → Bool) (ranges : List (ℕ × ℕ)) (looks : List Look) (t : ℕ) (W : ℕ → Bool)
-    → ((l : Look) → IsExactFor (sets.contains (boundaries_of l t)) l t W) → Keeps p looks t W → Parts p ranges
+    → ((l : Look) → IsExactFor (sets.contains (boundaries_of l t)) l t W) → Keeps p looks t W → PartsRanges p ranges
     → ((b : ℕ) → b < 255 → p b ≡ true → HasBoundary b ranges ⊎ IsOfLook b looks t) → IsCoarsestParting (class_map p) ranges looks t W
 coarsest_parting p ranges looks t W exact keeps parts only = record {
   boundaries = p;
@@ -81,7 +81,7 @@ without_ranges m looks t W c = record {
 
 -- the same without ranges
 pub coarsest_map : (p : ℕ → Bool) (ranges : List (ℕ × ℕ)) (looks : List Look) (t : ℕ) (W : ℕ → Bool)
-    → ((l : Look) → IsExactFor (sets.contains (boundaries_of l t)) l t W) → Keeps p looks t W → Parts p ranges
+    → ((l : Look) → IsExactFor (sets.contains (boundaries_of l t)) l t W) → Keeps p looks t W → PartsRanges p ranges
     → ((b : ℕ) → b < 255 → p b ≡ true → HasBoundary b ranges ⊎ IsOfLook b looks t) → ranges ≡ [] → IsCoarsestMap (class_map p) looks t W
 coarsest_map p ranges looks t W exact keeps parts only none =
     without_ranges (class_map p) looks t W
@@ -89,7 +89,7 @@ coarsest_map p ranges looks t W exact keeps parts only none =
 
 -- the set has the boundaries of the ranges, and no others
 abbrev pub AreBoundariesOf : (ℕ → Bool) → List (ℕ × ℕ) → Type 0
-AreBoundariesOf p ranges = Parts p ranges × ((b : ℕ) → b < 255 → p b ≡ true → HasBoundary b ranges)
+AreBoundariesOf p ranges = PartsRanges p ranges × ((b : ℕ) → b < 255 → p b ≡ true → HasBoundary b ranges)
 
 -- and so it has with those of one more range that holds a byte
 pub boundaries_added : (p q boundaries : ℕ → Bool) (ranges : List (ℕ × ℕ)) (r : ℕ × ℕ) → ((b : ℕ) → q b ≡ (p b || boundaries b))

@@ -25,8 +25,8 @@ pub record IsOfLook (b : ℕ) (looks : List Look) (t : ℕ) : Type 0 where
   pub boundary : sets.contains (boundaries_of look t) b ≡ true
 
 -- the partition has a boundary where a listed range that holds a byte begins or ends
-abbrev pub Parts : (ℕ → Bool) → List (ℕ × ℕ) → Type 0
-Parts p ranges = (r : ℕ × ℕ) → Contains ranges r → r.0 ≤ r.1 → (b : ℕ) → b < 255 → BoundsRange b r → p b ≡ true
+abbrev pub PartsRanges : (ℕ → Bool) → List (ℕ × ℕ) → Type 0
+PartsRanges p ranges = (r : ℕ × ℕ) → Contains ranges r → r.0 ≤ r.1 → (b : ℕ) → b < 255 → BoundsRange b r → p b ≡ true
 
 -- the map is the class map of the coarsest partition that keeps the assertions and parts the ranges; at each of its boundaries an
 -- assertion tells the two bytes apart, or a range begins or ends
@@ -34,6 +34,6 @@ pub record IsCoarsestParting (m : List ℕ) (ranges : List (ℕ × ℕ)) (looks 
   pub boundaries : ℕ → Bool
   pub classes : m ≡ class_map boundaries
   pub keeps : Keeps boundaries looks t W
-  pub parts : Parts boundaries ranges
-  pub least : (q : ℕ → Bool) → Keeps q looks t W → Parts q ranges → (b : ℕ) → b < 255 → boundaries b ≡ true → q b ≡ true
+  pub parts : PartsRanges boundaries ranges
+  pub least : (q : ℕ → Bool) → Keeps q looks t W → PartsRanges q ranges → (b : ℕ) → b < 255 → boundaries b ≡ true → q b ≡ true
   pub needed : (b : ℕ) → b < 255 → boundaries b ≡ true → IsNeeded b looks t W ⊎ HasBoundary b ranges

@@ -4,7 +4,7 @@ ghost use Rattle.std.specs.FinSet as sets;
 ghost use Rattle.rsc_alphabet.specs.Iterators.{symbol_count};
 ghost use Rattle.rsc_look.specs.Keeping.{IsCoarsestMap, Keeps};
 ghost use Rattle.rsc_show.specs.Chosen.{chosen_word_chars};
-ghost use Rattle.rsc_show.specs.Ranges.{HasBoundary, IsCoarsestParting, IsOfLook, Parts};
+ghost use Rattle.rsc_show.specs.Ranges.{HasBoundary, IsCoarsestParting, IsOfLook, PartsRanges};
 
 use crate::choices::{WordPredicate, word_predicates_agree};
 use rsc_alphabet::laws::boundaries_part_a_range;
@@ -33,7 +33,7 @@ fn alphabet_of(
     ranges: &[(u8, u8)],
 ) -> ByteClassSet
     ensures keeps { Keeps (sets.contains result) looks.now matcher.now.0 (chosen_word_chars matcher.now.1) }
-    ensures parts { Parts (sets.contains result) ranges.now }
+    ensures parts { PartsRanges (sets.contains result) ranges.now }
     ensures only { (b : ℕ) → b < 255 → sets.contains result b ≡ true → HasBoundary b ranges.now ⊎ IsOfLook b looks.now matcher.now.0 }
 {
     word_predicates_agree();
@@ -47,7 +47,7 @@ fn alphabet_of(
 
 // The boundaries of ranges.
 fn set_of(ranges: &[(u8, u8)]) -> ByteClassSet
-    ensures parts { Parts (sets.contains result) ranges.now }
+    ensures parts { PartsRanges (sets.contains result) ranges.now }
     ensures only { (b : ℕ) → b < 255 → sets.contains result b ≡ true → HasBoundary b ranges.now }
 {
     boundaries_part_a_range();

@@ -138,18 +138,18 @@ fn meaning_of(look: Look) -> &'static str {
     }
 }
 
-// The byte on one side of a position, and what it is part of; or the name of the haystack's edge, where no byte is.
-fn push_side(page: &mut Page, byte: Option<u8>, edge: &str, side: Side) {
+// The byte on one side of a position, and what it is part of; or the name of the haystack's end, where no byte is.
+fn push_side(page: &mut Page, byte: Option<u8>, end: &str, side: Side) {
     let mut cell = page.cell();
     match byte {
-        None => cell.push_str(edge),
+        None => cell.push_str(end),
         Some(byte) => {
             cell.push_digits(byte);
             cell.push(' ');
             match side {
                 Side::Character(c) => push_character(&mut cell, byte, c),
                 Side::Inside => cell.push_str("inside"),
-                Side::Edge | Side::NoCharacter => cell.push_str("no character"),
+                Side::Absent | Side::NoCharacter => cell.push_str("no character"),
             }
         }
     }

@@ -16,7 +16,7 @@ use std::alloc::{AllocError, Global};
 #[derive(Clone, Copy, Drop)]
 pub enum Side {
     /// The haystack's start before a position, or its end after one.
-    Edge,
+    Absent,
     /// The character that ends at the position, or begins there.
     Character(char),
     /// A byte of a character, which begins before the position and ends after it.
@@ -31,7 +31,7 @@ pub fn before(haystack: &[u8], at: usize) -> Side
     ensures { IsSideBefore haystack.now at result }
 {
     match utf8::decode_last(&haystack[..at]) {
-        None => Side::Edge,
+        None => Side::Absent,
         Some(Ok(c)) => Side::Character(c),
         Some(Err(_)) if is_inside(haystack, at) => Side::Inside,
         Some(Err(_)) => Side::NoCharacter,
@@ -44,7 +44,7 @@ pub fn after(haystack: &[u8], at: usize) -> Side
     ensures { IsSideAfter haystack.now at result }
 {
     match utf8::decode(&haystack[at..]) {
-        None => Side::Edge,
+        None => Side::Absent,
         Some(Ok(c)) => Side::Character(c),
         Some(Err(_)) if is_inside(haystack, at) => Side::Inside,
         Some(Err(_)) => Side::NoCharacter,

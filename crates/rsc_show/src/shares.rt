@@ -122,11 +122,11 @@ pub fn is_beyond(classes: &ByteClasses, others: &ByteClasses, byte: u8) -> bool
     requires { byte < 255 }
     ensures { result ≡ exceeds classes.now others.now byte }
 {
-    is_boundary(classes, byte) && !is_boundary(others, byte)
+    has_boundary_after(classes, byte) && !has_boundary_after(others, byte)
 }
 
-/// Whether a byte and the next one are in different classes.
-pub fn is_boundary(classes: &ByteClasses, byte: u8) -> bool
+/// Whether there is a boundary after a byte, so that the next one is in another class.
+pub fn has_boundary_after(classes: &ByteClasses, byte: u8) -> bool
     requires { byte < 255 }
     ensures { result ≡ differ_at classes.now byte }
 {

@@ -4,7 +4,7 @@ ghost use Rattle.std.specs.Prelude.{◌<◌};
 use crate::alphabet::{Sizes, classes_of, sizes_of};
 use crate::arguments::Request;
 use crate::shares::{
-    Item, Share, boundaries_beyond, boundaries_of, is_beyond, is_boundary, shares_of,
+    Item, Share, boundaries_beyond, boundaries_of, has_boundary_after, is_beyond, shares_of,
 };
 use crate::text::Page;
 use rsc_alphabet::ByteClasses;
@@ -109,7 +109,7 @@ fn push_marks(page: &mut Page, all: &ByteClasses, share: &Share, table: usize) {
         if is_in_table(all, byte, table) {
             page.push_str(if is_beyond(&share.own, &share.others, byte) {
                 "  X"
-            } else if is_boundary(&share.own, byte) {
+            } else if has_boundary_after(&share.own, byte) {
                 "  x"
             } else {
                 "  ."
@@ -123,5 +123,5 @@ fn push_marks(page: &mut Page, all: &ByteClasses, share: &Share, table: usize) {
 fn is_in_table(all: &ByteClasses, byte: u8, table: usize) -> bool
     requires { byte < 255 }
 {
-    is_boundary(all, byte) && usize::from(all.get(byte)) / BOUNDARIES_A_LINE == table
+    has_boundary_after(all, byte) && usize::from(all.get(byte)) / BOUNDARIES_A_LINE == table
 }

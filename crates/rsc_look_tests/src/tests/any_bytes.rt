@@ -83,7 +83,7 @@ fn lists_that_break_off_or_run_on(rt: HostRuntime) {
 }
 
 // Each of the bytes that stand for the rows of the encoding's table (RFC 3629, section 4), and for what no row has.
-const EDGES: [u8; 25] = [
+const AT_LIMITS: [u8; 25] = [
     0x20, 0x61, 0x7F, 0x80, 0x8F, 0x90, 0x9F, 0xA0, 0xBF, 0xC0, 0xC1, 0xC2, 0xDF, 0xE0, 0xE1, 0xEC,
     0xED, 0xEE, 0xEF, 0xF0, 0xF1, 0xF3, 0xF4, 0xF5, 0xFF,
 ];
@@ -91,9 +91,9 @@ const EDGES: [u8; 25] = [
 #[test]
 fn every_list_of_three_bytes_at_the_limits(rt: HostRuntime) {
     let matcher = LookMatcher::default();
-    for a in EDGES {
-        for b in EDGES {
-            for c in EDGES {
+    for a in AT_LIMITS {
+        for b in AT_LIMITS {
+            for c in AT_LIMITS {
                 assert!(rt; agrees(&matcher, &[a, b, c]));
             }
         }

@@ -3,7 +3,7 @@ use crate::slow_reader::{BROKEN_LISTS, first_character, last_character};
 use rsc_primitives::utf8::{decode, decode_last};
 
 /// Bytes on both sides of each limit in the encoding's table (RFC 3629, section 4), and two in the middle.
-const EDGES: [u8; 28] = [
+const AT_LIMITS: [u8; 28] = [
     0x00, 0x61, 0x7F, 0x80, 0x82, 0x8F, 0x90, 0x9F, 0xA0, 0xBF, 0xC0, 0xC1, 0xC2, 0xDF, 0xE0, 0xE1,
     0xEC, 0xED, 0xEE, 0xEF, 0xF0, 0xF1, 0xF3, 0xF4, 0xF5, 0xF8, 0xFE, 0xFF,
 ];
@@ -36,11 +36,11 @@ fn every_list_of_at_most_two_bytes(rt: HostRuntime) {
 
 #[test]
 fn every_list_of_three_or_four_bytes_at_the_limits(rt: HostRuntime) {
-    for a in EDGES {
-        for b in EDGES {
-            for c in EDGES {
+    for a in AT_LIMITS {
+        for b in AT_LIMITS {
+            for c in AT_LIMITS {
                 assert!(rt; agrees(&[a, b, c]));
-                for d in EDGES {
+                for d in AT_LIMITS {
                     assert!(rt; agrees(&[a, b, c, d]));
                 }
             }

@@ -2,7 +2,7 @@ use Rattle.std.proofs.Common.{◌≤◌, ◌∙◌, ◌||◌, ap, arith, get_or,
 use Rattle.std.specs.FinSet as sets
 use Rattle.std.proofs.lemmas.List.{take_all, take_more}
 use Rattle.rsc_alphabet.specs.Partitions.{boundaries_of_range}
-use Rattle.rsc_show.specs.Ranges.{Parts}
+use Rattle.rsc_show.specs.Ranges.{PartsRanges}
 use Rattle.rsc_show.proofs.RangesLemmas.{boundaries_added, boundaries_as_they_are}
 use Rattle.rsc_show.proofs.alphabet.set_of.Goals as goal
 use Rattle.rsc_show.proofs.alphabet.set_of.Goals.{then-start-end, else-start-end}
@@ -30,5 +30,5 @@ loop-start-preserved c =
 
 pub returns-clause-parts : goal.returns-clause-parts
 returns-clause-parts c =
-    subst (λ rs. Parts (sets.contains c.loop-start.set) rs) (take_all c.loop-start.start-index c.args.ranges.now c.loop-start-test.false)
+    subst (λ rs. PartsRanges (sets.contains c.loop-start.set) rs) (take_all c.loop-start.start-index c.args.ranges.now c.loop-start-test.false)
     c.loop-start.invariant.0

@@ -14,14 +14,14 @@ returns-clause-classes g c =
     ∙ ap (λ s. class_map (sets.contains s)) (c.union.ensures.set ∙ ap (λ s. sets.union s c.args.more.now) c.boundaries-joined.ensures.set)
 
 pub returns-clause-parted : goal.returns-clause-parted
-returns-clause-parted g c = λ b l marked.
+returns-clause-parted g c = λ b l at_boundary.
     parts_neighbours _ c.byte_classes.result b (c.one_class_is_together.ensures _) (returns-clause-classes g c) l
-    (contains-joined (boundaries_of_states c.args.self.now.states c.args.self.now.matcher.0) c.args.more.now b ∙ or_right _ _ marked)
+    (contains-joined (boundaries_of_states c.args.self.now.states c.args.self.now.matcher.0) c.args.more.now b ∙ or_right _ _ at_boundary)
 
 pub returns-clause-finer : goal.returns-clause-finer
 returns-clause-finer g c =
     finer_from _ _ c.byte_classes.result (c.one_class_is_together.ensures _) (c.one_class_is_together.ensures _) (returns-clause-classes g c)
-    (λ k marked. contains-joined (boundaries_of_states c.args.self.now.states c.args.self.now.matcher.0) c.args.more.now k ∙ or_left _ _ marked)
+    (λ k at_boundary. contains-joined (boundaries_of_states c.args.self.now.states c.args.self.now.matcher.0) c.args.more.now k ∙ or_left _ _ at_boundary)
 
 pub returns-clause-kept : goal.returns-clause-kept
 returns-clause-kept g c = λ a.
