@@ -9,7 +9,7 @@
   `<!-- quoted: FILE -->`. README.md also gets how many definitions are to be believed and what is proved by hand, docs/TRUSTED.md each of those definitions,
   and docs/CALLS.md each public call.
 - The examples of doc comments: what is in a test of crates/rsc_docs/src/examples below the comment that names the item, as `Span::get` in backquotes, after
-  four spaces and `// `. A test begins with such a comment, and its last example ends at its `Ok(())`.
+  four spaces and `// `. A test begins with such a comment, and its last example ends at its `Ok(())`. The example of a head has the crate's name.
 - The table of docs/WRONG_BODIES.md: for each edit that it names, the function and the goal that refuse it.
 - The comments of each Lib.antt: the first sentence of each module's head.
 - Numbers that other files decide: README.md's totals of docs/PERFORMANCE.md, of commands and of wrong bodies, and the sizes of a batch of names.
@@ -46,7 +46,23 @@ FORMS = (
     ("rsc_primitives/src/utf8.rt", "const WORD_BYTES_TO_7F: u128 = 0x07FF_FFFE_87FF_FFFE_03FF_0000_0000_0000;\n"),
     ("rsc_primitives/src/utf8.rt", "const WORD_BYTES_FROM_80: u128 = 0;\n"),
     ("rsc_search/src/pattern_set.rt", "    blocks: Vec<u64, A>,\n    capacity: usize,\n    count: usize,\n}"),
+    # The rows of commands call `run` over bytes in memory.
+    ("rsc_commands_tests/src/tests.rt", "    let mut reader = lines.as_bytes();\n    let mut writer = Vec::new(alloc);\n    run(alloc, &mut reader, &mut writer)?;\n"),
 )
+
+# The original's tests that are carried, and the tests of rows that are asked for: each stands once, as a test of its name, in its crate.
+NAMED_TESTS = {
+    "rsc_alphabet_tests": "byte_classes full_byte_classes elements_typical elements_singletons elements_empty representatives",
+    "rsc_look_tests": "look_set look_set_iter look_set_debug look_matches_start_text look_matches_end_text look_matches_start_line look_matches_end_line "
+                      "look_matches_word_ascii look_matches_word_ascii_negate look_matches_word_unicode look_matches_word_unicode_negate "
+                      "look_matches_word_start_ascii look_matches_word_end_ascii look_matches_word_start_unicode look_matches_word_end_unicode "
+                      "look_matches_word_start_half_ascii look_matches_word_end_half_ascii look_matches_word_start_half_unicode "
+                      "look_matches_word_end_half_unicode",
+    "rsc_commands_tests": "answers_ranges answers_classes_of_assertions answers_assertions_at_positions answers_groups answers_limited_groups "
+                          "refuses_more_groups_than_the_limit answers_any_bytes_by_bad_line displays_errors errors_are_equal_to_themselves_alone "
+                          "an_input_without_end_is_refused at_most_1048576_reads_are_made a_read_that_fails_once_writes_nothing "
+                          "a_failed_write_leaves_what_was_written each_request_may_be_refused each_growth_of_a_long_input_may_be_refused",
+}
 
 
 def readme(shown, text):
@@ -99,6 +115,17 @@ def examples(crate):
     return {item: "\n".join(lines).strip("\n").split("\n") for item, lines in found.items()}
 
 
+def with_head(crate, text, quoted, missing):
+    """Returns a crate's root file with the example in its head regenerated; takes it out of `missing`. Each head with an example has its test."""
+    fence, parts = "//! ```\n", text.split("//! ```\n")
+    if len(parts) == 3 and crate in quoted:
+        missing.discard(crate)
+        parts[1] = "".join(f"//! {it}".rstrip() + "\n" for it in quoted[crate])
+    elif len(parts) > 1:
+        raise ValueError(f"crates/{crate}/src/lib.rt: the head has an example that no test of crates/rsc_docs/src/examples has")
+    return fence.join(parts)
+
+
 def documented(text, quoted, missing):
     """Returns a source file with the examples in its doc comments regenerated; takes each that is quoted out of `missing`."""
     for line, name in reversed(source_of(text).items().items()):
@@ -131,7 +158,8 @@ def pages():
     for crate in LIBRARIES:
         quoted = examples(crate)
         missing = set(quoted)
-        for path, text in sources(crate) if quoted else ():
+        for path, text in sources(crate):
+            text = with_head(crate, text, quoted, missing) if path.name == "lib.rt" else text
             yield ROOT / "crates" / crate / "src" / path, documented(text, quoted, missing)
         if missing:
             raise ValueError(f"{crate}: no doc comment has room for the example of {', '.join(sorted(missing))}")
@@ -251,6 +279,9 @@ def form_faults():
     for crate in LIBRARIES:
         for path, text in sources(crate):
             yield [f"{crate}/src/{path} calls `{it}`: no number may wrap" for it in re.findall(r"\bwrapping_\w+", text)]
+    for crate, names in NAMED_TESTS.items():
+        tests = "\n".join(it.read_text(encoding="utf-8") for it in (ROOT / "crates" / crate / "src").glob("**/*.rt"))
+        yield [f"{crate} lacks the test `{it}`" for it in names.split() if len(re.findall(rf"^#\[test\]\nfn {it}\(", tests, flags=re.M)) != 1]
 
 
 def is_there(path, folders):

@@ -1,32 +1,17 @@
 #!/usr/bin/env python3
-r"""Runs programs as people do, and compares what they write and their status with what is stored.
+"""Runs programs as people do, and compares what they write and their status with what is stored.
 
     gate/stored-runs.py [CRATE ..]         # by the programs that `rt ci` or `rt run` left in crates/CRATE/out; all crates that have runs without a name
     gate/stored-runs.py --unproved         # proves nothing: all tests, every program on its stored input, and the plain runs
     gate/stored-runs.py --joined CRATE DIR # writes the plain runs to DIR as `rt try --cases` takes them, with standard error after standard output
 
-The runs of a crate are in crates/CRATE/runs/*.txt, which read as a session does:
-
-    # a comment
-    $ CRATE looks StartLF -             the arguments, as a shell splits them; \xHH in them is a byte
-    @ input a\n                         standard input, with \n and \xHH for bytes; a\{500} is 500 times the byte before it
-    @ later b\n                         more of it, which comes a little later
-    @ terminal                          what is unusual: standard output is a terminal; `error terminal`, standard error is one; a variable NAME=VALUE;
-                                        `output full`, which takes no byte; `output short`, which takes a hundred; `output closed`, which nobody reads;
-                                        `input unreadable`; `input fails`, of which a read fails after the input that is given
-    ..                                  any lines
-    and all others                      standard output, a line each; \e is the escape character, and \# a `#`
-    ! rsc_show: `a`: expected b         a line of standard error
-    [2]                                 the exit status, if not 0
+gate/runs.py explains how the runs of a crate are written.
 """
-import collections
 import concurrent.futures
 import glob
 import os
 import pty
-import re
 import resource
-import shlex
 import shutil
 import signal
 import subprocess
@@ -36,51 +21,7 @@ import time
 import tty
 
 from edits import ROOT, run_unproved
-
-UNREADABLE, FAILING = "@ input unreadable", "@ input fails"
-SHORT = "@ output short"
-Run = collections.namedtuple("Run", "name args unusual stdin stdout stderr status")
-
-
-def unescaped(text):
-    """Returns the bytes of a text in which \\n, \\e and \\xHH are written so, and a byte before \\{N} stands N times."""
-    found = re.split(rb"(\\n|\\e|\\x[0-9a-fA-F]{2}|\\\{\d+\})", text.encode())
-    known = {b"\\n": b"\n", b"\\e": b"\x1b"}
-    made = b""
-    for it in found:
-        if it[:2] == b"\\{":
-            made += made[-1:] * (int(it[2:-1]) - 1)
-        else:
-            made += known.get(it) or (bytes([int(it[2:], 16)]) if it[:2] == b"\\x" else it)
-    return made
-
-
-def runs_of(crate):
-    found = []
-    for path in sorted(glob.glob(f"{ROOT}/crates/{crate}/runs/*.txt")):
-        with open(path, encoding="utf-8") as lines:
-            for number, line in enumerate(lines.read().splitlines(), 1):
-                if re.match(rf"\$ {crate}( |$)", line):
-                    args = [unescaped(it) for it in shlex.split(line)[2:]]
-                    found.append(Run(f"{crate}/{os.path.basename(path)}:{number}", args, [], [], [], [], [0]))
-                elif line.startswith(("@ input ", "@ later ")) and line not in (UNREADABLE, FAILING):
-                    found[-1].stdin.append((line[2:7] == "later", unescaped(line[8:])))
-                elif line.startswith("@ "):
-                    found[-1].unusual.append(line)
-                elif line.startswith("! "):
-                    found[-1].stderr.append(line[2:].encode())
-                elif re.fullmatch(r"\[\d+\]", line):
-                    found[-1].status[0] = int(line[1:-1])
-                elif not line.startswith("#"):
-                    found[-1].stdout.append(line.replace("\\e", "\x1b").replace("\\#", "#").encode())
-    return [it._replace(stdout=without_last_blank(it.stdout)) for it in found]
-
-
-def without_last_blank(lines):
-    """Returns the lines without the empty ones that part a run from the next one."""
-    while lines and not lines[-1]:
-        lines = lines[:-1]
-    return lines
+from runs import FAILING, SHORT, UNREADABLE, answer_where_refused, goes_as_stored, lines_of, refused_at, runs_of, unescaped
 
 
 def output_to(unusual):
@@ -152,41 +93,43 @@ def answer_of(program, run):
     return lines_of(output), lines_of(errors), child.wait()
 
 
-def lines_of(output):
-    """Returns the lines of an output; a last one that has no end says so."""
-    *lines, rest = output.split(b"\n")
-    return lines + [rest + b" (with no end of line)"] if rest else lines
-
-
-def agrees(lines, wanted):
-    """Whether the lines are the wanted ones, among which `..` stands for any."""
-    pattern = b"".join(b"(?:[^\n]*\n)*?" if it == b".." else re.escape(it) + b"\n" for it in wanted)
-    return re.fullmatch(pattern, b"".join(it + b"\n" for it in lines)) is not None
-
-
 def judge(crate):
-    passed = failed = 0
-    for run in runs_of(crate):
-        output, errors, status = answer_of(f"{ROOT}/crates/{crate}/out/{crate}", run)
-        if agrees(output, without_last_blank(run.stdout)) and errors == run.stderr and status == run.status[0]:
-            passed += 1
-        else:
-            failed += 1
-            print(f"{run.name}: status {status} for {run.args}")
-            print(b"\n".join(output + [b"! " + it for it in errors]).decode(errors="replace"))
-    return passed, failed
+    """Runs each run of a crate, and returns how many passed and how many failed."""
+    runs = runs_of(crate)
+    refused = [it for it in runs if refused_at(it)]
+    answers = [(it, answer_of(f"{ROOT}/crates/{crate}/out/{crate}", it)) for it in runs if it not in refused]
+    with concurrent.futures.ThreadPoolExecutor(len(os.sched_getaffinity(0))) as pool:
+        answers += zip(refused, pool.map(lambda it: answer_where_refused(f"{ROOT}/crates/{crate}", it), refused))
+    failed = [(run, answer) for run, answer in answers if not goes_as_stored(run, *answer)]
+    for run, (output, errors, status) in failed:
+        print(f"{run.name}: status {status} for {run.args}")
+        print(b"\n".join(output + [b"! " + it for it in errors]).decode(errors="replace"))
+    return len(runs) - len(failed), len(failed)
+
+
+# The programs whose stored run takes minutes where nothing is proved. Their plain runs are shorter.
+LONG = ("rsc_engine_bench",)
+
+
+def is_plain(run):
+    """Returns whether a run has nothing unusual, so that `rt try --cases` can run it."""
+    return not run.unusual and b".." not in run.stdout and all(it.isascii() for it in run.args)
 
 
 def write_cases(crate, folder, is_joined=False):
+    """Writes the plain runs of a crate as `rt try --cases` takes them."""
     os.makedirs(folder, exist_ok=True)
-    for run in runs_of(crate):
+    for run in filter(is_plain, runs_of(crate)):
         written = run.stdout + run.stderr if is_joined else run.stdout
-        if not run.unusual and b".." not in run.stdout and all(it.isascii() for it in run.args):
-            path = os.path.join(folder, run.name.replace("/", "-").replace(".txt:", "-"))
-            for ending, text in (("", b"".join(part for _, part in run.stdin)), (".args", b"".join(it + b"\n" for it in run.args)),
-                                 (".stdout", b"".join(it + b"\n" for it in written))):
-                with open(path + ending, "wb") as file:
-                    file.write(text)
+        path = os.path.join(folder, run.name.replace("/", "-").replace(".txt:", "-"))
+        for ending, text in (("", b"".join(part for _, part in run.stdin)), (".args", b"".join(it + b"\n" for it in run.args)),
+                             (".stdout", b"".join(it + b"\n" for it in written))):
+            with open(path + ending, "wb") as file:
+                file.write(text)
+
+
+def crates_with_runs():
+    return sorted(os.path.basename(os.path.dirname(it)) for it in glob.glob(f"{ROOT}/crates/*/runs"))
 
 
 def unproved_jobs(folder):
@@ -197,7 +140,7 @@ def unproved_jobs(folder):
         sources = glob.glob(f"{path}/src/**/*.rt", recursive=True)
         if any("#[test]" in open(it, encoding="utf-8").read() for it in sources):
             found[f"{crate}-tests"] = path, "--test", "--seconds", "300"
-        if os.path.exists(f"{path}/stdout"):
+        if os.path.exists(f"{path}/stdout") and crate not in LONG:
             os.makedirs(f"{folder}/{crate}-run")
             # A case is named by its input, which may be empty.
             open(f"{folder}/{crate}-run/stored", "wb").close()
@@ -223,6 +166,9 @@ def try_unproved():
             failed += [f"== {running[it]}", *"".join(written).splitlines()[-20:]] if status else []
     print(*failed, sep="\n", end="\n" if failed else "")
     failures = sum(it.startswith("== ") for it in failed)
+    others = sum(not is_plain(run) for crate in crates_with_runs() for run in runs_of(crate))
+    print(f"left out: proofs; wrong bodies; snippets; the long run of {', '.join(LONG)}; {others} stored runs (a terminal, a variable, an input or output that "
+          "fails, refused memory), and what the others write on standard error and end with")
     print(f"{len(jobs) - failures} passed, {failures} failed")
     return 1 if failures or not jobs else 0
 
@@ -233,8 +179,7 @@ def main(arguments):
         return 0
     if arguments == ["--unproved"]:
         return try_unproved()
-    crates = arguments or sorted(os.path.basename(os.path.dirname(it)) for it in glob.glob(f"{ROOT}/crates/*/runs"))
-    judged = [judge(it) for it in crates]
+    judged = [judge(it) for it in arguments or crates_with_runs()]
     passed, failed = (sum(it) for it in zip(*judged))
     print(f"stored-runs: {passed} passed, {failed} failed")
     return 1 if failed or not passed else 0

@@ -6,20 +6,20 @@ The edits stand in crates/CRATE/tested-bodies.edits; gate/edits.py explains the 
     modules: shown sizes::long_names     the test modules that are compiled and run, `tests` for what stands in tests.rt itself, or of a module some tests
                                          alone; without it all but those of cost, which take long
     snippet: memory lists_are_dropped    if there: a snippet of that crate's must-run, and its test that is run instead of the crate's
+    refused: `x` does not live           if there: what the compiler must say of the snippet's test instead
     seconds: 240                         if there: the time that each test has
     runs: looks Start -- ''              instead of tests: the arguments, with \\xHH for bytes, of a plain stored run (gate/stored-runs.py), which must write
                                          something else or end with another status; or files of runs/, as `looks.txt`, or `all`: one of these runs must
-    runs: --fail-alloc 3 calls < l61\\n   or a run that is stored nowhere, with its input, of which the third request for memory is refused
+    runs: refused 3: calls               or the stored run of these arguments of which the third request for memory is refused
     also: src/span.rt: start: usize ⇒ pub(crate) start: usize      if there: a private field of another file that it needs
 
 Each is compiled and run without a proof, in a copy of the repository. It passes if a test fails, or if the tests don't compile because a type lacks a
-trait. The compiler takes 20 seconds for the toolchain's library alone, so a crate's edits are compiled together: edit 3 of a part of those of
+trait, or as it says. The compiler takes 20 seconds for the toolchain's library alone, so a crate's edits are compiled together: edit 3 of a part of those of
 `rsc_search` as a crate `rsc_search_3`, with its tests in a module `v3`, and edits of a program as modules of one program, which writes to standard output
 what they write to standard error. For each edit a stored run takes a quarter of a second, and more in a larger program, so an edit of a program with
-many runs names the one that refuses it. The edits with a snippet, with seconds or with --fail-alloc are tried alone: the first two took longer together, and
+many runs names the one that refuses it. The edits with a snippet, with seconds or with refused memory are tried alone: the first two took longer together, and
 in a joined program other requests for memory would come before the one that is refused.
 """
-import collections
 import os
 import pathlib
 import queue
@@ -28,14 +28,12 @@ import shlex
 import shutil
 import subprocess
 import tempfile
-import threading
 
 from edits import ROOT, edits_in, replaced, run_unproved
+from runs import answer_where_refused, goes_as_stored, refused_at, runs_of
 
-FIELDS = ("file", "tests", "modules", "snippet", "seconds", "runs", "also")
+FIELDS = ("file", "tests", "modules", "snippet", "refused", "seconds", "runs", "also")
 IN_ONE = 50
-# What the unchanged programs answer in single runs, by crate and run, and for each a lock that is held while it is asked.
-UNCHANGED, IS_ASKED = {}, collections.defaultdict(threading.Lock)
 
 
 def tested_edits(wanted, names=()):
@@ -64,6 +62,9 @@ def misfits(wanted):
     for crate, name, fields, pairs in wanted:
         bad = [source for source, (_, after) in changed(ROOT, crate, fields, pairs).items() if after is None]
         found += [f"{crate}/{name}: BAD EDIT: an old text isn't once in {source}" for source in bad]
+        named = fields.get("runs", "")
+        if named.startswith("refused ") and not stored_run(crate, named):
+            found.append(f"{crate}/{name}: BAD EDIT: there isn't one stored run `{named}`")
     return found
 
 
@@ -267,31 +268,22 @@ def arguments_of(run):
     return [re.sub(rb"\\x([0-9a-f]{2})", lambda it: bytes([int(it[1], 16)]), it.encode()) for it in shlex.split(run)]
 
 
-def answers_of(copy, crate, run):
-    """Returns what the program of a copy prints in a run, line by line: first on standard error, then, after `> `, on standard output."""
-    run, _, given = run.partition(" < ")
-    arguments = arguments_of(run)
-    flags = arguments[:2] if arguments[:1] == [b"--fail-alloc"] else []
-    given = given.replace("\\n", "\n").replace("\\t", "\t").encode()
-    _, stdout, stderr = run_unproved(f"{copy}/crates/{crate}", *flags, arguments=arguments[len(flags) :], given=given)
-    return [*stderr.splitlines(), *(f"> {it}" for it in stdout.splitlines())]
+def stored_run(crate, named):
+    """Returns the stored run that an edit names: `refused 3: calls`, the one of these arguments of which the third request for memory is refused."""
+    number, _, arguments = named.removeprefix("refused ").partition(":")
+    found = [it for it in runs_of(crate) if refused_at(it) == number and it.args == arguments_of(arguments)]
+    return found[0] if len(found) == 1 else None
 
 
-def unchanged(copy, crate, run):
-    """Returns what the unchanged program answers in a run, which it is asked once."""
-    with IS_ASKED[crate, run]:
-        if (crate, run) not in UNCHANGED:
-            UNCHANGED[crate, run] = answers_of(copy, crate, run)
-    return UNCHANGED[crate, run]
-
-
-def judge_run(copy, crate, name, run, wanted):
-    """Runs the program of a copy once, and returns whether it answers otherwise than the unchanged program, with a line that says how."""
-    found = answers_of(copy, crate, run)
-    differing = [it for it in [*found, *wanted] if found.count(it) != wanted.count(it)]
-    if not any(it.startswith("run=ended") for it in found):
-        return False, f"{crate}/{name}: NOT JUDGED: {found[-1][:200] if found else 'no output'}"
-    return (True, f"{crate}/{name}: fails {differing[0][:150]}") if differing else (False, f"{crate}/{name}: NOTHING FAILS")
+def judge_run(copy, crate, name, named):
+    """Runs the program of a copy once, and returns whether it goes otherwise than the stored run, with a line that says how."""
+    run = stored_run(crate, named)
+    output, errors, status = answer_where_refused(f"{copy}/crates/{crate}", run)
+    if status is None:
+        return False, f"{crate}/{name}: NOT JUDGED: {b''.join(errors).decode()[:200]}"
+    if goes_as_stored(run, output, errors, status):
+        return False, f"{crate}/{name}: NOTHING FAILS"
+    return True, f"{crate}/{name}: fails {run.name} ({b' '.join([*output, *errors]).decode()[:100]}, {status})"
 
 
 def judge_tests(copy, crate, name, fields):
@@ -307,6 +299,9 @@ def judge_tests(copy, crate, name, fields):
     shutil.rmtree(tests / "src")
     write(tests / "src", texts)
     said = written(str(tests), "--test", *(["--seconds", fields["seconds"]] if "seconds" in fields else []))
+    refused = [it for it in re.findall(r"error\[.*", said) if "refused" in fields and fields["refused"] in it]
+    if refused:
+        return True, f"{crate}/{name}: doesn't compile: {refused[0][:150]}"
     failed = re.findall(r"^test (\S+) \.\.\. FAILED", said, flags=re.M)
     if failed:
         return True, f"{crate}/{name}: fails {', '.join(failed)[:150]}"
@@ -318,13 +313,11 @@ def judge_tests(copy, crate, name, fields):
 
 def judge_alone(copy, crate, name, fields, pairs):
     """Tries one edit in a copy, and returns whether a test or a run fails, with a line that says which."""
-    runs = fields.get("runs", "")
-    wanted = unchanged(copy, crate, runs) if runs else []
     try:
         for source, (_, after) in changed(copy, crate, fields, pairs).items():
             pathlib.Path(copy, "crates", crate, source).write_text(after, encoding="utf-8")
-        if runs:
-            return judge_run(copy, crate, name, runs, wanted)
+        if "runs" in fields:
+            return judge_run(copy, crate, name, fields["runs"])
         return judge_tests(copy, crate, name, fields)
     finally:
         reset(copy, crate, *([fields["tests"]] if "tests" in fields else []))
@@ -337,8 +330,7 @@ def tested_tasks(wanted, room):
     """Returns the tasks that try the edits over which a test must fail, each in one of a lane's copies of the repository, which are made in a folder."""
     together, calls = {}, {}
     for crate, name, fields, pairs in wanted:
-        runs = fields.get("runs", "")
-        if {"snippet", "seconds"} & {*fields} or runs.startswith("--fail-alloc "):
+        if {"snippet", "seconds"} & {*fields} or fields.get("runs", "").startswith("refused "):
             calls[crate, name] = lambda copy, it=(crate, name, fields, pairs): [judge_alone(copy, *it)]
         else:
             together.setdefault((crate, fields.get("tests")), []).append((name, fields, pairs))

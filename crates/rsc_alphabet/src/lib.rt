@@ -11,7 +11,8 @@
 //! ```
 //! let mut set = ByteClassSet::empty();
 //! set.set_range(b'a', b'z');
-//! assert!(set.byte_classes().alphabet_len() == 4);
+//! // Three classes, and the end of the input.
+//! assert!(rt; set.byte_classes().alphabet_len() == 4);
 //! ```
 #![tactic(auto)]
 

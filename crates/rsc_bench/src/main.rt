@@ -1,17 +1,7 @@
 //! Reads command lines from standard input, and answers each with a line on standard output.
 #![tactic(auto)]
 
-mod classes;
-mod command;
-mod error;
-mod groups;
-mod input;
-mod looks;
-mod ranges;
-mod run;
-mod tokens;
-
-use run::run;
+use rsc_commands::run;
 use std::io;
 use std::process::ExitCode;
 

@@ -10,8 +10,8 @@
 //! A clone of a group info shares its lists, so each captures value keeps one.
 //!
 //! ```
-//! let info = GroupInfo::new(alloc, &[&[None, Some("x")], &[None, None, Some("x")]])?;
-//! assert!(info.slot(PatternID::must(1), 2) == Some(8));
+//! let info = GroupInfo::new(rt.alloc(), &[&[None, Some("x")], &[None, None, Some("x")]])?;
+//! assert!(rt; info.slot(PatternID::must(1), 2) == Some(8));
 //! ```
 #![tactic(auto)]
 

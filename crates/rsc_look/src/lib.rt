@@ -10,7 +10,7 @@
 //!
 //! ```
 //! let matcher = LookMatcher::new(UnicodeWord);
-//! assert!(matcher.matches(Look::WordUnicode, "𝛃 ".as_bytes(), 4));
+//! assert!(rt; matcher.matches(Look::WordUnicode, "𝛃 ".as_bytes(), 4));
 //! ```
 #![tactic(auto)]
 

@@ -8,8 +8,21 @@
 //! between two classes is needed for some step; a Unicode assertion limits the first to ASCII, and needs word characters that below 128 are the word bytes.
 //!
 //! ```
-//! let nfa = Nfa::new(alloc, info, LookMatcher::new(AsciiWord), &states)?;
-//! assert!(nfa.check_run(&Input::new(b"\na"), &[]));
+//! // At the start of a line; then an accepting state.
+//! let info = GroupInfo::new(rt.alloc(), &[&[None]])?;
+//! let accept = StateID::must(1);
+//! let states = [
+//!     State::Assert {
+//!         look: Look::StartLF,
+//!         next: accept,
+//!     },
+//!     State::Accept {
+//!         pattern: PatternID::ZERO,
+//!     },
+//! ];
+//! let nfa = Nfa::new(rt.alloc(), info, LookMatcher::new(AsciiWord), &states)?;
+//! assert!(rt; nfa.check_run(&Input::new(b"\na"), &[(StateID::ZERO, 1), (accept, 1)]));
+//! assert!(rt; !nfa.check_run(&Input::new(b"\na"), &[(StateID::ZERO, 2), (accept, 2)]));
 //! ```
 #![tactic(auto)]
 

@@ -9,8 +9,8 @@
 //! [`escape`] shows bytes to people, as characters or as escapes.
 //!
 //! ```
-//! assert!(utf8::decode("é".as_bytes()) == Some(Ok('é')));
-//! assert!(PatternID::new(2147483647).is_err());
+//! assert!(rt; utf8::decode("é".as_bytes()) == Some(Ok('é')));
+//! assert!(rt; PatternID::new(2147483647).is_err());
 //! ```
 #![tactic(auto)]
 

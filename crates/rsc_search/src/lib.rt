@@ -10,7 +10,8 @@
 //!
 //! ```
 //! let input = Input::new(b"abc").span(Span { start: 1, end: 3 });
-//! assert!(input.get_span() == Span { start: 1, end: 3 });
+//! assert!(rt; input.get_span() == Span { start: 1, end: 3 });
+//! assert!(rt; input.haystack() == b"abc".as_slice());
 //! ```
 #![tactic(auto)]
 

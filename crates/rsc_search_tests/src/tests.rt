@@ -308,16 +308,25 @@ fn blocks_at_the_capacity(rt: HostRuntime) -> Result<(), Fail> {
     Ok(())
 }
 
-// Whether a set of three patterns refuses one by an error of this text, and stays empty.
+// Whether a set of the patterns 0 and 2, of capacity 3, refuses one by an error of this text, and stays as it is.
 fn is_refused(alloc: Global, attempted: PatternID, want: &str) -> Result<bool, Fail> {
+    let (zero, two) = (PatternID::must(0), PatternID::must(2));
     let mut set = PatternSet::new(alloc, 3)?;
+    let are_new = [set.insert(zero), set.insert(two)];
     let is_there = set.contains(attempted);
     let Err(refused) = set.try_insert(attempted) else {
         return Ok(false);
     };
     let is_told = refused.attempted() == attempted && refused.capacity() == 3;
     let is_shown = is_text(format!(in alloc; "{refused}"), want);
-    Ok(!is_there && is_told && is_shown && set.is_empty() && set.capacity() == 3)
+    Ok(are_new == [true; 2] && !is_there && is_told && is_shown && has_these(&set, zero, two))
+}
+
+// Whether a set has capacity 3, and these two members alone.
+fn has_these(set: &PatternSet, one: PatternID, other: PatternID) -> bool {
+    let mut members = set.iter();
+    let found = [members.next(), members.next(), members.next()];
+    found == [Some(one), Some(other), None] && set.capacity() == 3
 }
 
 #[test]

@@ -3,6 +3,16 @@ use std::ops::Bound;
 use std::test::Fail;
 
 #[test]
+fn head(rt: HostRuntime) -> Result<(), Fail> {
+    // `rsc_alphabet`
+    let mut set = ByteClassSet::empty();
+    set.set_range(b'a', b'z');
+    // Three classes, and the end of the input.
+    assert!(rt; set.byte_classes().alphabet_len() == 4);
+    Ok(())
+}
+
+#[test]
 fn byte_set(rt: HostRuntime) -> Result<(), Fail> {
     // `ByteSet`
     let mut set = ByteSet::empty();

@@ -4,6 +4,14 @@ use rsc_search::Span;
 use std::test::Fail;
 
 #[test]
+fn head(rt: HostRuntime) -> Result<(), Fail> {
+    // `rsc_captures`
+    let info = GroupInfo::new(rt.alloc(), &[&[None, Some("x")], &[None, None, Some("x")]])?;
+    assert!(rt; info.slot(PatternID::must(1), 2) == Some(8));
+    Ok(())
+}
+
+#[test]
 fn group_info(rt: HostRuntime) -> Result<(), Fail> {
     // `GroupInfo`
     let info = GroupInfo::new(

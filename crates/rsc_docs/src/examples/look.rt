@@ -3,6 +3,14 @@ use rsc_look::{AsciiWord, Look, LookMatcher, LookSet, UnicodeWord, WordClass};
 use std::test::Fail;
 
 #[test]
+fn head(rt: HostRuntime) -> Result<(), Fail> {
+    // `rsc_look`
+    let matcher = LookMatcher::new(UnicodeWord);
+    assert!(rt; matcher.matches(Look::WordUnicode, "𝛃 ".as_bytes(), 4));
+    Ok(())
+}
+
+#[test]
 fn assertion(rt: HostRuntime) -> Result<(), Fail> {
     // `Look`
     assert!(rt; Look::StartLF.reversed() == Look::EndLF);

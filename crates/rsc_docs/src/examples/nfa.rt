@@ -1,10 +1,31 @@
 use rsc_alphabet::ByteClassSet;
 use rsc_captures::{Captures, GroupInfo};
-use rsc_look::{AsciiWord, LookMatcher};
+use rsc_look::{AsciiWord, Look, LookMatcher};
 use rsc_nfa::{Nfa, State};
 use rsc_primitives::{PatternID, SmallIndex, StateID};
 use rsc_search::{Input, Span};
 use std::test::Fail;
+
+#[test]
+fn head(rt: HostRuntime) -> Result<(), Fail> {
+    // `rsc_nfa`
+    // At the start of a line; then an accepting state.
+    let info = GroupInfo::new(rt.alloc(), &[&[None]])?;
+    let accept = StateID::must(1);
+    let states = [
+        State::Assert {
+            look: Look::StartLF,
+            next: accept,
+        },
+        State::Accept {
+            pattern: PatternID::ZERO,
+        },
+    ];
+    let nfa = Nfa::new(rt.alloc(), info, LookMatcher::new(AsciiWord), &states)?;
+    assert!(rt; nfa.check_run(&Input::new(b"\na"), &[(StateID::ZERO, 1), (accept, 1)]));
+    assert!(rt; !nfa.check_run(&Input::new(b"\na"), &[(StateID::ZERO, 2), (accept, 2)]));
+    Ok(())
+}
 
 #[test]
 fn nfa(rt: HostRuntime) -> Result<(), Fail> {

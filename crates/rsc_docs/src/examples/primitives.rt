@@ -2,6 +2,14 @@ use rsc_primitives::{NonMaxUsize, PatternID, SmallIndex, StateID, escape, utf8};
 use std::test::Fail;
 
 #[test]
+fn head(rt: HostRuntime) -> Result<(), Fail> {
+    // `rsc_primitives`
+    assert!(rt; utf8::decode("é".as_bytes()) == Some(Ok('é')));
+    assert!(rt; PatternID::new(2147483647).is_err());
+    Ok(())
+}
+
+#[test]
 fn pattern_id(rt: HostRuntime) -> Result<(), Fail> {
     // `PatternID`
     let pattern = PatternID::must(3);

@@ -6,6 +6,15 @@ use std::ops::Bound;
 use std::test::Fail;
 
 #[test]
+fn head(rt: HostRuntime) -> Result<(), Fail> {
+    // `rsc_search`
+    let input = Input::new(b"abc").span(Span { start: 1, end: 3 });
+    assert!(rt; input.get_span() == Span { start: 1, end: 3 });
+    assert!(rt; input.haystack() == b"abc".as_slice());
+    Ok(())
+}
+
+#[test]
 fn span(rt: HostRuntime) -> Result<(), Fail> {
     // `Span`
     let span = Span { start: 1, end: 3 };

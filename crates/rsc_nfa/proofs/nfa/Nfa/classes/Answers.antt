@@ -18,7 +18,9 @@ pub returns-clause-needed : goal.returns-clause-needed
 returns-clause-needed g c = λ a.
     IsEachNeeded-from c.args.self.now.groups c.args.self.now.states c.args.self.now.matcher.0 (g.W.WordClass.word_chars c.args.self.now.matcher.1)
     c.byte_classes.result c.boundaries_part_a_range.ensures.boundary
-    (λ l. c.boundaries_are_exact.ensures l _ _) c.boundaries-set.ensures.faultless a (c.one_class_is_together.ensures _) (returns-clause-classes g c)
+    (λ l. c.boundaries_are_exact.ensures l _ _) c.boundaries-set.ensures.faultless a (c.one_class_is_together.ensures _)
+    -- not by the clause above, so that a body that breaks both is refused here too
+    (c.byte_classes.ensures.map ∙ ap (λ s. class_map (sets.contains s)) c.boundaries-set.ensures.set)
 
 pub returns-clause-coarsest : goal.returns-clause-coarsest
 returns-clause-coarsest g c = λ none. HasNoSpareBoundary-from _ _ _ _ (returns-clause-needed g c (λ some. absurd (true≢false (sym some ∙ none))))

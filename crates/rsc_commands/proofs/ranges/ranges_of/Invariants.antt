@@ -1,5 +1,5 @@
 use Rattle.std.proofs.Common.{◌≤◌, All}
-use Rattle.rsc_bench.proofs.ranges.ranges_of.Given as goal
+use Rattle.rsc_commands.proofs.ranges.ranges_of.Given as goal
 
 -- each range so far has its first byte at most its last
 abbrev pub invariant-loop-token : goal.invariant-loop-token

@@ -2,8 +2,8 @@
 
 use thiserror::Error;
 
-/// Why [`crate::run::run`] gave up.
-#[derive(Debug, Drop, Error)]
+/// Why [`run`](crate::run) gave up.
+#[derive(Debug, Drop, PartialEq, Eq, Error)]
 pub enum BenchError {
     /// The input failed, or didn't end within the reads that are allowed. Nothing was written.
     #[error("rsc_bench: read failed")]
