@@ -4,7 +4,7 @@
 #   ./test.sh          proves each crate from nothing (on rattle-kit-13f each that hasn't passed on this machine in this state); runs all tests and
 #                      programs; compares the documents with the sources
 #   ./test.sh all      tries the wrong bodies too; this is the gate
-#   ./test.sh quick    proves nothing: compares the documents, and runs all tests and programs, in three minutes on four processors
+#   ./test.sh quick    proves nothing: compares the documents, and runs all tests, the programs and their plain runs; it ends with what it leaves out
 set -euo pipefail
 cd "$(dirname "$0")"
 

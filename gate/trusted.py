@@ -3,7 +3,7 @@ import collections
 import re
 
 from calling import ROOT
-from heads import source_of
+from heads import head, source_of
 from typed import LIBRARIES
 
 # The types whose values the main statement speaks of.
@@ -13,13 +13,17 @@ SEEN = (("rsc_look", "matcher.rt", "LookMatcher"), ("rsc_alphabet", "byte_classe
 def imports_of(text, ghost):
     """Returns what the `use` lines of a source or a definition file bring in: each name or sign, with its module and the name there.
 
+    >>> imports_of("use Rattle.low.specs.Sets as sets;\\nhas s n = sets.contains s n\\n", "")
+    {'sets.contains': ('low.specs.Sets', 'contains')}
+
     >>> imports_of("ghost use Rattle.std.specs.Prelude.{◌≤◌, ℕ};\\nghost use Rattle.low.specs.Sets as sets;\\n", "ghost ")
-    {'≤': ('std.specs.Prelude', '◌≤◌'), 'ℕ': ('std.specs.Prelude', 'ℕ'), 'sets': ('low.specs', 'Sets')}
+    {'≤': ('std.specs.Prelude', '◌≤◌'), 'ℕ': ('std.specs.Prelude', 'ℕ')}
     """
     found = {}
     for module, names, alias in re.findall(rf"^\s*{ghost}use Rattle\.([\w.]+?)(?:\.\{{([^}}]*)\}}| as (\w+))", text, flags=re.M):
-        if alias:
-            found[alias] = (module.rpartition(".")[0], module.rpartition(".")[2])
+        # The names that are read through another name of their module, as `sets.contains`.
+        for name in re.findall(rf"(?<![\w.]){alias}\.([\w-]+)", re.sub(r"--.*|//.*", "", text)) if alias else ():
+            found[f"{alias}.{name}"] = (module, name)
         for name in filter(None, map(str.strip, names.split(","))):
             found[name.replace("◌", " ").split()[0] if name != "◌" else name] = (module, name)
     return found
@@ -44,7 +48,9 @@ def definitions(text):
 
 
 def tokens(text):
-    return set(re.findall(r"[^\s(){}\[\],;.]+", re.sub(r"--.*", "", text)))
+    """Returns the words of a text, and the pairs of words with a dot between."""
+    plain = re.sub(r"--.*", "", text)
+    return set(re.findall(r"[^\s(){}\[\],;.]+", plain)) | set(re.findall(r"(?<![\w.])\w+\.[\w-]+", plain))
 
 
 # The main statement: the clauses of these functions, what the two word predicates mean, and what a clause sees of a value.
@@ -54,22 +60,27 @@ MEANT = (("rsc_look/src/word.rt", r"ghost word_chars = .*?;"), ("rsc_look/src/ma
 
 
 def clauses_of(file, name):
-    """Returns the head of a public function of a source file, and each of its clauses."""
+    """Returns the head of a public function of a source file, `new` or `Match::new`, and each of its clauses."""
     functions = source_of((ROOT / "crates" / file).read_text(encoding="utf-8")).functions
-    signature = next(it.signature for it in functions if it.is_pub and it.name == name)
+    signature = next(it.signature for it in functions if it.is_pub and name in (it.name, f"{head(it.owner.name)}::{it.name}"))
     return re.split(r"\n +(?=ensures|requires)", signature.strip())
 
 
-def statement(is_quoted):
-    """Yields each part of the main statement with its file: all clauses, or those alone that README.md quotes, which must be as in the source."""
+def quoted_clauses(file, name):
+    """Returns the clauses of a function that README.md quotes, which must be as in the source."""
     readme = (ROOT / "README.md").read_text(encoding="utf-8")
+    shown = re.search(rf"^pub fn {name}[(<].*?(?=\n\n|\n```)", readme, flags=re.M | re.S)[0].split()
+    first, *clauses = clauses_of(file, name)
+    kept = [it for it in clauses if " ".join(it.split()) in " ".join(shown)]
+    if " ".join([first, *kept]).split() != shown:
+        raise ValueError(f"README.md quotes {name} otherwise than crates/{file} has it")
+    return kept
+
+
+def statement(is_quoted):
+    """Yields each part of the main statement with its file: all clauses, or those alone that README.md quotes."""
     for name, file in MAIN.items():
-        shown = re.search(rf"^pub fn {name}\(.*?(?=\n\n|\n```)", readme, flags=re.M | re.S)[0].split()
-        first, *clauses = clauses_of(file, name)
-        kept = [it for it in clauses if " ".join(it.split()) in " ".join(shown)]
-        if " ".join([first, *kept]).split() != shown:
-            raise ValueError(f"README.md quotes {name} otherwise than crates/{file} has it")
-        for it in kept if is_quoted else clauses:
+        for it in quoted_clauses(file, name) if is_quoted else clauses_of(file, name)[1:]:
             yield file, it
     for file, pattern in MEANT:
         for it in re.findall(pattern, (ROOT / "crates" / file).read_text(encoding="utf-8"), flags=re.M | re.S):
@@ -81,14 +92,34 @@ ENGINE = (("rsc_engine", "first.rt", ("find",)), ("rsc_engine", "iterate.rt", ("
           ("rsc_engine", "builder/part.rt", ("may_be_empty", "loops_take_bytes")),
           ("rsc_engine", "builder/repeat.rt", tuple(f"{it}{end}" for it in ("optional", "star", "plus", "repeat") for end in ("", "_lazy"))),
           ("rsc_engine", "dfa.rt", ("new", "earliest_end", "is_match", "find", "leftmost_end")), ("rsc_engine", "cache.rt", ("new", "find", "matches")),
-          ("rsc_engine", "program.rt", ("new", "captures")), ("rsc_captures", "captures.rt", ("get_group", "get_group_by_name")),
-          ("rsc_search", "input.rt", ("new", "range", "anchored")), ("rsc_engine", "laws.rt", ()))
+          ("rsc_engine", "program.rt", ("new", "captures", "nfa", "start", "is_utf8", "len", "state")),
+          ("rsc_captures", "captures.rt", ("empty", "is_match", "pattern", "slots", "get_match", "group_len", "get_group", "get_group_by_name", "iter")),
+          ("rsc_search", "input.rt", ("new", "span", "range", "anchored", "earliest", "set_span", "set_range", "set_start", "set_end", "set_anchored", "set_earliest")),
+          ("rsc_search", "matches.rt", tuple(f"Match::{it}" for it in ("pattern", "start", "end", "range", "span", "is_empty", "len"))),
+          ("rsc_engine", "laws.rt", ()))
 ENGINE_MEANT = (("rsc_look/src/word.rt", r"ghost word_chars = .*?;"), ("rsc_engine/src/iterate.rt", r"impl<[^{]*Model for Matches.*?^\}"))
 ENGINE_SEEN = (("rsc_engine", "program.rt", "Program"), ("rsc_engine", "dfa.rt", "Dfa"), ("rsc_engine", "cache.rt", "Cache"),
                ("rsc_engine", "iterate.rt", "Matches"), ("rsc_nfa", "nfa.rt", "Nfa"), ("rsc_look", "matcher.rt", "LookMatcher"), ("rsc_search", "input.rt", "Input"), ("rsc_search", "matches.rt", "Match"),
                ("rsc_captures", "captures.rt", "Captures"), ("rsc_captures", "group_info.rt", "GroupInfo"), ("rsc_captures", "layout.rt", "SharedLists"),
                *(("rsc_primitives", f"primitives/{it}.rt", name) for it, name in
                  (("small_index", "SmallIndex"), ("pattern_id", "PatternID"), ("state_id", "StateID"), ("non_max", "NonMaxUsize"))))
+
+
+# The statements that docs/TRUSTED.md counts singly: how each is called, and the functions whose clauses it is.
+COUNTED = (("`find_part` of `rsc_uses`: where a part first goes in a text", "rsc_uses/src/parts.rt", "find_part"),
+           ("`tokens_of_parts` of `rsc_uses`: the tokens of a text", "rsc_uses/src/lexer.rt", "tokens_of_parts"),
+           ("`find`: the leftmost-first match", "rsc_engine/src/first.rt", "find"),
+           ("`Matches::next`: the next match", "rsc_engine/src/iterate.rt", "next"),
+           ("`Builder::build`: what a program matches", "rsc_engine/src/builder.rt", "build"),
+           ("`Dfa::earliest_end`: the least end", "rsc_engine/src/dfa.rt", "earliest_end"))
+
+
+def counted(file, name):
+    """Returns the definitions that the clauses of a function reach, for any word predicate, and those of them that are about automata."""
+    found = reached((file, it) for it in clauses_of(file, name)[1:])[0]
+    automata = {it: names for it, names in found.items() if it[0] == "rsc_nfa" or it[1] in ("Runs", "Preferred", "Searches")}
+    # A byte is within a range.
+    return found, {it: names - {"is_between"} for it, names in automata.items()}
 
 
 def engine_statement():
@@ -173,8 +204,13 @@ def engine_trusted():
     """Returns the lines of docs/TRUSTED.md on what the answers of rsc_engine rest on."""
     own, outside = reached(engine_statement())
     count, all_lines = sizes(own)
-    calls = "`Builder`'s calls, `Program::captures`, calls that make an `Input`, all searches (`find`, `Matches`, `Cache`, `Dfa`), `Captures::get_group`, and the"
-    lines = [f"The clauses of {calls}", f"laws (by a list in `gate/trusted.py`, which reads the sources as text) reach {count} definitions, {all_lines} lines:", "", "| File | Lines | Definitions |", "|---|---|---|", *rows(own, own)]
+    lines = ["What the clauses of single functions reach, for any word predicate:", "", "| Function | Definitions | Lines | About automata, their runs and searches |", "|---|---|---|---|"]
+    for said, file, name in COUNTED:
+        found, automata = counted(file, name)
+        lines.append(f"| {said} | {' | '.join(map(str, sizes(found)))} | {sizes(automata)[0]} |")
+    lines += ["", "The clauses of `Builder`'s calls, `Program`'s, the calls that make or change an `Input`, all searches (`find`, `Matches`, `Cache`, `Dfa`), the readers of a `Match`",
+              "and of `Captures`, and the laws (by a list in `gate/trusted.py`, which reads the sources as text) reach "
+              f"{count} definitions, {all_lines} lines:", "", "| File | Lines | Definitions |", "|---|---|---|", *rows(own, own)]
     lines += ["", "What is seen of a value; of a `Builder` and a `Part` clauses see the fields. `lists_held` and `from_le_bytes` say how the code holds lists and numbers, and "
               "aren't counted: the clauses of `GroupInfo::new` (`groups`) and of `NonMaxUsize::new` and `get` say what a caller sees.", "", *views(ENGINE_SEEN)]
     lines += ["", "They use types of the libraries, and names of the toolchain:", "", "| Module | Names |", "|---|---|"]
@@ -187,4 +223,11 @@ def believed(text):
     (count, lines), (all_count, all_lines) = sizes(quoted), sizes(own)
     files = sum(map(bool, quoted.values()))
     said = f"{count} definitions ({lines} lines, in {files} files of `crates/*/specs`), all clauses of both functions on {all_count} ({all_lines} lines)"
-    return re.sub(r"<!-- believed -->.*?<!-- end -->", f"<!-- believed -->{said}<!-- end -->", text)
+    text = re.sub(r"<!-- believed -->.*?<!-- end -->", f"<!-- believed -->{said}<!-- end -->", text)
+    _, file, name = COUNTED[0]
+    quoted_clauses(file, name)
+    found, automata = counted(file, name)
+    if any(automata.values()):
+        raise ValueError(f"README.md says that {name} rests on no definition about automata")
+    said = "{} definitions ({} lines)".format(*sizes(found))
+    return re.sub(r"<!-- believed of find_part -->.*?<!-- end -->", f"<!-- believed of find_part -->{said}<!-- end -->", text)

@@ -15,7 +15,7 @@ fault_of (kind.FirstMustBeUnnamed p) = Some (FirstMustBeUnnamed p)
 fault_of (kind.Duplicate p name) = Some (Duplicate p (string_bytes name))
 fault_of kind.OutOfMemory = None
 
--- the texts are lists joined from the right, as a format writes them
+-- what a fault displays; its pieces are joined from the right, as a format writes them
 abbrev pub fault_text : Fault → List ℕ
 fault_text (TooManyPatterns p) = codes "too many patterns to build capture info: " ++ pattern_id_error_text p
 fault_text (TooManyGroups p minimum) =
