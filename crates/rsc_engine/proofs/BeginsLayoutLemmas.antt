@@ -12,7 +12,7 @@ use Rattle.rsc_engine.specs.EnclosesLayout.{Encloses}
 use Rattle.rsc_engine.specs.LinksLayout.{Aim, Ends, Realizes, Adds, Builds, IsAdded}
 use Rattle.std.specs.List.{list_any}
 use Rattle.std.proofs.Math.Seq.{drop-length}
-use Rattle.rsc_captures.specs.Groups.{GroupLists, all_groups}
+use Rattle.rsc_captures.specs.Groups.{GroupLists, all_groups, slot_number}
 use Rattle.rsc_engine.specs.Refusals.{has_reversed_range}
 use Rattle.rsc_engine.specs.NamesLayout.{Names, AreSoundIn}
 use Rattle.rsc_engine.proofs.NamesLayoutLemmas.{AreSound-pattern, AreSound-more, or_none}
@@ -20,7 +20,9 @@ use Rattle.rsc_engine.specs.BeginsLayout.{Begins, IsOfOne, IsOfSome}
 use Rattle.rsc_engine.specs.FirstsLayout.{OrdersOne, OrdersSome}
 use Rattle.rsc_engine.proofs.FirstsLayoutLemmas.{OrdersOne-is, OrdersSome-last, OrdersSome-more}
 use Rattle.rsc_engine.specs.OrderLayout.{Orders}
-use Rattle.rsc_engine.proofs.LinksLayoutLemmas.{Realizes-between, Realizes-capture, choice_to, choice_first, choice_next}
+use Rattle.rsc_engine.specs.GroupNumbers.{numbered}
+use Rattle.rsc_engine.proofs.GroupNumbersLemmas.{numbered-goes, numbered-loops, numbered-reversed}
+use Rattle.rsc_engine.proofs.LinksLayoutLemmas.{Realizes-is, Realizes-between, Realizes-capture, choice_to, choice_first, choice_next}
 use Rattle.rsc_engine.proofs.CompileLemmas.{Adds-one, Adds-both, Adds-is, grown}
 use Rattle.rsc_engine.specs.BeginsLayout.{IsWhole}
 use Rattle.rsc_engine.proofs.GroupEndsLemmas.{RecordsFrom-one, RecordsFrom-fork}
@@ -69,14 +71,14 @@ Begins-one states number low high accept after body first p w r = record {
 abbrev OneBegins : GroupLists → List State → List State → ℕ → ℕ → Pattern → List State → Type 0
 OneBegins groups old new first n p states =
     Begins states first (IsOfOne n p) × (n < length groups → AreSoundIn groups (has_reversed_range p) old new first states)
-    × OrdersOne states first n p
+    × OrdersOne states (slot_number groups n) first n p
 
 pub Adds-pattern : (groups : GroupLists) (old middle later last new : List State) (accept number after start end body first index : ℕ) (p : Pattern)
     → number ≡ index → start ≡ 2 * number → end ≡ 2 * number + 1 → start < 2 * all_groups groups → end < 2 * all_groups groups
     → IsAdded old middle (Accept number) accept → IsAdded middle later (Capture end accept) after
-    → Builds (end, 2 * all_groups groups) later last body after p → IsAdded last new (Capture start body) first
+    → Builds (end, 2 * all_groups groups) later last body after (numbered (slot_number groups index) 1 p) → IsAdded last new (Capture start body) first
     → Adds old new (λ (states : List State). Begins states first (IsOfOne index p)
-    × (index < length groups → AreSoundIn groups (has_reversed_range p) old new first states) × OrdersOne states first index p)
+    × (index < length groups → AreSoundIn groups (has_reversed_range p) old new first states) × OrdersOne states (slot_number groups index) first index p)
 Adds-pattern groups old middle later last new accept number after start end body first index p same starts ends sw ew a b x c =
     Adds-both old last new Three (λ (states : List State). slice_get states first ≡ Some (Capture start body))
     (OneBegins groups old new first index p)
@@ -88,12 +90,15 @@ Adds-pattern groups old middle later last new accept number after start end body
     (Adds-one last new (Capture start body) first c)
     (λ states y z. (
       subst (λ (q : ℕ). Begins states first (IsOfOne q p)) same
-          (Begins-one states number (length later) (length last) accept after body first p (whole states y z) y.1.0),
+          (Begins-one states number (length later) (length last) accept after body first p (whole states y z) (plain states y)),
       λ l. AreSound-pattern (2 * all_groups groups) (length groups) (has_reversed_range p) (length old) (length later) (length last) (length new) accept number
           after start end body first end states (omega (arith, l, same)) starts ends sw ew a.last (omega (arith, b.last, one)) (omega (arith, two, one))
-          x.longer c.last (grown last new (Capture start body) first c) y.0.0 y.0.1 y.1.1 y.1.2 z,
-      subst (λ (q : ℕ). OrdersOne states first q p) same
-          (OrdersOne-is states number (length later) (length last) accept after body first p (whole states y z) y.1.0 y.1.3),
+          x.longer c.last (grown last new (Capture start body) first c) y.0.0 y.0.1 y.1.1
+          (subst (λ (r : Bool). Names (2 * all_groups groups) r (length later) (length last) states) (numbered-reversed (slot_number groups index) 1 p) y.1.2)
+          z,
+      subst (λ (q : ℕ). OrdersOne states (slot_number groups index) first q p) same
+          (OrdersOne-is states (slot_number groups index) number (length later) (length last) accept after body first p (whole states y z) (plain states y)
+          y.1.3),
     ))
   where
     Two : List State → Type 0
@@ -101,11 +106,19 @@ Adds-pattern groups old middle later last new accept number after start end body
 
     IsPart : List State → List State → ℕ → ℕ → List State → Type 0
     IsPart from to low high states =
-        Realizes states low high p × Encloses end (length from) (length to) low high states
-        × Names (2 * all_groups groups) (has_reversed_range p) (length from) (length to) states × Orders states low high p
+        Realizes states low high (numbered (slot_number groups index) 1 p) × Encloses end (length from) (length to) low high states
+        × Names (2 * all_groups groups) (has_reversed_range (numbered (slot_number groups index) 1 p)) (length from) (length to) states
+        × Orders states low high (numbered (slot_number groups index) 1 p)
 
     Three : List State → Type 0
     Three states = Two states × IsPart later last body after states
+
+    plain : (states : List State) → Three states → Realizes states body after p
+    plain states y = Realizes-is states body after (numbered (slot_number groups index) 1 p) p
+        (λ t i j g. subst (λ (R : ℕ → ℕ → Type 0). R i j) (numbered-goes t (slot_number groups index) 1 p) g)
+        (λ t i j g. subst (λ (R : ℕ → ℕ → Type 0). R i j) (sym (numbered-goes t (slot_number groups index) 1 p)) g)
+        (λ h. numbered-loops (slot_number groups index) 1 p ∙ h)
+        y.1.0
 
     whole : (states : List State) → Three states → slice_get states first ≡ Some (Capture start body)
         → IsWhole states number (length later) (length last) accept after body first
@@ -168,7 +181,7 @@ abbrev SomeBegin : GroupLists → List State → List State → ℕ → ℕ → 
 SomeBegin groups old new first n patterns states =
     Begins states first (IsOfSome n patterns)
     × (length patterns ≤ length groups → AreSoundIn groups (list_any has_reversed_range (drop n patterns)) old new first states)
-    × OrdersSome states first n patterns
+    × OrdersSome states (slot_number groups) first n patterns
 
 -- a test of the patterns from a number on is one of the first of them, or of those after it
 any_from : (patterns : List Pattern) (n : ℕ) (p : Pattern) → slice_get patterns n ≡ Some p
@@ -187,16 +200,16 @@ any_last patterns n p at last =
 pub Adds-last : (groups : GroupLists) (old new : List State) (first n : ℕ) (p : Pattern) (patterns : List Pattern) → slice_get patterns n ≡ Some p
     → n + 1 ≡ length patterns
     → Adds old new (λ (states : List State). Begins states first (IsOfOne n p)
-    × (n < length groups → AreSoundIn groups (has_reversed_range p) old new first states) × OrdersOne states first n p)
+    × (n < length groups → AreSoundIn groups (has_reversed_range p) old new first states) × OrdersOne states (slot_number groups n) first n p)
     → Adds old new (λ (states : List State). Begins states first (IsOfSome n patterns)
     × (length patterns ≤ length groups → AreSoundIn groups (list_any has_reversed_range (drop n patterns)) old new first states)
-    × OrdersSome states first n patterns)
+    × OrdersSome states (slot_number groups) first n patterns)
 Adds-last groups old new first n p patterns at last x =
     Adds-is old new (OneBegins groups old new first n p) (SomeBegin groups old new first n patterns)
     (λ states b. (
       Begins-is states first (IsOfOne n p) (IsOfSome n patterns) (last-is patterns n p at) (last-back patterns n p at last) b.0,
       λ l. subst (λ (r : Bool). AreSoundIn groups r old new first states) (sym (any_last patterns n p at last)) (b.1 (omega (arith, l, last))),
-      OrdersSome-last states first n p patterns at last b.2,
+      OrdersSome-last states (slot_number groups) first n p patterns at last b.2,
     )) x
 
 -- a pattern before others
@@ -221,13 +234,13 @@ pub Adds-more : (groups : GroupLists) (old middle last new : List State) (one fi
     → slice_get patterns n ≡ Some p
     → Adds old middle (λ (states : List State). Begins states first (IsOfSome (n + 1) patterns)
     × (length patterns ≤ length groups → AreSoundIn groups (list_any has_reversed_range (drop (n + 1) patterns)) old middle first states)
-    × OrdersSome states first (n + 1) patterns)
+    × OrdersSome states (slot_number groups) first (n + 1) patterns)
     → Adds middle last (λ (states : List State). Begins states one (IsOfOne n p)
-    × (n < length groups → AreSoundIn groups (has_reversed_range p) middle last one states) × OrdersOne states one n p)
+    × (n < length groups → AreSoundIn groups (has_reversed_range p) middle last one states) × OrdersOne states (slot_number groups n) one n p)
     → IsAdded last new (Fork one first) id
     → Adds old new (λ (states : List State). Begins states id (IsOfSome n patterns)
     × (length patterns ≤ length groups → AreSoundIn groups (list_any has_reversed_range (drop n patterns)) old new id states)
-    × OrdersSome states id n patterns)
+    × OrdersSome states (slot_number groups) id n patterns)
 Adds-more groups old middle last new one first id n p patterns at x y a =
     Adds-both old last new Both
     (λ (states : List State). slice_get states id ≡ Some (Fork one first)) (SomeBegin groups old new id n patterns)
@@ -241,7 +254,7 @@ Adds-more groups old middle last new one first id n p patterns at x y a =
           (AreSound-more (2 * all_groups groups) (length groups) (has_reversed_range p) (list_any has_reversed_range (drop (n + 1) patterns)) (length old)
           (length middle) (length last) (length new) one first id states x.longer y.longer a.last (grown last new (Fork one first) id a) (b.0.1 l)
           (b.1.1 (omega (arith, l, slice_get_within patterns n p at))) is),
-      OrdersSome-more states id one first n p patterns at is b.1.0 b.0.0 b.1.2 b.0.2,
+      OrdersSome-more states (slot_number groups) id one first n p patterns at is b.1.0 b.0.0 b.1.2 b.0.2,
     ))
   where
     Both : List State → Type 0

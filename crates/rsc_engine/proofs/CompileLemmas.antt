@@ -6,20 +6,21 @@ use Rattle.std.proofs.Math.Seq.{drop-length}
 use Rattle.rsc_look.specs.declared.assertion.Look.{Look}
 use Rattle.rsc_nfa.specs.declared.state.State.{State}
 use Rattle.rsc_nfa.specs.declared.state.State.TheVariants.{ByteRange, Assert, Fork, Capture}
-use Rattle.rsc_engine.specs.Patterns.{Pattern, Empty, Never, Class, Literal, Assertion, Then, Either, one_of, Subject, Goes}
+use Rattle.rsc_engine.specs.Patterns.{Pattern, Empty, Never, Class, Literal, Assertion, Then, Either, Group, one_of, Subject, Goes}
 use Rattle.rsc_engine.specs.EnclosesLayout.{IsOnWay, StaysOnWay, Encloses}
 use Rattle.rsc_nfa.specs.Classes.{IsOrdered}
 use Rattle.rsc_engine.specs.Refusals.{has_reversed_range}
 use Rattle.rsc_engine.specs.NamesLayout.{HasClose, RecordsInPairs, Names}
 use Rattle.rsc_engine.proofs.NamesLayoutLemmas.{Names-none, Names-joined, Names-one, Names-above, either_back, range-ordered, range-reversed, class-same, literal-same, between-same}
-use Rattle.rsc_engine.specs.LinksLayout.{Adds, Builds, IsAdded, Realizes}
-use Rattle.rsc_engine.proofs.LinksLayoutLemmas.{Realizes-never, Realizes-range, Realizes-assert, Realizes-capture, Realizes-empty, Realizes-is, Realizes-then, Realizes-either}
+use Rattle.rsc_engine.specs.GroupNumbers.{count_groups, numbered}
+use Rattle.rsc_engine.specs.LinksLayout.{Adds, Builds, BuildsPart, IsAdded, Realizes}
+use Rattle.rsc_engine.proofs.LinksLayoutLemmas.{Realizes-never, Realizes-range, Realizes-assert, Realizes-capture, Realizes-empty, Realizes-is, Realizes-then, Realizes-between, Realizes-either}
 use Rattle.rsc_engine.proofs.EnclosesLayoutLemmas.{Encloses-one, Encloses-then, Encloses-either}
-use Rattle.rsc_engine.proofs.PatternsLemmas.{between-is, between-back, class-is, class-back, literal-is, literal-back}
+use Rattle.rsc_engine.proofs.PatternsLemmas.{class-is, class-back, literal-is, literal-back}
 use Rattle.rsc_engine.specs.FirstEnds.{loops_take_bytes}
 use Rattle.rsc_engine.specs.OrderLayout.{Orders}
-use Rattle.rsc_engine.proofs.FirstEndsLemmas.{HasFirst, class-first, literal-first, between-first, between-loops}
-use Rattle.rsc_engine.proofs.OrderLayoutLemmas.{Orders-empty, Orders-is, Orders-never, Orders-range, Orders-assert, Orders-capture, Orders-then, Orders-either}
+use Rattle.rsc_engine.proofs.FirstWaysLemmas.{IsWithin, class-within, literal-within, literal_none-within, never-within}
+use Rattle.rsc_engine.proofs.OrderLayoutLemmas.{Orders-empty, Orders-is, Orders-never, Orders-range, Orders-assert, Orders-group, Orders-then, Orders-either}
 
 -- ---- what a list has at an index
 
@@ -100,15 +101,25 @@ abbrev pub IsPart : ℕ × ℕ → ℕ → ℕ → ℕ → ℕ → Pattern → L
 IsPart slots low high first next p all =
     Realizes all first next p × Encloses slots.0 low high first next all × Names slots.1 (has_reversed_range p) low high all × Orders all first next p
 
-part-then : (slots : ℕ × ℕ) (low middle high first between next : ℕ) (p q : Pattern) (all : List State) → low ≤ middle → middle ≤ high
-    → IsPart slots low middle between next q all → IsPart slots middle high first between p all → IsPart slots low high first next (Then p q) all
-part-then slots low middle high first between next p q all l h a b = (
+-- all but the order
+abbrev IsShape : ℕ × ℕ → ℕ → ℕ → ℕ → ℕ → Pattern → List State → Type 0
+IsShape slots low high first next p all =
+    Realizes all first next p × Encloses slots.0 low high first next all × Names slots.1 (has_reversed_range p) low high all
+
+shape-then : (slots : ℕ × ℕ) (low middle high first between next : ℕ) (p q : Pattern) (all : List State) → low ≤ middle → middle ≤ high
+    → IsShape slots low middle between next q all → IsShape slots middle high first between p all → IsShape slots low high first next (Then p q) all
+shape-then slots low middle high first between next p q all l h a b = (
   Realizes-then all first between next p q a.0 b.0,
   Encloses-then slots.0 low middle high first between next all l h a.1 b.1,
   Names-joined slots.1 (has_reversed_range (Then p q)) (has_reversed_range q) (has_reversed_range p) low middle high all
       (either_back (has_reversed_range q) (has_reversed_range p)) l h a.2 b.2,
-  Orders-then all first between next p q a.0 a.3 b.3,
 )
+
+part-then : (slots : ℕ × ℕ) (low middle high first between next : ℕ) (p q : Pattern) (all : List State) → low ≤ middle → middle ≤ high
+    → IsPart slots low middle between next q all → IsPart slots middle high first between p all → IsPart slots low high first next (Then p q) all
+part-then slots low middle high first between next p q all l h a b =
+    let s = shape-then slots low middle high first between next p q all l h (a.0, a.1, a.2) (b.0, b.1, b.2) in
+    (s.0, s.1, s.2, Orders-then all first between next p q a.0 a.3 b.3)
 
 pub Builds-then : (slots : ℕ × ℕ) (old middle new : List State) (first between next : ℕ) (p q : Pattern) → Builds slots old middle between next q
     → Builds slots middle new first between p → Builds slots old new first next (Then p q)
@@ -119,7 +130,7 @@ Builds-then slots old middle new first between next p q x y =
 
 -- a part is what goes where it goes
 pub Builds-is : (slots : ℕ × ℕ) (old new : List State) (first next : ℕ) (p q : Pattern) → ((x : Subject) (i j : ℕ) → Goes x p i j → Goes x q i j)
-    → ((x : Subject) (i j : ℕ) → Goes x q i j → Goes x p i j) → HasFirst p q → (loops_take_bytes q ≡ true → loops_take_bytes p ≡ true)
+    → ((x : Subject) (i j : ℕ) → Goes x q i j → Goes x p i j) → IsWithin p q → (loops_take_bytes q ≡ true → loops_take_bytes p ≡ true)
     → has_reversed_range p ≡ has_reversed_range q → Builds slots old new first next p → Builds slots old new first next q
 Builds-is slots old new first next p q to back first-is loops same x =
     Adds-is old new (IsPart slots (length old) (length new) first next p) (IsPart slots (length old) (length new) first next q)
@@ -145,7 +156,7 @@ Builds-empty slots states next = record {
 
 pub Builds-no_byte : (slots : ℕ × ℕ) (states : List State) (next : ℕ) → Builds slots states states next next (Literal [])
 Builds-no_byte slots states next =
-    Builds-is slots states states next next Empty (Literal []) (λ x i j g. g) (λ x i j g. g) (λ x w i j f. f) (λ e. e) refl (Builds-empty slots states next)
+    Builds-is slots states states next next Empty (Literal []) (λ x i j g. g) (λ x i j g. g) literal_none-within (λ e. e) refl (Builds-empty slots states next)
 
 -- ---- single states
 
@@ -189,13 +200,12 @@ Builds-assert slots old new look id next a =
     Builds-state slots old new (Assert look next) id next (Assertion look) a (inr refl) (λ all. tt) (λ e. tt) (λ e. absurd (true≢false (sym e)))
     (λ all is. (Realizes-assert all id next look is, Orders-assert all id next look is))
 
-part-capture : (slots : ℕ × ℕ) (low high c id next : ℕ) (all : List State) → id ≡ low → high ≡ low + 1 → slice_get all id ≡ Some (Capture c next)
-    → slots.0 < c → c < slots.1 → ((pair : ℕ) → c ≡ 2 * pair → HasClose all pair next) → IsPart slots low high id next Empty all
-part-capture slots low high c id next all same one is l m closed = (
+shape-capture : (slots : ℕ × ℕ) (low high c id next : ℕ) (all : List State) → id ≡ low → high ≡ low + 1 → slice_get all id ≡ Some (Capture c next)
+    → slots.0 < c → c < slots.1 → ((pair : ℕ) → c ≡ 2 * pair → HasClose all pair next) → IsShape slots low high id next Empty all
+shape-capture slots low high c id next all same one is l m closed = (
   Realizes-capture all id c next is,
   Encloses-one slots.0 low high id next all (Capture c next) same one is (l, inr refl),
   Names-one slots.1 false low high id all (Capture c next) same one is (m, closed) (λ e. tt) (λ e. absurd (true≢false (sym e))),
-  Orders-capture all id c next is,
 )
 
 -- ---- states after parts
@@ -222,21 +232,13 @@ Builds-either slots old middle last new one other id next p q x y a =
     Both : List State → Type 0
     Both all = IsPart slots (length old) (length middle) other next q all × IsPart slots (length middle) (length last) one next p all
 
--- a part before others
-pub Builds-one_of : (slots : ℕ × ℕ) (old middle last new : List State) (one other id next : ℕ) (p : Pattern) (rest : List Pattern) → 0 < length rest
-    → Builds slots old middle other next (one_of rest) → Builds slots middle last one next p → IsAdded last new (Fork one other) id
-    → Builds slots old new id next (one_of (p ∷ rest))
-Builds-one_of slots old middle last new one other id next p [] some x y a = absurd (omega (arith, some))
-Builds-one_of slots old middle last new one other id next p (q ∷ rest) some x y a =
-    Builds-either slots old middle last new one other id next p (one_of (q ∷ rest)) x y a
-
 -- a range before others, in a class
 pub Builds-class : (slots : ℕ × ℕ) (old middle last new : List State) (x y one other id next : ℕ) (rest : List (ℕ × ℕ))
     → Builds slots old middle other next (Class rest)
     → IsAdded middle last (ByteRange x y next) one → IsAdded last new (Fork one other) id → Builds slots old new id next (Class ((x, y) ∷ rest))
 Builds-class slots old middle last new x y one other id next rest r a b =
     Builds-is slots old new id next (Either (Class ((x, y) ∷ [])) (Class rest)) (Class ((x, y) ∷ rest)) (class-is x y rest) (class-back x y rest)
-    (class-first x y rest) (λ e. e) (class-same x y rest)
+    (class-within x y rest) (λ e. e) (class-same x y rest)
     (Builds-either slots old middle last new one other id next (Class ((x, y) ∷ [])) (Class rest) r (Builds-range slots middle last x y one next a) b)
 
 -- a byte before others
@@ -244,26 +246,32 @@ pub Builds-byte : (slots : ℕ × ℕ) (old middle new : List State) (b first id
     → IsAdded middle new (ByteRange b b first) id → Builds slots old new id next (Literal (b ∷ rest))
 Builds-byte slots old middle new b first id next rest r a =
     Builds-is slots old new id next (Then (Class ((b, b) ∷ [])) (Literal rest)) (Literal (b ∷ rest)) (literal-is b rest) (literal-back b rest)
-    (literal-first b rest) (λ e. e) (literal-same b rest)
+    (literal-within b rest) (λ e. e) (literal-same b rest)
     (Builds-then slots old middle new id first next (Class ((b, b) ∷ [])) (Literal rest) r (Builds-range slots middle new b b id first a))
 
 -- a part between two records, which are in the slots of a pair
 pub Builds-group : (slots : ℕ × ℕ) (old middle last new : List State) (start end body after id next : ℕ) (p : Pattern)
     → slots.0 < start → start % 2 ≡ 0 → end ≡ start + 1 → end < slots.1
     → IsAdded old middle (Capture end next) after → Builds slots middle last body after p → IsAdded last new (Capture start body) id
-    → Builds slots old new id next p
+    → Builds slots old new id next (Group start p)
 Builds-group slots old middle last new start end body after id next p l even second m a x b =
-    Builds-is slots old new id next (Then Empty (Then p Empty)) p (between-is p) (between-back p) (between-first p) (between-loops p) (between-same p)
-    (Adds-both old last new Two (λ (all : List State). slice_get all id ≡ Some (Capture start body))
-    (IsPart slots (length old) (length new) id next (Then Empty (Then p Empty)))
+    Adds-both old last new Two (λ (all : List State). slice_get all id ≡ Some (Capture start body))
+    (IsPart slots (length old) (length new) id next (Group start p))
     (Adds-both old middle last (λ (all : List State). slice_get all after ≡ Some (Capture end next)) (IsPart slots (length middle) (length last) body after p)
     Two (Adds-one old middle (Capture end next) after a) x (λ all y z. (y, z)))
     (Adds-one last new (Capture start body) id b)
     (λ all y is.
-    part-then slots (length old) (length last) (length new) id body next Empty (Then p Empty) all (omega (arith, x.longer, one)) (omega (arith, two))
-    (part-then slots (length old) (length middle) (length last) body after next p Empty all (omega (arith, one)) x.longer
-    (part-capture slots (length old) (length middle) end after next all a.last one y.0 (omega (arith, l, second)) m (λ pair e. absurd (odd pair e))) y.1)
-    (part-capture slots (length last) (length new) start id body all b.last two is l (omega (arith, m, second)) (λ pair e. closed all y pair e))))
+    let s = shape-then slots (length old) (length last) (length new) id body next Empty (Then p Empty) all (omega (arith, x.longer, one)) (omega (arith, two))
+    (shape-then slots (length old) (length middle) (length last) body after next p Empty all (omega (arith, one)) x.longer
+    (shape-capture slots (length old) (length middle) end after next all a.last one y.0 (omega (arith, l, second)) m (λ pair e. absurd (odd pair e)))
+    (y.1.0, y.1.1, y.1.2))
+    (shape-capture slots (length last) (length new) start id body all b.last two is l (omega (arith, m, second)) (λ pair e. closed all y pair e)) in (
+      Realizes-is all id next p (Group start p) (λ t i j g. g) (λ t i j g. g) (λ e. e)
+          (Realizes-between all id body after next p (Realizes-capture all after end next y.0) y.1.0 (Realizes-capture all id start body is)),
+      s.1,
+      subst (λ (r : Bool). Names slots.1 r (length old) (length new) all) (between-same p) s.2,
+      Orders-group all id body after next start p is (y.0 ∙ ap (λ (c : ℕ). Some (Capture c next)) second) y.1.3,
+    ))
   where
     Two : List State → Type 0
     Two all = (slice_get all after ≡ Some (Capture end next)) × IsPart slots (length middle) (length last) body after p all
@@ -298,16 +306,61 @@ drop-last xs i d some l =
 pub drop-one : {A : Type 0} (xs : List A) (d : A) → 0 < length xs → drop (length xs - 1) xs ≡ get_or xs (length xs - 1) d ∷ []
 drop-one {A = A} xs d some = drop-last xs (length xs) d some (omega arith) ∙ ap (λ (ys : List A). get_or xs (length xs - 1) d ∷ ys) (drop-length xs)
 
--- without a part there is no match
-pub Builds-nothing : (slots : ℕ × ℕ) (old new : List State) (first next : ℕ) (parts : List Pattern) → length parts ≡ 0 → Builds slots old new first next Never
-    → Builds slots old new first next (one_of parts)
-Builds-nothing slots old new first next [] none x = x
-Builds-nothing slots old new first next (p ∷ rest) none x = absurd (omega (arith, none))
-
 -- a class without a range has no byte
 pub Builds-none : (slots : ℕ × ℕ) (old new : List State) (first next : ℕ) (ranges : List (ℕ × ℕ)) → length ranges ≡ 0 → Builds slots old new first next Never
     → Builds slots old new first next (Class ranges)
 Builds-none slots old new first next [] none x =
     Builds-is slots old new first next Never (Class []) (λ t i j g. absurd g) (λ t i j g. absurd (true≢false (sym g.0)))
-    (λ t w i j f. absurd f.0) (λ e. e) refl x
+    never-within (λ e. e) refl x
 Builds-none slots old new first next (r ∷ rest) none x = absurd (omega (arith, none))
+
+-- ---- parts with the slots of their groups
+
+pub BuildsPart-empty : (slot_of : ℕ → ℕ) (slots : ℕ × ℕ) (left : ℕ) (states : List State) (next : ℕ)
+    → BuildsPart slot_of slots left left states states next next Empty
+BuildsPart-empty slot_of slots left states next = (omega arith, Builds-empty slots states next)
+
+pub BuildsPart-then : (slot_of : ℕ → ℕ) (slots : ℕ × ℕ) (left mid now : ℕ) (old middle new : List State) (first between next : ℕ) (p q : Pattern)
+    → BuildsPart slot_of slots left mid old middle between next q → BuildsPart slot_of slots mid now middle new first between p
+    → BuildsPart slot_of slots left now old new first next (Then p q)
+BuildsPart-then slot_of slots left mid now old middle new first between next p q x y = (
+  omega (arith, x.0, y.0),
+  Builds-then slots old middle new first between next (numbered slot_of now p) (numbered slot_of (now + count_groups p) q)
+      (subst (λ (n : ℕ). Builds slots old middle between next (numbered slot_of n q)) y.0 x.1) y.1,
+)
+
+pub BuildsPart-either : (slot_of : ℕ → ℕ) (slots : ℕ × ℕ) (left mid now : ℕ) (old middle last new : List State) (one other id next : ℕ) (p q : Pattern)
+    → BuildsPart slot_of slots left mid old middle other next q → BuildsPart slot_of slots mid now middle last one next p
+    → IsAdded last new (Fork one other) id → BuildsPart slot_of slots left now old new id next (Either p q)
+BuildsPart-either slot_of slots left mid now old middle last new one other id next p q x y a = (
+  omega (arith, x.0, y.0),
+  Builds-either slots old middle last new one other id next (numbered slot_of now p) (numbered slot_of (now + count_groups p) q)
+      (subst (λ (n : ℕ). Builds slots old middle other next (numbered slot_of n q)) y.0 x.1) y.1 a,
+)
+
+-- a part before others
+pub BuildsPart-one_of : (slot_of : ℕ → ℕ) (slots : ℕ × ℕ) (left mid now : ℕ) (old middle last new : List State) (one other id next : ℕ) (p : Pattern)
+    (rest : List Pattern) → 0 < length rest
+    → BuildsPart slot_of slots left mid old middle other next (one_of rest) → BuildsPart slot_of slots mid now middle last one next p
+    → IsAdded last new (Fork one other) id → BuildsPart slot_of slots left now old new id next (one_of (p ∷ rest))
+BuildsPart-one_of slot_of slots left mid now old middle last new one other id next p [] some x y a = absurd (omega (arith, some))
+BuildsPart-one_of slot_of slots left mid now old middle last new one other id next p (q ∷ rest) some x y a =
+    BuildsPart-either slot_of slots left mid now old middle last new one other id next p (one_of (q ∷ rest)) x y a
+
+-- without a part there is no match
+pub BuildsPart-nothing : (slot_of : ℕ → ℕ) (slots : ℕ × ℕ) (left : ℕ) (old new : List State) (first next : ℕ) (parts : List Pattern) → length parts ≡ 0
+    → Builds slots old new first next Never → BuildsPart slot_of slots left left old new first next (one_of parts)
+BuildsPart-nothing slot_of slots left old new first next [] none x = (omega arith, x)
+BuildsPart-nothing slot_of slots left old new first next (p ∷ rest) none x = absurd (omega (arith, none))
+
+pub BuildsPart-group : (slot_of : ℕ → ℕ) (slots : ℕ × ℕ) (left inner number : ℕ) (old middle last new : List State)
+    (start end body after id next : ℕ) (p : Pattern)
+    → slots.0 < start → start % 2 ≡ 0 → end ≡ start + 1 → end < slots.1 → start ≡ slot_of number → inner ≡ number + 1
+    → IsAdded old middle (Capture end next) after → BuildsPart slot_of slots left inner middle last body after p → IsAdded last new (Capture start body) id
+    → BuildsPart slot_of slots left number old new id next (Group 0 p)
+BuildsPart-group slot_of slots left inner number old middle last new start end body after id next p l even second m its one a x b = (
+  omega (arith, x.0, one),
+  subst (λ (slot : ℕ). Builds slots old new id next (Group slot (numbered slot_of (number + 1) p))) its
+      (Builds-group slots old middle last new start end body after id next (numbered slot_of (number + 1) p) l even second m a
+      (subst (λ (n : ℕ). Builds slots middle last body after (numbered slot_of n p)) one x.1) b),
+)

@@ -1,19 +1,24 @@
--- The first way to a pattern's match leads to the pattern's first end.
+-- The first way to a pattern's match is the pattern's first way.
 use Rattle.std.proofs.Common.{◌≡◌, ℕ, zero, suc, ◌+◌, ◌*◌, ◌<◌, ◌≤◌, inl, ⊎_elim, List, [], ◌∷◌, length, slice_get, refl, sym, ap, ◌∙◌, subst, arith, Option, Some, MatchOption}
 use Rattle.std.proofs.lemmas.Bool.{cases_lt, cases_eq}
 use Rattle.std.proofs.lemmas.Option.{slice_get_within}
 use Rattle.rsc_nfa.specs.declared.state.State.{State}
 use Rattle.rsc_nfa.specs.declared.state.State.TheVariants.{Fork, Accept}
 use Rattle.rsc_nfa.specs.Steps.{StepsTo}
-use Rattle.rsc_engine.specs.Patterns.{Pattern, Empty, Subject}
+use Rattle.rsc_engine.specs.Patterns.{Pattern, Empty, Group, Subject}
 use Rattle.rsc_engine.specs.LinksLayout.{Aim, Ends, Realizes}
 use Rattle.rsc_engine.specs.BeginsLayout.{Begins, IsOfOne, IsOfSome}
-use Rattle.rsc_engine.specs.FirstsLayout.{OrdersOne, OrdersSome}
-use Rattle.rsc_engine.specs.FirstEnds.{IsFirstEnd}
+use Rattle.rsc_engine.specs.FirstsLayout.{OrdersOne, OrdersSome, mark_of}
+use Rattle.rsc_engine.specs.Ways.{Mark, GoesWith}
+use Rattle.rsc_engine.specs.FirstWays.{IsFirstWay}
+use Rattle.rsc_engine.specs.GroupNumbers.{numbered}
 use Rattle.rsc_engine.specs.StepsLayout.{AreSteps, last_place}
-use Rattle.rsc_engine.specs.OrderLayout.{HasWay, Orders}
-use Rattle.rsc_engine.proofs.FirstEndsLemmas.{first-alike}
-use Rattle.rsc_engine.proofs.OrderLayoutLemmas.{Way, from_fork, aim_at, way_of, Orders-between, Orders-capture}
+use Rattle.rsc_engine.specs.WaysLayout.{HasWay, finish}
+use Rattle.rsc_engine.specs.OrderLayout.{Orders}
+use Rattle.rsc_engine.proofs.FirstWaysLemmas.{way-alike}
+use Rattle.rsc_engine.proofs.GroupNumbersLemmas.{numbered-loops}
+use Rattle.rsc_engine.proofs.WaysLayoutLemmas.{Way, Rest, from_fork, either_way, aim_at, way_of}
+use Rattle.rsc_engine.proofs.OrderLayoutLemmas.{Orders-group}
 use Rattle.rsc_engine.proofs.LinksLayoutLemmas.{Realizes-between, Realizes-capture, choice_to}
 use Rattle.rsc_engine.specs.BeginsLayout.{IsWhole}
 
@@ -26,25 +31,30 @@ none_left states a (suc n) s i q is e =
     absurd (subst (λ (o : Option State). MatchOption o ⊥ (λ (x : State).
     StepsTo x a.text.terminator a.text.word_chars a.text.haystack a.end i (e.1, e.2))) is e.3)
 
-stays_there : (states : List State) (x : Subject) (end s i q : ℕ) (rest : List (ℕ × ℕ)) → slice_get states s ≡ Some (Accept q)
-    → AreSteps states x end (s, i) rest → last_place (s, i) rest ≡ (s, i)
-stays_there states x end s i q [] is steps = refl
-stays_there states x end s i q (r ∷ rest) is steps =
+stays_there : (states : List State) (x : Subject) (end s i q : ℕ) (rest earlier : List (ℕ × ℕ)) → slice_get states s ≡ Some (Accept q)
+    → AreSteps states x end (s, i) rest → finish states (s, i) rest earlier ≡ ((s, i), earlier)
+stays_there states x end s i q [] earlier is steps = refl
+stays_there states x end s i q (r ∷ rest) earlier is steps =
     absurd (subst (λ (o : Option State). MatchOption o ⊥ (λ (y : State). StepsTo y x.terminator x.word_chars x.haystack end i r)) is steps.0)
 
-pub OrdersOne-is : (states : List State) (number low high accept after body first : ℕ) (p : Pattern)
-    → IsWhole states number low high accept after body first → Realizes states body after p → Orders states body after p → OrdersOne states first number p
-OrdersOne-is states number low high accept after body first p w r o = record {
+pub OrdersOne-is : (states : List State) (slot_of : ℕ → ℕ) (number low high accept after body first : ℕ) (p : Pattern)
+    → IsWhole states number low high accept after body first → Realizes states body after p → Orders states body after (numbered slot_of 1 p)
+    → OrdersOne states slot_of first number p
+OrdersOne-is states slot_of number low high accept after body first p w r o = record {
+  through = λ x end from rest v.
+      let g = order.through x end number from rest v in
+      let there = sym (stays_there states x end accept g.to.0 number g.rest g.to.1 w.accepting g.way.steps) ∙ g.ends in
+      subst (λ (k : Mark). GoesWith x (Group (2 * number) (numbered slot_of 1 p)) from k) (ap mark_of there) g.goes;
   cost = whole.cost;
   few = λ h a n i e way.
       let g = whole.sound a n i way in
       let none = none_left states a g.left accept g.to number w.accepting g.ends in
       omega (arith, none, g.few h);
-  goes = λ h x end i rest l.
-      let g = order.goes h x end number i rest l in
-      let there = sym (stays_there states x end accept g.to number g.rest w.accepting g.least.way.steps) ∙ g.ends in
-      subst (λ (k : ℕ). IsFirstEnd x p (λ j. j ≤ end) i k) (ap (λ (z : ℕ × ℕ). z.1) there)
-      (first-alike x p (HasWay states x end number accept) (λ j. j ≤ end) i g.to (λ j v. v.1.within)
+  goes = λ h x end from rest l.
+      let g = order.goes (numbered-loops slot_of 1 p ∙ h) x end number from rest l in
+      let there = sym (stays_there states x end accept g.to.0 number g.rest g.to.1 w.accepting g.least.way.steps) ∙ g.ends in
+      subst (λ (k : Mark). IsFirstWay x (Group (2 * number) (numbered slot_of 1 p)) (λ j. j ≤ end) from k) (ap mark_of there)
+      (way-alike x (Group (2 * number) (numbered slot_of 1 p)) (HasWay states x end number accept) (λ j. j ≤ end) from g.to (λ j v. v.1.within)
       (λ j within. ([], record { within = within; steps = tt; accepts = w.accepting })) g.first);
 }
   where
@@ -57,27 +67,33 @@ OrdersOne-is states number low high accept after body first p w r o = record {
     whole : Realizes states first accept p
     whole = Realizes-between states first body after accept p ending r starting
 
-    order : Orders states first accept p
-    order = Orders-between states first body after accept p ending r (Orders-capture states after (2 * number + 1) accept w.ending) o
-        (Orders-capture states first (2 * number) body w.starting)
+    order : Orders states first accept (Group (2 * number) (numbered slot_of 1 p))
+    order = Orders-group states first body after accept (2 * number) (numbered slot_of 1 p) w.starting w.ending o
 
 -- ---- several patterns
 
 same_some : (p q : Pattern) → Some p ≡ Some q → p ≡ q
 same_some p q e = cc
 
-pub OrdersSome-last : (states : List State) (first n : ℕ) (p : Pattern) (patterns : List Pattern) → slice_get patterns n ≡ Some p → n + 1 ≡ length patterns
-    → OrdersOne states first n p → OrdersSome states first n patterns
-OrdersSome-last states first n p patterns at last o m q from its =
+pub OrdersSome-last : (states : List State) (slot_of : ℕ → ℕ → ℕ) (first n : ℕ) (p : Pattern) (patterns : List Pattern)
+    → slice_get patterns n ≡ Some p → n + 1 ≡ length patterns → OrdersOne states (slot_of n) first n p → OrdersSome states slot_of first n patterns
+OrdersSome-last states slot_of first n p patterns at last o m q from its =
     let there = slice_get_within patterns m q its in
     let same : m ≡ n = omega (arith, there, last, from) in
     let pattern : p ≡ q = same_some p q (sym at ∙ (ap (λ (k : ℕ). slice_get patterns k) (sym same) ∙ its)) in
-    subst (λ (k : ℕ). OrdersOne states first k q) (sym same) (subst (λ (r : Pattern). OrdersOne states first n r) pattern o)
+    subst (λ (k : ℕ). OrdersOne states (slot_of k) first k q) (sym same) (subst (λ (r : Pattern). OrdersOne states (slot_of n) first n r) pattern o)
 
 -- at a fork, of a pattern that the one way leads to, and the other doesn't
-OrdersOne-first : (states : List State) (s one other m : ℕ) (p : Pattern) → slice_get states s ≡ Some (Fork one other) → OrdersOne states one m p
-    → ((a : Aim) (n i : ℕ) → a.pattern ≡ m → Ends states a n other i → ⊥) → OrdersOne states s m p
-OrdersOne-first states s one other m p is o none = record {
+OrdersOne-first : (states : List State) (slot_of : ℕ → ℕ) (s one other m : ℕ) (p : Pattern) → slice_get states s ≡ Some (Fork one other)
+    → OrdersOne states slot_of one m p → ((a : Aim) (n i : ℕ) → a.pattern ≡ m → Ends states a n other i → ⊥) → OrdersOne states slot_of s m p
+OrdersOne-first states slot_of s one other m p is o none = record {
+  through = λ x end from rest w. ⊎_elim
+      (λ (v : Rest states x end m one from (length rest) (finish states (s, from.0) rest from.1)).
+      subst (λ (k : (ℕ × ℕ) × List (ℕ × ℕ)). GoesWith x (Group (2 * m) (numbered slot_of 1 p)) from (mark_of k)) v.ends (o.through x end from v.rest v.way))
+      (λ (v : Rest states x end m other from (length rest) (finish states (s, from.0) rest from.1)).
+      absurd (none (aim_at x end m (last_place (other, from.0) v.rest)) (length v.rest) from.0 refl
+      (way_of states x end m (other, from.0) v.rest v.way.within v.way.steps v.way.accepts)))
+      (either_way states x end m s one other from rest is w);
   cost = λ end. o.cost end + 1;
   few = λ h a n i e way.
       let w = choice_to states a n s i one other (inl is) way in
@@ -85,18 +101,26 @@ OrdersOne-first states s one other m p is o none = record {
       (λ (x : Ends states a w.0 one i). let few = o.few h a w.0 i e x in omega (arith, few, w.2))
       (λ (x : Ends states a w.0 other i). absurd (none a w.0 i e x))
       w.3;
-  goes = λ h x end i rest l. ⊎_elim
-      (λ (w : Way states x end m one i (last_place (s, i) rest)).
-      subst (λ (k : ℕ). IsFirstEnd x p (λ j. j ≤ end) i k) (ap (λ (z : ℕ × ℕ). z.1) w.ends) (o.goes h x end i w.rest w.least))
-      (λ (w : (HasWay states x end m one i → ⊥) × Way states x end m other i (last_place (s, i) rest)).
-      absurd (none (aim_at x end m (last_place (other, i) w.1.rest)) (length w.1.rest) i refl
-      (way_of states x end m (other, i) w.1.rest w.1.least.way.within w.1.least.way.steps w.1.least.way.accepts)))
-      (from_fork states x end m s one other i rest is l);
+  goes = λ h x end from rest l. ⊎_elim
+      (λ (w : Way states x end m one from (finish states (s, from.0) rest from.1)).
+      subst (λ (k : (ℕ × ℕ) × List (ℕ × ℕ)). IsFirstWay x (Group (2 * m) (numbered slot_of 1 p)) (λ j. j ≤ end) from (mark_of k)) w.ends
+      (o.goes h x end from w.rest w.least))
+      (λ (w : (HasWay states x end m one from.0 → ⊥) × Way states x end m other from (finish states (s, from.0) rest from.1)).
+      absurd (none (aim_at x end m (last_place (other, from.0) w.1.rest)) (length w.1.rest) from.0 refl
+      (way_of states x end m (other, from.0) w.1.rest w.1.least.way.within w.1.least.way.steps w.1.least.way.accepts)))
+      (from_fork states x end m s one other from rest is l);
 }
 
-OrdersOne-next : (states : List State) (s one other m : ℕ) (p : Pattern) → slice_get states s ≡ Some (Fork one other) → OrdersOne states other m p
-    → ((a : Aim) (n i : ℕ) → a.pattern ≡ m → Ends states a n one i → ⊥) → OrdersOne states s m p
-OrdersOne-next states s one other m p is o none = record {
+OrdersOne-next : (states : List State) (slot_of : ℕ → ℕ) (s one other m : ℕ) (p : Pattern) → slice_get states s ≡ Some (Fork one other)
+    → OrdersOne states slot_of other m p → ((a : Aim) (n i : ℕ) → a.pattern ≡ m → Ends states a n one i → ⊥) → OrdersOne states slot_of s m p
+OrdersOne-next states slot_of s one other m p is o none = record {
+  through = λ x end from rest w. ⊎_elim
+      (λ (v : Rest states x end m one from (length rest) (finish states (s, from.0) rest from.1)).
+      absurd (none (aim_at x end m (last_place (one, from.0) v.rest)) (length v.rest) from.0 refl
+      (way_of states x end m (one, from.0) v.rest v.way.within v.way.steps v.way.accepts)))
+      (λ (v : Rest states x end m other from (length rest) (finish states (s, from.0) rest from.1)).
+      subst (λ (k : (ℕ × ℕ) × List (ℕ × ℕ)). GoesWith x (Group (2 * m) (numbered slot_of 1 p)) from (mark_of k)) v.ends (o.through x end from v.rest v.way))
+      (either_way states x end m s one other from rest is w);
   cost = λ end. o.cost end + 1;
   few = λ h a n i e way.
       let w = choice_to states a n s i one other (inl is) way in
@@ -104,25 +128,26 @@ OrdersOne-next states s one other m p is o none = record {
       (λ (x : Ends states a w.0 one i). absurd (none a w.0 i e x))
       (λ (x : Ends states a w.0 other i). let few = o.few h a w.0 i e x in omega (arith, few, w.2))
       w.3;
-  goes = λ h x end i rest l. ⊎_elim
-      (λ (w : Way states x end m one i (last_place (s, i) rest)).
-      absurd (none (aim_at x end m (last_place (one, i) w.rest)) (length w.rest) i refl
-      (way_of states x end m (one, i) w.rest w.least.way.within w.least.way.steps w.least.way.accepts)))
-      (λ (w : (HasWay states x end m one i → ⊥) × Way states x end m other i (last_place (s, i) rest)).
-      subst (λ (k : ℕ). IsFirstEnd x p (λ j. j ≤ end) i k) (ap (λ (z : ℕ × ℕ). z.1) w.1.ends) (o.goes h x end i w.1.rest w.1.least))
-      (from_fork states x end m s one other i rest is l);
+  goes = λ h x end from rest l. ⊎_elim
+      (λ (w : Way states x end m one from (finish states (s, from.0) rest from.1)).
+      absurd (none (aim_at x end m (last_place (one, from.0) w.rest)) (length w.rest) from.0 refl
+      (way_of states x end m (one, from.0) w.rest w.least.way.within w.least.way.steps w.least.way.accepts)))
+      (λ (w : (HasWay states x end m one from.0 → ⊥) × Way states x end m other from (finish states (s, from.0) rest from.1)).
+      subst (λ (k : (ℕ × ℕ) × List (ℕ × ℕ)). IsFirstWay x (Group (2 * m) (numbered slot_of 1 p)) (λ j. j ≤ end) from (mark_of k)) w.1.ends
+      (o.goes h x end from w.1.rest w.1.least))
+      (from_fork states x end m s one other from rest is l);
 }
 
-pub OrdersSome-more : (states : List State) (s one other n : ℕ) (p : Pattern) (patterns : List Pattern) → slice_get patterns n ≡ Some p
+pub OrdersSome-more : (states : List State) (slot_of : ℕ → ℕ → ℕ) (s one other n : ℕ) (p : Pattern) (patterns : List Pattern) → slice_get patterns n ≡ Some p
     → slice_get states s ≡ Some (Fork one other) → Begins states one (IsOfOne n p) → Begins states other (IsOfSome (n + 1) patterns)
-    → OrdersOne states one n p → OrdersSome states other (n + 1) patterns → OrdersSome states s n patterns
-OrdersSome-more states s one other n p patterns at is b c o all m q from its = ⊎_elim
+    → OrdersOne states (slot_of n) one n p → OrdersSome states slot_of other (n + 1) patterns → OrdersSome states slot_of s n patterns
+OrdersSome-more states slot_of s one other n p patterns at is b c o all m q from its = ⊎_elim
     (λ (same : m ≡ n).
     let pattern : p ≡ q = same_some p q (sym at ∙ (ap (λ (k : ℕ). slice_get patterns k) (sym same) ∙ its)) in
-    subst (λ (k : ℕ). OrdersOne states s k q) (sym same) (subst (λ (r : Pattern). OrdersOne states s n r) pattern
-    (OrdersOne-first states s one other n p is o (λ a k i e way. let sound = c.sound a k i way in omega (arith, e, sound.0)))))
+    subst (λ (k : ℕ). OrdersOne states (slot_of k) s k q) (sym same) (subst (λ (r : Pattern). OrdersOne states (slot_of n) s n r) pattern
+    (OrdersOne-first states (slot_of n) s one other n p is o (λ a k i e way. let sound = c.sound a k i way in omega (arith, e, sound.0)))))
     (λ (apart : (m ≡ n) → ⊥).
-    OrdersOne-next states s one other m q is (all m q (later m from apart) its)
+    OrdersOne-next states (slot_of m) s one other m q is (all m q (later m from apart) its)
     (λ a k i e way. let sound = b.sound a k i way in apart (omega (arith, e, sound.0))))
     (cases_eq m n)
   where

@@ -3,10 +3,12 @@ pub mod BeginsLayoutLemmas  -- the runs of a program that was built: from the st
 pub mod CompileLemmas  -- how lists of states grow, part by part
 pub mod EnclosesLayoutLemmas  -- where the states of parts lead that are made of parts
 pub mod EntriesLemmas  -- where no match that began earlier goes on from a row
-pub mod FirstEndsLemmas  -- the first end of a pattern is an end, depends on what is wanted alone, and is the only one; patterns that have the same one
-pub mod FirstsLayoutLemmas  -- the first way to a pattern's match leads to the pattern's first end
+pub mod FirstEndsLemmas  -- the first end of a pattern is an end, and the only one
+pub mod FirstWaysLemmas  -- the first way of a pattern leads to its first end, depends on what is wanted alone, and is the only one; patterns with the same one
+pub mod FirstsLayoutLemmas  -- the first way to a pattern's match is the pattern's first way
 pub mod FlagsLayoutLemmas  -- flags, by the bits of their blocks
 pub mod GroupEndsLemmas  -- what the runs of a program that was built record in the slots of the whole match
+pub mod GroupNumbersLemmas  -- with the slots of its groups a pattern goes as without
 pub mod GroupOrderLemmas  -- a group that begins in a run of a program that was built ends there or later
 pub mod GroupsLayoutLemmas  -- what a trail's run records, from its end on
 pub mod LawfulLayoutLemmas  -- what follows from the laws of steps: the bytes on both sides, or others of their classes, stand for a position
@@ -17,7 +19,7 @@ pub mod NamesLayoutLemmas  -- what the states of parts name that are made of par
 pub mod NeededLayoutLemmas  -- no match is where no byte of the one range is directly after one of the other
 pub mod NextMatchesLemmas  -- which match is next, as the search's start moves on
 pub mod NumbersLemmas  -- the numbers of places: the flags that have them, and what they say where a search begins later
-pub mod OrderLayoutLemmas  -- of the ways to a match the first one goes by the first ends of patterns
+pub mod OrderLayoutLemmas  -- of the ways to a match the first one goes by the first ways of patterns
 pub mod PartsLemmas  -- what holds for parts in order, or for one of them, as the list grows
 pub mod PatternOrderLemmas  -- of the matches from a position that of the pattern with the least number is preferred, and of its ends the first
 pub mod PatternsLemmas  -- patterns that go where others go: bytes, classes and repetitions
@@ -35,3 +37,5 @@ pub mod TreesLemmas  -- the pattern of a tree, by its variants
 pub mod TurnsLayoutLemmas  -- the flags of a loop's turns that are in the same blocks, and what such turns do
 pub mod TurnsLemmas  -- turns of a loop, one after the other
 pub mod WalksLayoutLemmas  -- a trail grows by a place and goes back to one; places that are settled, and runs that come to no place of a trail
+pub mod WaysLayoutLemmas  -- ways to a match: the first step of any way, and of the first one
+pub mod WaysLemmas  -- what the slots of a group hold after a way of a pattern: where its part was last gone through

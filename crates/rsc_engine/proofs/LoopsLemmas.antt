@@ -1,5 +1,5 @@
 -- How lists of states grow by repetitions.
-use Rattle.std.proofs.Common.{Bool, subst, ◌≡◌, ℕ, ◌+◌, ◌-◌, ◌<◌, List, length, set, slice_get, sym, arith, Option, Some, None}
+use Rattle.std.proofs.Common.{Bool, subst, refl, ◌≡◌, ℕ, zero, suc, ◌+◌, ◌-◌, ◌<◌, List, length, set, slice_get, sym, arith, Option, Some, None}
 use Rattle.std.proofs.lemmas.List.{length-set}
 use Rattle.rsc_nfa.specs.declared.state.State.{State}
 use Rattle.rsc_engine.specs.Patterns.{Pattern, Then, Repeat}
@@ -7,14 +7,16 @@ use Rattle.rsc_engine.specs.EnclosesLayout.{Encloses}
 use Rattle.rsc_engine.specs.Refusals.{has_reversed_range}
 use Rattle.rsc_engine.specs.NamesLayout.{Names}
 use Rattle.rsc_engine.proofs.NamesLayoutLemmas.{Names-choice, Names-loop, optional-same, up_to-same, counted-same}
-use Rattle.rsc_engine.specs.LinksLayout.{Adds, Builds, IsAdded, Realizes, choice_of, copies, optional, up_to}
+use Rattle.rsc_engine.specs.GroupNumbers.{count_groups, numbered}
+use Rattle.rsc_engine.specs.LinksLayout.{Adds, Builds, BuildsPart, BuildsCopies, IsAdded, Realizes, choice_of, copies, optional, up_to}
 use Rattle.rsc_engine.proofs.LinksLayoutLemmas.{Realizes-choice, Realizes-star, Realizes-plus, is_choice}
 use Rattle.rsc_engine.proofs.EnclosesLayoutLemmas.{Encloses-choice, Encloses-loop}
 use Rattle.rsc_engine.proofs.PatternsLemmas.{star-is, star-back, up_to-is, up_to-back, limit_less, counted-is, counted-back}
 use Rattle.rsc_engine.specs.OrderLayout.{Orders}
-use Rattle.rsc_engine.proofs.FirstEndsLemmas.{star-first, star-loops, up_to-first, up_to-loops, counted-first, counted-loops}
+use Rattle.rsc_engine.proofs.FirstEndsLemmas.{star-loops, up_to-loops, counted-loops}
+use Rattle.rsc_engine.proofs.FirstWaysLemmas.{star-within, up_to-within, counted-within}
 use Rattle.rsc_engine.proofs.OrderLayoutLemmas.{Orders-choice, Orders-star, Orders-plus}
-use Rattle.rsc_engine.proofs.CompileLemmas.{Adds-one, Adds-both, Adds-is, Adds-written, IsPart, grown, Builds-then, Builds-is}
+use Rattle.rsc_engine.proofs.CompileLemmas.{Adds-one, Adds-both, Adds-is, Adds-written, IsPart, grown, Builds-empty, Builds-then, Builds-is}
 
 -- the part or nothing
 pub Builds-optional : (slots : ℕ × ℕ) (old last new : List State) (one id next : ℕ) (often : Bool) (p : Pattern) → Builds slots old last one next p
@@ -36,7 +38,7 @@ pub Builds-star : (slots : ℕ × ℕ) (old last new : List State) (one id next 
     → Builds slots old last one next (Repeat 1 None often p) → IsAdded last new (choice_of often one next) id
     → Builds slots old new id next (Repeat 0 None often p)
 Builds-star slots old last new one id next often p x a =
-    Builds-is slots old new id next (optional often (Repeat 1 None often p)) (Repeat 0 None often p) (star-is often p) (star-back often p) (star-first often p)
+    Builds-is slots old new id next (optional often (Repeat 1 None often p)) (Repeat 0 None often p) (star-is often p) (star-back often p) (star-within often p)
     (star-loops often p) (optional-same often (Repeat 1 None often p))
     (Builds-optional slots old last new one id next often (Repeat 1 None often p) x a)
 
@@ -104,7 +106,7 @@ Builds-plus slots old middle last state first again next often p a x =
 Builds-up_to : (slots : ℕ × ℕ) (old new : List State) (first next n : ℕ) (often : Bool) (p : Pattern) → Builds slots old new first next (up_to often n p)
     → Builds slots old new first next (Repeat 0 (Some n) often p)
 Builds-up_to slots old new first next n often p x =
-    Builds-is slots old new first next (up_to often n p) (Repeat 0 (Some n) often p) (up_to-is often n p) (up_to-back often n p) (up_to-first often n p)
+    Builds-is slots old new first next (up_to often n p) (Repeat 0 (Some n) often p) (up_to-is often n p) (up_to-back often n p) (up_to-within often n p)
     (up_to-loops often n p) (up_to-same often n p) x
 
 -- a number of times, and then at least another
@@ -113,7 +115,7 @@ Builds-counted : (slots : ℕ × ℕ) (old middle new : List State) (n m rest fi
     → Builds slots old new first next (Repeat (n + m) max often p)
 Builds-counted slots old middle new n m rest first next max often p x y =
     Builds-is slots old new first next (Then (copies n p) (Repeat m (limit_less max n) often p)) (Repeat (n + m) max often p) (counted-is n m max often p)
-    (counted-back n m max often p) (counted-first n m max often p) (counted-loops n m max often p) (counted-same n m max often p)
+    (counted-back n m max often p) (counted-within n m max often p) (counted-loops n m max often p) (counted-same n m max often p)
     (Builds-then slots old middle new first rest next (copies n p) (Repeat m (limit_less max n) often p) x y)
 
 pub Builds-limited : (slots : ℕ × ℕ) (old middle new : List State) (min max rest first next : ℕ) (often : Bool) (p : Pattern)
@@ -131,3 +133,101 @@ Builds-unlimited slots old middle new min last first next often p some x y =
     let one : min - 1 + 1 ≡ min = omega (arith, some) in
     subst (λ (n : ℕ). Builds slots old new first next (Repeat n None often p)) one
     (Builds-counted slots old middle new (min - 1) 1 last first next None often p x y)
+
+-- ---- with the slots of groups
+
+-- of one part the groups are numbered in one way
+same_number : (left now n count : ℕ) → left ≡ now + count → left ≡ n + count → now ≡ n
+same_number left now n count x y = omega (arith, x, y)
+
+pub BuildsCopies-none : (slot_of : ℕ → ℕ) (slots : ℕ × ℕ) (left : ℕ) (states : List State) (next : ℕ) (p : Pattern)
+    → BuildsCopies slot_of slots left left states states next next 0 (copies 0) p
+BuildsCopies-none slot_of slots left states next p = (λ l. absurd (omega (arith, l)), λ n e. Builds-empty slots states next)
+
+pub BuildsCopies-up_to_none : (slot_of : ℕ → ℕ) (slots : ℕ × ℕ) (left : ℕ) (states : List State) (next : ℕ) (often : Bool) (p : Pattern)
+    → BuildsCopies slot_of slots left left states states next next 0 (up_to often 0) p
+BuildsCopies-up_to_none slot_of slots left states next often p = (λ l. absurd (omega (arith, l)), λ n e. Builds-empty slots states next)
+
+pub BuildsCopies-more : (slot_of : ℕ → ℕ) (slots : ℕ × ℕ) (left mid now : ℕ) (old middle new : List State) (first between next count : ℕ) (p : Pattern)
+    → BuildsCopies slot_of slots left mid old middle between next count (copies count) p
+    → BuildsPart slot_of slots left now middle new first between p
+    → BuildsCopies slot_of slots left now old new first next (suc count) (copies (suc count)) p
+BuildsCopies-more slot_of slots left mid now old middle new first between next count p x y = (
+  λ l. y.0,
+  λ n e. Builds-then slots old middle new first between next (numbered slot_of n p) (copies count (numbered slot_of n p)) (x.1 n e)
+      (subst (λ (k : ℕ). Builds slots middle new first between (numbered slot_of k p)) (same_number left now n (count_groups p) y.0 e) y.1),
+)
+
+pub BuildsCopies-up_to_more : (slot_of : ℕ → ℕ) (slots : ℕ × ℕ) (left mid now : ℕ) (old middle last new : List State) (one between id next count : ℕ)
+    (often : Bool) (p : Pattern)
+    → BuildsCopies slot_of slots left mid old middle between next count (up_to often count) p
+    → BuildsPart slot_of slots left now middle last one between p → IsAdded last new (choice_of often one next) id
+    → BuildsCopies slot_of slots left now old new id next (suc count) (up_to often (suc count)) p
+BuildsCopies-up_to_more slot_of slots left mid now old middle last new one between id next count often p x y a = (
+  λ l. y.0,
+  λ n e. Builds-optional slots old last new one id next often (Then (numbered slot_of n p) (up_to often count (numbered slot_of n p)))
+      (Builds-then slots old middle last one between next (numbered slot_of n p) (up_to often count (numbered slot_of n p)) (x.1 n e)
+      (subst (λ (k : ℕ). Builds slots middle last one between (numbered slot_of k p)) (same_number left now n (count_groups p) y.0 e) y.1))
+      a,
+)
+
+pub BuildsPart-star : (slot_of : ℕ → ℕ) (slots : ℕ × ℕ) (left now : ℕ) (old last new : List State) (one id next : ℕ) (often : Bool) (p : Pattern)
+    → BuildsPart slot_of slots left now old last one next (Repeat 1 None often p) → IsAdded last new (choice_of often one next) id
+    → BuildsPart slot_of slots left now old new id next (Repeat 0 None often p)
+BuildsPart-star slot_of slots left now old last new one id next often p x a =
+    (x.0, Builds-star slots old last new one id next often (numbered slot_of now p) x.1 a)
+
+pub BuildsPart-again : (slot_of : ℕ → ℕ) (slots : ℕ × ℕ) (left now : ℕ) (old middle last : List State) (state : State) (first again next : ℕ) (often : Bool)
+    (p : Pattern) → IsAdded old middle state again → BuildsPart slot_of slots left now middle last first again p
+    → BuildsPart slot_of slots left now old (set last again (choice_of often first next)) again next (Repeat 0 None often p)
+BuildsPart-again slot_of slots left now old middle last state first again next often p a x =
+    (x.0, Builds-again slots old middle last state first again next often (numbered slot_of now p) a x.1)
+
+pub BuildsPart-plus : (slot_of : ℕ → ℕ) (slots : ℕ × ℕ) (left now : ℕ) (old middle last : List State) (state : State) (first again next : ℕ) (often : Bool)
+    (p : Pattern) → IsAdded old middle state again → BuildsPart slot_of slots left now middle last first again p
+    → BuildsPart slot_of slots left now old (set last again (choice_of often first next)) first next (Repeat 1 None often p)
+BuildsPart-plus slot_of slots left now old middle last state first again next often p a x =
+    (x.0, Builds-plus slots old middle last state first again next often (numbered slot_of now p) a x.1)
+
+pub BuildsPart-unlimited : (slot_of : ℕ → ℕ) (slots : ℕ × ℕ) (left mid now : ℕ) (old middle new : List State) (min last first next : ℕ) (often : Bool)
+    (p : Pattern) → 1 < min → BuildsPart slot_of slots left mid old middle last next (Repeat 1 None often p)
+    → BuildsCopies slot_of slots left now middle new first last (min - 1) (copies (min - 1)) p
+    → BuildsPart slot_of slots left now old new first next (Repeat min None often p)
+BuildsPart-unlimited slot_of slots left mid now old middle new min last first next often p more x y =
+    let its = y.0 (omega (arith, more)) in (
+      its,
+      Builds-unlimited slots old middle new min last first next often (numbered slot_of now p) (omega (arith, more))
+          (subst (λ (k : ℕ). Builds slots old middle last next (Repeat 1 None often (numbered slot_of k p)))
+          (same_number left mid now (count_groups p) x.0 its) x.1)
+          (y.1 now its),
+    )
+
+pub BuildsPart-limited : (slot_of : ℕ → ℕ) (slots : ℕ × ℕ) (left mid now : ℕ) (old middle new : List State) (min max rest first next : ℕ) (often : Bool)
+    (p : Pattern) → 0 < min → BuildsCopies slot_of slots left mid old middle rest next (max - min) (up_to often (max - min)) p
+    → BuildsCopies slot_of slots left now middle new first rest min (copies min) p
+    → BuildsPart slot_of slots left now old new first next (Repeat min (Some max) often p)
+BuildsPart-limited slot_of slots left mid now old middle new min max rest first next often p some x y =
+    let its = y.0 some in
+    (its, Builds-limited slots old middle new min max rest first next often (numbered slot_of now p) (x.1 now its) (y.1 now its))
+
+pub BuildsPart-up_to : (slot_of : ℕ → ℕ) (slots : ℕ × ℕ) (left now : ℕ) (old new : List State) (min max first next : ℕ) (often : Bool)
+    (p : Pattern) → min ≡ 0 → 0 < max → BuildsCopies slot_of slots left now old new first next max (up_to often max) p
+    → BuildsPart slot_of slots left now old new first next (Repeat min (Some max) often p)
+BuildsPart-up_to slot_of slots left now old new min max first next often p none some x =
+    let its = x.0 some in
+    subst (λ (n : ℕ). BuildsPart slot_of slots left now old new first next (Repeat n (Some max) often p)) (sym none)
+    (its, Builds-up_to slots old new first next max often (numbered slot_of now p) (x.1 now its))
+
+pub BuildsPart-no_times : (slot_of : ℕ → ℕ) (slots : ℕ × ℕ) (left now : ℕ) (states : List State) (next : ℕ) (often : Bool) (p : Pattern)
+    → left ≡ now + count_groups p → BuildsPart slot_of slots left now states states next next (Repeat 0 (Some 0) often p)
+BuildsPart-no_times slot_of slots left now states next often p its =
+    (its, Builds-up_to slots states states next next 0 often (numbered slot_of now p) (Builds-empty slots states next))
+
+pub positive : (n : ℕ) → (n ≡ 0 → ⊥) → 0 < n
+positive zero apart = absurd (apart refl)
+positive (suc n) apart = omega arith
+
+pub more_than_one : (n : ℕ) → (n ≡ 0 → ⊥) → (n ≡ 1 → ⊥) → 1 < n
+more_than_one zero none one = absurd (none refl)
+more_than_one (suc zero) none one = absurd (one refl)
+more_than_one (suc (suc n)) none one = omega arith

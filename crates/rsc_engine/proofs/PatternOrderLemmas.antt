@@ -1,23 +1,29 @@
 -- Of the matches from a position that of the pattern with the least number is preferred, and of its ends the first.
-use Rattle.std.proofs.Common.{◌≡◌, ℕ, zero, suc, ◌+◌, ◌-◌, ◌<◌, ◌≤◌, ◌⊎◌, inl, inr, ⊎_elim, Bool, List, [], ◌∷◌, length, slice_get, refl, sym, ap, ◌∙◌, subst, arith, Some, true}
+use Rattle.std.proofs.Common.{◌≡◌, ℕ, zero, suc, ◌+◌, ◌-◌, ◌<◌, ◌≤◌, ◌⊎◌, inl, inr, ⊎_elim, Bool, List, [], ◌∷◌, length, slice_get, refl, sym, ap, ◌∙◌, subst, arith, Option, Some, None, cond, ◌==◌, true, false}
 use Rattle.std.proofs.lemmas.Bool.{cases_lt, cases_eq}
 use Rattle.std.proofs.lemmas.Option.{slice_get_within}
 use Rattle.rsc_nfa.specs.declared.state.State.{State}
-use Rattle.rsc_nfa.specs.declared.state.State.TheVariants.{Fork, Accept}
-use Rattle.rsc_nfa.specs.Steps.{place}
+use Rattle.rsc_nfa.specs.declared.state.State.TheVariants.{ByteRange, Assert, Fork, Capture, Accept}
+use Rattle.rsc_nfa.specs.Steps.{place, recorded, or_earlier, is_capture_of}
 use Rattle.rsc_search.specs.Matches.{Matched}
 use Rattle.rsc_engine.specs.Searches.{Search, Compiled, search_in}
 use Rattle.rsc_engine.specs.Runs.{accepts, IsMatchRun, IsMatchOf}
 use Rattle.rsc_engine.specs.Preferred.{IsOnce, IsPreferredTo, IsPreferred}
 use Rattle.rsc_engine.specs.Patterns.{Pattern, Subject, subject_of, HasRunOf}
-use Rattle.rsc_engine.specs.PatternOrder.{PrefersLesser, PrefersFirstEnds}
+use Rattle.rsc_engine.specs.PatternOrder.{PrefersLesser, PrefersFirstEnds, RecordsFirstWays, RecordsWays}
 use Rattle.rsc_engine.specs.LinksLayout.{Aim, Ends}
 use Rattle.rsc_engine.specs.StepsLayout.{AreSteps, last_place}
-use Rattle.rsc_engine.specs.OrderLayout.{IsBefore, IsLeast}
+use Rattle.rsc_engine.specs.WaysLayout.{IsBefore, IsLeast, finish, recorded_by}
 use Rattle.rsc_engine.specs.BeginsLayout.{PrefersFrom, Begins, IsOfOne}
-use Rattle.rsc_engine.specs.FirstsLayout.{OrdersSome}
-use Rattle.rsc_engine.specs.FirstEnds.{loops_take_bytes, IsFirstEnd}
-use Rattle.rsc_engine.proofs.OrderLayoutLemmas.{aim_at, way_of}
+use Rattle.rsc_engine.specs.FirstsLayout.{OrdersSome, mark_of}
+use Rattle.rsc_engine.specs.FirstEnds.{loops_take_bytes}
+use Rattle.rsc_engine.specs.Ways.{GoesWith, last_in}
+use Rattle.rsc_engine.specs.FirstWays.{IsFirstWay}
+use Rattle.rsc_engine.specs.GroupNumbers.{as_whole}
+use Rattle.rsc_engine.proofs.FirstWaysLemmas.{way-end}
+use Rattle.rsc_engine.proofs.GroupNumbersLemmas.{numbered-end}
+use Rattle.rsc_captures.specs.Groups.{GroupLists, slot_number}
+use Rattle.rsc_engine.proofs.WaysLayoutLemmas.{aim_at, way_of}
 use Rattle.rsc_engine.proofs.StepsLayoutLemmas.{step_of, steps_of, last_is}
 use Rattle.rsc_engine.proofs.PreferredLemmas.{same_place}
 use Rattle.rsc_engine.proofs.StepsLayoutLemmas.{Short, shorten, once_of, is_run_of, HasMore, once_or_more, AreDistinct}
@@ -252,11 +258,52 @@ is_first e m i most rest preferred accepted few = record {
       (once_or_more e.states (subject_of e) e.end most (e.start_state, i) other w.steps);
 }
 
-first_end : (e : Search) (patterns : List Pattern) (run : List (ℕ × ℕ)) (found : Matched) (p : Pattern) → OrdersSome e.states e.start_state 0 patterns
+-- what steps record, after what was recorded before
+recorded_more : (a b c : Option ℕ) → or_earlier (or_earlier a b) c ≡ or_earlier a (or_earlier b c)
+recorded_more (Some i) b c = refl
+recorded_more None b c = refl
+
+recorded_one : (o : Option State) (i slot : ℕ) (earlier : List (ℕ × ℕ))
+    → or_earlier (cond (is_capture_of slot o) (Some i) None) (last_in earlier slot) ≡ last_in (recorded_by o i earlier) slot
+recorded_one None i slot earlier = refl
+recorded_one (Some (ByteRange a b next)) i slot earlier = refl
+recorded_one (Some (Assert look next)) i slot earlier = refl
+recorded_one (Some (Fork a b)) i slot earlier = refl
+recorded_one (Some (Accept q)) i slot earlier = refl
+recorded_one (Some (Capture c next)) i slot earlier = go (c == slot)
+  where
+    go : (b : Bool) → or_earlier (cond b (Some i) None) (last_in earlier slot) ≡ cond b (Some i) (last_in earlier slot)
+    go true = refl
+    go false = refl
+
+recorded_all : (states : List State) (p : ℕ × ℕ) (rest earlier : List (ℕ × ℕ)) (slot : ℕ)
+    → or_earlier (recorded states (p ∷ rest) slot) (last_in earlier slot) ≡ last_in (finish states p rest earlier).1 slot
+recorded_all states p [] earlier slot = refl
+recorded_all states p (q ∷ rest) earlier slot =
+    recorded_more (recorded states (q ∷ rest) slot) (cond (is_capture_of slot (slice_get states p.0)) (Some p.1) None) (last_in earlier slot)
+    ∙ (ap (λ (o : Option ℕ). or_earlier (recorded states (q ∷ rest) slot) o) (recorded_one (slice_get states p.0) p.1 slot earlier)
+    ∙ recorded_all states q rest (recorded_by (slice_get states p.0) p.1 earlier) slot)
+
+or_none : (o : Option ℕ) → or_earlier o None ≡ o
+or_none None = refl
+or_none (Some i) = refl
+
+finish_last : (states : List State) (p : ℕ × ℕ) (rest earlier : List (ℕ × ℕ)) → (finish states p rest earlier).0 ≡ last_place p rest
+finish_last states p [] earlier = refl
+finish_last states p (q ∷ rest) earlier = finish_last states q rest (recorded_by (slice_get states p.0) p.1 earlier)
+
+-- the first way, and what a run records
+abbrev GoesFirstWay : Search → GroupLists → List (ℕ × ℕ) → Matched → Pattern → Type 0
+GoesFirstWay e lists run found p =
+    (records : List (ℕ × ℕ)) × IsFirstWay (subject_of e) (as_whole lists found.pattern p) (λ j. j ≤ e.end) (found.span.start, []) (found.span.end, records)
+    × ((slot : ℕ) → recorded e.states run slot ≡ last_in records slot)
+
+first_way : (e : Search) (lists : GroupLists) (patterns : List Pattern) (run : List (ℕ × ℕ)) (found : Matched) (p : Pattern)
+    → OrdersSome e.states (slot_number lists) e.start_state 0 patterns
     → IsPreferred e (e.start_state, (place run 0).1) run → IsMatchOf e run found → slice_get patterns found.pattern ≡ Some p → loops_take_bytes p ≡ true
-    → IsFirstEnd (subject_of e) p (λ j. j ≤ e.end) found.span.start found.span.end
-first_end e patterns [] found p all preferred makes its loops = let none = preferred.is_match.some in absurd (omega (arith, none))
-first_end e patterns (q ∷ rest) found p all preferred makes its loops =
+    → GoesFirstWay e lists run found p
+first_way e lists patterns [] found p all preferred makes its loops = let none = preferred.is_match.some in absurd (omega (arith, none))
+first_way e lists patterns (q ∷ rest) found p all preferred makes its loops =
     let o = all found.pattern p (omega arith) its in
     let here : q ≡ (e.start_state, q.1) = preferred.is_match.begins in
     let its_run : IsPreferred e (e.start_state, q.1) ((e.start_state, q.1) ∷ rest) =
@@ -266,14 +313,69 @@ first_end e patterns (q ∷ rest) found p all preferred makes its loops =
     let least = is_first e found.pattern q.1 (o.cost e.end) rest its_run
     (subst (λ (z : ℕ × ℕ). slice_get e.states (last_place z rest).0 ≡ Some (Accept found.pattern)) here accepted)
     (λ a n j end number way. subst (λ (k : ℕ). n ≤ o.cost k) end (o.few loops a n j number way)) in
-    let first : IsFirstEnd (subject_of e) p (λ j. j ≤ e.end) q.1 (last_place (e.start_state, q.1) rest).1 = o.goes loops (subject_of e) e.end q.1 rest least in
-    let end : (last_place (e.start_state, q.1) rest).1 ≡ found.span.end =
-    ap (λ (z : ℕ × ℕ). (last_place z rest).1) (sym here) ∙ (ap (λ (z : ℕ × ℕ). z.1) (sym (last_is q rest)) ∙ sym makes.end) in
-    subst (λ (j : ℕ). IsFirstEnd (subject_of e) p (λ k. k ≤ e.end) found.span.start j) end
-    (subst (λ (i : ℕ). IsFirstEnd (subject_of e) p (λ k. k ≤ e.end) i (last_place (e.start_state, q.1) rest).1) (sym makes.start) first)
+    let first : IsFirstWay (subject_of e) whole (λ j. j ≤ e.end) (q.1, []) (mark_of (finish e.states (e.start_state, q.1) rest [])) =
+    o.goes loops (subject_of e) e.end (q.1, []) rest least in
+    let end : (finish e.states (e.start_state, q.1) rest []).0.1 ≡ found.span.end =
+    ap (λ (z : ℕ × ℕ). z.1) (finish_last e.states (e.start_state, q.1) rest [])
+    ∙ (ap (λ (z : ℕ × ℕ). (last_place z rest).1) (sym here) ∙ (ap (λ (z : ℕ × ℕ). z.1) (sym (last_is q rest)) ∙ sym makes.end)) in (
+      (finish e.states (e.start_state, q.1) rest []).1,
+      subst (λ (j : ℕ). IsFirstWay (subject_of e) whole (λ k. k ≤ e.end) (found.span.start, []) (j, (finish e.states (e.start_state, q.1) rest []).1)) end
+          (subst (λ (i : ℕ). IsFirstWay (subject_of e) whole (λ k. k ≤ e.end) (i, []) (mark_of (finish e.states (e.start_state, q.1) rest [])))
+          (sym makes.start) first),
+      λ slot. ap (λ (z : ℕ × ℕ). recorded e.states (z ∷ rest) slot) here
+          ∙ (sym (or_none (recorded e.states ((e.start_state, q.1) ∷ rest) slot)) ∙ recorded_all e.states (e.start_state, q.1) rest [] slot),
+    )
+  where
+    whole : Pattern
+    whole = as_whole lists found.pattern p
 
 pub PrefersFirstEnds-built : {W : Type 0} (chars : W → ℕ → Bool) (program : Compiled W) (patterns : List Pattern)
-    → OrdersSome program.automaton.states program.start 0 patterns → PrefersFirstEnds chars program patterns
+    → OrdersSome program.automaton.states (slot_number program.automaton.groups) program.start 0 patterns → PrefersFirstEnds chars program patterns
 PrefersFirstEnds-built chars program patterns all = record {
-  first = λ input run found p preferred makes its loops. first_end (search_in chars program input) patterns run found p all preferred makes its loops;
+  first = λ input run found p preferred makes its loops.
+      let g = first_way (search_in chars program input) program.automaton.groups patterns run found p all preferred makes its loops in
+      let end = way-end (subject_of (search_in chars program input)) (as_whole program.automaton.groups found.pattern p) (λ j. j ≤ input.span.end)
+      (found.span.start, []) (found.span.end, g.0) g.1 in
+      subst (λ (F : (ℕ → Type 0) → ℕ → ℕ → Type 0). F (λ j. j ≤ input.span.end) found.span.start found.span.end)
+      (numbered-end (subject_of (search_in chars program input)) (slot_number program.automaton.groups found.pattern) 1 p) end;
+}
+
+pub RecordsFirstWays-built : {W : Type 0} (chars : W → ℕ → Bool) (program : Compiled W) (patterns : List Pattern)
+    → OrdersSome program.automaton.states (slot_number program.automaton.groups) program.start 0 patterns → RecordsFirstWays chars program patterns
+RecordsFirstWays-built chars program patterns all = record {
+  first = λ input run found p preferred makes its loops.
+      first_way (search_in chars program input) program.automaton.groups patterns run found p all preferred makes its loops;
+}
+
+-- ---- any way
+
+a_way : (e : Search) (lists : GroupLists) (patterns : List Pattern) (run : List (ℕ × ℕ)) (found : Matched) (p : Pattern)
+    → OrdersSome e.states (slot_number lists) e.start_state 0 patterns
+    → IsMatchRun e (e.start_state, found.span.start) run → IsMatchOf e run found → slice_get patterns found.pattern ≡ Some p
+    → (records : List (ℕ × ℕ)) × GoesWith (subject_of e) (as_whole lists found.pattern p) (found.span.start, []) (found.span.end, records)
+    × ((slot : ℕ) → recorded e.states run slot ≡ last_in records slot)
+a_way e lists patterns [] found p all match makes its = let none = match.some in absurd (omega (arith, none))
+a_way e lists patterns (q ∷ rest) found p all match makes its =
+    let o = all found.pattern p (omega arith) its in
+    let from : ℕ × ℕ = (e.start_state, found.span.start) in
+    let here : q ≡ from = match.begins in
+    let way = o.through (subject_of e) e.end (found.span.start, []) rest (record {
+      within = subst (λ (z : ℕ × ℕ). z.1 ≤ e.end) here ((match.is_run.places 0 match.some).2);
+      steps = subst (λ (z : ℕ × ℕ). AreSteps e.states (subject_of e) e.end z rest) here (steps_of e q rest match.is_run);
+      accepts = subst (λ (z : ℕ × ℕ). slice_get e.states (last_place z rest).0 ≡ Some (Accept found.pattern)) here
+          (ap (λ (z : ℕ × ℕ). slice_get e.states z.0) (sym (last_is q rest)) ∙ makes.pattern);
+    }) in
+    let end : (finish e.states from rest []).0.1 ≡ found.span.end =
+    ap (λ (z : ℕ × ℕ). z.1) (finish_last e.states from rest [])
+    ∙ (ap (λ (z : ℕ × ℕ). (last_place z rest).1) (sym here) ∙ (ap (λ (z : ℕ × ℕ). z.1) (sym (last_is q rest)) ∙ sym makes.end)) in (
+      (finish e.states from rest []).1,
+      subst (λ (j : ℕ). GoesWith (subject_of e) (as_whole lists found.pattern p) (found.span.start, []) (j, (finish e.states from rest []).1)) end way,
+      λ slot. ap (λ (z : ℕ × ℕ). recorded e.states (z ∷ rest) slot) here
+          ∙ (sym (or_none (recorded e.states (from ∷ rest) slot)) ∙ recorded_all e.states from rest [] slot),
+    )
+
+pub RecordsWays-built : {W : Type 0} (chars : W → ℕ → Bool) (program : Compiled W) (patterns : List Pattern)
+    → OrdersSome program.automaton.states (slot_number program.automaton.groups) program.start 0 patterns → RecordsWays chars program patterns
+RecordsWays-built chars program patterns all = record {
+  way = λ input run found p match makes its. a_way (search_in chars program input) program.automaton.groups patterns run found p all match makes its;
 }

@@ -7,7 +7,7 @@ use Rattle.rsc_engine.specs.Patterns.{Pattern, Subject, Goes}
 use Rattle.rsc_engine.specs.EnclosesLayout.{Encloses}
 use Rattle.rsc_engine.specs.LinksLayout.{Aim, Ends, HasEnd}
 use Rattle.rsc_engine.specs.StepsLayout.{AreSteps, last_place}
-use Rattle.rsc_engine.specs.OrderLayout.{IsBefore}
+use Rattle.rsc_engine.specs.WaysLayout.{IsBefore}
 
 -- the states of a pattern: the accepting one, a record of where the match ends, a part, and a record of where the match begins
 pub record IsWhole (states : List State) (number low high accept after body first : ℕ) : Type 0 where

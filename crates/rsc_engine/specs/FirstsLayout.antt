@@ -1,20 +1,29 @@
 -- How many ways lead to a pattern's match at most, and which of them is the first.
-use Rattle.std.specs.Prelude.{◌≡◌, ℕ, ◌≤◌, true, List, slice_get, Some}
+use Rattle.std.specs.Prelude.{◌≡◌, ℕ, ◌*◌, ◌≤◌, true, List, slice_get, Some}
 use Rattle.rsc_nfa.specs.declared.state.State.{State}
-use Rattle.rsc_engine.specs.Patterns.{Pattern, Subject}
-use Rattle.rsc_engine.specs.FirstEnds.{loops_take_bytes, IsFirstEnd}
-use Rattle.rsc_engine.specs.StepsLayout.{last_place}
-use Rattle.rsc_engine.specs.OrderLayout.{IsLeast}
+use Rattle.rsc_engine.specs.Patterns.{Pattern, Group, Subject}
+use Rattle.rsc_engine.specs.FirstEnds.{loops_take_bytes}
+use Rattle.rsc_engine.specs.Ways.{Mark, GoesWith}
+use Rattle.rsc_engine.specs.FirstWays.{IsFirstWay}
+use Rattle.rsc_engine.specs.GroupNumbers.{numbered}
+use Rattle.rsc_engine.specs.WaysLayout.{IsWay, IsLeast, finish}
 use Rattle.rsc_engine.specs.LinksLayout.{Aim, Ends}
 
--- p is the pattern with the number m, and its loops take bytes: then `cost` bounds the steps from the state `first` to its match, and the first of them lead
--- to its first end
-pub record OrdersOne (states : List State) (first m : ℕ) (p : Pattern) : Type 0 where
+-- the position at which steps end, and what they record
+abbrev pub mark_of : (ℕ × ℕ) × List (ℕ × ℕ) → Mark
+mark_of last = (last.0.1, last.1)
+
+-- p is the pattern with the number m, and its groups have these slots: then steps from the state `first` to its match go by the pattern. If its loops take
+-- bytes, `cost` bounds such steps, and the first of them go its first way
+pub record OrdersOne (states : List State) (slot_of : ℕ → ℕ) (first m : ℕ) (p : Pattern) : Type 0 where
+  pub through : (x : Subject) (end : ℕ) (from : Mark) (rest : List (ℕ × ℕ)) → IsWay states x end m (first, from.0) rest →
+      GoesWith x (Group (2 * m) (numbered slot_of 1 p)) from (mark_of (finish states (first, from.0) rest from.1))
   pub cost : ℕ → ℕ
   pub few : loops_take_bytes p ≡ true → (a : Aim) (n i : ℕ) → a.pattern ≡ m → Ends states a n first i → n ≤ cost a.end
-  pub goes : loops_take_bytes p ≡ true → (x : Subject) (end i : ℕ) (rest : List (ℕ × ℕ)) → IsLeast states x end m (first, i) rest →
-      IsFirstEnd x p (λ j. j ≤ end) i (last_place (first, i) rest).1
+  pub goes : loops_take_bytes p ≡ true → (x : Subject) (end : ℕ) (from : Mark) (rest : List (ℕ × ℕ)) → IsLeast states x end m (first, from.0) rest →
+      IsFirstWay x (Group (2 * m) (numbered slot_of 1 p)) (λ j. j ≤ end) from (mark_of (finish states (first, from.0) rest from.1))
 
--- this holds for each of the patterns from a number on
-abbrev pub OrdersSome : List State → ℕ → ℕ → List Pattern → Type 0
-OrdersSome states first from patterns = (m : ℕ) (p : Pattern) → from ≤ m → slice_get patterns m ≡ Some p → OrdersOne states first m p
+-- this holds for each of the patterns from a number on; a group of a pattern has a slot
+abbrev pub OrdersSome : List State → (ℕ → ℕ → ℕ) → ℕ → ℕ → List Pattern → Type 0
+OrdersSome states slot_of first from patterns =
+    (m : ℕ) (p : Pattern) → from ≤ m → slice_get patterns m ≡ Some p → OrdersOne states (slot_of m) first m p

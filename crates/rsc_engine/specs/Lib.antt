@@ -2,9 +2,11 @@ pub mod BeginsLayout  -- at which state the matches of a pattern, or of several,
 pub mod EnclosesLayout  -- where the states of a part lead, and in which slots they record
 pub mod Ends  -- where matches end, and what a DFA answers
 pub mod FirstEnds  -- which end of a pattern is preferred
+pub mod FirstWays  -- which way of a pattern is preferred
 pub mod FirstsLayout  -- how many ways lead to a pattern's match at most, and which of them is the first
 pub mod FlagsLayout  -- how the code holds flags: 64 to a block
 pub mod GroupEnds  -- the group of the whole match: what runs record in its slots
+pub mod GroupNumbers  -- how the groups of a pattern are numbered, and which slots they have
 pub mod GroupOrder  -- where groups begin and end
 pub mod GroupsLayout  -- slots without a match
 pub mod LawfulLayout  -- the laws of steps and runs that the proof of `dfa` rests on, as one record: each is a law of a library below
@@ -13,7 +15,7 @@ pub mod MovesLayout  -- what a state does at a position
 pub mod NamesLayout  -- what the states of a part or of patterns name, and whether a range of theirs is reversed
 pub mod NeededLayout  -- two bytes that stand side by side in every match
 pub mod NextMatches  -- which match is next; `last` is where the last one ended, if there was one
-pub mod OrderLayout  -- in which order ways to a match are tried
+pub mod OrderLayout  -- by which ways of a pattern steps lead to a match, and by which the first do
 pub mod Parts  -- which pattern a part is, and which groups it has
 pub mod PatternOrder  -- which match of a program's patterns is preferred
 pub mod Patterns  -- what a pattern matches, and which programs match it
@@ -29,3 +31,5 @@ pub mod TrailsLayout  -- a trail: which places each of its visits stands for, an
 pub mod Trees  -- which pattern a tree is
 pub mod TurnsLayout  -- the flags of a loop's turns, and what turns do
 pub mod WalksLayout  -- what a backtracker has on hand
+pub mod Ways  -- the ways of a pattern, and what they record in the slots of groups
+pub mod WaysLayout  -- steps that lead to a match: their order, where they end, and what they record

@@ -8,6 +8,7 @@ use Rattle.rsc_engine.specs.EnclosesLayout.{Encloses}
 use Rattle.rsc_engine.specs.NamesLayout.{Names}
 use Rattle.rsc_engine.specs.Refusals.{has_reversed_range}
 use Rattle.rsc_engine.specs.FirstEnds.{loops_take_bytes}
+use Rattle.rsc_engine.specs.GroupNumbers.{count_groups, numbered}
 use Rattle.rsc_engine.specs.OrderLayout.{Orders}
 
 -- a match that is looked for: in a text up to an end, of a pattern, to a position
@@ -59,6 +60,17 @@ abbrev pub Builds : ℕ × ℕ → List State → List State → ℕ → ℕ →
 Builds slots old new first next p =
     Adds old new (λ states. Realizes states first next p × Encloses slots.0 (length old) (length new) first next states
     × Names slots.1 (has_reversed_range p) (length old) (length new) states × Orders states first next p)
+
+-- the same of a part whose groups are numbered up to `left` and from `now` on
+abbrev pub BuildsPart : (ℕ → ℕ) → ℕ × ℕ → ℕ → ℕ → List State → List State → ℕ → ℕ → Pattern → Type 0
+BuildsPart slot_of slots left now old new first next p =
+    (left ≡ now + count_groups p) × Builds slots old new first next (numbered slot_of now p)
+
+-- the same of what is made of copies of a part; only where there is one the groups from `now` on are known
+abbrev pub BuildsCopies : (ℕ → ℕ) → ℕ × ℕ → ℕ → ℕ → List State → List State → ℕ → ℕ → ℕ → (Pattern → Pattern) → Pattern → Type 0
+BuildsCopies slot_of slots left now old new first next count made_of p =
+    (0 < count → left ≡ now + count_groups p)
+    × ((n : ℕ) → left ≡ n + count_groups p → Builds slots old new first next (made_of (numbered slot_of n p)))
 
 -- one state was added, and this is its number
 pub record IsAdded (old new : List State) (state : State) (id : ℕ) : Type 0 where

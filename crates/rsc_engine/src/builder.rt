@@ -4,10 +4,10 @@ ghost use Rattle.rsc_captures.specs.Groups.{groups_in};
 ghost use Rattle.rsc_engine.specs.declared.error.Error.TheVariants.{OutOfMemory, EmptyClass};
 ghost use Rattle.rsc_engine.specs.Patterns as patterns;
 ghost use Rattle.rsc_engine.specs.FirstEnds.{loops_take_bytes};
-ghost use Rattle.rsc_engine.specs.Patterns.{Empty, Never, Class, Literal, Assertion, Then, Either, in_order, one_of, Recognizes};
+ghost use Rattle.rsc_engine.specs.Patterns.{Empty, Never, Class, Literal, Assertion, Then, Either, Group, in_order, one_of, Recognizes};
 ghost use Rattle.rsc_engine.specs.GroupEnds.{RecordsEnds};
 ghost use Rattle.rsc_engine.specs.GroupOrder.{ClosesGroups};
-ghost use Rattle.rsc_engine.specs.PatternOrder.{PrefersLesser, PrefersFirstEnds};
+ghost use Rattle.rsc_engine.specs.PatternOrder.{PrefersLesser, PrefersFirstEnds, RecordsWays, RecordsFirstWays};
 ghost use Rattle.rsc_engine.specs.Refusals.{FailsToBuild, RepeatsName, has_a_reversed_range};
 ghost use Rattle.rsc_engine.specs.Trees.{pattern_in};
 ghost use Rattle.rsc_engine.specs.Parts.{pattern_of, patterns_of, groups_of_part, groups_of_pattern, lists_of};
@@ -201,9 +201,10 @@ impl<'n> Builder<'n> {
     }
 
     /// The part as a group. The groups of a pattern are numbered from 1 in the order in which they open: a group comes before the groups within it, and
-    /// the groups of a part before those of the next part.
+    /// the groups of a part before those of the next part. A match gives a group the positions at which its part began and ended the last time that the match
+    /// went through it, and none if it went another way. A group in a part that is repeated is one group, with one pair of slots.
     pub fn group(&self, name: Option<&'n str>, part: Part<'n>) -> Result<Part<'n>, Error>
-        ensures part { IfOk result (λ group. pattern_of group ≡ pattern_of part.entry) }
+        ensures part { IfOk result (λ group. pattern_of group ≡ Group 0 (pattern_of part.entry)) }
         ensures groups { IfOk result (λ group. groups_of_part group ≡ groups_in (name.entry ∷ []) ++ groups_of_part part.entry) }
         ensures refused { IfErr result (λ e. e ≡ OutOfMemory) }
     {
@@ -238,6 +239,11 @@ impl<'n> Builder<'n> {
     /// The program of the finished patterns and of a last one. If haystacks are text, an iteration leaves out empty matches within
     /// characters. Group 0 of a pattern is the whole match, and of the patterns that match from a position the first is preferred.
     ///
+    /// A match goes on a way of its pattern: which alternative it takes, and how often it repeats a part. A slot holds the position that this way records
+    /// in it last. If no part that may be empty is repeated without a limit, it is the first way that gets to a match, with the earlier
+    /// alternative before the later, once more before enough if the repetition is greedy, and enough before once more if it's lazy. Else it is the first of
+    /// those that come to no state twice at one position.
+    ///
     /// # Errors
     ///
     /// `Names` if a pattern has a name twice; otherwise `Faulty` if a range's first byte is above its last, unless its part is repeated at most 0 times.
@@ -253,6 +259,8 @@ impl<'n> Builder<'n> {
         ensures ends { IfOk result (λ program. RecordsEnds W.word_chars program) }
         ensures prefers { IfOk result (λ program. PrefersLesser W.word_chars program) }
         ensures first_ends { IfOk result (λ program. PrefersFirstEnds W.word_chars program (patterns_of self.entry ++ pattern_of last.entry ∷ [])) }
+        ensures ways { IfOk result (λ program. RecordsWays W.word_chars program (patterns_of self.entry ++ pattern_of last.entry ∷ [])) }
+        ensures first_ways { IfOk result (λ program. RecordsFirstWays W.word_chars program (patterns_of self.entry ++ pattern_of last.entry ∷ [])) }
         ensures closes { IfOk result (λ program. ClosesGroups W.word_chars program) }
         ensures text { IfOk result (λ program. program.utf8 ≡ utf8) }
         ensures matcher { IfOk result (λ program. program.automaton.matcher ≡ (10, word_class)) }
@@ -280,6 +288,8 @@ impl<'n> Builder<'n> {
         ensures ends { IfOk result (λ program. RecordsEnds W.word_chars program) }
         ensures prefers { IfOk result (λ program. PrefersLesser W.word_chars program) }
         ensures first_ends { IfOk result (λ program. PrefersFirstEnds W.word_chars program (patterns_of self.entry ++ pattern_of last.entry ∷ [])) }
+        ensures ways { IfOk result (λ program. RecordsWays W.word_chars program (patterns_of self.entry ++ pattern_of last.entry ∷ [])) }
+        ensures first_ways { IfOk result (λ program. RecordsFirstWays W.word_chars program (patterns_of self.entry ++ pattern_of last.entry ∷ [])) }
         ensures closes { IfOk result (λ program. ClosesGroups W.word_chars program) }
         ensures text { IfOk result (λ program. program.utf8 ≡ utf8) }
         ensures matcher { IfOk result (λ program. program.automaton.matcher ≡ matcher) }

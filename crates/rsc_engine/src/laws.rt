@@ -1,22 +1,26 @@
 //! Laws of matches that a caller can cite: functions whose contracts are the laws.
-ghost use Rattle.std.specs.Prelude.{true, false, ◌↔◌, ◌≡◌, ◌+◌, ◌*◌, ◌<◌, ◌≤◌, ◌⊎◌, ℕ, List, length, Option, Some, None, slice_get, slice_index_or};
+ghost use Rattle.std.specs.Prelude.{true, false, ◌↔◌, ◌≡◌, ◌+◌, ◌*◌, ◌<◌, ◌≤◌, ◌⊎◌, ℕ, List, [], length, Option, Some, None, slice_get, slice_index_or};
 ghost use Rattle.std.specs.List.{list_any};
-ghost use Rattle.rsc_captures.specs.Groups.{group_count};
+ghost use Rattle.rsc_captures.specs.Groups.{group_count, slot_number};
 ghost use Rattle.rsc_captures.specs.Captured.{Captured, group_span};
 ghost use Rattle.rsc_search.specs.Inputs.{InputParts};
 ghost use Rattle.rsc_search.specs.Matches.{Matched};
 ghost use Rattle.rsc_search.specs.declared.span.Span.{Span};
 ghost use Rattle.rsc_search.specs.declared.anchored.Anchored.TheVariants.{No};
 ghost use Rattle.rsc_engine.specs.Searches.{Search, Compiled, search_in};
-ghost use Rattle.rsc_engine.specs.Patterns.{Pattern, Subject, Goes, may_be_empty, subject_of, IsMatchIn, Recognizes};
-ghost use Rattle.rsc_engine.specs.Preferred.{IsPreferred, IsLeftmostFirst, IsFirstMatch, MayBegin, HasNone};
+ghost use Rattle.rsc_engine.specs.Patterns.{Pattern, Group, Subject, Goes, may_be_empty, subject_of, IsMatchIn, Recognizes};
+ghost use Rattle.rsc_engine.specs.Runs.{IsMatchRun};
+ghost use Rattle.rsc_engine.specs.Preferred.{IsOnce, IsOnceAtForks, IsPreferred, IsLeftmostFirst, IsFirstMatch, MayBegin, HasNone};
 ghost use Rattle.rsc_engine.specs.NextMatches.{IsNext, IsOver, IsNextMatch, IsOpen, IsRepeated, IsSplitAt, Left, AreAll};
 ghost use Rattle.rsc_engine.specs.Ends.{IsEarliestEnd, IsLeftmostEnd};
 ghost use Rattle.rsc_engine.specs.GroupEnds.{RecordsEnds};
 ghost use Rattle.rsc_engine.specs.GroupOrder.{ClosesGroups};
 ghost use Rattle.rsc_engine.specs.declared.dfa.Answer.{Answer};
-ghost use Rattle.rsc_engine.specs.PatternOrder.{PrefersLesser, PrefersFirstEnds};
+ghost use Rattle.rsc_engine.specs.PatternOrder.{PrefersLesser, PrefersFirstEnds, RecordsWays, RecordsFirstWays};
 ghost use Rattle.rsc_engine.specs.FirstEnds.{loops_take_bytes, IsFirstEnd};
+ghost use Rattle.rsc_engine.specs.Ways.{Mark, last_in, GoesWith};
+ghost use Rattle.rsc_engine.specs.FirstWays.{IsFirstWay};
+ghost use Rattle.rsc_engine.specs.GroupNumbers.{IsGroupOf, as_whole};
 
 use crate::Answer;
 use rsc_look::WordClass;
@@ -27,6 +31,11 @@ pub fn there_is_one_first_match()
     ensures preferred { (e : Search) (from : ℕ × ℕ) (one other : List (ℕ × ℕ)) → IsPreferred e from one → IsPreferred e from other → one ≡ other }
     ensures first { (e : Search) (one other : List (ℕ × ℕ)) → IsLeftmostFirst e one → IsLeftmostFirst e other → one ≡ other }
     ensures none { (e : Search) (run : List (ℕ × ℕ)) → HasNone e → ¬ (IsLeftmostFirst e run) }
+{}
+
+/// A run to a match comes to no place twice exactly if it makes no choice twice at one position.
+pub fn only_choices_are_made_once()
+    ensures { (e : Search) (from : ℕ × ℕ) (run : List (ℕ × ℕ)) → IsMatchRun e from run → IsOnce run ↔ IsOnceAtForks e.states run }
 {}
 
 /// There is at most one next match, and none if the iteration is over.
@@ -189,6 +198,67 @@ pub fn the_first_group_is_the_match<W: WordClass>()
     ensures next_group { (program : Compiled W) (input : InputParts) (last : Option ℕ) (captures : Captured) (found : Matched) →
         RecordsEnds W.word_chars program → IsNextMatch (search_in W.word_chars program input) last captures found →
         2 * found.pattern + 1 < length captures.offsets → 0 < group_count captures.groups found.pattern → group_span captures 0 ≡ Some found.span }
+{}
+
+/// What a match leaves in slots: what a way of its pattern from the match's start to its end records there last. If each part that is repeated without a
+/// limit takes a byte, it's the first such way in the order in which ways are tried, and there is only one.
+pub fn captures_are_of_the_first_way<W: WordClass>()
+    ensures first { (program : Compiled W) (patterns : List Pattern) (input : InputParts) (captures : Captured) (found : Matched)
+        (p : Pattern) → RecordsFirstWays W.word_chars program patterns → IsFirstMatch (search_in W.word_chars program input) captures found →
+        slice_get patterns found.pattern ≡ Some p → loops_take_bytes p ≡ true →
+        (records : List (ℕ × ℕ)) × IsFirstWay (subject_of (search_in W.word_chars program input)) (as_whole program.automaton.groups found.pattern p)
+        (λ j. j ≤ input.span.end) (found.span.start, []) (found.span.end, records)
+        × ((slot : ℕ) → slot < length captures.offsets → slice_index_or captures.offsets slot None ≡ last_in records slot) }
+    ensures next { (program : Compiled W) (patterns : List Pattern) (input : InputParts) (last : Option ℕ) (captures : Captured) (found : Matched)
+        (p : Pattern) → RecordsFirstWays W.word_chars program patterns → IsNextMatch (search_in W.word_chars program input) last captures found →
+        slice_get patterns found.pattern ≡ Some p → loops_take_bytes p ≡ true →
+        (records : List (ℕ × ℕ)) × IsFirstWay (subject_of (search_in W.word_chars program input)) (as_whole program.automaton.groups found.pattern p)
+        (λ j. j ≤ input.span.end) (found.span.start, []) (found.span.end, records)
+        × ((slot : ℕ) → slot < length captures.offsets → slice_index_or captures.offsets slot None ≡ last_in records slot) }
+    ensures first_of_any { (program : Compiled W) (patterns : List Pattern) (input : InputParts) (captures : Captured) (found : Matched)
+        (p : Pattern) → RecordsWays W.word_chars program patterns → IsFirstMatch (search_in W.word_chars program input) captures found →
+        slice_get patterns found.pattern ≡ Some p →
+        (records : List (ℕ × ℕ)) × GoesWith (subject_of (search_in W.word_chars program input)) (as_whole program.automaton.groups found.pattern p)
+        (found.span.start, []) (found.span.end, records)
+        × ((slot : ℕ) → slot < length captures.offsets → slice_index_or captures.offsets slot None ≡ last_in records slot) }
+    ensures next_of_any { (program : Compiled W) (patterns : List Pattern) (input : InputParts) (last : Option ℕ) (captures : Captured) (found : Matched)
+        (p : Pattern) → RecordsWays W.word_chars program patterns → IsNextMatch (search_in W.word_chars program input) last captures found →
+        slice_get patterns found.pattern ≡ Some p →
+        (records : List (ℕ × ℕ)) × GoesWith (subject_of (search_in W.word_chars program input)) (as_whole program.automaton.groups found.pattern p)
+        (found.span.start, []) (found.span.end, records)
+        × ((slot : ℕ) → slot < length captures.offsets → slice_index_or captures.offsets slot None ≡ last_in records slot) }
+    ensures one { (x : Subject) (p : Pattern) (end : ℕ) (m n k : Mark) → IsFirstWay x p (λ l. l ≤ end) m n → IsFirstWay x p (λ l. l ≤ end) m k → n ≡ k }
+{}
+
+/// If a match sets the first slot of a group, it sets the second too, and the group's part goes from the one position to the other. Group 0 is the whole
+/// pattern.
+pub fn a_group_is_where_its_part_goes<W: WordClass>()
+    ensures first { (program : Compiled W) (patterns : List Pattern) (input : InputParts) (captures : Captured) (found : Matched)
+        (p part : Pattern) (group i : ℕ) → RecordsWays W.word_chars program patterns → IsFirstMatch (search_in W.word_chars program input) captures found →
+        slice_get patterns found.pattern ≡ Some p → found.pattern < length program.automaton.groups → IsGroupOf group part (Group 0 p) →
+        slot_number program.automaton.groups found.pattern group + 1 < length captures.offsets →
+        slice_index_or captures.offsets (slot_number program.automaton.groups found.pattern group) None ≡ Some i →
+        (j : ℕ) × (slice_index_or captures.offsets (slot_number program.automaton.groups found.pattern group + 1) None ≡ Some j)
+        × Goes (subject_of (search_in W.word_chars program input)) part i j }
+    ensures next { (program : Compiled W) (patterns : List Pattern) (input : InputParts) (last : Option ℕ) (captures : Captured) (found : Matched)
+        (p part : Pattern) (group i : ℕ) → RecordsWays W.word_chars program patterns → IsNextMatch (search_in W.word_chars program input) last captures found →
+        slice_get patterns found.pattern ≡ Some p → found.pattern < length program.automaton.groups → IsGroupOf group part (Group 0 p) →
+        slot_number program.automaton.groups found.pattern group + 1 < length captures.offsets →
+        slice_index_or captures.offsets (slot_number program.automaton.groups found.pattern group) None ≡ Some i →
+        (j : ℕ) × (slice_index_or captures.offsets (slot_number program.automaton.groups found.pattern group + 1) None ≡ Some j)
+        × Goes (subject_of (search_in W.word_chars program input)) part i j }
+    ensures first_span { (program : Compiled W) (patterns : List Pattern) (input : InputParts) (captures : Captured) (found : Matched)
+        (p part : Pattern) (group : ℕ) (span : Span) → RecordsWays W.word_chars program patterns →
+        IsFirstMatch (search_in W.word_chars program input) captures found →
+        slice_get patterns found.pattern ≡ Some p → captures.groups ≡ program.automaton.groups →
+        group < group_count program.automaton.groups found.pattern → IsGroupOf group part (Group 0 p) → group_span captures group ≡ Some span →
+        Goes (subject_of (search_in W.word_chars program input)) part span.start span.end }
+    ensures next_span { (program : Compiled W) (patterns : List Pattern) (input : InputParts) (last : Option ℕ) (captures : Captured) (found : Matched)
+        (p part : Pattern) (group : ℕ) (span : Span) → RecordsWays W.word_chars program patterns →
+        IsNextMatch (search_in W.word_chars program input) last captures found →
+        slice_get patterns found.pattern ≡ Some p → captures.groups ≡ program.automaton.groups →
+        group < group_count program.automaton.groups found.pattern → IsGroupOf group part (Group 0 p) → group_span captures group ≡ Some span →
+        Goes (subject_of (search_in W.word_chars program input)) part span.start span.end }
 {}
 
 /// If a match sets the first slot of a group, it sets the second too, to that position or a later one; so a group's span is in order, and within the

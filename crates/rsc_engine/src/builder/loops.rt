@@ -1,11 +1,12 @@
 //! The states of repetitions.
-ghost use Rattle.std.specs.Prelude.{◌≡◌, None, IfOk, IfErr, MatchResult};
+ghost use Rattle.std.specs.Prelude.{◌≡◌, None, Some, IfOk, IfErr, MatchResult};
 ghost use Rattle.rsc_engine.specs.Patterns.{Repeat};
 ghost use Rattle.rsc_engine.specs.Trees.{pattern_in};
-ghost use Rattle.rsc_engine.specs.LinksLayout.{Builds, choice_of, copies, up_to};
+ghost use Rattle.rsc_captures.specs.Groups.{slot_number};
+ghost use Rattle.rsc_engine.specs.LinksLayout.{BuildsPart, BuildsCopies, choice_of, copies, up_to};
 ghost use Rattle.rsc_engine.specs.Refusals.{RunsOut};
 
-use super::compile::{Compiler, Slots};
+use super::compile::{Compiler, Slots, States};
 use super::tree::{Times, Tree};
 use crate::Error;
 use rsc_nfa::State;
@@ -16,63 +17,109 @@ impl Compiler {
     #[cycle(part)]
     pub fn repeat(
         &mut self,
-        slots: &Slots,
+        slots: &Slots<'_>,
         times: Times,
         sub: &Tree,
         next: StateID,
     ) -> Result<StateID, Error>
-        ensures { MatchResult result (λ first. Builds (slots.now.end, slots.now.limit) self.old.states.items self.new.states.items first next
+        ensures { MatchResult result (λ first. BuildsPart (slot_number slots.now.info.now slots.now.pattern) (slots.now.end, slots.now.limit)
+            self.old.left self.new.left self.old.list.states.items self.new.list.states.items first next
             (Repeat times.min times.max times.is_greedy (pattern_in sub.now))) RunsOut }
     {
-        let left = self.left;
-        let first = self.times(slots, times, sub, next)?;
-        // The part may have been left out.
-        self.left = left.saturating_sub(times.groups);
-        Ok(first)
+        match times.max {
+            None => self.unlimited(slots, times, sub, next),
+            Some(max) => self.limited(slots, times, max, sub, next),
+        }
     }
 
-    // The part as often as it must be there, and then again as often as it may.
+    // The part as often as it must be there, and then again any number of times.
     #[cycle(part)]
-    fn times(
+    fn unlimited(
         &mut self,
-        slots: &Slots,
+        slots: &Slots<'_>,
         times: Times,
         sub: &Tree,
         next: StateID,
     ) -> Result<StateID, Error>
-        ensures { MatchResult result (λ first. Builds (slots.now.end, slots.now.limit) self.old.states.items self.new.states.items first next
-            (Repeat times.min times.max times.is_greedy (pattern_in sub.now))) RunsOut }
+        ensures { MatchResult result (λ first. BuildsPart (slot_number slots.now.info.now slots.now.pattern) (slots.now.end, slots.now.limit)
+            self.old.left self.new.left self.old.list.states.items self.new.list.states.items first next
+            (Repeat times.min None times.is_greedy (pattern_in sub.now))) RunsOut }
     {
-        let left = self.left;
-        match times.max {
-            None => {
-                if times.min == 0 {
-                    return self.star(slots, times, sub, next);
-                }
-                let (last, _) = self.again(slots, times.is_greedy, sub, next)?;
-                self.left = left;
-                self.copies(slots, times.min - 1, sub, last)
-            }
-            Some(max) => {
-                let more = max.saturating_sub(times.min);
-                let rest = self.up_to(slots, more, times.is_greedy, sub, next)?;
-                self.left = left;
-                self.copies(slots, times.min, sub, rest)
-            }
+        if times.min == 0 {
+            return self.star(slots, times, sub, next);
         }
+        let left = self.left;
+        let (last, _) = self.again(slots, times.is_greedy, sub, next)?;
+        if times.min == 1 {
+            return Ok(last);
+        }
+        self.left = left;
+        self.copies(slots, times.min - 1, sub, last)
+    }
+
+    // The part as often as it must be there, and then as often as it may.
+    #[cycle(part)]
+    fn limited(
+        &mut self,
+        slots: &Slots<'_>,
+        times: Times,
+        max: usize,
+        sub: &Tree,
+        next: StateID,
+    ) -> Result<StateID, Error>
+        ensures { MatchResult result (λ first. BuildsPart (slot_number slots.now.info.now slots.now.pattern) (slots.now.end, slots.now.limit)
+            self.old.left self.new.left self.old.list.states.items self.new.list.states.items first next
+            (Repeat times.min (Some max) times.is_greedy (pattern_in sub.now))) RunsOut }
+    {
+        let more = max.saturating_sub(times.min);
+        if times.min == 0 {
+            if more == 0 {
+                return self.no_times(slots, times, sub, next);
+            }
+            return self.up_to(slots, more, times.is_greedy, sub, next);
+        }
+        let left = self.left;
+        let rest = self.up_to(slots, more, times.is_greedy, sub, next)?;
+        self.left = left;
+        self.copies(slots, times.min, sub, rest)
+    }
+
+    // The part no times. Its states are made apart, since they say how many groups it has.
+    #[cycle(part)]
+    fn no_times(
+        &mut self,
+        slots: &Slots<'_>,
+        times: Times,
+        sub: &Tree,
+        next: StateID,
+    ) -> Result<StateID, Error>
+        ensures { MatchResult result (λ first. BuildsPart (slot_number slots.now.info.now slots.now.pattern) (slots.now.end, slots.now.limit)
+            self.old.left self.new.left self.old.list.states.items self.new.list.states.items first next
+            (Repeat 0 (Some 0) times.is_greedy (pattern_in sub.now))) RunsOut }
+    {
+        let mut apart = Compiler {
+            list: States {
+                states: Vec::new(self.alloc),
+            },
+            left: self.left,
+            alloc: self.alloc,
+        };
+        apart.part(slots, sub, next)?;
+        self.left = apart.left;
+        Ok(next)
     }
 
     // The part a number of times.
     #[cycle(part)]
     fn copies(
         &mut self,
-        slots: &Slots,
+        slots: &Slots<'_>,
         count: usize,
         sub: &Tree,
         next: StateID,
     ) -> Result<StateID, Error>
-        ensures { MatchResult result (λ first. Builds (slots.now.end, slots.now.limit) self.old.states.items self.new.states.items first next
-            (copies count (pattern_in sub.now))) RunsOut }
+        ensures { MatchResult result (λ first. BuildsCopies (slot_number slots.now.info.now slots.now.pattern) (slots.now.end, slots.now.limit)
+            self.old.left self.new.left self.old.list.states.items self.new.list.states.items first next count (copies count) (pattern_in sub.now)) RunsOut }
     {
         let left = self.left;
         let mut first = next;
@@ -88,21 +135,22 @@ impl Compiler {
     #[cycle(part)]
     fn up_to(
         &mut self,
-        slots: &Slots,
+        slots: &Slots<'_>,
         count: usize,
         is_greedy: bool,
         sub: &Tree,
         next: StateID,
     ) -> Result<StateID, Error>
-        ensures { MatchResult result (λ first. Builds (slots.now.end, slots.now.limit) self.old.states.items self.new.states.items first next
-            (up_to is_greedy count (pattern_in sub.now))) RunsOut }
+        ensures { MatchResult result (λ first. BuildsCopies (slot_number slots.now.info.now slots.now.pattern) (slots.now.end, slots.now.limit)
+            self.old.left self.new.left self.old.list.states.items self.new.list.states.items first next count (up_to is_greedy count)
+            (pattern_in sub.now)) RunsOut }
     {
         let left = self.left;
         let mut first = next;
         for done in 0..count {
             self.left = left;
             let one = self.part(slots, sub, first)?;
-            first = self.add(choice(is_greedy, one, next))?;
+            first = self.list.add(choice(is_greedy, one, next))?;
         }
         Ok(first)
     }
@@ -111,17 +159,18 @@ impl Compiler {
     #[cycle(part)]
     fn star(
         &mut self,
-        slots: &Slots,
+        slots: &Slots<'_>,
         times: Times,
         sub: &Tree,
         next: StateID,
     ) -> Result<StateID, Error>
-        ensures { MatchResult result (λ first. Builds (slots.now.end, slots.now.limit) self.old.states.items self.new.states.items first next
+        ensures { MatchResult result (λ first. BuildsPart (slot_number slots.now.info.now slots.now.pattern) (slots.now.end, slots.now.limit)
+            self.old.left self.new.left self.old.list.states.items self.new.list.states.items first next
             (Repeat 0 None times.is_greedy (pattern_in sub.now))) RunsOut }
     {
         let (first, again) = self.again(slots, times.is_greedy, sub, next)?;
         if times.may_be_empty {
-            return self.add(choice(times.is_greedy, first, next));
+            return self.list.add(choice(times.is_greedy, first, next));
         }
         Ok(again)
     }
@@ -130,21 +179,21 @@ impl Compiler {
     #[cycle(part)]
     fn again(
         &mut self,
-        slots: &Slots,
+        slots: &Slots<'_>,
         is_greedy: bool,
         sub: &Tree,
         next: StateID,
     ) -> Result<(StateID, StateID), Error>
-        ensures first { IfOk result (λ made. Builds (slots.now.end, slots.now.limit) self.old.states.items self.new.states.items made.0 next
-            (Repeat 1 None is_greedy (pattern_in sub.now))) }
-        ensures again { IfOk result (λ made. Builds (slots.now.end, slots.now.limit) self.old.states.items self.new.states.items made.1 next
-            (Repeat 0 None is_greedy (pattern_in sub.now))) }
+        ensures first { IfOk result (λ made. BuildsPart (slot_number slots.now.info.now slots.now.pattern) (slots.now.end, slots.now.limit)
+            self.old.left self.new.left self.old.list.states.items self.new.list.states.items made.0 next (Repeat 1 None is_greedy (pattern_in sub.now))) }
+        ensures again { IfOk result (λ made. BuildsPart (slot_number slots.now.info.now slots.now.pattern) (slots.now.end, slots.now.limit)
+            self.old.left self.new.left self.old.list.states.items self.new.list.states.items made.1 next (Repeat 0 None is_greedy (pattern_in sub.now))) }
         ensures refused { IfErr result RunsOut }
     {
         // What it leads to isn't known yet.
-        let again = self.fork(next, next)?;
+        let again = self.list.fork(next, next)?;
         let first = self.part(slots, sub, again)?;
-        self.states[again.as_usize()] = choice(is_greedy, first, next);
+        self.list.states[again.as_usize()] = choice(is_greedy, first, next);
         Ok((first, again))
     }
 }

@@ -103,7 +103,6 @@ impl<'n> Builder<'n> {
             max,
             is_greedy,
             may_be_empty: part.may_be_empty,
-            groups: part.names.len(),
         };
         // By `|` and `&`, which make no branches, so the proof has no case for each.
         let may_be_empty = (min == 0) | part.may_be_empty;

@@ -32,7 +32,7 @@ pub enum Tree {
 }
 
 /// How a part is repeated, and what its states need to know of it. `may_be_empty` decides which match is preferred by a loop over a part that may take no
-/// byte, and `groups` which slots groups have; no clause says so, but tests of `build` and `loops` do.
+/// byte; no clause says so, but tests of `build` and `loops` do.
 #[derive(Clone, Copy)]
 pub struct Times {
     /// At least this often.
@@ -43,6 +43,4 @@ pub struct Times {
     pub is_greedy: bool,
     /// The part may match no byte: a loop over it is entered by a choice of its own.
     pub may_be_empty: bool,
-    /// How many groups the part has.
-    pub groups: usize,
 }

@@ -1,0 +1,334 @@
+-- What the slots of a group hold after a way of a pattern: where its part was last gone through.
+use Rattle.std.proofs.Common.{◌≡◌, ℕ, zero, suc, ◌+◌, ◌-◌, ◌*◌, ◌<◌, ◌≤◌, ◌⊎◌, inl, inr, ⊎_elim, nat_eq, cond, Bool, true, false, List, [], ◌∷◌, length, slice_index_or, option_and_then, refl, sym, ap, ◌∙◌, subst, arith, Option, Some, None}
+use Rattle.std.specs.Option.{option_map}
+use Rattle.std.proofs.lemmas.Bool.{ne_eqb, eq-eqb, lt-ltb, cases_lt}
+use Rattle.std.proofs.lemmas.Bool.Decides.{nat_tests}
+use Rattle.std.proofs.lemmas.List.{get_or_past}
+use Rattle.std.proofs.lemmas.Option.{same_Some}
+use Rattle.rsc_captures.specs.Groups.{GroupLists, group_count, slot_number, slot_of, explicit_before}
+use Rattle.rsc_captures.specs.Captured.{Captured, span_at, first_slot, group_span}
+use Rattle.rsc_search.specs.declared.span.Span.{Span}
+use Rattle.rsc_engine.proofs.RefusalsLemmas.{pattern_there}
+use Rattle.rsc_engine.specs.Patterns.{Pattern, Empty, Never, Class, Literal, Assertion, Then, Either, Repeat, Group, Subject, Times, Goes}
+use Rattle.rsc_engine.specs.Ways.{Mark, last_in, with_record, TimesWith, GoesWith}
+use Rattle.rsc_engine.specs.GroupNumbers.{count_groups, numbered, as_whole, IsGroupOf}
+use Rattle.rsc_engine.proofs.GroupNumbersLemmas.{numbered-goes}
+
+-- ---- a way goes where the pattern goes
+
+times-goes : (R : Mark → Mark → Type 0) (S : ℕ → ℕ → Type 0) → ((m n : Mark) → R m n → S m.0 n.0) → (t : ℕ) (m n : Mark) → TimesWith R t m n
+    → Times S t m.0 n.0
+times-goes R S goes zero m n g = ap (λ (k : Mark). k.0) g
+times-goes R S goes (suc t) m n g = (g.0.0, goes m g.0 g.1, times-goes R S goes t g.0 n g.2)
+
+with-goes : (x : Subject) (p : Pattern) (m n : Mark) → GoesWith x p m n → Goes x p m.0 n.0
+with-goes x Empty m n g = ap (λ (k : Mark). k.0) g
+with-goes x Never m n g = absurd g
+with-goes x (Class ranges) m n g = g.0
+with-goes x (Literal bytes) m n g = g.0
+with-goes x (Assertion look) m n g = g.0
+with-goes x (Then a b) m n g = (g.0.0, with-goes x a m g.0 g.1, with-goes x b g.0 n g.2)
+with-goes x (Either a b) m n g = ⊎_elim
+    (λ (h : GoesWith x a m n). inl (with-goes x a m n h))
+    (λ (h : GoesWith x b m n). inr (with-goes x b m n h))
+    g
+with-goes x (Repeat min max often a) m n g = (g.0, g.1, g.2, times-goes (GoesWith x a) (Goes x a) (with-goes x a) g.0 m n g.3)
+with-goes x (Group slot a) m n g = subst (λ (k : Mark). Goes x a m.0 k.0) (sym g.2) (with-goes x a (with_record slot m) g.0 g.1)
+
+-- ---- a record in a slot
+
+same_slot : (s i : ℕ) (r : List (ℕ × ℕ)) → last_in ((s, i) ∷ r) s ≡ Some i
+same_slot s i r = ap (λ (b : Bool). cond b (Some i) (last_in r s)) (eq-eqb s s refl)
+
+other_slot : (slot s i : ℕ) (r : List (ℕ × ℕ)) → (slot ≡ s → ⊥) → last_in ((slot, i) ∷ r) s ≡ last_in r s
+other_slot slot s i r apart = ap (λ (b : Bool). cond b (Some i) (last_in r s)) (ne_eqb slot s apart)
+
+-- the slots of two groups are apart
+abbrev pub AreApart : (ℕ → ℕ) → Type 0
+AreApart f = (g h : ℕ) → (g ≡ h → ⊥) → ((f g ≡ f h) → ⊥) × ((f g ≡ f h + 1) → ⊥)
+
+-- both slots of group h hold what they held
+abbrev Keeps : (ℕ → ℕ) → ℕ → Mark → Mark → Type 0
+Keeps f h m n = (last_in n.1 (f h) ≡ last_in m.1 (f h)) × (last_in n.1 (f h + 1) ≡ last_in m.1 (f h + 1))
+
+keeps-same : (f : ℕ → ℕ) (h : ℕ) (m n : Mark) → m.1 ≡ n.1 → Keeps f h m n
+keeps-same f h m n e = (ap (λ (r : List (ℕ × ℕ)). last_in r (f h)) (sym e), ap (λ (r : List (ℕ × ℕ)). last_in r (f h + 1)) (sym e))
+
+keeps-then : (f : ℕ → ℕ) (h : ℕ) (m k n : Mark) → Keeps f h m k → Keeps f h k n → Keeps f h m n
+keeps-then f h m k n a b = (b.0 ∙ a.0, b.1 ∙ a.1)
+
+keeps-start : (f : ℕ → ℕ) → AreApart f → (g h : ℕ) → (g ≡ h → ⊥) → (m : Mark) → Keeps f h m (with_record (f g) m)
+keeps-start f apart g h other m = (
+  other_slot (f g) (f h) m.0 m.1 ((apart g h other).0),
+  other_slot (f g) (f h + 1) m.0 m.1 ((apart g h other).1),
+)
+
+keeps-end : (f : ℕ → ℕ) → AreApart f → (g h : ℕ) → (g ≡ h → ⊥) → (m : Mark) → Keeps f h m (with_record (f g + 1) m)
+keeps-end f apart g h other m = (
+  other_slot (f g + 1) (f h) m.0 m.1 (λ e. (apart h g (λ s. other (sym s))).1 (sym e)),
+  other_slot (f g + 1) (f h + 1) m.0 m.1 (λ e. (apart g h other).0 (omega (arith, e))),
+)
+
+-- ---- groups of other numbers
+
+keeps-times : (f : ℕ → ℕ) (h : ℕ) (R : Mark → Mark → Type 0) → ((m n : Mark) → R m n → Keeps f h m n) → (t : ℕ) (m n : Mark) → TimesWith R t m n
+    → Keeps f h m n
+keeps-times f h R keeps zero m n g = keeps-same f h m n (ap (λ (k : Mark). k.1) g)
+keeps-times f h R keeps (suc t) m n g = keeps-then f h m g.0 n (keeps m g.0 g.1) (keeps-times f h R keeps t g.0 n g.2)
+
+-- the number isn't one of the pattern's groups
+abbrev IsOutside : ℕ → ℕ → ℕ → Type 0
+IsOutside n count h = (h < n) ⊎ (n + count ≤ h)
+
+keeps-others : (f : ℕ → ℕ) → AreApart f → (x : Subject) (p : Pattern) (n h : ℕ) → IsOutside n (count_groups p) h → (m k : Mark)
+    → GoesWith x (numbered f n p) m k → Keeps f h m k
+keeps-others f apart x Empty n h out m k g = keeps-same f h m k (ap (λ (z : Mark). z.1) g)
+keeps-others f apart x Never n h out m k g = absurd g
+keeps-others f apart x (Class ranges) n h out m k g = keeps-same f h m k g.1
+keeps-others f apart x (Literal bytes) n h out m k g = keeps-same f h m k g.1
+keeps-others f apart x (Assertion look) n h out m k g = keeps-same f h m k g.1
+keeps-others f apart x (Then a b) n h out m k g =
+    keeps-then f h m g.0 k
+    (keeps-others f apart x a n h (⊎_elim (λ (l : h < n). inl l) (λ (l : n + (count_groups a + count_groups b) ≤ h). inr (omega (arith, l))) out) m g.0 g.1)
+    (keeps-others f apart x b (n + count_groups a) h
+    (⊎_elim (λ (l : h < n). inl (omega (arith, l))) (λ (l : n + (count_groups a + count_groups b) ≤ h). inr (omega (arith, l))) out) g.0 k g.2)
+keeps-others f apart x (Either a b) n h out m k g = ⊎_elim
+    (λ (w : GoesWith x (numbered f n a) m k).
+    keeps-others f apart x a n h (⊎_elim (λ (l : h < n). inl l) (λ (l : n + (count_groups a + count_groups b) ≤ h). inr (omega (arith, l))) out) m k w)
+    (λ (w : GoesWith x (numbered f (n + count_groups a) b) m k).
+    keeps-others f apart x b (n + count_groups a) h
+    (⊎_elim (λ (l : h < n). inl (omega (arith, l))) (λ (l : n + (count_groups a + count_groups b) ≤ h). inr (omega (arith, l))) out) m k w)
+    g
+keeps-others f apart x (Repeat min max often a) n h out m k g =
+    keeps-times f h (GoesWith x (numbered f n a)) (keeps-others f apart x a n h out) g.0 m k g.3
+keeps-others f apart x (Group slot a) n h out m k g =
+    subst (λ (z : Mark). Keeps f h m z) (sym g.2)
+    (keeps-then f h m g.0 (with_record (f n + 1) g.0)
+    (keeps-then f h m (with_record (f n) m) g.0 (keeps-start f apart n h other m) (keeps-others f apart x a (n + 1) h inner (with_record (f n) m) g.0 g.1))
+    (keeps-end f apart n h other g.0))
+  where
+    other : n ≡ h → ⊥
+    other e = ⊎_elim (λ (l : h < n). absurd (omega (arith, e, l))) (λ (l : n + (1 + count_groups a) ≤ h). absurd (omega (arith, e, l))) out
+
+    inner : IsOutside (n + 1) (count_groups a) h
+    inner = ⊎_elim (λ (l : h < n). inl (omega (arith, l))) (λ (l : n + (1 + count_groups a) ≤ h). inr (omega (arith, l))) out
+
+-- ---- a group of the pattern
+
+-- the slots of group h hold positions between which the part goes
+abbrev IsSetBy : Subject → (ℕ → ℕ) → ℕ → Pattern → Mark → Type 0
+IsSetBy x f h a n = (i : ℕ) × (j : ℕ) × (last_in n.1 (f h) ≡ Some i) × (last_in n.1 (f h + 1) ≡ Some j) × Goes x a i j
+
+set-kept : (x : Subject) (f : ℕ → ℕ) (h : ℕ) (a : Pattern) (m n : Mark) → IsSetBy x f h a m → Keeps f h m n → IsSetBy x f h a n
+set-kept x f h a m n s k = (s.0, s.1, k.0 ∙ s.2, k.1 ∙ s.3, s.4)
+
+abbrev MaySet : Subject → (ℕ → ℕ) → ℕ → Pattern → Mark → Mark → Type 0
+MaySet x f h a m n = Keeps f h m n ⊎ IsSetBy x f h a n
+
+may-before : (x : Subject) (f : ℕ → ℕ) (h : ℕ) (a : Pattern) (m k n : Mark) → Keeps f h m k → MaySet x f h a k n → MaySet x f h a m n
+may-before x f h a m k n keeps s = ⊎_elim
+    (λ (c : Keeps f h k n). inl (keeps-then f h m k n keeps c))
+    (λ (c : IsSetBy x f h a n). inr c)
+    s
+
+may-after : (x : Subject) (f : ℕ → ℕ) (h : ℕ) (a : Pattern) (m k n : Mark) → MaySet x f h a m k → Keeps f h k n → MaySet x f h a m n
+may-after x f h a m k n s keeps = ⊎_elim
+    (λ (c : Keeps f h m k). inl (keeps-then f h m k n c keeps))
+    (λ (c : IsSetBy x f h a k). inr (set-kept x f h a k n c keeps))
+    s
+
+may-times : (x : Subject) (f : ℕ → ℕ) (h : ℕ) (a : Pattern) (R : Mark → Mark → Type 0) → ((m n : Mark) → R m n → MaySet x f h a m n) → (t : ℕ) (m n : Mark)
+    → TimesWith R t m n → MaySet x f h a m n
+may-times x f h a R may zero m n g = inl (keeps-same f h m n (ap (λ (k : Mark). k.1) g))
+may-times x f h a R may (suc t) m n g = ⊎_elim
+    (λ (c : Keeps f h g.0 n). may-after x f h a m g.0 n (may m g.0 g.1) c)
+    (λ (c : IsSetBy x f h a n). inr c)
+    (may-times x f h a R may t g.0 n g.2)
+
+group-within : (g : ℕ) (a p : Pattern) → IsGroupOf g a p → g < count_groups p
+group-within g a Empty is = absurd is
+group-within g a Never is = absurd is
+group-within g a (Class ranges) is = absurd is
+group-within g a (Literal bytes) is = absurd is
+group-within g a (Assertion look) is = absurd is
+group-within g a (Then b c) is = ⊎_elim
+    (λ (i : IsGroupOf g a b). let l = group-within g a b i in omega (arith, l))
+    (λ (i : (k : ℕ) × (g ≡ count_groups b + k) × IsGroupOf k a c). let l = group-within i.0 a c i.2 in omega (arith, l, i.1))
+    is
+group-within g a (Either b c) is = ⊎_elim
+    (λ (i : IsGroupOf g a b). let l = group-within g a b i in omega (arith, l))
+    (λ (i : (k : ℕ) × (g ≡ count_groups b + k) × IsGroupOf k a c). let l = group-within i.0 a c i.2 in omega (arith, l, i.1))
+    is
+group-within g a (Repeat min max often b) is = group-within g a b is
+group-within zero a (Group slot b) is = omega arith
+group-within (suc g) a (Group slot b) is = let l = group-within g a b is in omega (arith, l)
+
+may-set : (f : ℕ → ℕ) → AreApart f → (x : Subject) (p a : Pattern) (n g h : ℕ) → h ≡ n + g → IsGroupOf g a p → (m k : Mark)
+    → GoesWith x (numbered f n p) m k → MaySet x f h a m k
+may-set f apart x Empty a n g h e is m k w = absurd is
+may-set f apart x Never a n g h e is m k w = absurd is
+may-set f apart x (Class ranges) a n g h e is m k w = absurd is
+may-set f apart x (Literal bytes) a n g h e is m k w = absurd is
+may-set f apart x (Assertion look) a n g h e is m k w = absurd is
+may-set f apart x (Then b c) a n g h e is m k w = ⊎_elim
+    (λ (i : IsGroupOf g a b).
+    let l = group-within g a b i in
+    may-after x f h a m w.0 k (may-set f apart x b a n g h e i m w.0 w.1)
+    (keeps-others f apart x c (n + count_groups b) h (inl (omega (arith, e, l))) w.0 k w.2))
+    (λ (i : (j : ℕ) × (g ≡ count_groups b + j) × IsGroupOf j a c).
+    may-before x f h a m w.0 k (keeps-others f apart x b n h (inr (omega (arith, e, i.1))) m w.0 w.1)
+    (may-set f apart x c a (n + count_groups b) i.0 h (omega (arith, e, i.1)) i.2 w.0 k w.2))
+    is
+may-set f apart x (Either b c) a n g h e is m k w = ⊎_elim
+    (λ (i : IsGroupOf g a b).
+    let l = group-within g a b i in
+    ⊎_elim
+    (λ (v : GoesWith x (numbered f n b) m k). may-set f apart x b a n g h e i m k v)
+    (λ (v : GoesWith x (numbered f (n + count_groups b) c) m k). inl (keeps-others f apart x c (n + count_groups b) h (inl (omega (arith, e, l))) m k v))
+    w)
+    (λ (i : (j : ℕ) × (g ≡ count_groups b + j) × IsGroupOf j a c). ⊎_elim
+    (λ (v : GoesWith x (numbered f n b) m k). inl (keeps-others f apart x b n h (inr (omega (arith, e, i.1))) m k v))
+    (λ (v : GoesWith x (numbered f (n + count_groups b) c) m k).
+    may-set f apart x c a (n + count_groups b) i.0 h (omega (arith, e, i.1)) i.2 m k v)
+    w)
+    is
+may-set f apart x (Repeat min max often b) a n g h e is m k w =
+    may-times x f h a (GoesWith x (numbered f n b)) (may-set f apart x b a n g h e is) w.0 m k w.3
+may-set f apart x (Group slot b) a n zero h e is m k w =
+    let same : n ≡ h = omega (arith, e) in
+    let keeps = keeps-others f apart x b (n + 1) n (inl (omega arith)) (with_record (f n) m) w.0 w.1 in
+    let goes : Goes x b m.0 w.0.0 =
+    subst (λ (R : ℕ → ℕ → Type 0). R m.0 w.0.0) (numbered-goes x f (n + 1) b) (with-goes x (numbered f (n + 1) b) (with_record (f n) m) w.0 w.1) in
+    let set : IsSetBy x f n a (with_record (f n + 1) w.0) = (
+      m.0,
+      w.0.0,
+      other_slot (f n + 1) (f n) w.0.0 w.0.1 (λ s. absurd (omega (arith, s))) ∙ (keeps.0 ∙ same_slot (f n) m.0 m.1),
+      same_slot (f n + 1) w.0.0 w.0.1,
+      subst (λ (q : Pattern). Goes x q m.0 w.0.0) is goes,
+    ) in
+    inr (subst (λ (l : ℕ). IsSetBy x f l a k) same (subst (λ (z : Mark). IsSetBy x f n a z) (sym w.2) set))
+may-set f apart x (Group slot b) a n (suc g) h e is m k w =
+    subst (λ (z : Mark). MaySet x f h a m z) (sym w.2)
+    (may-after x f h a m w.0 (with_record (f n + 1) w.0)
+    (may-before x f h a m (with_record (f n) m) w.0 (keeps-start f apart n h other m)
+    (may-set f apart x b a (n + 1) g h (omega (arith, e)) is (with_record (f n) m) w.0 w.1))
+    (keeps-end f apart n h other w.0))
+  where
+    other : n ≡ h → ⊥
+    other s = absurd (omega (arith, s, e))
+
+-- ---- of a pattern with its slots
+
+slot_later : (lists : GroupLists) (m g : ℕ) → slot_number lists m (suc g) ≡ 2 * length lists + 2 * explicit_before lists m + 2 * g
+slot_later lists m g =
+    let one : suc g - 1 ≡ g = omega arith in
+    ap (λ (b : Bool). cond b (2 * m) (2 * length lists + 2 * explicit_before lists m + 2 * (suc g - 1))) (ne_eqb (suc g) 0 (λ e. absurd (omega (arith, e))))
+    ∙ ap (λ (k : ℕ). 2 * length lists + 2 * explicit_before lists m + 2 * k) one
+
+slots-apart : (lists : GroupLists) (m : ℕ) → m < length lists → AreApart (slot_number lists m)
+slots-apart lists m there zero zero other = absurd (other refl)
+slots-apart lists m there zero (suc h) other =
+    let later = slot_later lists m h in
+    (λ e. absurd (omega (arith, e, later, there)), λ e. absurd (omega (arith, e, later, there)))
+slots-apart lists m there (suc g) zero other =
+    let later = slot_later lists m g in
+    (λ e. absurd (omega (arith, e, later, there)), λ e. absurd (omega (arith, e, later, there)))
+slots-apart lists m there (suc g) (suc h) other =
+    let one = slot_later lists m g in
+    let two = slot_later lists m h in
+    (λ e. other (omega (arith, e, one, two)), λ e. absurd (omega (arith, e, one, two)))
+
+-- where the way sets the first slot of a group it sets the second, and the group's part goes from the one position to the other
+pub group-goes : (x : Subject) (lists : GroupLists) (m : ℕ) (p a : Pattern) (g i start end : ℕ) (records : List (ℕ × ℕ)) → m < length lists
+    → IsGroupOf g a (Group 0 p) → GoesWith x (as_whole lists m p) (start, []) (end, records) → last_in records (slot_number lists m g) ≡ Some i
+    → (j : ℕ) × (last_in records (slot_number lists m g + 1) ≡ Some j) × Goes x a i j
+group-goes x lists m p a g i start end records there is way at = ⊎_elim
+    (λ (c : Keeps (slot_number lists m) g (start, []) (end, records)). absurd (none_there i (sym c.0 ∙ at)))
+    (λ (c : IsSetBy x (slot_number lists m) g a (end, records)).
+    let same : c.0 ≡ i = same_Some c.0 i (sym c.2 ∙ at) in
+    (c.1, c.3, subst (λ (k : ℕ). Goes x a k c.1) same c.4))
+    (may-set (slot_number lists m) (slots-apart lists m there) x (Group 0 p) a 0 g g (omega arith) is (start, []) (end, records) way)
+  where
+    none_there : (i : ℕ) → None ≡ Some i → ⊥
+    none_there i h = absurd (cc)
+
+-- ---- the span of a group
+
+first_slot-number : (lists : GroupLists) (m g : ℕ) → g < group_count lists m → first_slot lists m g ≡ Some (slot_number lists m g)
+first_slot-number lists m g l = go (nat_eq (length lists) 1) refl
+  where
+    there : m < length lists
+    there = pattern_there lists m g l
+
+    go : (b : Bool) → nat_eq (length lists) 1 ≡ b → cond b (Some (2 * g)) (slot_of lists m g) ≡ Some (slot_number lists m g)
+    go true e = ap (λ (s : ℕ). Some s) (sym (number g))
+      where
+        one : length lists ≡ 1
+        one = grind (arith, nat_tests, e)
+
+        none : m ≡ 0
+        none = omega (arith, one, there)
+
+        before : explicit_before lists m ≡ 0
+        before = ap (λ (n : ℕ). explicit_before lists n) none
+
+        number : (g : ℕ) → slot_number lists m g ≡ 2 * g
+        number zero = omega (arith, none)
+        number (suc g) = let later = slot_later lists m g in omega (arith, later, one, before)
+    go false e = rw (lt-ltb g (group_count lists m) l) refl
+
+-- where the two offsets of a span are
+span_parts : (offsets : List (Option ℕ)) (s : ℕ) (span : Span) → span_at offsets s ≡ Some span
+    → (slice_index_or offsets s None ≡ Some span.start) × (slice_index_or offsets (s + 1) None ≡ Some span.end)
+span_parts offsets s span e = at_start (slice_index_or offsets s None) refl e
+  where
+    at_end : (i : ℕ) → slice_index_or offsets s None ≡ Some i → (o : Option ℕ) → slice_index_or offsets (s + 1) None ≡ o
+        → option_map (λ (to : ℕ). record { start = i; end = to }) o ≡ Some span
+        → (slice_index_or offsets s None ≡ Some span.start) × (slice_index_or offsets (s + 1) None ≡ Some span.end)
+    at_end i from None to f = absurd (cc)
+    at_end i from (Some j) to f =
+        let same : record { start = i; end = j } ≡ span = same_Some (record { start = i; end = j }) span f in
+        (from ∙ ap (λ (z : Span). Some z.start) same, to ∙ ap (λ (z : Span). Some z.end) same)
+
+    at_start : (o : Option ℕ) → slice_index_or offsets s None ≡ o
+        → option_and_then (λ (from : ℕ). option_map (λ (to : ℕ). record { start = from; end = to }) (slice_index_or offsets (s + 1) None)) o ≡ Some span
+        → (slice_index_or offsets s None ≡ Some span.start) × (slice_index_or offsets (s + 1) None ≡ Some span.end)
+    at_start None from f = absurd (cc)
+    at_start (Some i) from f = at_end i from (slice_index_or offsets (s + 1) None) refl f
+
+pub span-goes : (x : Subject) (lists : GroupLists) (m : ℕ) (p a : Pattern) (g start end : ℕ) (records : List (ℕ × ℕ)) (c : Captured) (span : Span)
+    → g < group_count lists m → c.groups ≡ lists → c.pattern ≡ Some m → IsGroupOf g a (Group 0 p)
+    → GoesWith x (as_whole lists m p) (start, []) (end, records)
+    → ((slot : ℕ) → slot < length c.offsets → slice_index_or c.offsets slot None ≡ last_in records slot) → group_span c g ≡ Some span
+    → Goes x a span.start span.end
+span-goes x lists m p a g start end records c span l groups pattern is way holds at =
+    subst (λ (k : ℕ). Goes x a span.start k) same goes.2
+  where
+    slot : ℕ
+    slot = slot_number lists m g
+
+    path : group_span c g ≡ span_at c.offsets (slot_number lists m g)
+    path =
+        ap (λ (o : Option ℕ). option_and_then (λ (q : ℕ). option_and_then (λ (s : ℕ). span_at c.offsets s) (first_slot c.groups q g)) o) pattern
+        ∙ (ap (λ (these : GroupLists). option_and_then (λ (s : ℕ). span_at c.offsets s) (first_slot these m g)) groups
+        ∙ ap (λ (o : Option ℕ). option_and_then (λ (s : ℕ). span_at c.offsets s) o) (first_slot-number lists m g l))
+
+    two : (slice_index_or c.offsets (slot_number lists m g) None ≡ Some span.start)
+        × (slice_index_or c.offsets (slot_number lists m g + 1) None ≡ Some span.end)
+    two = span_parts c.offsets (slot_number lists m g) span (sym path ∙ at)
+
+    none_there : None ≡ Some span.end → ⊥
+    none_there h = absurd (cc)
+
+    room : slot_number lists m g + 1 < length c.offsets
+    room = ⊎_elim (λ (h : slot_number lists m g + 1 < length c.offsets). h)
+        (λ (h : length c.offsets ≤ slot_number lists m g + 1).
+        absurd (none_there (sym (get_or_past c.offsets (slot_number lists m g + 1) None h) ∙ two.1)))
+        (cases_lt (slot_number lists m g + 1) (length c.offsets))
+
+    goes : (j : ℕ) × (last_in records (slot_number lists m g + 1) ≡ Some j) × Goes x a span.start j
+    goes = group-goes x lists m p a g span.start start end records (pattern_there lists m g l) is way
+        (sym (holds (slot_number lists m g) (omega (arith, room))) ∙ two.0)
+
+    same : goes.0 ≡ span.end
+    same = same_Some goes.0 span.end (sym goes.1 ∙ (sym (holds (slot_number lists m g + 1) room) ∙ two.1))

@@ -1,0 +1,45 @@
+-- How the groups of a pattern are numbered, and which slots they have.
+use Rattle.std.specs.Prelude.{◌≡◌, ℕ, zero, suc, ◌+◌, ◌*◌, ◌⊎◌}
+use Rattle.rsc_captures.specs.Groups.{GroupLists, slot_number}
+use Rattle.rsc_engine.specs.Patterns.{Pattern, Empty, Never, Class, Literal, Assertion, Then, Either, Repeat, Group}
+
+-- how many groups a pattern has
+abbrev pub count_groups : Pattern → ℕ
+count_groups Empty = 0
+count_groups Never = 0
+count_groups (Class ranges) = 0
+count_groups (Literal bytes) = 0
+count_groups (Assertion look) = 0
+count_groups (Then a b) = count_groups a + count_groups b
+count_groups (Either a b) = count_groups a + count_groups b
+count_groups (Repeat min max often a) = count_groups a
+count_groups (Group slot a) = 1 + count_groups a
+
+-- the part of the group with that number, where a pattern's groups are numbered from 0 in the order in which they open
+abbrev pub IsGroupOf : ℕ → Pattern → Pattern → Type 0
+IsGroupOf g part Empty = ⊥
+IsGroupOf g part Never = ⊥
+IsGroupOf g part (Class ranges) = ⊥
+IsGroupOf g part (Literal bytes) = ⊥
+IsGroupOf g part (Assertion look) = ⊥
+IsGroupOf g part (Then a b) = IsGroupOf g part a ⊎ ((h : ℕ) × (g ≡ count_groups a + h) × IsGroupOf h part b)
+IsGroupOf g part (Either a b) = IsGroupOf g part a ⊎ ((h : ℕ) × (g ≡ count_groups a + h) × IsGroupOf h part b)
+IsGroupOf g part (Repeat min max often a) = IsGroupOf g part a
+IsGroupOf zero part (Group slot a) = a ≡ part
+IsGroupOf (suc g) part (Group slot a) = IsGroupOf g part a
+
+-- the pattern with the slots of its groups, which are numbered from n on in the order in which they open
+abbrev pub numbered : (ℕ → ℕ) → ℕ → Pattern → Pattern
+numbered slot_of n Empty = Empty
+numbered slot_of n Never = Never
+numbered slot_of n (Class ranges) = Class ranges
+numbered slot_of n (Literal bytes) = Literal bytes
+numbered slot_of n (Assertion look) = Assertion look
+numbered slot_of n (Then a b) = Then (numbered slot_of n a) (numbered slot_of (n + count_groups a) b)
+numbered slot_of n (Either a b) = Either (numbered slot_of n a) (numbered slot_of (n + count_groups a) b)
+numbered slot_of n (Repeat min max often a) = Repeat min max often (numbered slot_of n a)
+numbered slot_of n (Group slot a) = Group (slot_of n) (numbered slot_of (n + 1) a)
+
+-- pattern m of the lists, with the slots of its groups, as its group 0: the whole match
+abbrev pub as_whole : GroupLists → ℕ → Pattern → Pattern
+as_whole lists m p = Group (2 * m) (numbered (slot_number lists m) 1 p)
