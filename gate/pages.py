@@ -21,6 +21,8 @@ after its module, as `Holds` or `Holds.Holds`, and no name at the head of a line
 
 A file that a page written by hand names in backquotes, below one of the usual folders, is there, and so is what a page links to.
 
+What the root file of a library doesn't bring out is `pub(crate)`.
+
 No crate imports another crate's `proofs` or `specs/..Layout`: the layers compose by contracts, laws and definitions alone. No line of a .rt
 or .antt file is longer than 160 columns, except imports, tables of literals, and the quotation of a test or of a text that is longer.
 """
@@ -284,6 +286,18 @@ def form_faults():
         yield [f"{crate} lacks the test `{it}`" for it in names.split() if len(re.findall(rf"^#\[test\]\nfn {it}\(", tests, flags=re.M)) != 1]
 
 
+def visibility_faults():
+    """Yields for each source of a library the functions and types that say `pub` although the crate's root file brings them out nowhere."""
+    for crate in LIBRARIES:
+        root = (ROOT / "crates" / crate / "src/lib.rt").read_text(encoding="utf-8")
+        brought = set(re.findall(r"\w+", " ".join(re.findall(r"^pub use \w+::([^;]*);", root, flags=re.M))))
+        for path, text in sources(crate):
+            inner = [it.name for it in source_of(text).functions if it.is_pub and not is_exported(crate, path, it)]
+            if f"pub mod {path.parts[0].removesuffix('.rt')};" not in root:
+                inner += set(re.findall(r"^pub (?:struct|enum|trait|const|static) (\w+)", text, flags=re.M)) - brought
+            yield [f"{crate}/src/{path}: `{it}` isn't exported, so it is `pub(crate)`" for it in inner]
+
+
 def is_there(path, folders):
     """Returns whether a path, or a module by its name, is in one of the folders."""
     return any((folder / f"{path}{end}").exists() for folder in folders for end in ("", ".antt", ".rt"))
@@ -366,7 +380,7 @@ def main():
         return 1
     bodies = ROOT / "docs/WRONG_BODIES.md"
     made[bodies], missing = named_bodies(bodies.read_text(encoding="utf-8"))
-    faults_of = [number_faults(made), *(it() for it in (source_faults, form_faults, path_faults, link_faults, definition_faults))]
+    faults_of = [number_faults(made), *(it() for it in (source_faults, form_faults, visibility_faults, path_faults, link_faults, definition_faults))]
     for faults in [*itertools.chain.from_iterable(faults_of), [f"docs/WRONG_BODIES.md names {it}, which isn't there" for it in missing]]:
         count += 1
         failures += faults

@@ -29,18 +29,18 @@ use std::alloc::Global;
 
 /// What a search has on hand.
 #[derive(Drop)]
-pub struct Walk {
+pub(crate) struct Walk {
     // Where the run begins.
     from: (StateID, usize),
     /// The run so far, and the other ways that are left to try at its places.
-    pub trail: Vec<Visit>,
+    pub(crate) trail: Vec<Visit>,
     /// A flag for each state and position: no match was found from there, or it's on the run, or on that of a match before, where no search begins again.
-    pub visited: Flags,
+    pub(crate) visited: Flags,
 }
 
 impl Walk {
     /// A walk that has visited nothing. It has no flags yet.
-    pub fn new(alloc: Global, start: StateID) -> Walk
+    pub(crate) fn new(alloc: Global, start: StateID) -> Walk
         ensures { (e : Search) → IsClosed e (is_flagged e result.visited) }
     {
         Walk {
@@ -51,7 +51,7 @@ impl Walk {
     }
 
     /// Makes that many flags, unless it has as many.
-    pub fn open(&mut self, alloc: Global, flag_count: usize) -> Result<(), Error>
+    pub(crate) fn open(&mut self, alloc: Global, flag_count: usize) -> Result<(), Error>
         ensures room { OnOk result (length self.new.visited ≡ flag_count) }
         ensures closed { (e : Search) → IsClosed e (is_flagged e self.old.visited) → IsClosed e (is_flagged e self.new.visited) }
         ensures forgets { IfErr result (λ e. (n : ℕ) → slice_index_or self.new.visited n false ≡ false) }
@@ -64,7 +64,7 @@ impl Walk {
     }
 
     /// Makes that many flags, none of them set.
-    pub fn reopen(&mut self, alloc: Global, flag_count: usize) -> Result<(), Error>
+    pub(crate) fn reopen(&mut self, alloc: Global, flag_count: usize) -> Result<(), Error>
         ensures room { OnOk result (length self.new.visited ≡ flag_count) }
         ensures closed { (e : Search) → IsClosed e (is_flagged e self.new.visited) }
         ensures memory { IfErr result (λ e. e ≡ OutOfMemory) }
@@ -73,7 +73,7 @@ impl Walk {
     }
 
     /// Whether a match begins in the input's span, in which none does before a position. If so, the walk has its run.
-    pub fn search<W: WordClass>(
+    pub(crate) fn search<W: WordClass>(
         &mut self,
         program: &Program<W>,
         input: &Input<'_>,

@@ -29,6 +29,21 @@ use rsc_nfa::Nfa;
 use std::alloc::Global;
 
 /// Makes parts, and keeps the patterns that are finished.
+///
+/// # Examples
+///
+/// ```
+/// // (?P<key>[a-z]+)=
+/// let builder = Builder::new(rt.alloc());
+/// let letters = builder.plus(builder.range(b'a', b'z'))?;
+/// let key = builder.group(Some("key"), letters)?;
+/// let whole = builder.then(key, builder.literal(b"=")?)?;
+/// let program = builder.build(AsciiWord, true, whole)?;
+/// let mut captures = program.captures(rt.alloc())?;
+/// let found = find(rt.alloc(), &program, &Input::new(b"-ab=12"), &mut captures)?;
+/// assert!(rt; found.is_some_and(|it| it.start() == 1 && it.end() == 4));
+/// assert!(rt; captures.get_group_by_name("key") == Some(Span { start: 1, end: 3 }));
+/// ```
 pub struct Builder<'n> {
     alloc: Global,
     patterns: Vec<Part<'n>>,
@@ -248,6 +263,21 @@ impl<'n> Builder<'n> {
     ///
     /// `Names` if a pattern has a name twice; otherwise `Faulty` if a range's first byte is above its last, unless its part is repeated at most 0 times.
     /// Out of memory may come before both, and so may `TooLarge`, which is meant for more states, patterns or groups than there are numbers for.
+    ///
+    /// # Examples
+    ///
+    /// ```
+    /// // The patterns `if` and [a-z]+, in this order.
+    /// let mut builder = Builder::new(rt.alloc());
+    /// let keyword = builder.literal(b"if")?;
+    /// builder.pattern(keyword)?;
+    /// let letters = builder.plus(builder.range(b'a', b'z'))?;
+    /// let program = builder.build(AsciiWord, true, letters)?;
+    /// let mut captures = program.captures(rt.alloc())?;
+    /// let found = find(rt.alloc(), &program, &Input::new(b"iff"), &mut captures)?;
+    /// // Both match from 0, and the first one is preferred.
+    /// assert!(rt; found.is_some_and(|it| it.pattern() == PatternID::ZERO && it.end() == 2));
+    /// ```
     pub fn build<W: WordClass>(
         self,
         word_class: W,

@@ -18,6 +18,20 @@ use std::marker::Model;
 
 /// What searches by a program keep from one to the next: the rows of a DFA, and the memory of a walk. It serves many short haystacks,
 /// as the lines of a file.
+///
+/// # Examples
+///
+/// ```
+/// // [a-z]+
+/// let builder = Builder::new(rt.alloc());
+/// let letters = builder.plus(builder.range(b'a', b'z'))?;
+/// let program = builder.build(AsciiWord, true, letters)?;
+/// let mut captures = program.captures(rt.alloc())?;
+/// let mut cache = Cache::new(rt.alloc(), &program)?;
+/// assert!(rt; cache.find(&Input::new(b"1"), &mut captures)?.is_none());
+/// let found = cache.find(&Input::new(b"1 a"), &mut captures)?;
+/// assert!(rt; found.is_some_and(|it| it.start() == 2));
+/// ```
 #[derive(Drop)]
 pub struct Cache<'p, W: WordClass> {
     pub(crate) alloc: Global,
@@ -97,6 +111,22 @@ impl<'p, W: WordClass + AsciiWordClass> Cache<'p, W> {
     /// # Errors
     ///
     /// Out of memory, or `TooLarge` where the span has too many positions for the number of states. The cache is dropped then.
+    ///
+    /// # Examples
+    ///
+    /// ```
+    /// // [a-z]+
+    /// let builder = Builder::new(rt.alloc());
+    /// let letters = builder.plus(builder.range(b'a', b'z'))?;
+    /// let program = builder.build(AsciiWord, true, letters)?;
+    /// let mut captures = program.captures(rt.alloc())?;
+    /// let mut matches = Cache::new(rt.alloc(), &program)?.matches(Input::new(b"a"))?;
+    /// assert!(rt; matches.next(&mut captures)?.is_some());
+    /// assert!(rt; matches.next(&mut captures)?.is_none());
+    /// // The next haystack.
+    /// let mut matches = matches.into_cache().matches(Input::new(b"1"))?;
+    /// assert!(rt; matches.next(&mut captures)?.is_none());
+    /// ```
     pub fn matches<'h>(self, input: Input<'h>) -> Result<Matches<'p, 'h, W>, Error>
         ensures made { IfOk result (λ m. m ≡ record { program = self.entry; input = input.entry; last = None }) }
         ensures refused { IfErr result (FailsFor (search_in W.word_chars self.entry input.entry)) }

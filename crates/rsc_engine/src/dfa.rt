@@ -42,6 +42,21 @@ const NEAR: usize = 256;
 pub(crate) const MOST_ROWS: usize = 1000;
 
 /// Where the first match to end ends.
+///
+/// # Examples
+///
+/// ```
+/// // [a-z]+, and \b, which looks at characters.
+/// let mut builder = Builder::new(rt.alloc());
+/// let letters = builder.plus(builder.range(b'a', b'z'))?;
+/// builder.pattern(letters)?;
+/// let boundary = builder.look(Look::WordUnicode);
+/// let program = builder.build(UnicodeWord, true, boundary)?;
+/// let mut dfa = Dfa::new(rt.alloc(), &program, 1000);
+/// assert!(rt; dfa.earliest_end(&Input::new(b"- a"))? == Answer::End(2));
+/// assert!(rt; dfa.earliest_end(&Input::new(b"--"))? == Answer::NoMatch);
+/// assert!(rt; dfa.earliest_end(&Input::new("-é".as_bytes()))? == Answer::Quit(1));
+/// ```
 #[derive(Clone, Copy, Debug, PartialEq, Eq)]
 pub enum Answer {
     /// A match ends at the position, and none ends earlier.
@@ -57,6 +72,18 @@ pub enum Answer {
 ///
 /// A search takes time in proportion to the bytes that it reads, once the rows that it comes to are there. It ends where the first match to
 /// end does, which is not where the leftmost-first match ends.
+///
+/// # Examples
+///
+/// ```
+/// // [a-z]+
+/// let builder = Builder::new(rt.alloc());
+/// let letters = builder.plus(builder.range(b'a', b'z'))?;
+/// let program = builder.build(AsciiWord, true, letters)?;
+/// let mut dfa = Dfa::new(rt.alloc(), &program, 1000);
+/// assert!(rt; dfa.is_match(&Input::new(b"1 ab"))? && !dfa.is_match(&Input::new(b"1"))?);
+/// assert!(rt; dfa.leftmost_end(&Input::new(b"1 ab"))? == Some(4));
+/// ```
 pub struct Dfa<'p, W: WordClass> {
     alloc: Global,
     plan: Plan<'p, W>,

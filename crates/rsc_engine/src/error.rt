@@ -8,6 +8,15 @@ use std::alloc::{AllocError, AllocFailed};
 use std::fmt;
 
 /// Why there is no program, or no answer.
+///
+/// # Examples
+///
+/// ```
+/// let builder = Builder::new(rt.alloc());
+/// assert!(rt; matches!(builder.class(&[]), Err(Error::EmptyClass)));
+/// let reversed = builder.range(b'z', b'a');
+/// assert!(rt; matches!(builder.build(AsciiWord, true, reversed), Err(Error::Faulty)));
+/// ```
 #[derive(Debug, Drop)]
 pub enum Error {
     /// Out of memory.

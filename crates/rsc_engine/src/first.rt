@@ -27,6 +27,19 @@ use std::alloc::Global;
 /// # Errors
 ///
 /// Out of memory, or `TooLarge` where the span has too many positions for the number of states.
+///
+/// # Examples
+///
+/// ```
+/// // [a-z]+
+/// let builder = Builder::new(rt.alloc());
+/// let letters = builder.plus(builder.range(b'a', b'z'))?;
+/// let program = builder.build(AsciiWord, true, letters)?;
+/// let mut captures = program.captures(rt.alloc())?;
+/// let found = find(rt.alloc(), &program, &Input::new(b"12 ab"), &mut captures)?;
+/// assert!(rt; found.map(|it| it.span()) == Some(Span { start: 3, end: 5 }));
+/// assert!(rt; find(rt.alloc(), &program, &Input::new(b"12"), &mut captures)?.is_none());
+/// ```
 pub fn find<W: WordClass + AsciiWordClass>(
     alloc: Global,
     program: &Program<W>,

@@ -8,11 +8,11 @@ use std::alloc::Global;
 use std::marker::Model;
 
 /// How many flags a block has.
-pub const BITS: usize = 64;
+pub(crate) const BITS: usize = 64;
 
 /// A list of flags, of as many as it was made with.
 #[derive(Drop)]
-pub struct Flags {
+pub(crate) struct Flags {
     blocks: Vec<u64>,
     count: usize,
 }
@@ -30,7 +30,7 @@ impl Model for Flags {
 
 impl Flags {
     /// No flags.
-    pub fn none(alloc: Global) -> Flags
+    pub(crate) fn none(alloc: Global) -> Flags
         ensures { result ≡ [] }
     {
         Flags {
@@ -40,7 +40,7 @@ impl Flags {
     }
 
     /// Makes that many flags, none of them set, and takes memory only where there was never room for as many.
-    pub fn renew(&mut self, alloc: Global, count: usize) -> Result<(), Error>
+    pub(crate) fn renew(&mut self, alloc: Global, count: usize) -> Result<(), Error>
         ensures length { OnOk result (length self.new ≡ count) }
         ensures none { (n : ℕ) → slice_index_or self.new n false ≡ false }
         ensures memory { IfErr result (λ e. e ≡ OutOfMemory) }
@@ -53,7 +53,7 @@ impl Flags {
 
     /// How many flags there are.
     #[inline(always)]
-    pub fn len(&self) -> usize
+    pub(crate) fn len(&self) -> usize
         ensures { result ≡ length self.now }
     {
         self.count
@@ -61,7 +61,7 @@ impl Flags {
 
     /// Whether a flag is set.
     #[inline(always)]
-    pub fn get(&self, n: usize) -> bool
+    pub(crate) fn get(&self, n: usize) -> bool
         requires { n < length self.now }
         ensures { result ≡ slice_index_or self.now n false }
     {
@@ -70,7 +70,7 @@ impl Flags {
 
     /// Sets a flag.
     #[inline(always)]
-    pub fn set(&mut self, n: usize)
+    pub(crate) fn set(&mut self, n: usize)
         requires { n < length self.old }
         ensures { self.new ≡ slice_set self.old n true }
     {
@@ -80,7 +80,7 @@ impl Flags {
 
     /// Sets three flags if none of them is set. Answers whether it did.
     #[inline(always)]
-    pub fn take(&mut self, a: usize, b: usize, c: usize) -> bool
+    pub(crate) fn take(&mut self, a: usize, b: usize, c: usize) -> bool
         requires a { a < length self.old }
         requires b { b < length self.old }
         requires c { c < length self.old }
@@ -100,7 +100,7 @@ impl Flags {
 
     /// Whether none of some flags of one block is set.
     #[inline(always)]
-    pub fn are_free(&self, first: usize, count: usize) -> bool
+    pub(crate) fn are_free(&self, first: usize, count: usize) -> bool
         requires within { first < length self.now }
         requires fewer { count < 64 }
         requires block { first % 64 + count ≤ 64 }
@@ -111,7 +111,7 @@ impl Flags {
 
     /// Sets some flags of one block.
     #[inline(always)]
-    pub fn set_all(&mut self, first: usize, count: usize)
+    pub(crate) fn set_all(&mut self, first: usize, count: usize)
         requires within { first + count ≤ length self.old }
         requires some { 0 < count }
         requires fewer { count < 64 }
@@ -125,7 +125,7 @@ impl Flags {
     }
 
     /// Clears the flag of one bit in each block, from one block up to another.
-    pub fn clear_in_each(&mut self, first: usize, end: usize, bit: usize)
+    pub(crate) fn clear_in_each(&mut self, first: usize, end: usize, bit: usize)
         requires end { 64 * end ≤ length self.old }
         requires bit { bit < 64 }
         ensures length { length self.new ≡ length self.old }
@@ -138,7 +138,7 @@ impl Flags {
     }
 
     /// Clears all flags.
-    pub fn clear(&mut self)
+    pub(crate) fn clear(&mut self)
         ensures length { length self.new ≡ length self.old }
         ensures none { (n : ℕ) → slice_index_or self.new n false ≡ false }
     {

@@ -17,7 +17,7 @@ use rsc_search::{Input, Match, Span};
 
 /// The match that a run makes: from the position of its first place to that of its last, where its pattern is accepted.
 /// Its groups are in the captures afterwards.
-pub fn write_match<W: WordClass>(
+pub(crate) fn write_match<W: WordClass>(
     program: &Program<W>,
     input: &Input<'_>,
     trail: &[Visit],

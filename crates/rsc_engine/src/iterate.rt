@@ -29,6 +29,22 @@ const FAR: usize = 64;
 /// The matches in an input that are left, in order.
 ///
 /// One walk serves all searches: a state is tried at a position again only where a match ended.
+///
+/// # Examples
+///
+/// ```
+/// // [a-z]+
+/// let builder = Builder::new(rt.alloc());
+/// let letters = builder.plus(builder.range(b'a', b'z'))?;
+/// let program = builder.build(AsciiWord, true, letters)?;
+/// let mut captures = program.captures(rt.alloc())?;
+/// let mut matches = Matches::new(rt.alloc(), &program, Input::new(b"ab 12 c"))?;
+/// let ab = matches.next(&mut captures)?;
+/// assert!(rt; ab.map(|it| it.span()) == Some(Span { start: 0, end: 2 }));
+/// let c = matches.next(&mut captures)?;
+/// assert!(rt; c.map(|it| it.span()) == Some(Span { start: 6, end: 7 }));
+/// assert!(rt; matches.next(&mut captures)?.is_none());
+/// ```
 pub struct Matches<'p, 'h, W: WordClass> {
     rest: Rest<'p, 'h, W>,
 }

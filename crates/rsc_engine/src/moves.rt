@@ -14,11 +14,11 @@ use rsc_primitives::{PatternID, StateID};
 use rsc_search::Input;
 
 /// More ranges of a class than these, and the first one before them, aren't looked through.
-pub const MOST_RANGES: usize = 16;
+pub(crate) const MOST_RANGES: usize = 16;
 
 /// What a state does at a position.
 #[derive(Clone, Copy)]
-pub enum Move {
+pub(crate) enum Move {
     /// No step leads on.
     Fails,
     /// One step leads on.
@@ -30,7 +30,7 @@ pub enum Move {
 }
 
 /// The way that is left to try after the first.
-pub fn other_way(step: &Move) -> Option<StateID>
+pub(crate) fn other_way(step: &Move) -> Option<StateID>
     ensures { result ≡ other_of step.now }
 {
     match *step {
@@ -41,7 +41,7 @@ pub fn other_way(step: &Move) -> Option<StateID>
 
 /// What the program's state does at a position of the input. A fork whose first way is a range without the byte there isn't
 /// one; if no other range of its class has it either, nothing leads on.
-pub fn move_of<W: WordClass>(
+pub(crate) fn move_of<W: WordClass>(
     program: &Program<W>,
     input: &Input<'_>,
     sid: StateID,

@@ -12,7 +12,7 @@ use rsc_search::Input;
 
 /// The number of a place, that many positions before the end.
 #[inline(always)]
-pub fn number_of(sid: StateID, to_end: usize, states: usize, len: usize) -> usize
+pub(crate) fn number_of(sid: StateID, to_end: usize, states: usize, len: usize) -> usize
     requires sid { sid < states }
     requires room { 64 * (to_end / 64 * states + states) ≤ len }
     ensures value { result ≡ 64 * (to_end / 64 * states + sid) + to_end % 64 }
@@ -23,7 +23,7 @@ pub fn number_of(sid: StateID, to_end: usize, states: usize, len: usize) -> usiz
 
 /// The first block that has flags of a position, that many before the end.
 #[inline(always)]
-pub fn first_block(to_end: usize, states: usize, len: usize) -> usize
+pub(crate) fn first_block(to_end: usize, states: usize, len: usize) -> usize
     requires { 64 * (to_end / 64 * states + states) ≤ len }
     ensures value { result ≡ to_end / 64 * states }
     ensures within { 64 * (result + states) ≤ len }
@@ -36,7 +36,10 @@ pub fn first_block(to_end: usize, states: usize, len: usize) -> usize
 /// # Errors
 ///
 /// `TooLarge` if the span has too many positions for the number of states; out of memory if only whole blocks make more flags than there are numbers.
-pub fn flags_needed<W: WordClass>(program: &Program<W>, input: &Input<'_>) -> Result<usize, Error>
+pub(crate) fn flags_needed<W: WordClass>(
+    program: &Program<W>,
+    input: &Input<'_>,
+) -> Result<usize, Error>
     ensures enough { IfOk result (AreEnough (search_in W.word_chars program.now input.now)) }
     ensures refused { IfErr result (FailsFor (search_in W.word_chars program.now input.now)) }
 {

@@ -15,18 +15,18 @@ use std::alloc::Global;
 
 /// The bytes with which a match of a program may begin.
 #[derive(Drop)]
-pub struct Starts {
+pub(crate) struct Starts {
     // A mark for each state to which the first one leads without a byte.
-    pub marks: Vec<bool>,
+    pub(crate) marks: Vec<bool>,
     // A mark for each byte.
-    pub bytes: Vec<bool>,
+    pub(crate) bytes: Vec<bool>,
     // Whether each match begins with such a byte. If not, a match may be empty and begin anywhere.
-    pub known: bool,
+    pub(crate) known: bool,
 }
 
 impl Starts {
     /// The bytes with which a match of the program may begin.
-    pub fn new<W: WordClass>(alloc: Global, program: &Program<W>) -> Result<Starts, Error>
+    pub(crate) fn new<W: WordClass>(alloc: Global, program: &Program<W>) -> Result<Starts, Error>
         ensures starts { IfOk result (λ s. s.known ≡ true → AreStarts program.now.automaton.states program.now.start s.marks.items s.bytes.items) }
         ensures memory { IfErr result (λ e. e ≡ OutOfMemory) }
     {
@@ -57,7 +57,7 @@ impl Starts {
 
     /// Whether a match may begin at the position. If not, none does.
     #[inline(always)]
-    pub fn may_begin<W: WordClass>(
+    pub(crate) fn may_begin<W: WordClass>(
         &self,
         program: &Program<W>,
         input: &Input<'_>,

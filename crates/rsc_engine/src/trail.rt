@@ -13,19 +13,19 @@ use rsc_primitives::StateID;
 
 /// A part of a run: turns of a loop, if there are any, and then a place.
 #[derive(Clone, Copy)]
-pub struct Visit {
+pub(crate) struct Visit {
     /// The state of the place. If there are turns, it's the loop's fork.
-    pub sid: StateID,
+    pub(crate) sid: StateID,
     /// Where the first turn begins. Each takes one byte.
-    pub start: usize,
+    pub(crate) start: usize,
     /// The position of the place.
-    pub at: usize,
+    pub(crate) at: usize,
     /// The other way that is left to try from the place. At each turn the loop's exit is left.
-    pub other: Option<StateID>,
+    pub(crate) other: Option<StateID>,
 }
 
 /// The exit of the loop of which a visit has turns.
-pub fn exit_of<W: WordClass>(program: &Program<W>, visit: &Visit) -> Option<StateID>
+pub(crate) fn exit_of<W: WordClass>(program: &Program<W>, visit: &Visit) -> Option<StateID>
     requires { visit.now.sid < length program.now.automaton.states }
     ensures exit { IfSome result (λ exit. (visit.now.start < visit.now.at)
         × (body : ℕ) × (slice_get program.now.automaton.states visit.now.sid ≡ Some (Fork body exit))) }
@@ -42,7 +42,7 @@ pub fn exit_of<W: WordClass>(program: &Program<W>, visit: &Visit) -> Option<Stat
 }
 
 /// The position at which a run begins.
-pub fn first_position<W: WordClass>(program: &Program<W>, trail: &[Visit]) -> usize
+pub(crate) fn first_position<W: WordClass>(program: &Program<W>, trail: &[Visit]) -> usize
     requires some { 0 < length trail.now }
     requires state { (d : Visit) → (slice_index_or trail.now 0 d).sid < length program.now.automaton.states }
     ensures { result ≡ (place (run_of program.now.automaton.states trail.now) 0).1 }
@@ -55,7 +55,7 @@ pub fn first_position<W: WordClass>(program: &Program<W>, trail: &[Visit]) -> us
 }
 
 /// The place at which it ends.
-pub fn last_place(trail: &[Visit]) -> (StateID, usize)
+pub(crate) fn last_place(trail: &[Visit]) -> (StateID, usize)
     requires { 0 < length trail.now }
     ensures { (states : List State) → result ≡ place (run_of states trail.now) (length (run_of states trail.now) - 1) }
 {

@@ -38,7 +38,7 @@ struct Loop {
 
 /// Makes the turns of a loop that follow a step, if that is from the loop's fork, and answers at which position the fork is then.
 #[inline(always)]
-pub fn go_round<W: WordClass>(
+pub(crate) fn go_round<W: WordClass>(
     visited: &mut Flags,
     program: &Program<W>,
     input: &Input<'_>,

@@ -5,6 +5,23 @@ use rsc_look::{AsciiWord, UnicodeWord, WordClass};
 
 /// A word predicate whose word characters below 128 are the word bytes. A DFA is made of a program with such a predicate, so that beside ASCII
 /// it can answer an assertion about characters by the bytes.
+///
+/// # Examples
+///
+/// ```
+/// // The searches take a program over `UnicodeWord`, since it is such a predicate.
+/// let builder = Builder::new(rt.alloc());
+/// let start = builder.look(Look::WordStartUnicode);
+/// let program = builder.build(UnicodeWord, true, start)?;
+/// let mut captures = program.captures(rt.alloc())?;
+/// let found = find(
+///     rt.alloc(),
+///     &program,
+///     &Input::new("-é".as_bytes()),
+///     &mut captures,
+/// )?;
+/// assert!(rt; found.is_some_and(|it| it.start() == 1));
+/// ```
 pub trait AsciiWordClass: WordClass {
     /// The law, for a proof: nothing is done.
     fn agrees_with_ascii()

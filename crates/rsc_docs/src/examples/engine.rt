@@ -1,9 +1,9 @@
 use rsc_captures::GroupInfo;
-use rsc_engine::{Program, find};
-use rsc_look::{AsciiWord, LookMatcher};
+use rsc_engine::{Answer, Builder, Cache, Dfa, Error, Matches, Program, find};
+use rsc_look::{AsciiWord, Look, LookMatcher, UnicodeWord};
 use rsc_nfa::{Nfa, State};
 use rsc_primitives::{PatternID, StateID};
-use rsc_search::Input;
+use rsc_search::{Input, Span};
 use std::test::Fail;
 
 #[test]
@@ -29,5 +29,168 @@ fn program(rt: HostRuntime) -> Result<(), Fail> {
         let found = find(rt.alloc(), program, &Input::new(b"-q"), &mut captures)?;
         assert!(rt; found.is_some_and(|it| it.start() == 1 && it.end() == 2));
     }
+    Ok(())
+}
+
+#[test]
+fn builder(rt: HostRuntime) -> Result<(), Fail> {
+    // `Builder`
+    // (?P<key>[a-z]+)=
+    let builder = Builder::new(rt.alloc());
+    let letters = builder.plus(builder.range(b'a', b'z'))?;
+    let key = builder.group(Some("key"), letters)?;
+    let whole = builder.then(key, builder.literal(b"=")?)?;
+    let program = builder.build(AsciiWord, true, whole)?;
+    let mut captures = program.captures(rt.alloc())?;
+    let found = find(rt.alloc(), &program, &Input::new(b"-ab=12"), &mut captures)?;
+    assert!(rt; found.is_some_and(|it| it.start() == 1 && it.end() == 4));
+    assert!(rt; captures.get_group_by_name("key") == Some(Span { start: 1, end: 3 }));
+    Ok(())
+}
+
+#[test]
+fn part(rt: HostRuntime) -> Result<(), Fail> {
+    // `Part`
+    let builder = Builder::new(rt.alloc());
+    let digits = builder.star(builder.range(b'0', b'9'))?;
+    assert!(rt; digits.may_be_empty() && digits.loops_take_bytes());
+    let twice = builder.star(digits)?;
+    assert!(rt; !twice.loops_take_bytes());
+    Ok(())
+}
+
+#[test]
+fn patterns(rt: HostRuntime) -> Result<(), Fail> {
+    // `Builder::build`
+    // The patterns `if` and [a-z]+, in this order.
+    let mut builder = Builder::new(rt.alloc());
+    let keyword = builder.literal(b"if")?;
+    builder.pattern(keyword)?;
+    let letters = builder.plus(builder.range(b'a', b'z'))?;
+    let program = builder.build(AsciiWord, true, letters)?;
+    let mut captures = program.captures(rt.alloc())?;
+    let found = find(rt.alloc(), &program, &Input::new(b"iff"), &mut captures)?;
+    // Both match from 0, and the first one is preferred.
+    assert!(rt; found.is_some_and(|it| it.pattern() == PatternID::ZERO && it.end() == 2));
+    Ok(())
+}
+
+#[test]
+fn first(rt: HostRuntime) -> Result<(), Fail> {
+    // `find`
+    // [a-z]+
+    let builder = Builder::new(rt.alloc());
+    let letters = builder.plus(builder.range(b'a', b'z'))?;
+    let program = builder.build(AsciiWord, true, letters)?;
+    let mut captures = program.captures(rt.alloc())?;
+    let found = find(rt.alloc(), &program, &Input::new(b"12 ab"), &mut captures)?;
+    assert!(rt; found.map(|it| it.span()) == Some(Span { start: 3, end: 5 }));
+    assert!(rt; find(rt.alloc(), &program, &Input::new(b"12"), &mut captures)?.is_none());
+    Ok(())
+}
+
+#[test]
+fn matches(rt: HostRuntime) -> Result<(), Fail> {
+    // `Matches`
+    // [a-z]+
+    let builder = Builder::new(rt.alloc());
+    let letters = builder.plus(builder.range(b'a', b'z'))?;
+    let program = builder.build(AsciiWord, true, letters)?;
+    let mut captures = program.captures(rt.alloc())?;
+    let mut matches = Matches::new(rt.alloc(), &program, Input::new(b"ab 12 c"))?;
+    let ab = matches.next(&mut captures)?;
+    assert!(rt; ab.map(|it| it.span()) == Some(Span { start: 0, end: 2 }));
+    let c = matches.next(&mut captures)?;
+    assert!(rt; c.map(|it| it.span()) == Some(Span { start: 6, end: 7 }));
+    assert!(rt; matches.next(&mut captures)?.is_none());
+    Ok(())
+}
+
+#[test]
+fn cache(rt: HostRuntime) -> Result<(), Fail> {
+    // `Cache`
+    // [a-z]+
+    let builder = Builder::new(rt.alloc());
+    let letters = builder.plus(builder.range(b'a', b'z'))?;
+    let program = builder.build(AsciiWord, true, letters)?;
+    let mut captures = program.captures(rt.alloc())?;
+    let mut cache = Cache::new(rt.alloc(), &program)?;
+    assert!(rt; cache.find(&Input::new(b"1"), &mut captures)?.is_none());
+    let found = cache.find(&Input::new(b"1 a"), &mut captures)?;
+    assert!(rt; found.is_some_and(|it| it.start() == 2));
+    Ok(())
+}
+
+#[test]
+fn reused(rt: HostRuntime) -> Result<(), Fail> {
+    // `Cache::matches`
+    // [a-z]+
+    let builder = Builder::new(rt.alloc());
+    let letters = builder.plus(builder.range(b'a', b'z'))?;
+    let program = builder.build(AsciiWord, true, letters)?;
+    let mut captures = program.captures(rt.alloc())?;
+    let mut matches = Cache::new(rt.alloc(), &program)?.matches(Input::new(b"a"))?;
+    assert!(rt; matches.next(&mut captures)?.is_some());
+    assert!(rt; matches.next(&mut captures)?.is_none());
+    // The next haystack.
+    let mut matches = matches.into_cache().matches(Input::new(b"1"))?;
+    assert!(rt; matches.next(&mut captures)?.is_none());
+    Ok(())
+}
+
+#[test]
+fn dfa(rt: HostRuntime) -> Result<(), Fail> {
+    // `Dfa`
+    // [a-z]+
+    let builder = Builder::new(rt.alloc());
+    let letters = builder.plus(builder.range(b'a', b'z'))?;
+    let program = builder.build(AsciiWord, true, letters)?;
+    let mut dfa = Dfa::new(rt.alloc(), &program, 1000);
+    assert!(rt; dfa.is_match(&Input::new(b"1 ab"))? && !dfa.is_match(&Input::new(b"1"))?);
+    assert!(rt; dfa.leftmost_end(&Input::new(b"1 ab"))? == Some(4));
+    Ok(())
+}
+
+#[test]
+fn answers(rt: HostRuntime) -> Result<(), Fail> {
+    // `Answer`
+    // [a-z]+, and \b, which looks at characters.
+    let mut builder = Builder::new(rt.alloc());
+    let letters = builder.plus(builder.range(b'a', b'z'))?;
+    builder.pattern(letters)?;
+    let boundary = builder.look(Look::WordUnicode);
+    let program = builder.build(UnicodeWord, true, boundary)?;
+    let mut dfa = Dfa::new(rt.alloc(), &program, 1000);
+    assert!(rt; dfa.earliest_end(&Input::new(b"- a"))? == Answer::End(2));
+    assert!(rt; dfa.earliest_end(&Input::new(b"--"))? == Answer::NoMatch);
+    assert!(rt; dfa.earliest_end(&Input::new("-é".as_bytes()))? == Answer::Quit(1));
+    Ok(())
+}
+
+#[test]
+fn error(rt: HostRuntime) -> Result<(), Fail> {
+    // `Error`
+    let builder = Builder::new(rt.alloc());
+    assert!(rt; matches!(builder.class(&[]), Err(Error::EmptyClass)));
+    let reversed = builder.range(b'z', b'a');
+    assert!(rt; matches!(builder.build(AsciiWord, true, reversed), Err(Error::Faulty)));
+    Ok(())
+}
+
+#[test]
+fn word_class(rt: HostRuntime) -> Result<(), Fail> {
+    // `AsciiWordClass`
+    // The searches take a program over `UnicodeWord`, since it is such a predicate.
+    let builder = Builder::new(rt.alloc());
+    let start = builder.look(Look::WordStartUnicode);
+    let program = builder.build(UnicodeWord, true, start)?;
+    let mut captures = program.captures(rt.alloc())?;
+    let found = find(
+        rt.alloc(),
+        &program,
+        &Input::new("-é".as_bytes()),
+        &mut captures,
+    )?;
+    assert!(rt; found.is_some_and(|it| it.start() == 1));
     Ok(())
 }

@@ -21,27 +21,27 @@ use std::alloc::Global;
 
 /// The states so far.
 #[derive(Drop)]
-pub struct States {
-    pub states: Vec<State>,
+pub(crate) struct States {
+    pub(crate) states: Vec<State>,
 }
 
 /// The states so far, and which groups are still to come.
 #[derive(Drop)]
-pub struct Compiler {
-    pub list: States,
+pub(crate) struct Compiler {
+    pub(crate) list: States,
     // How many of the pattern's groups open before the next part ends. It decides which slots a group has.
-    pub left: usize,
-    pub alloc: Global,
+    pub(crate) left: usize,
+    pub(crate) alloc: Global,
 }
 
 /// Which slots the groups of a pattern have.
-pub struct Slots<'i> {
-    pub info: &'i GroupInfo,
-    pub pattern: PatternID,
+pub(crate) struct Slots<'i> {
+    pub(crate) info: &'i GroupInfo,
+    pub(crate) pattern: PatternID,
     // The slot of the end of the whole match, in which no part records.
-    pub end: SmallIndex,
+    pub(crate) end: SmallIndex,
     // How many slots the groups of all patterns have.
-    pub limit: usize,
+    pub(crate) limit: usize,
 }
 
 impl Drop for Slots<'_> {
@@ -78,7 +78,7 @@ impl Slots<'_> {
 }
 
 /// The states of the patterns, and the one at which a match of any of them begins.
-pub fn compile(
+pub(crate) fn compile(
     alloc: Global,
     info: &GroupInfo,
     patterns: &[Part<'_>],
@@ -175,7 +175,12 @@ impl Compiler {
 
     /// The state at which the part begins. Where it ends the state `next` comes.
     #[cycle(part)]
-    pub fn part(&mut self, slots: &Slots<'_>, tree: &Tree, next: StateID) -> Result<StateID, Error>
+    pub(crate) fn part(
+        &mut self,
+        slots: &Slots<'_>,
+        tree: &Tree,
+        next: StateID,
+    ) -> Result<StateID, Error>
         ensures { MatchResult result (λ first. BuildsPart (slot_number slots.now.info.now slots.now.pattern) (slots.now.end, slots.now.limit)
             self.old.left self.new.left self.old.list.states.items self.new.list.states.items first next (pattern_in tree.now)) RunsOut }
     {
@@ -307,14 +312,14 @@ impl States {
     }
 
     /// A state that leads to two, preferably to the first.
-    pub fn fork(&mut self, a: StateID, b: StateID) -> Result<StateID, Error>
+    pub(crate) fn fork(&mut self, a: StateID, b: StateID) -> Result<StateID, Error>
         ensures { MatchResult result (IsAdded self.old.states.items self.new.states.items (Fork a b)) RunsOut }
     {
         self.add(State::Fork { a, b })
     }
 
     /// One more state.
-    pub fn add(&mut self, state: State) -> Result<StateID, Error>
+    pub(crate) fn add(&mut self, state: State) -> Result<StateID, Error>
         ensures { MatchResult result (IsAdded self.old.states.items self.new.states.items state) RunsOut }
     {
         let id = self.next_id()?;
@@ -323,7 +328,7 @@ impl States {
     }
 
     /// The number of the state that is added next.
-    pub fn next_id(&self) -> Result<StateID, Error>
+    pub(crate) fn next_id(&self) -> Result<StateID, Error>
         ensures { MatchResult result (λ id. id ≡ length self.now.states.items) RunsOut }
     {
         match StateID::new(self.states.len()) {

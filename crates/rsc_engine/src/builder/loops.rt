@@ -15,7 +15,7 @@ use rsc_primitives::StateID;
 impl Compiler {
     /// The part as often as the numbers say.
     #[cycle(part)]
-    pub fn repeat(
+    pub(crate) fn repeat(
         &mut self,
         slots: &Slots<'_>,
         times: Times,

@@ -10,7 +10,7 @@ use rsc_captures::{GroupInfo, GroupInfoError, GroupInfoErrorKind};
 use std::alloc::Global;
 
 /// The names of a part, and of the part after it.
-pub fn joined<'n>(
+pub(crate) fn joined<'n>(
     mut names: Vec<Option<&'n str>>,
     mut more: Vec<Option<&'n str>>,
 ) -> Result<Vec<Option<&'n str>>, Error>
@@ -22,7 +22,7 @@ pub fn joined<'n>(
 }
 
 /// The groups of all patterns: of each that of the whole match, which has no name, and then its own.
-pub fn info_of(alloc: Global, patterns: &[Part<'_>]) -> Result<GroupInfo, Error>
+pub(crate) fn info_of(alloc: Global, patterns: &[Part<'_>]) -> Result<GroupInfo, Error>
     ensures groups { IfOk result (λ info. info ≡ map groups_of_pattern patterns.now) }
     ensures names { OnOk result (¬ (RepeatsName (map groups_of_pattern patterns.now))) }
     ensures refused { IfErr result (RefusesNames (map groups_of_pattern patterns.now)) }

@@ -9,6 +9,16 @@ use super::tree::Tree;
 /// A part of a pattern.
 ///
 /// Parts nest as the calls that made them, except that `literal`, `class`, `concat` and `one_of` stay flat. To build or drop a part takes stack for each level.
+///
+/// # Examples
+///
+/// ```
+/// let builder = Builder::new(rt.alloc());
+/// let digits = builder.star(builder.range(b'0', b'9'))?;
+/// assert!(rt; digits.may_be_empty() && digits.loops_take_bytes());
+/// let twice = builder.star(digits)?;
+/// assert!(rt; !twice.loops_take_bytes());
+/// ```
 pub struct Part<'n> {
     pub(super) tree: Tree,
     // The names of its groups, in the order in which they open.

@@ -4,7 +4,7 @@ use rsc_look::Look;
 
 /// A part of a pattern, made of smaller ones. `pattern_in` in `specs/Trees.antt` says which pattern it is.
 #[derive(Drop)]
-pub enum Tree {
+pub(crate) enum Tree {
     /// No byte.
     Empty,
     /// What never matches, not even no byte.
@@ -34,13 +34,13 @@ pub enum Tree {
 /// How a part is repeated, and what its states need to know of it. `may_be_empty` decides which match is preferred by a loop over a part that may take no
 /// byte; no clause says so, but tests of `build` and `loops` do.
 #[derive(Clone, Copy)]
-pub struct Times {
+pub(crate) struct Times {
     /// At least this often.
-    pub min: usize,
+    pub(crate) min: usize,
     /// At most this often, or without a limit. It is `min` if it is below that.
-    pub max: Option<usize>,
+    pub(crate) max: Option<usize>,
     /// Preferably often.
-    pub is_greedy: bool,
+    pub(crate) is_greedy: bool,
     /// The part may match no byte: a loop over it is entered by a choice of its own.
-    pub may_be_empty: bool,
+    pub(crate) may_be_empty: bool,
 }

@@ -15,7 +15,7 @@ use std::alloc::Global;
 
 /// An entry: where a unit leads from a row, if that is known.
 #[derive(Clone, Copy)]
-pub enum Lead {
+pub(crate) enum Lead {
     /// It isn't known.
     Unknown,
     /// A match ends before the unit.
@@ -28,7 +28,7 @@ pub enum Lead {
 
 /// Where a unit leads from a row.
 #[derive(Clone, Copy)]
-pub enum Step {
+pub(crate) enum Step {
     /// A match ends before the unit.
     Matches,
     /// The unit leads to the row.
@@ -39,7 +39,7 @@ pub enum Step {
 
 /// What an entry says.
 #[inline(always)]
-pub fn read(lead: Lead) -> Option<Step>
+pub(crate) fn read(lead: Lead) -> Option<Step>
     ensures { result ≡ step_of lead }
 {
     match lead {
@@ -50,7 +50,7 @@ pub fn read(lead: Lead) -> Option<Step>
 }
 
 /// The entry that says the step, or nothing. A row that is `is_last` has no state.
-pub fn written(step: Step, is_last: bool) -> Lead
+pub(crate) fn written(step: Step, is_last: bool) -> Lead
     ensures { (step_of result ≡ None) ⊎ (step_of result ≡ Some step) }
 {
     match step {
@@ -69,7 +69,7 @@ pub fn written(step: Step, is_last: bool) -> Lead
 
 /// Where the entry of a row and a unit is, in a table of that many rows and entries.
 #[inline(always)]
-pub fn entry_index<W: WordClass>(
+pub(crate) fn entry_index<W: WordClass>(
     plan: &Plan<'_, W>,
     row: usize,
     unit: Option<u8>,
@@ -87,7 +87,7 @@ pub fn entry_index<W: WordClass>(
 }
 
 /// Puts unknown entries at the end of the list, until it has that many.
-pub fn widen(leads: &mut Vec<Lead>, len: usize) -> Result<(), Error>
+pub(crate) fn widen(leads: &mut Vec<Lead>, len: usize) -> Result<(), Error>
     ensures same { (i : ℕ) → slice_index_or leads.new.items i Unknown ≡ slice_index_or leads.old.items i Unknown }
     ensures longer { length leads.old.items ≤ length leads.new.items }
     ensures room { OnOk result (len ≤ length leads.new.items) }
@@ -100,7 +100,7 @@ pub fn widen(leads: &mut Vec<Lead>, len: usize) -> Result<(), Error>
 }
 
 /// What a row is found by.
-pub fn key_of(
+pub(crate) fn key_of(
     alloc: Global,
     classes: &ByteClasses,
     mode: &Anchored,
@@ -129,7 +129,7 @@ pub fn key_of(
 }
 
 /// Whether two bytes, or no bytes, have one class.
-pub fn are_alike(classes: &ByteClasses, one: Option<u8>, other: Option<u8>) -> bool
+pub(crate) fn are_alike(classes: &ByteClasses, one: Option<u8>, other: Option<u8>) -> bool
     ensures { result ≡ true → Alike classes.now one other }
 {
     match one {
@@ -145,14 +145,14 @@ pub fn are_alike(classes: &ByteClasses, one: Option<u8>, other: Option<u8>) -> b
 }
 
 /// Whether two sets are one list.
-pub fn are_same(one: &[StateID], other: &[StateID]) -> bool
+pub(crate) fn are_same(one: &[StateID], other: &[StateID]) -> bool
     ensures { result ≡ true → one.now ≡ other.now }
 {
     one == other
 }
 
 /// For the prover: a byte is below 256. Nothing is done.
-pub fn is_byte(unit: Option<u8>)
+pub(crate) fn is_byte(unit: Option<u8>)
     ensures { IfSome unit (λ b. b < 256) }
 {
     match unit {

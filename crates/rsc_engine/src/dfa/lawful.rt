@@ -2,7 +2,7 @@
 ghost use Rattle.rsc_engine.specs.LawfulLayout.{Lawful};
 
 /// The laws of the libraries below, in one.
-pub fn steps_are_lawful()
+pub(crate) fn steps_are_lawful()
     ensures { Lawful }
 {
     rsc_nfa::laws::a_step_is_local();

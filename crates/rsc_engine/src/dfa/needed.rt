@@ -31,16 +31,16 @@ const AT_ONCE: usize = 64;
 
 /// Two ranges of bytes: in each match a byte of the second is directly after one of the first.
 #[derive(Clone, Copy)]
-pub struct Needed {
+pub(crate) struct Needed {
     /// The first and the last byte of the one range.
-    pub first: (u8, u8),
+    pub(crate) first: (u8, u8),
     /// Those of the other.
-    pub second: (u8, u8),
+    pub(crate) second: (u8, u8),
 }
 
 impl Needed {
     /// Two ranges that each match of the program has, if some are found.
-    pub fn of<W: WordClass>(program: &Program<W>) -> Option<Needed>
+    pub(crate) fn of<W: WordClass>(program: &Program<W>) -> Option<Needed>
         ensures { IfSome result (λ n. NeedsPair (machine W.word_chars program.now) n.first n.second) }
     {
         if program.len() > MOST_STATES {
@@ -156,7 +156,7 @@ impl Needed {
     }
 
     /// Whether an input's span lacks such bytes, and so has no match of the program.
-    pub fn are_missing<W: WordClass>(&self, program: &Program<W>, input: &Input<'_>) -> bool
+    pub(crate) fn are_missing<W: WordClass>(&self, program: &Program<W>, input: &Input<'_>) -> bool
         requires { NeedsPair (machine W.word_chars program.now) self.now.first self.now.second }
         ensures { result ≡ true → HasNone (search_in W.word_chars program.now input.now) }
     {

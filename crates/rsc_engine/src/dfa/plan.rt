@@ -17,24 +17,24 @@ const PAST_ASCII: u8 = 0x80;
 
 /// What a DFA is made from.
 #[derive(Drop)]
-pub struct Plan<'p, W: WordClass> {
+pub(crate) struct Plan<'p, W: WordClass> {
     /// The program.
-    pub program: &'p Program<W>,
+    pub(crate) program: &'p Program<W>,
     /// Bytes of one class lead to the same rows.
-    pub classes: ByteClasses,
+    pub(crate) classes: ByteClasses,
     /// How many classes there are, with one for the end of the input.
-    pub width: usize,
+    pub(crate) width: usize,
     /// Whether an assertion looks at characters.
-    pub unicode: bool,
+    pub(crate) unicode: bool,
     /// Whether no byte leads to the start state, so that a search is there only where a match may begin.
-    pub is_start_never_entered: bool,
+    pub(crate) is_start_never_entered: bool,
     /// How many rows are kept at most.
-    pub most_rows: usize,
+    pub(crate) most_rows: usize,
 }
 
 impl<'p, W: WordClass + AsciiWordClass> Plan<'p, W> {
     /// The plan of a program.
-    pub fn new(program: &'p Program<W>, most_rows: usize) -> Plan<'p, W>
+    pub(crate) fn new(program: &'p Program<W>, most_rows: usize) -> Plan<'p, W>
         ensures program { result.program.now ≡ program.now }
         ensures plan { IsPlan (machine W.word_chars program.now) result.classes result.width result.unicode }
         ensures never_entered { result.is_start_never_entered ≡ true → IsNeverEntered (machine W.word_chars program.now) }
@@ -61,7 +61,7 @@ impl<'p, W: WordClass + AsciiWordClass> Plan<'p, W> {
 impl<'p, W: WordClass> Plan<'p, W> {
     /// The column of a byte, or of the end of the input.
     #[inline(always)]
-    pub fn column(&self, unit: Option<u8>) -> usize
+    pub(crate) fn column(&self, unit: Option<u8>) -> usize
         requires { IsPlan (machine W.word_chars self.now.program.now) self.now.classes self.now.width self.now.unicode }
         ensures column { result ≡ column self.now.classes unit }
         ensures within { result < self.now.width }
@@ -73,7 +73,7 @@ impl<'p, W: WordClass> Plan<'p, W> {
     }
 
     /// Whether a search quits at a unit.
-    pub fn quits_at(&self, unit: Option<u8>) -> bool
+    pub(crate) fn quits_at(&self, unit: Option<u8>) -> bool
         requires { IsPlan (machine W.word_chars self.now.program.now) self.now.classes self.now.width self.now.unicode }
         ensures yes { result ≡ true → IsBeyond (machine W.word_chars self.now.program.now) unit }
         ensures no { result ≡ false → IsPlainUnit (machine W.word_chars self.now.program.now) unit }
@@ -120,7 +120,7 @@ fn past_ascii(wanted: bool) -> ByteClassSet
 }
 
 /// The byte before a position.
-pub fn before_of(haystack: &[u8], at: usize) -> Option<u8>
+pub(crate) fn before_of(haystack: &[u8], at: usize) -> Option<u8>
     requires { at ≤ length haystack.now }
     ensures before { result ≡ byte_before haystack.now at }
     ensures byte { IfSome result (λ b. b < 256) }
@@ -133,7 +133,7 @@ pub fn before_of(haystack: &[u8], at: usize) -> Option<u8>
 }
 
 /// The byte after a position.
-pub fn after_of(haystack: &[u8], at: usize) -> Option<u8>
+pub(crate) fn after_of(haystack: &[u8], at: usize) -> Option<u8>
     ensures after { result ≡ byte_after haystack.now at }
     ensures byte { IfSome result (λ b. b < 256) }
 {
@@ -146,7 +146,7 @@ pub fn after_of(haystack: &[u8], at: usize) -> Option<u8>
 
 /// The byte at a position.
 #[inline(always)]
-pub fn byte_at(haystack: &[u8], at: usize) -> u8
+pub(crate) fn byte_at(haystack: &[u8], at: usize) -> u8
     requires { at < length haystack.now }
     ensures after { byte_after haystack.now at ≡ Some result }
 {

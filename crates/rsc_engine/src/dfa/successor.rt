@@ -13,7 +13,7 @@ use rsc_search::Anchored;
 use std::alloc::Global;
 
 /// `None` if a match ends between the bytes; else the set after the second byte.
-pub fn successor<W: WordClass>(
+pub(crate) fn successor<W: WordClass>(
     alloc: Global,
     program: &Program<W>,
     mode: &Anchored,

@@ -23,7 +23,7 @@ use std::collections::BTreeMap;
 
 /// What is known at a position: the search's mode, a byte of the class of the byte before, and the states before any step with no byte.
 #[derive(Drop)]
-pub struct Row {
+pub(crate) struct Row {
     mode: Anchored,
     before: Option<u8>,
     set: Vec<StateID>,
@@ -31,18 +31,18 @@ pub struct Row {
 
 /// The rows so far, and what is known of them.
 #[derive(Drop)]
-pub struct Table {
+pub(crate) struct Table {
     alloc: Global,
-    pub rows: Vec<Row>,
+    pub(crate) rows: Vec<Row>,
     // For each row and column where it leads.
-    pub leads: Vec<Lead>,
+    pub(crate) leads: Vec<Lead>,
     // For each row's key the row. No clause speaks of it, since the row that is found is compared.
     known: BTreeMap<Vec<u32>, usize>,
 }
 
 impl Table {
     /// The table with no rows.
-    pub fn new(alloc: Global) -> Table
+    pub(crate) fn new(alloc: Global) -> Table
         ensures rows { result.rows.items ≡ [] }
         ensures leads { result.leads.items ≡ [] }
     {
@@ -58,7 +58,7 @@ impl Table {
     /// no match begins. If it's wanted, that is as late as the rows tell.
     // Not inlined, so that the loop over known entries has registers of its own.
     #[inline(never)]
-    pub fn follow<W: WordClass>(
+    pub(crate) fn follow<W: WordClass>(
         &self,
         plan: &Plan<'_, W>,
         input: &Input<'_>,
@@ -127,7 +127,7 @@ impl Table {
     }
 
     /// Whether a row has no state, so that no match goes on from there.
-    pub fn has_no_state(&self, row: usize) -> bool
+    pub(crate) fn has_no_state(&self, row: usize) -> bool
         ensures { result ≡ true → (found : Row) → slice_get self.now.rows.items row ≡ Some found → found.set.items ≡ [] }
     {
         if row < self.rows.len() {
@@ -167,7 +167,7 @@ impl Table {
     }
 
     /// Where a unit leads from a row.
-    pub fn step<W: WordClass>(
+    pub(crate) fn step<W: WordClass>(
         &mut self,
         plan: &Plan<'_, W>,
         row: usize,
@@ -270,7 +270,7 @@ impl Table {
     }
 
     /// The row of a mode, the byte before and a set: one that is there, or a new one. The second part is false if the table was cleared.
-    pub fn row_of<W: WordClass>(
+    pub(crate) fn row_of<W: WordClass>(
         &mut self,
         plan: &Plan<'_, W>,
         mode: &Anchored,
