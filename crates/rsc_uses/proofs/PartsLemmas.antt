@@ -13,7 +13,8 @@ use Rattle.rsc_engine.specs.Preferred.{MayBegin}
 use Rattle.rsc_engine.specs.NextMatches.{IsOpen, IsRepeated, IsSplitAt}
 use Rattle.rsc_engine.specs.Patterns.{Pattern, Subject, Goes, subject_of, IsMatchIn}
 use Rattle.rsc_engine.specs.FirstEnds.{IsFirstEnd}
-use Rattle.rsc_uses.specs.Texts.{text_of, GoesNowhere, GoesNowhereIn}
+use Rattle.rsc_engine.specs.GroupNumbers.{as_whole}
+use Rattle.rsc_uses.specs.Texts.{text_of, GoesNowhere, GoesNowhereIn, HoldsFirstWay}
 
 pub goes_to : (x : Subject) (p : Pattern) (i j end : ℕ) → j ≡ end → Goes x p i j → Goes x p i end
 goes_to x p i j end e goes = subst (λ (k : ℕ). Goes x p i k) e goes
@@ -84,6 +85,28 @@ first_group chars program p groups input made after found lists is_made same its
     let both = has_room chars program p groups input made after found lists is_made same m in
     law (omega (arith, both.0, both.1))
     (has_first after.groups groups found.pattern (its ∙ (ap (λ (c : Captured). c.groups) is_made ∙ lists)) both.0)
+
+-- captures that are made for the program have two slots for each of its groups
+pub count_slots : (lists made_for : GroupLists) (made after : Captured) → made_for ≡ lists → made ≡ no_offsets made_for (2 * all_groups made_for)
+    → length after.offsets ≡ length made.offsets → length after.offsets ≡ 2 * all_groups lists
+count_slots lists made_for made after its is_made same =
+    same ∙ (ap (λ (c : Captured). length c.offsets) is_made ∙ (length-replicate {A = Option ℕ} (2 * all_groups made_for) None
+    ∙ ap (λ (l : GroupLists). 2 * all_groups l) its))
+
+-- and hold what the pattern's first way records, if those of its match do
+pub first_way_of : {W : Type 0} (chars : W → ℕ → Bool) (program : Compiled W) (word_class : W) (p : Pattern) (lists : GroupLists) (input : InputParts)
+    (after : Captured) (found : Matched) → program.automaton.matcher ≡ (10, word_class) → program.automaton.groups ≡ lists
+    → IsMatchIn (p ∷ []) (search_in chars program input) found
+    → (slice_get (p ∷ []) found.pattern ≡ Some p → HoldsFirstWay (subject_of (search_in chars program input))
+    (as_whole program.automaton.groups found.pattern p) input.span.end found.span after.offsets)
+    → HoldsFirstWay (text_of input.haystack (chars word_class)) (as_whole lists 0 p) input.span.end found.span after.offsets
+first_way_of {W = W} chars program word_class p lists input after found matcher its m way =
+    subst (λ (x : ℕ × W). HoldsFirstWay (record { haystack = input.haystack; terminator = x.0; word_chars = chars x.1 }) (as_whole lists 0 p) input.span.end
+    found.span after.offsets) matcher
+    (subst (λ (l : GroupLists). HoldsFirstWay (subject_of (search_in chars program input)) (as_whole l 0 p) input.span.end found.span after.offsets) its
+    (subst (λ (n : ℕ). HoldsFirstWay (subject_of (search_in chars program input)) (as_whole program.automaton.groups n p) input.span.end found.span
+    after.offsets) (number_of p (search_in chars program input) found m)
+    (way (m.its ∙ ap (λ (q : Pattern). Some q) (its_only p m.pattern found.pattern m.its)))))
 
 -- where one of the patterns goes is a match
 pub match_in : {W : Type 0} (chars : W → ℕ → Bool) (program : Compiled W) (word_class : W) (patterns : List Pattern) (n : ℕ) (p : Pattern) (input : InputParts)

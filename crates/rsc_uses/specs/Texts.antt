@@ -1,10 +1,13 @@
 -- Where a pattern goes in a text.
-use Rattle.std.specs.Prelude.{◌≡◌, ℕ, ◌<◌, ◌≤◌, Bool, true, List, length}
+use Rattle.std.specs.Prelude.{◌≡◌, ℕ, ◌<◌, ◌≤◌, Bool, true, List, [], length, slice_index_or, Option, None}
 use Rattle.rsc_search.specs.declared.anchored.Anchored.TheVariants.{No}
+use Rattle.rsc_search.specs.declared.span.Span.{Span}
 use Rattle.rsc_search.specs.Inputs.{InputParts}
 use Rattle.rsc_search.specs.Modes.{pattern_of_mode}
 use Rattle.rsc_engine.specs.Patterns.{Pattern, Subject, Goes}
 use Rattle.rsc_engine.specs.Runs.{is_wanted}
+use Rattle.rsc_engine.specs.Ways.{last_in}
+use Rattle.rsc_engine.specs.FirstWays.{IsFirstWay}
 
 -- a text whose lines end by \n
 abbrev pub text_of : List ℕ → (ℕ → Bool) → Subject
@@ -23,3 +26,9 @@ abbrev pub GoesNowhereIn : InputParts → (ℕ → Bool) → Pattern → Type 0
 GoesNowhereIn input chars p =
     (i j : ℕ) → input.span.start ≤ i → i ≤ input.span.end → (¬ (input.anchored ≡ No) → i ≡ input.span.start)
     → is_wanted (pattern_of_mode input.anchored) 0 ≡ true → j ≤ input.span.end → ¬ (Goes (text_of input.haystack chars) p i j)
+
+-- of the pattern's ways from the span's start to positions up to a last one, the first leads to the span's end, and the slots hold what it records in them last
+abbrev pub HoldsFirstWay : Subject → Pattern → ℕ → Span → List (Option ℕ) → Type 0
+HoldsFirstWay x p most span offsets =
+    (records : List (ℕ × ℕ)) × IsFirstWay x p (λ j. j ≤ most) (span.start, []) (span.end, records)
+    × ((slot : ℕ) → slot < length offsets → slice_index_or offsets slot None ≡ last_in records slot)

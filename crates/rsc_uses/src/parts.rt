@@ -1,13 +1,15 @@
 //! Searches for a part of a pattern: a program is built of it, and what an engine's answer says of the part itself.
-ghost use Rattle.std.specs.Prelude.{◌≡◌, ◌<◌, ◌≤◌, ◌++◌, [], ◌∷◌, ℕ, Some, None, true, false, IfOk, IfErr, OnOk, IfSome, IfNone, length, slice_index, slice_index_or};
+ghost use Rattle.std.specs.Prelude.{◌≡◌, ◌*◌, ◌<◌, ◌≤◌, ◌++◌, [], ◌∷◌, ℕ, Some, None, true, false, IfOk, IfErr, OnOk, IfSome, IfNone, length, slice_index, slice_index_or};
 ghost use Rattle.rsc_captures.specs.Captured.{group_span};
+ghost use Rattle.rsc_captures.specs.Groups.{all_groups};
 ghost use Rattle.rsc_engine.specs.declared.dfa.Answer.TheVariants.{End, NoMatch, Quit};
 ghost use Rattle.rsc_engine.specs.declared.error.Error.TheVariants.{OutOfMemory};
 ghost use Rattle.rsc_engine.specs.Patterns.{Goes, Then, Either, Literal, may_be_empty};
 ghost use Rattle.rsc_engine.specs.FirstEnds.{loops_take_bytes, IsFirstEnd};
+ghost use Rattle.rsc_engine.specs.GroupNumbers.{as_whole};
 ghost use Rattle.rsc_engine.specs.Parts.{pattern_of, groups_of_part, groups_of_pattern};
 ghost use Rattle.rsc_engine.specs.Refusals.{FailsToBuild, RepeatsName, has_a_reversed_range};
-ghost use Rattle.rsc_uses.specs.Texts.{text_of, GoesNowhere, GoesNowhereBefore, GoesNowhereIn};
+ghost use Rattle.rsc_uses.specs.Texts.{text_of, GoesNowhere, GoesNowhereBefore, GoesNowhereIn, HoldsFirstWay};
 
 use rsc_captures::Captures;
 use rsc_engine::{Answer, AsciiWordClass, Builder, Dfa, Error, Matches, Part, Program, find, laws};
@@ -48,7 +50,8 @@ pub fn find_part<W: WordClass + AsciiWordClass>(
     }
 }
 
-/// The first match of a part, with captures whose first two slots hold where it starts and ends; so its group 0 has its span.
+/// The first match of a part, with captures whose first two slots hold where it starts and ends; so its group 0 has its span. If the part's loops take bytes,
+/// the slots of all its groups hold what its first way records there.
 pub fn find_with_slots<W: WordClass + AsciiWordClass>(
     alloc: Global,
     word_class: W,
@@ -58,10 +61,15 @@ pub fn find_with_slots<W: WordClass + AsciiWordClass>(
     ensures start { IfOk result (λ found. IfSome found (λ both. slice_index_or both.1.offsets 0 None ≡ Some both.0.span.start)) }
     ensures end { IfOk result (λ found. IfSome found (λ both. slice_index_or both.1.offsets 1 None ≡ Some both.0.span.end)) }
     ensures group { IfOk result (λ found. IfSome found (λ both. group_span both.1 0 ≡ Some both.0.span)) }
+    ensures slots { IfOk result (λ found. IfSome found (λ both. length both.1.offsets ≡ 2 * all_groups (groups_of_pattern part.entry ∷ []))) }
+    ensures way { IfOk result (λ found. IfSome found (λ both. loops_take_bytes (pattern_of part.entry) ≡ true →
+        HoldsFirstWay (text_of input.now.haystack (W.word_chars word_class)) (as_whole (groups_of_pattern part.entry ∷ []) 0 (pattern_of part.entry))
+        input.now.span.end both.0.span both.1.offsets)) }
     ensures none { IfOk result (λ found. IfNone found (GoesNowhereIn input.now (W.word_chars word_class) (pattern_of part.entry))) }
     ensures refused { IfErr result (FailsToBuild (pattern_of part.entry ∷ []) (groups_of_pattern part.entry ∷ [])) }
 {
     laws::a_first_match_is_of_a_pattern::<W>();
+    laws::captures_are_of_the_first_way::<W>();
     laws::the_first_group_is_the_match::<W>();
     let program = Builder::new(alloc).build(word_class, true, part)?;
     let mut captures = program.captures(alloc)?;

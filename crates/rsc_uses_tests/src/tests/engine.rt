@@ -1,8 +1,8 @@
 //! The callers of the engine, run on values.
-use rsc_engine::{Answer, Builder, Cache, Dfa, Error, Matches, Program};
+use rsc_engine::{Answer, Builder, Cache, Dfa, Error, Matches, Part, Program};
 use rsc_look::AsciiWord;
 use rsc_primitives::PatternID;
-use rsc_search::Input;
+use rsc_search::{Input, Span};
 use rsc_uses::{ends, engine, lexer, parts};
 use std::alloc::Global;
 use std::test::Fail;
@@ -36,6 +36,30 @@ fn the_first_group_of_a_match_is_set(rt: HostRuntime) -> Result<(), Fail> {
     assert!(rt; found.is_some_and(|both| both.1 == Some(both.0.span())));
     let digit = builder.range(b'0', b'9');
     assert!(rt; parts::find_with_group(rt.alloc(), AsciiWord, digit, &input)?.is_none());
+    Ok(())
+}
+
+// `((a)|(b))+`
+fn letters(builder: &Builder<'static>) -> Result<Part<'static>, Error> {
+    let a = builder.group(None, builder.literal(b"a")?)?;
+    let b = builder.group(None, builder.literal(b"b")?)?;
+    let either = builder.either(a, b)?;
+    let either = builder.group(None, either)?;
+    builder.plus(either)
+}
+
+#[test]
+fn groups_are_where_the_first_way_goes(rt: HostRuntime) -> Result<(), Fail> {
+    let builder = Builder::new(rt.alloc());
+    let whole = letters(&builder)?;
+    let found = parts::find_with_slots(rt.alloc(), AsciiWord, whole, &Input::new(b"-ab"))?;
+    let Some((_, captures)) = found else {
+        return Err(Fail::from("no match"));
+    };
+    let last = Some(Span { start: 2, end: 3 });
+    let first = Some(Span { start: 1, end: 2 });
+    assert!(rt; captures.get_group(1) == last && captures.get_group(2) == first);
+    assert!(rt; captures.get_group(3) == last && captures.slots().len() == 8);
     Ok(())
 }
 
