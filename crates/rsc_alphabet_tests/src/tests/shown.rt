@@ -7,6 +7,7 @@ use rsc_alphabet::{
 use rsc_primitives_tests::forms::is_shown;
 use std::alloc::{AllocError, Global};
 use std::fmt;
+use std::fmt::Write;
 use std::test::Fail;
 
 // The text that shows the unit of a byte.
@@ -65,6 +66,54 @@ fn each_class_is_shown(rt: HostRuntime) {
     let want =
         "ByteClasses(0 => [\\x00-0:-@BDG-\\xFE], 1 => [1], 2 => [2], 3 => [3], 4 => [4], 5 => [5], 6 => [6], 7 => [7], 8 => [8], 9 => [9], 10 => [ACE-F], 11 => [\\xFF], 12 => [EOI])";
     assert!(rt; is_debug(rt.alloc(), &classes, want));
+}
+
+// The text of a map in which each class is one byte, but for the last class: that takes the bytes from `first` on.
+fn text_of_singletons_to(alloc: Global, first: u8) -> Result<String, AllocError> {
+    let mut text = String::from_str(alloc, "ByteClasses(")?;
+    for byte in 0..first {
+        write!(text, "{byte} => [{}], ", text_of(alloc, byte)?)?;
+    }
+    let end = u32::from(first) + 1;
+    write!(
+        text,
+        "{first} => [{}-\\xFF], {end} => [EOI])",
+        text_of(alloc, first)?
+    )?;
+    Ok(text)
+}
+
+// 200 classes, and 255, of which the last one has two bytes.
+#[test]
+fn many_classes_are_shown(rt: HostRuntime) -> Result<(), Fail> {
+    for first in [199u8, 254] {
+        let mut classes = ByteClasses::singletons();
+        for byte in first..=255 {
+            classes.set(byte, first);
+        }
+        let want = text_of_singletons_to(rt.alloc(), first)?;
+        assert!(rt; is_debug(rt.alloc(), &classes, &want), "{first}");
+    }
+    Ok(())
+}
+
+// Every other byte is in class 1.
+#[test]
+fn classes_of_128_ranges_are_shown(rt: HostRuntime) -> Result<(), Fail> {
+    let mut classes = ByteClasses::empty();
+    let (mut even, mut odd) = (String::new(rt.alloc()), String::new(rt.alloc()));
+    for byte in 0..=255u8 {
+        let text = text_of(rt.alloc(), byte)?;
+        classes.set(byte, byte % 2);
+        if byte % 2 == 0 {
+            even.push_str(&text)?;
+        } else {
+            odd.push_str(&text)?;
+        }
+    }
+    let want = format!(in rt.alloc(); "ByteClasses(0 => [{even}], 1 => [{odd}], 2 => [EOI])")?;
+    assert!(rt; is_debug(rt.alloc(), &classes, &want));
+    Ok(())
 }
 
 // As the original gives them.

@@ -125,6 +125,10 @@ fn numbers_and_names_of_each_length_are_displayed_in_each_form(
         let name = "ß".repeat(alloc, count)?;
         assert!(rt; is_repeated(alloc, &name), "{count}");
     }
+    // Characters of four bytes, up to the last one.
+    for name in ["𝛃", "a\u{10000}", "\u{10FFFF}"] {
+        assert!(rt; is_repeated(alloc, name), "{name}");
+    }
     Ok(())
 }
 

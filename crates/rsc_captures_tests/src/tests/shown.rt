@@ -100,6 +100,42 @@ fn each_group_is_shown(rt: HostRuntime) -> Result<(), Fail> {
     Ok(())
 }
 
+// A pattern that the group info doesn't have has no groups.
+#[test]
+fn captures_of_an_unknown_pattern_are_shown(rt: HostRuntime) -> Result<(), Fail> {
+    for (pattern, want) in [
+        (2, "Captures { pid: Some(PatternID(2)), spans: {} }"),
+        (
+            2147483646,
+            "Captures { pid: Some(PatternID(2147483646)), spans: {} }",
+        ),
+    ] {
+        let captures = filled(
+            rt.alloc(),
+            &[&[None], &[None]],
+            pattern,
+            &[Some(0), Some(1)],
+        )?;
+        assert!(rt; is_shown(rt.alloc(), &captures, want), "{pattern}");
+    }
+    Ok(())
+}
+
+#[test]
+fn each_of_101_groups_is_shown(rt: HostRuntime) -> Result<(), Fail> {
+    let alloc = rt.alloc();
+    let groups: [Option<&str>; 101] = [None; 101];
+    let mut captures = filled(alloc, &[&groups], 0, &[])?;
+    let is_set = captures.set_group(100, Some(Span { start: 7, end: 9 }));
+    let mut want = String::from_str(alloc, "Captures { pid: Some(PatternID(0)), spans: {")?;
+    for group in 0..100 {
+        write!(want, "{group}: None, ")?;
+    }
+    want.push_str("100: 7..9} }")?;
+    assert!(rt; is_set && is_shown(alloc, &captures, &want));
+    Ok(())
+}
+
 // Whether lists are refused by an error that is shown by this text.
 fn is_refusal_shown(alloc: Global, lists: &[&[Option<&str>]], want: &str) -> bool {
     match GroupInfo::new(alloc, lists) {

@@ -137,6 +137,41 @@ fn captures_without_slots_take_no_memory(rt: HostRuntime) -> Result<(), Fail> {
     Ok(())
 }
 
+// Offsets at which a number of fewer bits would end.
+#[test]
+fn a_clone_keeps_offsets_of_any_size(rt: HostRuntime) -> Result<(), Fail> {
+    for offset in [0, 255, 65_536, 4_294_967_295, 4_294_967_296, usize::MAX - 1] {
+        let info = GroupInfo::new(rt.alloc(), &[&[None]])?;
+        let mut captures = Captures::all(rt.alloc(), info)?;
+        captures.set_pattern(Some(PatternID::ZERO));
+        captures.slots_mut()[1] = NonMaxUsize::new(offset);
+        let copy = captures.clone()?;
+        assert!(rt; copy.slots() == captures.slots(), "{offset}");
+    }
+    Ok(())
+}
+
+// Twelve names of a hundred thousand bytes, which differ in the last one.
+#[test]
+fn names_of_more_than_a_million_bytes_are_answered(rt: HostRuntime) -> Result<(), Fail> {
+    let long = "n".repeat(rt.alloc(), 100_000)?;
+    let mut names: Vec<String> = Vec::new(rt.alloc());
+    for k in 0..12 {
+        names.push(format!(in rt.alloc(); "{long}{k:x}")?)?;
+    }
+    let mut groups: Vec<Option<&str>> = Vec::new(rt.alloc());
+    groups.push(None)?;
+    for name in &names {
+        groups.push(Some(name.as_str()))?;
+    }
+    let info = GroupInfo::new(rt.alloc(), &[&groups])?;
+    let last = info
+        .to_name(PatternID::ZERO, 12)
+        .and_then(|name| info.to_index(PatternID::ZERO, name));
+    assert!(rt; info.all_group_len() == 13 && last == Some(12));
+    Ok(())
+}
+
 // Captures with all slots, or with those of the first groups.
 fn captures_of<'a>(
     heap: &'a LocalHeap,

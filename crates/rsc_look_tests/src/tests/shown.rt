@@ -82,6 +82,9 @@ fn matchers_are_shown_with_their_parts(rt: HostRuntime) {
     matcher.set_line_terminator(7);
     let want = "LookMatcher { line_terminator: 7, word_class: AsciiWord }";
     assert!(rt; is_debug(rt.alloc(), &matcher, want));
+    matcher.set_line_terminator(0xFF);
+    let want = "LookMatcher { line_terminator: 255, word_class: AsciiWord }";
+    assert!(rt; is_debug(rt.alloc(), &matcher, want));
 }
 
 fn is_assertion<T: Copy + Eq + fmt::Debug>() {}

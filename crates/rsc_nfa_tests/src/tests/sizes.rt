@@ -41,6 +41,42 @@ fn so_many_states_are_answered(rt: HostRuntime) -> Result<(), Fail> {
     Ok(())
 }
 
+// The same after a fork to the first of them and to the last.
+fn after_a_fork(alloc: Global, count: usize) -> Result<Vec<State>, Fail> {
+    let mut states: Vec<State> = Vec::new(alloc);
+    states.push(State::Fork {
+        a: StateID::must(1),
+        b: StateID::new(count)?,
+    })?;
+    for s in 1..count {
+        let next = StateID::new(s + 1)?;
+        states.push(State::ByteRange {
+            start: 0x61,
+            end: 0x7A,
+            next,
+        })?;
+    }
+    states.push(State::Accept {
+        pattern: PatternID::ZERO,
+    })?;
+    Ok(states)
+}
+
+#[test]
+fn so_many_states_after_a_fork_are_answered(rt: HostRuntime) -> Result<(), Fail> {
+    let alloc = rt.alloc();
+    for count in [1, 2, 62, 63, 64, 65, 1_000, 100_000] {
+        let states = after_a_fork(alloc, count)?;
+        let info = GroupInfo::new(alloc, &[&[None]])?;
+        let made = Nfa::new(alloc, info, LookMatcher::new(AsciiWord), &states);
+        assert!(rt;
+            made.is_ok_and(|nfa| nfa.states() == states.as_slice()),
+            "{count}"
+        );
+    }
+    Ok(())
+}
+
 // What is used of the heap of a group info and of that of the states once an automaton of that last state was asked for, and
 // dropped.
 fn used_after(alloc: Global, size: usize, pattern: PatternID) -> Result<(usize, usize), Fail> {

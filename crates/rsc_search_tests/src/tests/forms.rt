@@ -74,17 +74,21 @@ fn unsupported_modes_are_displayed_in_each_form(rt: HostRuntime) {
     }
 }
 
-// Whether a search that quit after that byte is displayed in each form.
-fn is_byte_displayed(alloc: Global, byte: u8) -> bool {
+// Whether a search that quit at that byte and offset is displayed in each form.
+fn is_byte_displayed(alloc: Global, byte: u8, offset: usize) -> bool {
     let shown = DebugByte(byte);
-    let want = format!(in alloc; "quit search after observing byte {shown:?} at offset 1001");
-    is_error(alloc, &MatchError::quit(byte, 1_001), want)
+    let want = format!(in alloc; "quit search after observing byte {shown:?} at offset {offset}");
+    is_error(alloc, &MatchError::quit(byte, offset), want)
 }
 
 #[test]
 fn a_quit_at_each_byte_is_displayed_in_each_form(rt: HostRuntime) {
     for byte in 0..=255u8 {
-        assert!(rt; is_byte_displayed(rt.alloc(), byte), "{byte}");
+        let is_first = is_byte_displayed(rt.alloc(), byte, 0);
+        assert!(rt;
+            is_first && is_byte_displayed(rt.alloc(), byte, 1_001),
+            "{byte}"
+        );
     }
 }
 
