@@ -30,7 +30,7 @@ import subprocess
 import tempfile
 
 from edits import ROOT, edits_in, replaced, run_unproved
-from runs import answer_where_refused, goes_as_stored, refused_at, runs_of
+from runs import answer_where_refused, goes_as_stored, refused_at, runs_of, unescaped
 
 FIELDS = ("file", "tests", "modules", "snippet", "refused", "seconds", "runs", "also")
 IN_ONE = 50
@@ -264,8 +264,8 @@ def is_asked(runs, crate, args):
 
 
 def arguments_of(run):
-    """Returns the arguments of a run, as a shell splits them, in which \\xHH is a byte."""
-    return [re.sub(rb"\\x([0-9a-f]{2})", lambda it: bytes([int(it[1], 16)]), it.encode()) for it in shlex.split(run)]
+    """Returns the arguments of a run, as a shell splits them, with bytes as in a stored run."""
+    return [unescaped(it) for it in shlex.split(run)]
 
 
 def stored_run(crate, named):

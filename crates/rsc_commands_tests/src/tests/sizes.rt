@@ -45,6 +45,18 @@ fn lists_of_groups_of_any_length_are_answered(rt: HostRuntime) -> Result<(), Fai
     Ok(())
 }
 
+#[test]
+fn a_second_pattern_of_many_groups_is_answered(rt: HostRuntime) -> Result<(), Fail> {
+    let mut want = String::from_str(rt.alloc(), "slots 2004: 0;2")?;
+    for group in 2..1_002 {
+        write!(want, ",{}", 2 * group)?;
+    }
+    want.push('\n')?;
+    let answer = answer_to_many(rt.alloc(), "groups -;-", ",-", 1_000, "")?;
+    assert!(rt; answer.as_str() == want.as_str());
+    Ok(())
+}
+
 // The limit is one slot less than the patterns have.
 #[test]
 fn limits_on_many_patterns_are_kept(rt: HostRuntime) -> Result<(), Fail> {
