@@ -151,23 +151,34 @@ fn a_clone_keeps_offsets_of_any_size(rt: HostRuntime) -> Result<(), Fail> {
     Ok(())
 }
 
-// Twelve names of a hundred thousand bytes, which differ in the last one.
-#[test]
-fn names_of_more_than_a_million_bytes_are_answered(rt: HostRuntime) -> Result<(), Fail> {
-    let long = "n".repeat(rt.alloc(), 100_000)?;
-    let mut names: Vec<String> = Vec::new(rt.alloc());
-    for k in 0..12 {
-        names.push(format!(in rt.alloc(); "{long}{k:x}")?)?;
-    }
-    let mut groups: Vec<Option<&str>> = Vec::new(rt.alloc());
+// Group 0, and a group for each of the names.
+fn groups_of<'a>(alloc: Global, names: &'a [String]) -> Result<Vec<Option<&'a str>>, AllocError> {
+    let mut groups = Vec::new(alloc);
     groups.push(None)?;
-    for name in &names {
+    for name in names {
         groups.push(Some(name.as_str()))?;
     }
-    let info = GroupInfo::new(rt.alloc(), &[&groups])?;
-    let last = info
-        .to_name(PatternID::ZERO, 12)
-        .and_then(|name| info.to_index(PatternID::ZERO, name));
+    Ok(groups)
+}
+
+// Twelve names of a hundred thousand bytes, which differ in the last one.
+fn long_names(alloc: Global) -> Result<Vec<String>, AllocError> {
+    let long = "n".repeat(alloc, 100_000)?;
+    let mut names = Vec::new(alloc);
+    for k in 0..12 {
+        names.push(format!(in alloc; "{long}{k:x}")?)?;
+    }
+    Ok(names)
+}
+
+#[test]
+fn names_of_more_than_a_million_bytes_are_answered(rt: HostRuntime) -> Result<(), Fail> {
+    let names = long_names(rt.alloc())?;
+    let groups = groups_of(rt.alloc(), names.as_slice())?;
+    let mut lists: Vec<&[Option<&str>]> = Vec::new(rt.alloc());
+    lists.push(groups.as_slice())?;
+    let info = GroupInfo::new(rt.alloc(), lists.as_slice())?;
+    let last = info.to_index(PatternID::ZERO, names.last().ok_or("no name")?.as_str());
     assert!(rt; info.all_group_len() == 13 && last == Some(12));
     Ok(())
 }
