@@ -4,6 +4,7 @@ use Rattle.std.proofs.lemmas.Bool.{ne_eqb}
 use Rattle.std.proofs.lemmas.List.{map_more}
 use Rattle.rsc_engine.specs.Patterns.{Pattern, Repeat, in_order, one_of, may_be_empty}
 use Rattle.rsc_engine.specs.FirstEnds.{loops_take_bytes}
+use Rattle.rsc_engine.specs.GroupNumbers.{count_groups}
 use Rattle.rsc_engine.specs.Parts.{pattern_of}
 use Rattle.rsc_engine.proofs.NamesLayoutLemmas.{or_none}
 use Rattle.rsc_engine.specs.declared.builder.part.Part.{Part}
@@ -81,3 +82,10 @@ one_of_loops (q ∷ rest) p =
     ∙ (ap (λ (b : Bool). loops_take_bytes q && b) (one_of_loops rest p)
     ∙ (and_more (loops_take_bytes q) (loops_take_bytes (one_of rest)) (loops_take_bytes p)
     ∙ ap (λ (b : Bool). b && loops_take_bytes p) (sym (first_loops q rest))))
+
+-- ---- one of them has the groups of all, as parts in order have
+
+pub one_of_groups : (patterns : List Pattern) → count_groups (one_of patterns) ≡ count_groups (in_order patterns)
+one_of_groups [] = refl
+one_of_groups (p ∷ []) = omega arith
+one_of_groups (p ∷ q ∷ rest) = ap (λ (n : ℕ). count_groups p + n) (one_of_groups (q ∷ rest))

@@ -31,7 +31,6 @@ pub(crate) struct Compiler {
     pub(crate) list: States,
     // How many of the pattern's groups open before the next part ends. It decides which slots a group has.
     pub(crate) left: usize,
-    pub(crate) alloc: Global,
 }
 
 /// Which slots the groups of a pattern have.
@@ -93,7 +92,6 @@ pub(crate) fn compile(
             states: Vec::new(alloc),
         },
         left: 0,
-        alloc,
     };
     let Some(last) = patterns.len().checked_sub(1) else {
         return Err(Error::TooLarge);
@@ -106,7 +104,6 @@ pub(crate) fn compile(
     let Compiler {
         list: States { states },
         left: _,
-        alloc: _,
     } = compiler;
     Ok((states, first))
 }

@@ -1,12 +1,13 @@
 //! The states of repetitions.
-ghost use Rattle.std.specs.Prelude.{◌≡◌, None, Some, IfOk, IfErr, MatchResult};
-ghost use Rattle.rsc_engine.specs.Patterns.{Repeat};
+ghost use Rattle.std.specs.Prelude.{◌≡◌, ◌+◌, None, Some, map, IfOk, IfErr, MatchResult};
+ghost use Rattle.rsc_engine.specs.Patterns.{Repeat, in_order};
+ghost use Rattle.rsc_engine.specs.GroupNumbers.{count_groups};
 ghost use Rattle.rsc_engine.specs.Trees.{pattern_in};
 ghost use Rattle.rsc_captures.specs.Groups.{slot_number};
 ghost use Rattle.rsc_engine.specs.LinksLayout.{BuildsPart, BuildsCopies, choice_of, copies, up_to};
 ghost use Rattle.rsc_engine.specs.Refusals.{RunsOut};
 
-use super::compile::{Compiler, Slots, States};
+use super::compile::{Compiler, Slots};
 use super::tree::{Times, Tree};
 use crate::Error;
 use rsc_nfa::State;
@@ -84,8 +85,7 @@ impl Compiler {
         self.copies(slots, times.min, sub, rest)
     }
 
-    // The part no times. Its states are made apart, since they say how many groups it has.
-    #[cycle(part)]
+    // The part no times: it has no states, but its groups have their numbers.
     fn no_times(
         &mut self,
         slots: &Slots<'_>,
@@ -97,15 +97,7 @@ impl Compiler {
             self.old.left self.new.left self.old.list.states.items self.new.list.states.items first next
             (Repeat 0 (Some 0) times.is_greedy (pattern_in sub.now))) RunsOut }
     {
-        let mut apart = Compiler {
-            list: States {
-                states: Vec::new(self.alloc),
-            },
-            left: self.left,
-            alloc: self.alloc,
-        };
-        apart.part(slots, sub, next)?;
-        self.left = apart.left;
+        self.left = groups_left(sub, self.left)?;
         Ok(next)
     }
 
@@ -207,4 +199,49 @@ fn choice(is_greedy: bool, part: StateID, next: StateID) -> State
     } else {
         State::Fork { a: next, b: part }
     }
+}
+
+// How many of the pattern's groups are left to number once those of the part are.
+#[cycle(groups_left)]
+fn groups_left(tree: &Tree, left: usize) -> Result<usize, Error>
+    ensures { MatchResult result (λ now. left ≡ now + count_groups (pattern_in tree.now)) RunsOut }
+{
+    match tree {
+        Tree::Empty => Ok(left),
+        Tree::Never => Ok(left),
+        Tree::Range(_, _) => Ok(left),
+        Tree::Class(_) => Ok(left),
+        Tree::Literal(_) => Ok(left),
+        Tree::Assertion(_) => Ok(left),
+        Tree::Then(one, other) => {
+            let middle = groups_left(other, left)?;
+            groups_left(one, middle)
+        }
+        Tree::Concat(parts) => groups_left_by_all(parts, left),
+        Tree::Either(one, other) => {
+            let middle = groups_left(other, left)?;
+            groups_left(one, middle)
+        }
+        Tree::OneOf(parts) => groups_left_by_all(parts, left),
+        Tree::Repeat(_, sub) => groups_left(sub, left),
+        Tree::Group(_, sub) => {
+            let inner = groups_left(sub, left)?;
+            // This condition never holds, since no part has more groups than its pattern.
+            if inner == 0 {
+                return Err(Error::TooLarge);
+            }
+            Ok(inner - 1)
+        }
+    }
+}
+
+#[cycle(groups_left)]
+fn groups_left_by_all(parts: &[Tree], left: usize) -> Result<usize, Error>
+    ensures { MatchResult result (λ now. left ≡ now + count_groups (in_order (map pattern_in parts.now))) RunsOut }
+{
+    let mut now = left;
+    for index in (0..parts.len()).rev() {
+        now = groups_left(&parts[index], now)?;
+    }
+    Ok(now)
 }

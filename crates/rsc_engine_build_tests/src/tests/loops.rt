@@ -231,3 +231,26 @@ fn no_choice_is_made_twice_at_one_position(rt: HostRuntime) -> Result<(), Fail> 
     }
     Ok(())
 }
+
+// `(?:(?:(a){60000}){60000}){0}(b)`
+fn b_after_no_part(builder: &Builder<'static>) -> Result<Part<'static>, Error> {
+    let a = builder.group(None, builder.literal(b"a")?)?;
+    let many = builder.repeat(a, 60_000, Some(60_000))?;
+    let many = builder.repeat(many, 60_000, Some(60_000))?;
+    let none = builder.repeat(many, 0, Some(0))?;
+    let b = builder.group(None, builder.literal(b"b")?)?;
+    builder.then(none, b)
+}
+
+#[test]
+fn a_part_that_comes_no_times_has_groups_and_no_states(rt: HostRuntime) -> Result<(), Fail> {
+    let builder = Builder::new(rt.alloc());
+    let whole = b_after_no_part(&builder)?;
+    let program = builder.build(AsciiWord, true, whole)?;
+    assert!(rt; program.nfa().states().len() < 100);
+    let mut captures = captures_of(rt.alloc(), &program)?;
+    let found = first_span(rt.alloc(), &program, b"ab", &mut captures)?;
+    assert!(rt; found == span(1, 2) && captures.get_group(1).is_none());
+    assert!(rt; captures.get_group(2) == span(1, 2));
+    Ok(())
+}

@@ -6,7 +6,7 @@ use Rattle.rsc_captures.specs.Groups.{slot_number}
 use Rattle.rsc_engine.specs.Trees.{pattern_in}
 use Rattle.rsc_engine.proofs.TreesLemmas.{pattern-empty, pattern-never, pattern-class, pattern-literal, pattern-range, pattern-assertion, pattern-then, pattern-either}
 use Rattle.rsc_engine.proofs.CompileLemmas.{Builds-range, Builds-assert, BuildsPart-empty, BuildsPart-then, BuildsPart-either, BuildsPart-group, BuildsPart-one_of, BuildsPart-nothing, drop-last, drop-one}
-use Rattle.rsc_engine.proofs.LoopsLemmas.{BuildsCopies-none, BuildsCopies-more, BuildsCopies-up_to_none, BuildsCopies-up_to_more, BuildsPart-star, BuildsPart-again, BuildsPart-plus, BuildsPart-unlimited, BuildsPart-limited, BuildsPart-up_to, BuildsPart-no_times, positive, more_than_one}
+use Rattle.rsc_engine.proofs.LoopsLemmas.{BuildsCopies-none, BuildsCopies-more, BuildsCopies-up_to_none, BuildsCopies-up_to_more, BuildsPart-star, BuildsPart-again, BuildsPart-plus, BuildsPart-unlimited, BuildsPart-limited, BuildsPart-up_to, positive, more_than_one}
 use Rattle.rsc_engine.proofs.builder.compile.Compiler.+part.Goals as goal
 
 pub again-returns-clause-first : goal.again-returns-clause-first
@@ -138,11 +138,6 @@ unlimited-returns t c =
     (λ first y. BuildsPart-unlimited (slot_number c.args.slots.now.info.now c.args.slots.now.pattern) _ _ _ _ _ _ _ c.args.times.min _ first _ _
     (pattern_in c.args.sub.now) (more_than_one c.args.times.min c.if-times-eq0.false c.if-times-eq1.false) c.in_ok-last.ensures.first y)
     c.copies.ensures
-
-pub no_times-returns : goal.no_times-returns
-no_times-returns t c =
-    BuildsPart-no_times (slot_number c.args.slots.now.info.now c.args.slots.now.pattern) _ _ _ _ _ c.args.times.is_greedy (pattern_in c.args.sub.now)
-    c.in_ok-part.ensures.0
 
 pub copies-returns : goal.copies-returns
 copies-returns t c = let all : c.loop-done.done ≡ c.args.count = search rules in rw all at c.loop-done.invariant
