@@ -11,7 +11,7 @@ use Rattle.rsc_engine.specs.Searches.{Compiled, Search, search_in}
 use Rattle.rsc_engine.specs.Runs.{is_wanted}
 use Rattle.rsc_engine.specs.Preferred.{MayBegin}
 use Rattle.rsc_engine.specs.NextMatches.{IsOpen, IsRepeated, IsSplitAt}
-use Rattle.rsc_engine.specs.Patterns.{Pattern, Subject, Goes, subject_of, IsMatchIn}
+use Rattle.rsc_engine.specs.Patterns.{Pattern, Then, Group, Subject, Goes, subject_of, IsMatchIn}
 use Rattle.rsc_engine.specs.FirstEnds.{IsFirstEnd}
 use Rattle.rsc_engine.specs.GroupNumbers.{as_whole}
 use Rattle.rsc_uses.specs.Texts.{text_of, GoesNowhere, GoesNowhereIn, HoldsFirstWay}
@@ -107,6 +107,17 @@ first_way_of {W = W} chars program word_class p lists input after found matcher 
     (subst (λ (n : ℕ). HoldsFirstWay (subject_of (search_in chars program input)) (as_whole program.automaton.groups n p) input.span.end found.span
     after.offsets) (number_of p (search_in chars program input) found m)
     (way (m.its ∙ ap (λ (q : Pattern). Some q) (its_only p m.pattern found.pattern m.its)))))
+
+-- the first group of a part before another: where the part goes, if it's where its part goes
+pub group_goes : {W : Type 0} (chars : W → ℕ → Bool) (program : Compiled W) (word_class : W) (p q : Pattern) (groups : Groups) (haystack : List ℕ)
+    (found : Matched) (i j : ℕ) → program.automaton.matcher ≡ (10, word_class) → program.automaton.groups ≡ (None ∷ None ∷ groups) ∷ []
+    → IsMatchIn (Then (Group 0 p) q ∷ []) (search_in chars program (whole haystack)) found
+    → (slice_get (Then (Group 0 p) q ∷ []) found.pattern ≡ Some (Then (Group 0 p) q) → 1 < group_count program.automaton.groups found.pattern
+    → Goes (subject_of (search_in chars program (whole haystack))) p i j) → Goes (text_of haystack (chars word_class)) p i j
+group_goes {W = W} chars program word_class p q groups haystack found i j matcher lists m law =
+    subst (λ (x : ℕ × W). Goes (record { haystack = haystack; terminator = x.0; word_chars = chars x.1 }) p i j) matcher
+    (law (m.its ∙ ap (λ (r : Pattern). Some r) (its_only (Then (Group 0 p) q) m.pattern found.pattern m.its))
+    (rw (lists, number_of (Then (Group 0 p) q) (search_in chars program (whole haystack)) found m) (omega arith)))
 
 -- where one of the patterns goes is a match
 pub match_in : {W : Type 0} (chars : W → ℕ → Bool) (program : Compiled W) (word_class : W) (patterns : List Pattern) (n : ℕ) (p : Pattern) (input : InputParts)

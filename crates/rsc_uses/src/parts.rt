@@ -4,7 +4,7 @@ ghost use Rattle.rsc_captures.specs.Captured.{group_span};
 ghost use Rattle.rsc_captures.specs.Groups.{all_groups};
 ghost use Rattle.rsc_engine.specs.declared.dfa.Answer.TheVariants.{End, NoMatch, Quit};
 ghost use Rattle.rsc_engine.specs.declared.error.Error.TheVariants.{OutOfMemory};
-ghost use Rattle.rsc_engine.specs.Patterns.{Goes, Then, Either, Literal, may_be_empty};
+ghost use Rattle.rsc_engine.specs.Patterns.{Goes, Then, Either, Literal, Group, may_be_empty};
 ghost use Rattle.rsc_engine.specs.FirstEnds.{loops_take_bytes, IsFirstEnd};
 ghost use Rattle.rsc_engine.specs.GroupNumbers.{as_whole};
 ghost use Rattle.rsc_engine.specs.Parts.{pattern_of, groups_of_part, groups_of_pattern};
@@ -93,6 +93,36 @@ pub fn find_with_group<W: WordClass + AsciiWordClass>(
     match find_with_slots(alloc, word_class, part, input)? {
         None => Ok(None),
         Some((found, captures)) => Ok(Some((found, captures.get_group(0)))),
+    }
+}
+
+/// Where a part goes in the first match of it and of another part after it, whatever the two repeat. `None` if they go nowhere.
+pub fn find_before<'n, W: WordClass + AsciiWordClass>(
+    alloc: Global,
+    word_class: W,
+    part: Part<'n>,
+    after: Part<'n>,
+    haystack: &[u8],
+) -> Result<Option<Span>, Error>
+    ensures goes { IfOk result (λ found. IfSome found (λ span.
+        Goes (text_of haystack.now (W.word_chars word_class)) (pattern_of part.entry) span.start span.end)) }
+    ensures refused { IfErr result (FailsToBuild (Then (Group 0 (pattern_of part.entry)) (pattern_of after.entry) ∷ [])
+        ((None ∷ None ∷ groups_of_part part.entry ++ groups_of_part after.entry) ∷ [])) }
+{
+    laws::a_first_match_is_of_a_pattern::<W>();
+    laws::a_group_is_where_its_part_goes::<W>();
+    let builder = Builder::new(alloc);
+    let group = builder.group(None, part)?;
+    let both = builder.then(group, after)?;
+    let program = builder.build(word_class, true, both)?;
+    let mut captures = program.captures(alloc)?;
+    let input = Input::new(haystack);
+    match find(alloc, &program, &input, &mut captures)? {
+        None => Ok(None),
+        Some(_) => match captures.get_group(1) {
+            None => Ok(None),
+            Some(span) => Ok(Some(span)),
+        },
     }
 }
 

@@ -64,6 +64,20 @@ fn groups_are_where_the_first_way_goes(rt: HostRuntime) -> Result<(), Fail> {
 }
 
 #[test]
+fn a_part_is_found_before_another(rt: HostRuntime) -> Result<(), Fail> {
+    let builder = Builder::new(rt.alloc());
+    let part = letters(&builder)?;
+    let after = builder.literal(b"b")?;
+    let found = parts::find_before(rt.alloc(), AsciiWord, part, after, b"-abb-")?;
+    assert!(rt; found.is_some_and(|span| span.start == 1 && span.end == 3));
+    let part = letters(&builder)?;
+    let after = builder.literal(b"c")?;
+    let found = parts::find_before(rt.alloc(), AsciiWord, part, after, b"-abb-")?;
+    assert!(rt; found.is_none());
+    Ok(())
+}
+
+#[test]
 fn the_first_match_has_a_span(rt: HostRuntime) -> Result<(), Fail> {
     let program = a_letter(rt.alloc())?;
     let mut captures = program.captures(rt.alloc())?;
