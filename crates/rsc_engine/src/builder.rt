@@ -218,6 +218,10 @@ impl<'n> Builder<'n> {
     /// The part as a group. The groups of a pattern are numbered from 1 in the order in which they open: a group comes before the groups within it, and
     /// the groups of a part before those of the next part. A match gives a group the positions at which its part began and ended the last time that the match
     /// went through it, and none if it went another way. A group in a part that is repeated is one group, with one pair of slots.
+    ///
+    /// # Errors
+    ///
+    /// Out of memory.
     pub fn group(&self, name: Option<&'n str>, part: Part<'n>) -> Result<Part<'n>, Error>
         ensures part { IfOk result (λ group. pattern_of group ≡ Group 0 (pattern_of part.entry)) }
         ensures groups { IfOk result (λ group. groups_of_part group ≡ groups_in (name.entry ∷ []) ++ groups_of_part part.entry) }
@@ -302,7 +306,8 @@ impl<'n> Builder<'n> {
         self.build_with(LookMatcher::new(word_class), utf8, last)
     }
 
-    /// The same with a matcher, which has a line terminator and a word predicate.
+    /// The program that `build` makes, with a matcher: its line terminator is where lines begin and end for `StartLF` and `EndLF`, and its word predicate says
+    /// which characters are of a word.
     ///
     /// # Errors
     ///
