@@ -15,6 +15,19 @@ use std::alloc::Global;
 use std::marker::Model;
 
 /// An automaton, the state at which each match begins, and whether haystacks are text.
+///
+/// # Examples
+///
+/// ```
+/// // ([a-z])
+/// let builder = Builder::new(rt.alloc());
+/// let letter = builder.group(None, builder.range(b'a', b'z'))?;
+/// let program = builder.build(AsciiWord, true, letter)?;
+/// let captures = program.captures(rt.alloc())?;
+/// assert!(rt; captures.group_info().group_len(PatternID::ZERO) == 2);
+/// // 00 to `, a to z, { to FF, and the end of the input.
+/// assert!(rt; program.nfa().classes().alphabet_len() == 4);
+/// ```
 pub struct Program<W: WordClass> {
     nfa: Nfa<W>,
     start: StateID,
@@ -43,6 +56,8 @@ impl<W: WordClass> Drop for Program<W> {
 impl<W: WordClass> Program<W> {
     /// The program of an automaton whose matches begin at the state, or `None` if it has no such state. If haystacks are text, an
     /// iteration leaves out empty matches within characters.
+    ///
+    /// # Examples
     ///
     /// ```
     /// // [a-z]

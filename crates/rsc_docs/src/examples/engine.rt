@@ -33,6 +33,20 @@ fn program(rt: HostRuntime) -> Result<(), Fail> {
 }
 
 #[test]
+fn built(rt: HostRuntime) -> Result<(), Fail> {
+    // `Program`
+    // ([a-z])
+    let builder = Builder::new(rt.alloc());
+    let letter = builder.group(None, builder.range(b'a', b'z'))?;
+    let program = builder.build(AsciiWord, true, letter)?;
+    let captures = program.captures(rt.alloc())?;
+    assert!(rt; captures.group_info().group_len(PatternID::ZERO) == 2);
+    // 00 to `, a to z, { to FF, and the end of the input.
+    assert!(rt; program.nfa().classes().alphabet_len() == 4);
+    Ok(())
+}
+
+#[test]
 fn builder(rt: HostRuntime) -> Result<(), Fail> {
     // `Builder`
     // (?P<key>[a-z]+)=
