@@ -48,8 +48,8 @@ fn lists_of_groups_of_any_length_are_answered(rt: HostRuntime) -> Result<(), Fai
 #[test]
 fn a_second_pattern_of_many_groups_is_answered(rt: HostRuntime) -> Result<(), Fail> {
     let mut want = String::from_str(rt.alloc(), "slots 2004: 0;2")?;
-    for group in 2..1_002 {
-        write!(want, ",{}", 2 * group)?;
+    for group in 2..1_002u32 {
+        write!(want, ",{}", 2 * u64::from(group))?;
     }
     want.push('\n')?;
     let answer = answer_to_many(rt.alloc(), "groups -;-", ",-", 1_000, "")?;
