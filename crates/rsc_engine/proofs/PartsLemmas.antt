@@ -59,7 +59,7 @@ in_order_loops (q ∷ rest) p =
     ap (λ (b : Bool). loops_take_bytes q && b) (in_order_loops rest p)
     ∙ and_more (loops_take_bytes q) (loops_take_bytes (in_order rest)) (loops_take_bytes p)
 
-first_empty : (q : Pattern) (rest : List Pattern) → may_be_empty (one_of (q ∷ rest)) ≡ (may_be_empty q || may_be_empty (one_of rest))
+pub first_empty : (q : Pattern) (rest : List Pattern) → may_be_empty (one_of (q ∷ rest)) ≡ (may_be_empty q || may_be_empty (one_of rest))
 first_empty q [] = sym (or_none (may_be_empty q))
 first_empty q (r ∷ rest) = refl
 

@@ -8,7 +8,7 @@ ghost use Rattle.rsc_engine.specs.LinksLayout.{BuildsPart, BuildsCopies, choice_
 ghost use Rattle.rsc_engine.specs.Refusals.{RunsOut};
 
 use super::compile::{Compiler, Slots};
-use super::tree::{Times, Tree};
+use super::tree::{Times, Tree, may_be_empty};
 use crate::Error;
 use rsc_nfa::State;
 use rsc_primitives::StateID;
@@ -161,7 +161,8 @@ impl Compiler {
             (Repeat 0 None times.is_greedy (pattern_in sub.now))) RunsOut }
     {
         let (first, again) = self.again(slots, times.is_greedy, sub, next)?;
-        if times.may_be_empty {
+        // A loop over a part that may take no byte is entered by a choice of its own. It decides which match is preferred: tests show it, no clause.
+        if may_be_empty(sub) {
             return self.list.add(choice(times.is_greedy, first, next));
         }
         Ok(again)

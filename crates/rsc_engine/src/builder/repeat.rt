@@ -102,7 +102,6 @@ impl<'n> Builder<'n> {
             min,
             max,
             is_greedy,
-            may_be_empty: part.may_be_empty,
         };
         // By `|` and `&`, which make no branches, so the proof has no case for each.
         let may_be_empty = (min == 0) | part.may_be_empty;

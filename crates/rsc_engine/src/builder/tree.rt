@@ -1,4 +1,8 @@
 //! Parts of patterns as trees.
+ghost use Rattle.std.specs.Prelude.{◌≡◌, map};
+ghost use Rattle.rsc_engine.specs.Patterns as patterns;
+ghost use Rattle.rsc_engine.specs.Patterns.{in_order, one_of};
+ghost use Rattle.rsc_engine.specs.Trees.{pattern_in};
 
 use rsc_look::Look;
 
@@ -31,8 +35,7 @@ pub(crate) enum Tree {
     Group(usize, Box<Tree>),
 }
 
-/// How a part is repeated, and what its states need to know of it. `may_be_empty` decides which match is preferred by a loop over a part that may take no
-/// byte; no clause says so, but tests of `build` and `loops` do.
+/// How a part is repeated.
 #[derive(Clone, Copy)]
 pub(crate) struct Times {
     /// At least this often.
@@ -41,6 +44,52 @@ pub(crate) struct Times {
     pub(crate) max: Option<usize>,
     /// Preferably often.
     pub(crate) is_greedy: bool,
-    /// The part may match no byte: a loop over it is entered by a choice of its own.
-    pub(crate) may_be_empty: bool,
+}
+
+// Whether the part may match no byte.
+#[cycle(may_be_empty)]
+#[tactic(auto, using(crate::proofs::PartsLemmas::repeat_empty, crate::proofs::PartsLemmas::first_empty))]
+pub(crate) fn may_be_empty(tree: &Tree) -> bool
+    ensures { result ≡ patterns.may_be_empty (pattern_in tree.now) }
+{
+    match tree {
+        Tree::Empty => true,
+        Tree::Never => false,
+        Tree::Range(_, _) => false,
+        Tree::Class(_) => false,
+        Tree::Literal(bytes) => bytes.is_empty(),
+        Tree::Assertion(_) => true,
+        // By `|` and `&`, which make no branches, so the proof has no case for each.
+        Tree::Then(one, other) => may_be_empty(one) & may_be_empty(other),
+        Tree::Concat(parts) => all_may_be_empty(parts),
+        Tree::Either(one, other) => may_be_empty(one) | may_be_empty(other),
+        Tree::OneOf(parts) => one_may_be_empty(parts),
+        Tree::Repeat(times, sub) => (times.min == 0) | may_be_empty(sub),
+        Tree::Group(_, sub) => may_be_empty(sub),
+    }
+}
+
+// Whether all may match no byte.
+#[cycle(may_be_empty)]
+fn all_may_be_empty(parts: &[Tree]) -> bool
+    ensures { result ≡ patterns.may_be_empty (in_order (map pattern_in parts.now)) }
+{
+    let mut all = true;
+    for index in (0..parts.len()).rev() {
+        all = may_be_empty(&parts[index]) & all;
+    }
+    all
+}
+
+// Whether one of them may match no byte.
+#[cycle(may_be_empty)]
+#[tactic(auto, using(crate::proofs::PartsLemmas::first_empty))]
+fn one_may_be_empty(parts: &[Tree]) -> bool
+    ensures { result ≡ patterns.may_be_empty (one_of (map pattern_in parts.now)) }
+{
+    let mut some = false;
+    for index in (0..parts.len()).rev() {
+        some = may_be_empty(&parts[index]) | some;
+    }
+    some
 }

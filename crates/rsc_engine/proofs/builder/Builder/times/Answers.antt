@@ -13,7 +13,7 @@ pub invariant_of-result : goal.invariant_of-result
 invariant_of-result c =
     let p = pattern_in c.args.part.tree in
     let times : Times =
-    record { min = c.args.min; max = c.args.max; is_greedy = c.args.is_greedy; may_be_empty = c.args.part.may_be_empty } in
+    record { min = c.args.min; max = c.args.max; is_greedy = c.args.is_greedy } in
     let same : pattern_in (variants.Repeat times c.in_ok-new.field-0) ≡ Repeat c.args.min c.args.max c.args.is_greedy p =
     pattern-repeat times c.in_ok-new.field-0
     ∙ ap (λ (t : Tree). Repeat c.args.min c.args.max c.args.is_greedy (pattern_in t)) (c.in_ok-new.ensures.ok ∙ c.into_tree_and_names-tree.ensures.tree) in

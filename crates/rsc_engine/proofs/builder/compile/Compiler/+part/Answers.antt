@@ -72,8 +72,8 @@ part-returns-in_ok-first-in-Either t c =
     (BuildsPart-either _ _ _ _ _ _ _ _ _ _ _ id _ _ _ c.in_ok-second-in-Either.ensures c.in_ok-first-in-Either.ensures a))
     c.fork.ensures
 
-pub star-returns-then-times : goal.star-returns-then-times
-star-returns-then-times t c =
+pub star-returns-then-may_be_empty : goal.star-returns-then-may_be_empty
+star-returns-then-may_be_empty t c =
     built-weaker c.add.result _ _ (λ id a. BuildsPart-star _ _ _ _ _ _ _ _ id _ _ _ c.in_ok-first.ensures.first (rw c.choice.ensures at a)) c.add.ensures
 
 pub up_to-loop-done-preserved : goal.up_to-loop-done-preserved
