@@ -1,5 +1,5 @@
 -- How lists of states grow, part by part.
-use Rattle.std.proofs.Common.{Bool, true, false, subst, true≢false, drop, drop-cons, get_or, ◌≡◌, ℕ, zero, suc, ◌+◌, ◌-◌, ◌*◌, ◌%◌, ◌<◌, ◌≤◌, inl, inr, List, [], ◌∷◌, ◌++◌, length, set, slice_get, refl, sym, ap, ◌∙◌, arith, length-append, Some}
+use Rattle.std.proofs.Common.{nat_eq, Bool, true, false, subst, true≢false, drop, drop-cons, get_or, ◌≡◌, ℕ, zero, suc, ◌+◌, ◌-◌, ◌*◌, ◌%◌, ◌<◌, ◌≤◌, inl, inr, List, [], ◌∷◌, ◌++◌, length, set, slice_get, refl, sym, ap, ◌∙◌, arith, length-append, Some}
 use Rattle.std.proofs.lemmas.List.{length-set}
 use Rattle.std.proofs.Math.Nat.{div-add-mod}
 use Rattle.std.proofs.Math.Seq.{drop-length}
@@ -12,6 +12,8 @@ use Rattle.rsc_nfa.specs.Classes.{IsOrdered}
 use Rattle.rsc_engine.specs.Refusals.{has_reversed_range}
 use Rattle.rsc_engine.specs.NamesLayout.{HasClose, RecordsInPairs, Names}
 use Rattle.rsc_engine.proofs.NamesLayoutLemmas.{Names-none, Names-joined, Names-one, Names-above, either_back, range-ordered, range-reversed, class-same, literal-same, between-same}
+use Rattle.rsc_captures.specs.Groups.{GroupLists, slot_number}
+use Rattle.std.proofs.lemmas.Bool.Decides.{nat_tests}
 use Rattle.rsc_engine.specs.GroupNumbers.{count_groups, numbered}
 use Rattle.rsc_engine.specs.LinksLayout.{Adds, Builds, BuildsPart, IsAdded, Realizes}
 use Rattle.rsc_engine.proofs.LinksLayoutLemmas.{Realizes-never, Realizes-range, Realizes-assert, Realizes-capture, Realizes-empty, Realizes-is, Realizes-then, Realizes-between, Realizes-either}
@@ -161,7 +163,7 @@ Builds-no_byte slots states next =
 -- ---- single states
 
 pub grown : (old new : List State) (state : State) (id : ℕ) → IsAdded old new state id → length new ≡ length old + 1
-grown old new state id a = ap length a.added ∙ length-append old (state ∷ [])
+grown old new state id a = a.one
 
 Builds-state : (slots : ℕ × ℕ) (old new : List State) (state : State) (id next : ℕ) (p : Pattern) → IsAdded old new state id
     → StaysOnWay (λ (s : ℕ). IsOnWay (length old) (length new) next s) slots.0 state
@@ -249,23 +251,22 @@ Builds-byte slots old middle new b first id next rest r a =
     (literal-within b rest) (λ e. e) (literal-same b rest)
     (Builds-then slots old middle new id first next (Class ((b, b) ∷ [])) (Literal rest) r (Builds-range slots middle new b b id first a))
 
--- a part between two records, which are in the slots of a pair
-pub Builds-group : (slots : ℕ × ℕ) (old middle last new : List State) (start end body after id next : ℕ) (p : Pattern)
+-- a part between two records, which are in the slots of a pair; the one of its end is written last
+pub Builds-group : (slots : ℕ × ℕ) (old middle last new : List State) (state : State) (start end body after id next : ℕ) (p : Pattern)
     → slots.0 < start → start % 2 ≡ 0 → end ≡ start + 1 → end < slots.1
-    → IsAdded old middle (Capture end next) after → Builds slots middle last body after p → IsAdded last new (Capture start body) id
+    → IsAdded old middle state after → Builds slots middle last body after p → IsAdded (set last after (Capture end next)) new (Capture start body) id
     → Builds slots old new id next (Group start p)
-Builds-group slots old middle last new start end body after id next p l even second m a x b =
-    Adds-both old last new Two (λ (all : List State). slice_get all id ≡ Some (Capture start body))
+Builds-group slots old middle last new state start end body after id next p l even second m a x b =
+    Adds-both old (set last after (Capture end next)) new Two (λ (all : List State). slice_get all id ≡ Some (Capture start body))
     (IsPart slots (length old) (length new) id next (Group start p))
-    (Adds-both old middle last (λ (all : List State). slice_get all after ≡ Some (Capture end next)) (IsPart slots (length middle) (length last) body after p)
-    Two (Adds-one old middle (Capture end next) after a) x (λ all y z. (y, z)))
-    (Adds-one last new (Capture start body) id b)
+    (Adds-written old middle last state (Capture end next) after (IsPart slots (length middle) (length last) body after p) a x)
+    (Adds-one (set last after (Capture end next)) new (Capture start body) id b)
     (λ all y is.
     let s = shape-then slots (length old) (length last) (length new) id body next Empty (Then p Empty) all (omega (arith, x.longer, one)) (omega (arith, two))
     (shape-then slots (length old) (length middle) (length last) body after next p Empty all (omega (arith, one)) x.longer
     (shape-capture slots (length old) (length middle) end after next all a.last one y.0 (omega (arith, l, second)) m (λ pair e. absurd (odd pair e)))
     (y.1.0, y.1.1, y.1.2))
-    (shape-capture slots (length last) (length new) start id body all b.last two is l (omega (arith, m, second)) (λ pair e. closed all y pair e)) in (
+    (shape-capture slots (length last) (length new) start id body all (b.last ∙ same) two is l (omega (arith, m, second)) (λ pair e. closed all y pair e)) in (
       Realizes-is all id next p (Group start p) (λ t i j g. g) (λ t i j g. g) (λ e. e)
           (Realizes-between all id body after next p (Realizes-capture all after end next y.0) y.1.0 (Realizes-capture all id start body is)),
       s.1,
@@ -277,10 +278,13 @@ Builds-group slots old middle last new start end body after id next p l even sec
     Two all = (slice_get all after ≡ Some (Capture end next)) × IsPart slots (length middle) (length last) body after p all
 
     one : length middle ≡ length old + 1
-    one = grown old middle (Capture end next) after a
+    one = a.one
+
+    same : length (set last after (Capture end next)) ≡ length last
+    same = length-set last after (Capture end next)
 
     two : length new ≡ length last + 1
-    two = grown last new (Capture start body) id b
+    two = omega (arith, b.one, same)
 
     odd : (pair : ℕ) → end ≡ 2 * pair → ⊥
     odd pair e = omega (arith, e, second, even, div-add-mod start 2)
@@ -318,7 +322,7 @@ Builds-none slots old new first next (r ∷ rest) none x = absurd (omega (arith,
 
 pub BuildsPart-empty : (slot_of : ℕ → ℕ) (slots : ℕ × ℕ) (left : ℕ) (states : List State) (next : ℕ)
     → BuildsPart slot_of slots left left states states next next Empty
-BuildsPart-empty slot_of slots left states next = (omega arith, Builds-empty slots states next)
+BuildsPart-empty slot_of slots left states next = (omega arith, Builds-empty slots states next, omega arith)
 
 pub BuildsPart-then : (slot_of : ℕ → ℕ) (slots : ℕ × ℕ) (left mid now : ℕ) (old middle new : List State) (first between next : ℕ) (p q : Pattern)
     → BuildsPart slot_of slots left mid old middle between next q → BuildsPart slot_of slots mid now middle new first between p
@@ -327,6 +331,7 @@ BuildsPart-then slot_of slots left mid now old middle new first between next p q
   omega (arith, x.0, y.0),
   Builds-then slots old middle new first between next (numbered slot_of now p) (numbered slot_of (now + count_groups p) q)
       (subst (λ (n : ℕ). Builds slots old middle between next (numbered slot_of n q)) y.0 x.1) y.1,
+  omega (arith, x.2, y.2),
 )
 
 pub BuildsPart-either : (slot_of : ℕ → ℕ) (slots : ℕ × ℕ) (left mid now : ℕ) (old middle last new : List State) (one other id next : ℕ) (p q : Pattern)
@@ -336,6 +341,7 @@ BuildsPart-either slot_of slots left mid now old middle last new one other id ne
   omega (arith, x.0, y.0),
   Builds-either slots old middle last new one other id next (numbered slot_of now p) (numbered slot_of (now + count_groups p) q)
       (subst (λ (n : ℕ). Builds slots old middle other next (numbered slot_of n q)) y.0 x.1) y.1 a,
+  omega (arith, x.2, y.2, a.one),
 )
 
 -- a part before others
@@ -349,18 +355,29 @@ BuildsPart-one_of slot_of slots left mid now old middle last new one other id ne
 
 -- without a part there is no match
 pub BuildsPart-nothing : (slot_of : ℕ → ℕ) (slots : ℕ × ℕ) (left : ℕ) (old new : List State) (first next : ℕ) (parts : List Pattern) → length parts ≡ 0
-    → Builds slots old new first next Never → BuildsPart slot_of slots left left old new first next (one_of parts)
-BuildsPart-nothing slot_of slots left old new first next [] none x = (omega arith, x)
-BuildsPart-nothing slot_of slots left old new first next (p ∷ rest) none x = absurd (omega (arith, none))
+    → Builds slots old new first next Never → length new ≡ length old + 1 → BuildsPart slot_of slots left left old new first next (one_of parts)
+BuildsPart-nothing slot_of slots left old new first next [] none x one = (omega arith, x, one)
+BuildsPart-nothing slot_of slots left old new first next (p ∷ rest) none x one = absurd (omega (arith, none))
 
-pub BuildsPart-group : (slot_of : ℕ → ℕ) (slots : ℕ × ℕ) (left inner number : ℕ) (old middle last new : List State)
+pub BuildsPart-group : (slot_of : ℕ → ℕ) (slots : ℕ × ℕ) (left inner number : ℕ) (old middle last new : List State) (state : State)
     (start end body after id next : ℕ) (p : Pattern)
     → slots.0 < start → start % 2 ≡ 0 → end ≡ start + 1 → end < slots.1 → start ≡ slot_of number → inner ≡ number + 1
-    → IsAdded old middle (Capture end next) after → BuildsPart slot_of slots left inner middle last body after p → IsAdded last new (Capture start body) id
-    → BuildsPart slot_of slots left number old new id next (Group 0 p)
-BuildsPart-group slot_of slots left inner number old middle last new start end body after id next p l even second m its one a x b = (
+    → IsAdded old middle state after → BuildsPart slot_of slots left inner middle last body after p
+    → IsAdded (set last after (Capture end next)) new (Capture start body) id → BuildsPart slot_of slots left number old new id next (Group 0 p)
+BuildsPart-group slot_of slots left inner number old middle last new state start end body after id next p l even second m its one a x b = (
   omega (arith, x.0, one),
   subst (λ (slot : ℕ). Builds slots old new id next (Group slot (numbered slot_of (number + 1) p))) its
-      (Builds-group slots old middle last new start end body after id next (numbered slot_of (number + 1) p) l even second m a
+      (Builds-group slots old middle last new state start end body after id next (numbered slot_of (number + 1) p) l even second m a
       (subst (λ (n : ℕ). Builds slots middle last body after (numbered slot_of n p)) one x.1) b),
+  omega (arith, x.2, a.one, b.one, length-set last after (Capture end next)),
 )
+
+-- ---- the slots of a group of a part
+
+-- they come after those of the whole match, and are a pair
+pub group-slots : (lists : GroupLists) (p g : ℕ) → 0 < g → p < length lists
+    → (2 * p + 1 < slot_number lists p g) × (slot_number lists p g % 2 ≡ 0)
+group-slots lists p zero some l = absurd (omega (arith, some))
+group-slots lists p (suc g) some l =
+    let later : nat_eq (suc g) 0 ≡ false = grind (arith, nat_tests) in
+    rw later (omega (arith, l), omega arith)

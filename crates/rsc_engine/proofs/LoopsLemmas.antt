@@ -1,8 +1,8 @@
 -- How lists of states grow by repetitions.
-use Rattle.std.proofs.Common.{Bool, subst, refl, ◌≡◌, ℕ, zero, suc, ◌+◌, ◌-◌, ◌<◌, List, length, set, slice_get, sym, arith, Option, Some, None}
+use Rattle.std.proofs.Common.{Bool, true, false, subst, refl, ◌≡◌, ℕ, zero, suc, ◌+◌, ◌-◌, ◌<◌, List, length, set, slice_get, sym, arith, Option, Some, None}
 use Rattle.std.proofs.lemmas.List.{length-set}
 use Rattle.rsc_nfa.specs.declared.state.State.{State}
-use Rattle.rsc_engine.specs.Patterns.{Pattern, Then, Repeat}
+use Rattle.rsc_engine.specs.Patterns.{Pattern, Then, Repeat, may_be_empty}
 use Rattle.rsc_engine.specs.EnclosesLayout.{Encloses}
 use Rattle.rsc_engine.specs.Refusals.{has_reversed_range}
 use Rattle.rsc_engine.specs.NamesLayout.{Names}
@@ -16,6 +16,7 @@ use Rattle.rsc_engine.specs.OrderLayout.{Orders}
 use Rattle.rsc_engine.proofs.FirstEndsLemmas.{star-loops, up_to-loops, counted-loops}
 use Rattle.rsc_engine.proofs.FirstWaysLemmas.{star-within, up_to-within, counted-within}
 use Rattle.rsc_engine.proofs.OrderLayoutLemmas.{Orders-choice, Orders-star, Orders-plus}
+use Rattle.rsc_engine.proofs.SizesLemmas.{optional-size, entered-size, loop-size, unlimited-size, limited-size, up_to_only-size}
 use Rattle.rsc_engine.proofs.CompileLemmas.{Adds-one, Adds-both, Adds-is, Adds-written, IsPart, grown, Builds-empty, Builds-then, Builds-is}
 
 -- the part or nothing
@@ -142,11 +143,11 @@ same_number left now n count x y = omega (arith, x, y)
 
 pub BuildsCopies-none : (slot_of : ℕ → ℕ) (slots : ℕ × ℕ) (left : ℕ) (states : List State) (next : ℕ) (p : Pattern)
     → BuildsCopies slot_of slots left left states states next next 0 (copies 0) p
-BuildsCopies-none slot_of slots left states next p = (λ l. absurd (omega (arith, l)), λ n e. Builds-empty slots states next)
+BuildsCopies-none slot_of slots left states next p = (λ l. absurd (omega (arith, l)), λ n e. Builds-empty slots states next, omega arith)
 
 pub BuildsCopies-up_to_none : (slot_of : ℕ → ℕ) (slots : ℕ × ℕ) (left : ℕ) (states : List State) (next : ℕ) (often : Bool) (p : Pattern)
     → BuildsCopies slot_of slots left left states states next next 0 (up_to often 0) p
-BuildsCopies-up_to_none slot_of slots left states next often p = (λ l. absurd (omega (arith, l)), λ n e. Builds-empty slots states next)
+BuildsCopies-up_to_none slot_of slots left states next often p = (λ l. absurd (omega (arith, l)), λ n e. Builds-empty slots states next, omega arith)
 
 pub BuildsCopies-more : (slot_of : ℕ → ℕ) (slots : ℕ × ℕ) (left mid now : ℕ) (old middle new : List State) (first between next count : ℕ) (p : Pattern)
     → BuildsCopies slot_of slots left mid old middle between next count (copies count) p
@@ -156,6 +157,7 @@ BuildsCopies-more slot_of slots left mid now old middle new first between next c
   λ l. y.0,
   λ n e. Builds-then slots old middle new first between next (numbered slot_of n p) (copies count (numbered slot_of n p)) (x.1 n e)
       (subst (λ (k : ℕ). Builds slots middle new first between (numbered slot_of k p)) (same_number left now n (count_groups p) y.0 e) y.1),
+  omega (arith, x.2, y.2),
 )
 
 pub BuildsCopies-up_to_more : (slot_of : ℕ → ℕ) (slots : ℕ × ℕ) (left mid now : ℕ) (old middle last new : List State) (one between id next count : ℕ)
@@ -169,25 +171,35 @@ BuildsCopies-up_to_more slot_of slots left mid now old middle last new one betwe
       (Builds-then slots old middle last one between next (numbered slot_of n p) (up_to often count (numbered slot_of n p)) (x.1 n e)
       (subst (λ (k : ℕ). Builds slots middle last one between (numbered slot_of k p)) (same_number left now n (count_groups p) y.0 e) y.1))
       a,
+  omega (arith, x.2, y.2, a.one, optional-size often (Then p (up_to often count p))),
 )
 
 pub BuildsPart-star : (slot_of : ℕ → ℕ) (slots : ℕ × ℕ) (left now : ℕ) (old last new : List State) (one id next : ℕ) (often : Bool) (p : Pattern)
-    → BuildsPart slot_of slots left now old last one next (Repeat 1 None often p) → IsAdded last new (choice_of often one next) id
+    → may_be_empty p ≡ true → BuildsPart slot_of slots left now old last one next (Repeat 1 None often p) → IsAdded last new (choice_of often one next) id
     → BuildsPart slot_of slots left now old new id next (Repeat 0 None often p)
-BuildsPart-star slot_of slots left now old last new one id next often p x a =
-    (x.0, Builds-star slots old last new one id next often (numbered slot_of now p) x.1 a)
+BuildsPart-star slot_of slots left now old last new one id next often p empty x a = (
+  x.0,
+  Builds-star slots old last new one id next often (numbered slot_of now p) x.1 a,
+  omega (arith, x.2, a.one, entered-size often p empty),
+)
 
 pub BuildsPart-again : (slot_of : ℕ → ℕ) (slots : ℕ × ℕ) (left now : ℕ) (old middle last : List State) (state : State) (first again next : ℕ) (often : Bool)
-    (p : Pattern) → IsAdded old middle state again → BuildsPart slot_of slots left now middle last first again p
+    (p : Pattern) → may_be_empty p ≡ false → IsAdded old middle state again → BuildsPart slot_of slots left now middle last first again p
     → BuildsPart slot_of slots left now old (set last again (choice_of often first next)) again next (Repeat 0 None often p)
-BuildsPart-again slot_of slots left now old middle last state first again next often p a x =
-    (x.0, Builds-again slots old middle last state first again next often (numbered slot_of now p) a x.1)
+BuildsPart-again slot_of slots left now old middle last state first again next often p some a x = (
+  x.0,
+  Builds-again slots old middle last state first again next often (numbered slot_of now p) a x.1,
+  omega (arith, x.2, a.one, length-set last again (choice_of often first next), loop-size often p some),
+)
 
 pub BuildsPart-plus : (slot_of : ℕ → ℕ) (slots : ℕ × ℕ) (left now : ℕ) (old middle last : List State) (state : State) (first again next : ℕ) (often : Bool)
     (p : Pattern) → IsAdded old middle state again → BuildsPart slot_of slots left now middle last first again p
     → BuildsPart slot_of slots left now old (set last again (choice_of often first next)) first next (Repeat 1 None often p)
-BuildsPart-plus slot_of slots left now old middle last state first again next often p a x =
-    (x.0, Builds-plus slots old middle last state first again next often (numbered slot_of now p) a x.1)
+BuildsPart-plus slot_of slots left now old middle last state first again next often p a x = (
+  x.0,
+  Builds-plus slots old middle last state first again next often (numbered slot_of now p) a x.1,
+  omega (arith, x.2, a.one, length-set last again (choice_of often first next)),
+)
 
 pub BuildsPart-unlimited : (slot_of : ℕ → ℕ) (slots : ℕ × ℕ) (left mid now : ℕ) (old middle new : List State) (min last first next : ℕ) (often : Bool)
     (p : Pattern) → 1 < min → BuildsPart slot_of slots left mid old middle last next (Repeat 1 None often p)
@@ -200,6 +212,7 @@ BuildsPart-unlimited slot_of slots left mid now old middle new min last first ne
           (subst (λ (k : ℕ). Builds slots old middle last next (Repeat 1 None often (numbered slot_of k p)))
           (same_number left mid now (count_groups p) x.0 its) x.1)
           (y.1 now its),
+      omega (arith, x.2, y.2, unlimited-size (min - 1) min often p (omega (arith, more))),
     )
 
 pub BuildsPart-limited : (slot_of : ℕ → ℕ) (slots : ℕ × ℕ) (left mid now : ℕ) (old middle new : List State) (min max rest first next : ℕ) (often : Bool)
@@ -207,8 +220,11 @@ pub BuildsPart-limited : (slot_of : ℕ → ℕ) (slots : ℕ × ℕ) (left mid 
     → BuildsCopies slot_of slots left now middle new first rest min (copies min) p
     → BuildsPart slot_of slots left now old new first next (Repeat min (Some max) often p)
 BuildsPart-limited slot_of slots left mid now old middle new min max rest first next often p some x y =
-    let its = y.0 some in
-    (its, Builds-limited slots old middle new min max rest first next often (numbered slot_of now p) (x.1 now its) (y.1 now its))
+    let its = y.0 some in (
+      its,
+      Builds-limited slots old middle new min max rest first next often (numbered slot_of now p) (x.1 now its) (y.1 now its),
+      omega (arith, x.2, y.2, limited-size min max often p),
+    )
 
 pub BuildsPart-up_to : (slot_of : ℕ → ℕ) (slots : ℕ × ℕ) (left now : ℕ) (old new : List State) (min max first next : ℕ) (often : Bool)
     (p : Pattern) → min ≡ 0 → 0 < max → BuildsCopies slot_of slots left now old new first next max (up_to often max) p
@@ -216,12 +232,19 @@ pub BuildsPart-up_to : (slot_of : ℕ → ℕ) (slots : ℕ × ℕ) (left now : 
 BuildsPart-up_to slot_of slots left now old new min max first next often p none some x =
     let its = x.0 some in
     subst (λ (n : ℕ). BuildsPart slot_of slots left now old new first next (Repeat n (Some max) often p)) (sym none)
-    (its, Builds-up_to slots old new first next max often (numbered slot_of now p) (x.1 now its))
+    (its, Builds-up_to slots old new first next max often (numbered slot_of now p) (x.1 now its), omega (arith, x.2, up_to_only-size max often p))
 
 pub BuildsPart-no_times : (slot_of : ℕ → ℕ) (slots : ℕ × ℕ) (left now : ℕ) (states : List State) (next : ℕ) (often : Bool) (p : Pattern)
     → left ≡ now + count_groups p → BuildsPart slot_of slots left now states states next next (Repeat 0 (Some 0) often p)
 BuildsPart-no_times slot_of slots left now states next often p its =
-    (its, Builds-up_to slots states states next next 0 often (numbered slot_of now p) (Builds-empty slots states next))
+    (its, Builds-up_to slots states states next next 0 often (numbered slot_of now p) (Builds-empty slots states next), omega (arith, up_to_only-size 0 often p))
+
+pub BuildsPart-zero : (slot_of : ℕ → ℕ) (slots : ℕ × ℕ) (left now : ℕ) (old new : List State) (min max first next : ℕ) (often : Bool) (p : Pattern)
+    → min ≡ 0 → max ≡ 0 → BuildsPart slot_of slots left now old new first next (Repeat 0 (Some 0) often p)
+    → BuildsPart slot_of slots left now old new first next (Repeat min (Some max) often p)
+BuildsPart-zero slot_of slots left now old new min max first next often p none never x =
+    subst (λ (n : ℕ). BuildsPart slot_of slots left now old new first next (Repeat n (Some max) often p)) (sym none)
+    (subst (λ (n : ℕ). BuildsPart slot_of slots left now old new first next (Repeat 0 (Some n) often p)) (sym never) x)
 
 pub positive : (n : ℕ) → (n ≡ 0 → ⊥) → 0 < n
 positive zero apart = absurd (apart refl)

@@ -1,25 +1,36 @@
 -- Why there is no program.
-use Rattle.std.proofs.Common.{◌≡◌, ℕ, zero, suc, ◌+◌, ◌*◌, ◌<◌, ◌≤◌, ◌⊎◌, nat_eq, nat_lt, inl, inr, ⊎_elim, Bool, true, false, cond, List, [], length, Option, Some, None, Result, MatchResult, refl, subst, arith}
-use Rattle.std.proofs.lemmas.Result.{MatchResult-weaker}
+use Rattle.std.proofs.Common.{◌||◌, IfNone, IsSome, rules, ◌≡◌, ℕ, zero, suc, ◌+◌, ◌*◌, ◌<◌, ◌≤◌, ◌⊎◌, nat_eq, nat_lt, inl, inr, ⊎_elim, Bool, true, false, cond, List, [], ◌∷◌, map, take, length, Option, Some, None, Result, Ok, Err, IfOk, OnOk, refl, subst, ap, arith}
 use Rattle.std.proofs.lemmas.Bool.{cases_lt}
 use Rattle.std.proofs.lemmas.Bool.Decides.{nat_tests}
-use Rattle.std.proofs.lemmas.List.{get_or_past}
+use Rattle.std.proofs.lemmas.List.{get_or_past, length-map}
+use Rattle.std.proofs.lemmas.List.Sums.{sum_by-cons}
+use Rattle.rsc_primitives.specs.Indices.{max_index}
 use Rattle.rsc_nfa.specs.declared.state.State.{State}
 use Rattle.rsc_nfa.specs.declared.error.BuildError.{BuildError}
 use Rattle.rsc_nfa.specs.declared.error.BuildError.TheVariants.{OutOfMemory}
 use Rattle.rsc_nfa.specs.Faults.{AreFaultless, IsFirstFaulty}
-use Rattle.rsc_captures.specs.Groups.{GroupLists, Groups, groups_of, group_count, name_of, stands_before, explicit_before, all_groups}
-use Rattle.rsc_captures.specs.Faults.{Fault, TooManyPatterns, MissingGroups, FirstMustBeUnnamed, TooManyGroups, Duplicate, name_fault, explicit_fault, group_fault, IsFirstFault, RefusesFor}
+use Rattle.rsc_captures.specs.Groups.{GroupLists, Groups, groups_of, group_count, name_of, stands_before, explicit_before, explicit_groups, all_groups}
+use Rattle.rsc_captures.specs.Faults.{Fault, TooManyPatterns, MissingGroups, FirstMustBeUnnamed, TooManyGroups, Duplicate, pattern_fault, name_fault, explicit_fault, group_fault, IsChecked, IsFirstFault, RefusesFor}
 use Rattle.rsc_engine.specs.declared.error.Error.{Error}
 use Rattle.rsc_engine.specs.declared.error.Error.TheVariants as error
 use Rattle.rsc_engine.specs.Patterns.{Pattern}
-use Rattle.rsc_engine.specs.Refusals.{is_out_of_memory, RunsOut, RepeatsName, RefusesNames, FailsToBuild, error_of, has_a_reversed_range}
+use Rattle.rsc_engine.specs.Sizes.{size_of_program}
+use Rattle.rsc_engine.specs.Parts.{groups_of_part, groups_of_pattern}
+use Rattle.rsc_engine.specs.declared.builder.part.Part.{Part}
+use Rattle.rsc_engine.specs.Refusals.{is_out_of_memory, RepeatsName, FailsToBuild, are_too_large, error_of, has_a_reversed_range}
 use Rattle.rsc_engine.specs.NamesLayout.{AreSound}
 use Rattle.rsc_engine.proofs.NamesLayoutLemmas.{sound-faultless}
 
--- what holds for a result that is built, where errors stay
-pub built-weaker : {X : Type 0} (r : Result X Error) (P Q : X → Type 0) → ((x : X) → P x → Q x) → MatchResult r P RunsOut → MatchResult r Q RunsOut
-built-weaker r P Q f x = MatchResult-weaker r x f (λ e y. y)
+-- what holds for a result that is built
+pub built-weaker : {X E : Type 0} (r : Result X E) (P Q : X → Type 0) → ((x : X) → P x → Q x) → IfOk r P → IfOk r Q
+built-weaker (Ok x) P Q f y = f x y
+built-weaker (Err e) P Q f y = y
+
+-- the same with what holds besides
+pub built-with : {X E : Type 0} (r : Result X E) (P : X → Type 0) (S : Type 0) (Q : X → Type 0) → ((x : X) → P x → S → Q x) → IfOk r P → OnOk r S
+    → IfOk r Q
+built-with (Ok x) P S Q f y s = f x y s
+built-with (Err e) P S Q f y s = y
 
 -- ---- a name twice
 
@@ -62,13 +73,88 @@ first_repeats : (limit : ℕ) (lists : GroupLists) (q : ℕ) (name : List ℕ) �
 first_repeats limit lists q name (inl f) = group_repeats limit lists f.p f.g q name f.fault
 first_repeats limit lists q name (inr f) = absurd (let e = f.fault in cc)
 
-pub names-refused : (limit : ℕ) (lists : GroupLists) (refusal : Option Fault) → RefusesFor limit lists refusal → RefusesNames lists (error_of refusal)
-names-refused limit lists None r = inl (inl refl)
-names-refused limit lists (Some (TooManyPatterns p)) r = inl (inr refl)
-names-refused limit lists (Some (MissingGroups p)) r = inl (inr refl)
-names-refused limit lists (Some (FirstMustBeUnnamed p)) r = inl (inr refl)
-names-refused limit lists (Some (TooManyGroups p least)) r = inl (inr refl)
-names-refused limit lists (Some (Duplicate p name)) r = inr (refl, first_repeats limit lists p name r)
+-- ---- of groups for which there are slots each fault is of a name
+
+all-more : (part : Part) (rest : List Part)
+    → all_groups (map groups_of_pattern (part ∷ rest)) ≡ length (groups_of_pattern part) + all_groups (map groups_of_pattern rest)
+all-more part rest = sum_by-cons (length {A = Option (List ℕ)}) (groups_of_pattern part) (map groups_of_pattern rest)
+
+-- the groups of the patterns before p but their first ones, and a first group for each pattern
+before-all : (parts : List Part) (p : ℕ) → explicit_before (map groups_of_pattern parts) p + length parts ≤ all_groups (map groups_of_pattern parts)
+before-all [] zero = omega arith
+before-all [] (suc p) = omega arith
+before-all (part ∷ rest) zero = omega (arith, before-all rest 0, all-more part rest)
+before-all (part ∷ rest) (suc p) = omega (
+  arith,
+  before-all rest p,
+  all-more part rest,
+  sum_by-cons explicit_groups (groups_of_pattern part) (take p (map groups_of_pattern rest)),
+)
+
+-- the same with a group of p and those before it
+group-all : (parts : List Part) (p g : ℕ) → g < group_count (map groups_of_pattern parts) p
+    → explicit_before (map groups_of_pattern parts) p + g + length parts ≤ all_groups (map groups_of_pattern parts)
+group-all [] zero g l = absurd (omega (arith, l))
+group-all [] (suc p) g l = absurd (omega (arith, l))
+group-all (part ∷ rest) zero g l = omega (arith, l, before-all rest 0, all-more part rest)
+group-all (part ∷ rest) (suc p) g l = omega (
+  arith,
+  group-all rest p g l,
+  all-more part rest,
+  sum_by-cons explicit_groups (groups_of_pattern part) (take p (map groups_of_pattern rest)),
+)
+
+first-unnamed : (parts : List Part) (p : ℕ) → p < length parts → (rest : Groups) × (groups_of (map groups_of_pattern parts) p ≡ None ∷ rest)
+first-unnamed [] p l = absurd (omega (arith, l))
+first-unnamed (part ∷ rest) zero l = (groups_of_part part, refl)
+first-unnamed (part ∷ rest) (suc p) l = first-unnamed rest p (omega (arith, l))
+
+first-plain : (lists : GroupLists) (p : ℕ) (rest : Groups) → groups_of lists p ≡ None ∷ rest → p ≤ max_index → pattern_fault lists p ≡ None
+first-plain lists p rest its small =
+    let few : nat_lt max_index p ≡ false = grind (arith, nat_tests) in
+    let some : nat_eq (suc (length rest)) 0 ≡ false = grind (arith, nat_tests) in
+    rw (few, its, some) refl
+
+name-kind : (groups : Groups) (p g : ℕ) (o : Option (List ℕ)) (f : Fault) → name_fault groups p g o ≡ Some f → (name : List ℕ) × (f ≡ Duplicate p name)
+name-kind groups p g None f e = absurd (cc)
+name-kind groups p g (Some name) f e = decide (stands_before groups g name) e
+  where
+    decide : (t : Bool) → cond t (Some (Duplicate p name)) None ≡ Some f → (other : List ℕ) × (f ≡ Duplicate p other)
+    decide true is = (name, cc)
+    decide false is = absurd (cc)
+
+group-kind : (parts : List Part) (p g : ℕ) (f : Fault) → 2 * all_groups (map groups_of_pattern parts) ≤ max_index
+    → IsChecked (map groups_of_pattern parts) p g → group_fault max_index (map groups_of_pattern parts) p g ≡ Some f
+    → (name : List ℕ) × (f ≡ Duplicate p name)
+group-kind parts p zero f small there fault =
+    let within : p < length parts = omega (arith, there.0, length-map parts groups_of_pattern) in
+    let its = first-unnamed parts p within in
+    let none : pattern_fault (map groups_of_pattern parts) p ≡ None =
+    first-plain (map groups_of_pattern parts) p its.0 its.1 (omega (arith, within, small, before-all parts 0)) in
+    absurd (cc)
+group-kind parts p (suc g) f small there fault =
+    let all = group-all parts p (suc g) (omega (arith, there.1)) in
+    let later : nat_eq (suc g) 0 ≡ false = grind (arith, nat_tests) in
+    let few : nat_lt max_index (2 * (explicit_before (map groups_of_pattern parts) p + suc g)) ≡ false = grind (arith, nat_tests) in
+    name-kind (groups_of (map groups_of_pattern parts) p) p (suc g) (name_of (map groups_of_pattern parts) p (suc g)) f (rw (later, few) at fault)
+
+first-kind : (parts : List Part) (f : Fault) → 2 * all_groups (map groups_of_pattern parts) ≤ max_index
+    → IsFirstFault max_index (map groups_of_pattern parts) f → (p : ℕ) × (name : List ℕ) × (f ≡ Duplicate p name)
+first-kind parts f small (inl w) = let its = group-kind parts w.p w.g f small w.group w.fault in (w.p, its.0, its.1)
+first-kind parts f small (inr w) =
+    absurd (omega (arith, w.past, small, before-all parts (w.p + 1), length-map parts groups_of_pattern))
+
+-- why groups are refused for which there are slots
+pub names-refused : (parts : List Part) (refusal : Option Fault) → 2 * all_groups (map groups_of_pattern parts) ≤ max_index
+    → RefusesFor max_index (map groups_of_pattern parts) refusal
+    → (error_of refusal ≡ error.OutOfMemory) ⊎ ((error_of refusal ≡ error.Names) × RepeatsName (map groups_of_pattern parts))
+names-refused parts None small r = inl refl
+names-refused parts (Some f) small r =
+    let its = first-kind parts f small r in
+    inr (
+      ap (λ (g : Fault). error_of (Some g)) its.2,
+      first_repeats max_index (map groups_of_pattern parts) its.0 its.1 (subst (λ (g : Fault). IsFirstFault max_index (map groups_of_pattern parts) g) its.2 r),
+    )
 
 -- ---- a pattern that has a group
 
@@ -83,17 +169,35 @@ pattern_there lists p g l = ⊎_elim
 -- ---- a range that is reversed
 
 -- why there is no automaton, of states that name what is there
-pub faulty-refused : (groups : GroupLists) (states : List State) (patterns : List Pattern) (first : ℕ) (fault : BuildError)
+pub faulty-refused : (limit : ℕ) (groups : GroupLists) (states : List State) (patterns : List Pattern) (first : ℕ) (fault : BuildError)
     → AreSound (2 * all_groups groups) (length groups) (has_a_reversed_range patterns) 0 (length states) first states
     → ((fault ≡ OutOfMemory) × AreFaultless groups states) ⊎ IsFirstFaulty groups states fault
-    → ¬ (RepeatsName groups) → FailsToBuild patterns groups (cond (is_out_of_memory fault) error.OutOfMemory error.Faulty)
-faulty-refused groups states patterns first fault sound (inl r) once = rw r.0 (inl (inl (inl refl)))
-faulty-refused groups states patterns first fault sound (inr f) once = decide (is_out_of_memory fault) (has_a_reversed_range patterns) refl
+    → are_too_large limit patterns groups ≡ false → ¬ (RepeatsName groups)
+    → FailsToBuild limit patterns groups (cond (is_out_of_memory fault) error.OutOfMemory error.Faulty)
+faulty-refused limit groups states patterns first fault sound (inl r) small once = rw r.0 (inl refl)
+faulty-refused limit groups states patterns first fault sound (inr f) small once = decide (is_out_of_memory fault) (has_a_reversed_range patterns) refl
   where
-    decide : (t r : Bool) → has_a_reversed_range patterns ≡ r → FailsToBuild patterns groups (cond t error.OutOfMemory error.Faulty)
-    decide true r e = inl (inl (inl refl))
-    decide false true e = inr (refl, e, once)
+    decide : (t r : Bool) → has_a_reversed_range patterns ≡ r → FailsToBuild limit patterns groups (cond t error.OutOfMemory error.Faulty)
+    decide true r e = inl refl
+    decide false true e = inr (inr (inr (refl, small, once, e)))
     decide false false e = absurd (
         let none = sound-faultless groups states (has_a_reversed_range patterns) first sound e f.state f.there in
         let some = f.fault in
         cc)
+
+-- ---- patterns that aren't too large
+
+neither : (a b : Bool) → (a || b) ≡ false → (a ≡ false) × (b ≡ false)
+neither true b e = absurd (cc)
+neither false b e = (refl, e)
+
+pub not-large : (limit : ℕ) (patterns : List Pattern) (lists : GroupLists) → are_too_large limit patterns lists ≡ false
+    → (size_of_program patterns ≤ limit) × (2 * all_groups lists ≤ max_index)
+not-large limit patterns lists e =
+    let states : nat_lt limit (size_of_program patterns) ≡ false = (neither _ _ e).0 in
+    let groups : nat_lt max_index (2 * all_groups lists) ≡ false = (neither _ _ e).1 in
+    (grind (arith, nat_tests), grind (arith, nat_tests))
+
+pub is_there : {X : Type 0} (o : Option X) (P : Type 0) → IfNone o P → (P → ⊥) → IsSome o
+is_there None P p none = absurd (none p)
+is_there (Some x) P p none = search rules

@@ -24,6 +24,7 @@ pub mod Refusals  -- why there is no program
 pub mod RowsLayout  -- the rows of a DFA, and where a byte leads from one
 pub mod Runs  -- runs that are matches
 pub mod Searches  -- a program, what a search is over, and why it has no answer
+pub mod Sizes  -- how many states a pattern has, and a program of patterns
 pub mod StartsLayout  -- the bytes with which a match may begin
 pub mod StepsLayout  -- steps from a place on
 pub mod TablesLayout  -- the table of a DFA

@@ -1,5 +1,5 @@
 -- How the states of a part lead on.
-use Rattle.std.specs.Prelude.{◌≡◌, ℕ, zero, suc, ◌+◌, ◌<◌, ◌≤◌, ◌⊎◌, Bool, true, false, List, [], ◌∷◌, ◌++◌, length, slice_get, Some}
+use Rattle.std.specs.Prelude.{◌≡◌, ℕ, zero, suc, ◌+◌, ◌*◌, ◌<◌, ◌≤◌, ◌⊎◌, Bool, true, false, List, [], ◌∷◌, ◌++◌, length, slice_get, Some}
 use Rattle.rsc_nfa.specs.declared.state.State.{State}
 use Rattle.rsc_nfa.specs.declared.state.State.TheVariants.{Fork, Accept}
 use Rattle.rsc_nfa.specs.Steps.{IsStep}
@@ -10,6 +10,8 @@ use Rattle.rsc_engine.specs.Refusals.{has_reversed_range}
 use Rattle.rsc_engine.specs.FirstEnds.{loops_take_bytes}
 use Rattle.rsc_engine.specs.GroupNumbers.{count_groups, numbered}
 use Rattle.rsc_engine.specs.OrderLayout.{Orders}
+use Rattle.rsc_engine.specs.Sizes.{size_of}
+use Rattle.rsc_captures.specs.Groups.{GroupLists, all_groups}
 
 -- a match that is looked for: in a text up to an end, of a pattern, to a position
 pub record Aim : Type 0 where
@@ -61,21 +63,27 @@ Builds slots old new first next p =
     Adds old new (λ states. Realizes states first next p × Encloses slots.0 (length old) (length new) first next states
     × Names slots.1 (has_reversed_range p) (length old) (length new) states × Orders states first next p)
 
--- the same of a part whose groups are numbered up to `left` and from `now` on
+-- between which slots the parts of a pattern record: after the end of its whole match, below the limit of all slots
+abbrev pub slots_between : GroupLists → ℕ → ℕ × ℕ
+slots_between lists pattern = (2 * pattern + 1, 2 * all_groups lists)
+
+-- the same of a part whose groups are numbered up to `left` and from `now` on: as many states as it has
 abbrev pub BuildsPart : (ℕ → ℕ) → ℕ × ℕ → ℕ → ℕ → List State → List State → ℕ → ℕ → Pattern → Type 0
 BuildsPart slot_of slots left now old new first next p =
-    (left ≡ now + count_groups p) × Builds slots old new first next (numbered slot_of now p)
+    (left ≡ now + count_groups p) × Builds slots old new first next (numbered slot_of now p) × (length new ≡ length old + size_of p)
 
 -- the same of what is made of copies of a part; only where there is one the groups from `now` on are known
 abbrev pub BuildsCopies : (ℕ → ℕ) → ℕ × ℕ → ℕ → ℕ → List State → List State → ℕ → ℕ → ℕ → (Pattern → Pattern) → Pattern → Type 0
 BuildsCopies slot_of slots left now old new first next count made_of p =
     (0 < count → left ≡ now + count_groups p)
     × ((n : ℕ) → left ≡ n + count_groups p → Builds slots old new first next (made_of (numbered slot_of n p)))
+    × (length new ≡ length old + size_of (made_of p))
 
 -- one state was added, and this is its number
 pub record IsAdded (old new : List State) (state : State) (id : ℕ) : Type 0 where
   pub last : id ≡ length old
   pub added : new ≡ old ++ state ∷ []
+  pub one : length new ≡ length old + 1
 
 -- a fork that leads to a part or to what comes next, preferably to the part, if it may come often
 abbrev pub choice_of : Bool → ℕ → ℕ → State

@@ -1,8 +1,9 @@
--- Which pattern a part is, and which groups it has.
-use Rattle.std.specs.Prelude.{List, ◌∷◌, map, None}
+-- Which pattern a part is, and which groups it has; and what a builder has of them.
+use Rattle.std.specs.Prelude.{ℕ, List, ◌∷◌, map, min, None}
 use Rattle.rsc_captures.specs.Groups.{Groups, GroupLists, groups_in}
 use Rattle.rsc_engine.specs.Patterns.{Pattern}
 use Rattle.rsc_engine.specs.Trees.{pattern_in}
+use Rattle.rsc_engine.specs.Sizes.{most_states}
 use Rattle.rsc_engine.specs.declared.builder.part.Part.{Part}
 use Rattle.rsc_engine.specs.declared.builder.Builder.{Builder}
 
@@ -25,3 +26,7 @@ groups_of_pattern part = None ∷ groups_of_part part
 -- the groups of each pattern that a builder has finished
 abbrev pub lists_of : Builder → GroupLists
 lists_of builder = map groups_of_pattern builder.patterns.items
+
+-- how many states a program of a builder may have
+abbrev pub limit_of : Builder → ℕ
+limit_of builder = min builder.limit most_states

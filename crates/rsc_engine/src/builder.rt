@@ -1,31 +1,36 @@
 //! A builder: each call makes a part of a pattern, and larger parts are made of smaller ones.
-ghost use Rattle.std.specs.Prelude.{false, true, ◌≡◌, ◌<◌, ◌++◌, [], ◌∷◌, None, Some, Err, map, flat_map, length, IfOk, IfErr, OnOk, OnErr};
+ghost use Rattle.std.specs.Prelude.{false, true, IsTrue, min, ◌≡◌, ◌<◌, ◌≤◌, ◌++◌, [], ◌∷◌, None, Some, Err, map, flat_map, length, IfOk, IfErr, OnOk, OnErr};
 ghost use Rattle.rsc_captures.specs.Groups.{groups_in};
-ghost use Rattle.rsc_engine.specs.declared.error.Error.TheVariants.{OutOfMemory, EmptyClass};
+ghost use Rattle.rsc_engine.specs.declared.error.Error.TheVariants.{OutOfMemory, EmptyClass, TooLarge};
 ghost use Rattle.rsc_engine.specs.Patterns as patterns;
 ghost use Rattle.rsc_engine.specs.FirstEnds.{loops_take_bytes};
+ghost use Rattle.rsc_engine.specs.GroupNumbers.{count_groups};
 ghost use Rattle.rsc_engine.specs.Patterns.{Empty, Never, Class, Literal, Assertion, Then, Either, Group, in_order, one_of, Recognizes};
 ghost use Rattle.rsc_engine.specs.GroupEnds.{RecordsEnds};
 ghost use Rattle.rsc_engine.specs.GroupOrder.{ClosesGroups};
 ghost use Rattle.rsc_engine.specs.PatternOrder.{PrefersLesser, PrefersFirstEnds, RecordsWays, RecordsFirstWays};
-ghost use Rattle.rsc_engine.specs.Refusals.{FailsToBuild, RepeatsName, has_a_reversed_range};
+ghost use Rattle.rsc_engine.specs.Refusals.{FailsToBuild, RepeatsName, are_too_large, has_a_reversed_range};
+ghost use Rattle.rsc_engine.specs.Sizes.{size_of_program, most_states};
 ghost use Rattle.rsc_engine.specs.Trees.{pattern_in};
-ghost use Rattle.rsc_engine.specs.Parts.{pattern_of, patterns_of, groups_of_part, groups_of_pattern, lists_of};
+ghost use Rattle.rsc_engine.specs.Parts.{pattern_of, patterns_of, groups_of_part, groups_of_pattern, lists_of, limit_of};
 
 mod compile;
 mod loops;
 mod names;
 mod part;
 mod repeat;
+mod size;
 mod tree;
 
 use self::compile::compile;
 use self::names::{info_of, joined};
 pub use self::part::Part;
+use self::size::are_too_large;
 use self::tree::Tree;
 use crate::{Error, Program};
 use rsc_look::{Look, LookMatcher, WordClass};
 use rsc_nfa::Nfa;
+use rsc_primitives::StateID;
 use std::alloc::Global;
 
 /// Makes parts, and keeps the patterns that are finished.
@@ -47,6 +52,8 @@ use std::alloc::Global;
 pub struct Builder<'n> {
     alloc: Global,
     patterns: Vec<Part<'n>>,
+    // How many states a program may have. No more than have numbers, whatever this says.
+    limit: usize,
 }
 
 // Written out, so that a caller's proof has one step where a builder is dropped.
@@ -55,20 +62,33 @@ impl Drop for Builder<'_> {
         let Builder {
             alloc: _,
             patterns: _,
+            limit: _,
         } = self;
     }
 }
 
 impl<'n> Builder<'n> {
-    /// A builder with no pattern.
+    /// A builder with no pattern. Its programs may have as many states as there are numbers for.
     pub fn new(alloc: Global) -> Builder<'n>
         ensures patterns { patterns_of result ≡ [] }
         ensures groups { lists_of result ≡ [] }
+        ensures limit { limit_of result ≡ most_states }
     {
         Builder {
             alloc,
             patterns: Vec::new(alloc),
+            limit: StateID::LIMIT,
         }
+    }
+
+    /// Sets how many states a program may have: `build` refuses patterns with more, before it makes one. A limit above `StateID::LIMIT`, 2,147,483,647, is that,
+    /// since there are no more numbers, and so is the limit of a new builder. `Program::len` says how many states a program has.
+    pub fn limit_states(&mut self, most: usize)
+        ensures limit { limit_of self.new ≡ min most most_states }
+        ensures patterns { patterns_of self.new ≡ patterns_of self.old }
+        ensures groups { lists_of self.new ≡ lists_of self.old }
+    {
+        self.limit = most;
     }
 
     /// A byte from `start` to `end`. No program is built of a part with a range whose first byte is above its last.
@@ -227,14 +247,13 @@ impl<'n> Builder<'n> {
         ensures groups { IfOk result (λ group. groups_of_part group ≡ groups_in (name.entry ∷ []) ++ groups_of_part part.entry) }
         ensures refused { IfErr result (λ e. e ≡ OutOfMemory) }
     {
-        let groups = part.names.len();
         let may_be_empty = part.may_be_empty;
         let loops_take_bytes = part.loops_take_bytes;
         let mut first = Vec::new(self.alloc);
         first.push(name)?;
         let (tree, names) = part.into_tree_and_names();
         let names = joined(first, names)?;
-        let tree = Tree::Group(groups, Box::new(self.alloc, tree)?);
+        let tree = Tree::Group(Box::new(self.alloc, tree)?);
         Ok(Part {
             tree,
             names,
@@ -250,6 +269,7 @@ impl<'n> Builder<'n> {
         ensures refused { IfErr result (λ e. e ≡ OutOfMemory) }
         ensures kept { OnErr result (patterns_of self.new ≡ patterns_of self.old) }
         ensures groups_kept { OnErr result (lists_of self.new ≡ lists_of self.old) }
+        ensures limit { limit_of self.new ≡ limit_of self.old }
     {
         self.patterns.push(whole)?;
         Ok(())
@@ -265,8 +285,9 @@ impl<'n> Builder<'n> {
     ///
     /// # Errors
     ///
-    /// `Names` if a pattern has a name twice; otherwise `Faulty` if a range's first byte is above its last, unless its part is repeated at most 0 times.
-    /// Out of memory may come before both, and so may `TooLarge`, which is meant for more states, patterns or groups than there are numbers for.
+    /// `TooLarge` if the patterns have more states than [`Builder::limit_states`] allows, or all patterns together more than 1,073,741,823 groups, those of
+    /// whole matches included; this is known before a state is made. Otherwise `Names` if a pattern has a name twice; otherwise `Faulty` if a range's first
+    /// byte is above its last, unless its part is repeated at most 0 times. Out of memory may come before the last two.
     ///
     /// # Examples
     ///
@@ -300,7 +321,11 @@ impl<'n> Builder<'n> {
         ensures matcher { IfOk result (λ program. program.automaton.matcher ≡ (10, word_class)) }
         ensures names { OnOk result (¬ (RepeatsName (lists_of self.entry ++ groups_of_pattern last.entry ∷ []))) }
         ensures ordered { OnOk result (has_a_reversed_range (patterns_of self.entry ++ pattern_of last.entry ∷ []) ≡ false) }
-        ensures refused { IfErr result (FailsToBuild (patterns_of self.entry ++ pattern_of last.entry ∷ [])
+        ensures size { IfOk result (λ program. (length program.automaton.states ≡ size_of_program (patterns_of self.entry ++ pattern_of last.entry ∷ []))
+            × (length program.automaton.states ≤ limit_of self.entry)) }
+        ensures large { IsTrue (are_too_large (limit_of self.entry) (patterns_of self.entry ++ pattern_of last.entry ∷ [])
+            (lists_of self.entry ++ groups_of_pattern last.entry ∷ [])) → result ≡ Err TooLarge }
+        ensures refused { IfErr result (FailsToBuild (limit_of self.entry) (patterns_of self.entry ++ pattern_of last.entry ∷ [])
             (lists_of self.entry ++ groups_of_pattern last.entry ∷ [])) }
     {
         self.build_with(LookMatcher::new(word_class), utf8, last)
@@ -311,7 +336,7 @@ impl<'n> Builder<'n> {
     ///
     /// # Errors
     ///
-    /// As `build`.
+    /// As [`Builder::build`]: `TooLarge` before `Names`, and `Names` before `Faulty`.
     pub fn build_with<W: WordClass>(
         mut self,
         matcher: LookMatcher<W>,
@@ -330,23 +355,28 @@ impl<'n> Builder<'n> {
         ensures matcher { IfOk result (λ program. program.automaton.matcher ≡ matcher) }
         ensures names { OnOk result (¬ (RepeatsName (lists_of self.entry ++ groups_of_pattern last.entry ∷ []))) }
         ensures ordered { OnOk result (has_a_reversed_range (patterns_of self.entry ++ pattern_of last.entry ∷ []) ≡ false) }
-        ensures refused { IfErr result (FailsToBuild (patterns_of self.entry ++ pattern_of last.entry ∷ [])
+        ensures size { IfOk result (λ program. (length program.automaton.states ≡ size_of_program (patterns_of self.entry ++ pattern_of last.entry ∷ []))
+            × (length program.automaton.states ≤ limit_of self.entry)) }
+        ensures large { IsTrue (are_too_large (limit_of self.entry) (patterns_of self.entry ++ pattern_of last.entry ∷ [])
+            (lists_of self.entry ++ groups_of_pattern last.entry ∷ [])) → result ≡ Err TooLarge }
+        ensures refused { IfErr result (FailsToBuild (limit_of self.entry) (patterns_of self.entry ++ pattern_of last.entry ∷ [])
             (lists_of self.entry ++ groups_of_pattern last.entry ∷ [])) }
     {
+        if are_too_large(self.limit, self.patterns.as_slice(), &last) {
+            return Err(Error::TooLarge);
+        }
         self.pattern(last)?;
         let info = info_of(self.alloc, self.patterns.as_slice())?;
         let (states, first) = compile(self.alloc, &info, self.patterns.as_slice())?;
         let nfa = Nfa::new(self.alloc, info, matcher, &states)?;
-        match Program::new(nfa, first, utf8) {
-            None => Err(Error::TooLarge),
-            Some(program) => Ok(program),
-        }
+        Ok(Program::new(nfa, first, utf8).unwrap())
     }
 
     // The trees of parts, and the names of their groups.
     fn taken_apart(&self, parts: Vec<Part<'n>>) -> Result<(Vec<Tree>, Vec<Option<&'n str>>), Error>
         ensures trees { IfOk result (λ both. map pattern_in both.0.items ≡ map pattern_of parts.entry.items) }
         ensures names { IfOk result (λ both. groups_in both.1.items ≡ flat_map groups_of_part parts.entry.items) }
+        ensures count { IfOk result (λ both. length both.1.items ≡ count_groups (in_order (map pattern_of parts.entry.items))) }
         ensures refused { IfErr result (λ e. e ≡ OutOfMemory) }
     {
         let mut trees = Vec::new(self.alloc);
@@ -363,6 +393,7 @@ impl<'n> Builder<'n> {
     fn leaf(&self, tree: Tree, may_be_empty: bool) -> Part<'n>
         requires emptiness { may_be_empty ≡ patterns.may_be_empty (pattern_in tree) }
         requires loops { loops_take_bytes (pattern_in tree) ≡ true }
+        requires no_groups { count_groups (pattern_in tree) ≡ 0 }
         ensures part { pattern_of result ≡ pattern_in tree }
         ensures groups { groups_of_part result ≡ [] }
     {

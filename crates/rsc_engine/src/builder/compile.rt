@@ -1,23 +1,25 @@
 //! From parts to states. The walk goes from the end of a pattern to its start, so that what comes after a part has its state first.
-ghost use Rattle.std.specs.Prelude.{◌≡◌, ℕ, ◌+◌, ◌*◌, ◌%◌, ◌<◌, ◌≤◌, ◌++◌, [], ◌∷◌, map, length, IfOk, IfErr, MatchResult};
+ghost use Rattle.std.specs.Prelude.{◌≡◌, ℕ, ◌+◌, ◌*◌, ◌<◌, ◌≤◌, ◌++◌, [], ◌∷◌, map, length, IfOk, OnOk};
+ghost use Rattle.rsc_primitives.specs.Indices.{IsIndex};
+ghost use Rattle.rsc_captures.specs.Groups.{all_groups, group_count, slot_number};
 ghost use Rattle.rsc_nfa.specs.declared.state.State.TheVariants.{Fork};
 ghost use Rattle.rsc_engine.specs.Patterns.{Never, Class, Literal, Group, in_order, one_of};
-ghost use Rattle.rsc_engine.specs.Parts.{pattern_of};
+ghost use Rattle.rsc_engine.specs.Parts.{pattern_of, groups_of_pattern};
 ghost use Rattle.rsc_engine.specs.Trees.{pattern_in};
-ghost use Rattle.rsc_engine.specs.LinksLayout.{Adds, Builds, BuildsPart, IsAdded};
+ghost use Rattle.rsc_engine.specs.Sizes.{size_of, size_of_program, most_states};
+ghost use Rattle.rsc_engine.specs.GroupNumbers.{count_groups};
+ghost use Rattle.rsc_engine.specs.LinksLayout.{Adds, Builds, BuildsPart, IsAdded, slots_between};
 ghost use Rattle.rsc_engine.specs.BeginsLayout.{Begins, IsOfOne, IsOfSome};
 ghost use Rattle.rsc_engine.specs.FirstsLayout.{OrdersOne, OrdersSome};
-ghost use Rattle.rsc_captures.specs.Groups.{all_groups, slot_number};
 ghost use Rattle.rsc_engine.specs.NamesLayout.{AreSoundIn};
-ghost use Rattle.rsc_engine.specs.Refusals.{RunsOut, has_reversed_range, has_a_reversed_range};
+ghost use Rattle.rsc_engine.specs.Refusals.{has_reversed_range, has_a_reversed_range};
 
 use super::Part;
 use super::tree::Tree;
-use crate::Error;
 use rsc_captures::GroupInfo;
 use rsc_nfa::State;
 use rsc_primitives::{PatternID, SmallIndex, StateID};
-use std::alloc::Global;
+use std::alloc::{AllocError, Global};
 
 /// The states so far.
 #[derive(Drop)]
@@ -37,10 +39,6 @@ pub(crate) struct Compiler {
 pub(crate) struct Slots<'i> {
     pub(crate) info: &'i GroupInfo,
     pub(crate) pattern: PatternID,
-    // The slot of the end of the whole match, in which no part records.
-    pub(crate) end: SmallIndex,
-    // How many slots the groups of all patterns have.
-    pub(crate) limit: usize,
 }
 
 impl Drop for Slots<'_> {
@@ -48,31 +46,22 @@ impl Drop for Slots<'_> {
         let Slots {
             info: _,
             pattern: _,
-            end: _,
-            limit: _,
         } = self;
     }
 }
 
 impl Slots<'_> {
-    // The slots of a group of a part. They come after those of the whole match.
-    fn of_group(&self, group: usize) -> Result<(SmallIndex, SmallIndex), Error>
-        ensures number { IfOk result (λ slots. slots.0 ≡ slot_number self.now.info.now self.now.pattern group) }
-        ensures start { IfOk result (λ slots. self.now.end < slots.0) }
-        ensures even { IfOk result (λ slots. slots.0 % 2 ≡ 0) }
-        ensures end { IfOk result (λ slots. slots.1 ≡ slots.0 + 1) }
-        ensures within { IfOk result (λ slots. slots.1 < self.now.limit) }
-        ensures refused { IfErr result RunsOut }
+    // The slots of a group.
+    fn of_group(&self, group: usize) -> (SmallIndex, SmallIndex)
+        requires { group < group_count self.now.info.now self.now.pattern }
+        ensures start { result.0 ≡ slot_number self.now.info.now self.now.pattern group }
+        ensures end { result.1 ≡ result.0 + 1 }
+        ensures within { result.1 < 2 * all_groups self.now.info.now }
     {
-        let (start, end) = pair_of(self.info, self.pattern, group)?;
-        // These conditions never hold. They tell the prover that a group's slots are a pair, come after those of the whole match, and are below the limit.
-        if end.as_usize() != start.as_usize() + 1 {
-            return Err(Error::TooLarge);
-        }
-        if start.as_usize() <= self.end.as_usize() || self.limit <= end.as_usize() {
-            return Err(Error::TooLarge);
-        }
-        Ok((start, end))
+        // So that slots are known to be indices.
+        let _limit = self.info.slot_len();
+        let (start, end) = self.info.slots(self.pattern, group).unwrap();
+        (SmallIndex::must(start), SmallIndex::must(end))
     }
 }
 
@@ -81,11 +70,14 @@ pub(crate) fn compile(
     alloc: Global,
     info: &GroupInfo,
     patterns: &[Part<'_>],
-) -> Result<(Vec<State>, StateID), Error>
-    requires { length patterns.now ≤ length info.now }
-    ensures { MatchResult result (λ made. Begins made.0.items made.1 (IsOfSome 0 (map pattern_of patterns.now))
+) -> Result<(Vec<State>, StateID), AllocError>
+    requires some { 0 < length patterns.now }
+    requires groups { info.now ≡ map groups_of_pattern patterns.now }
+    requires room { size_of_program (map pattern_of patterns.now) ≤ most_states }
+    ensures made { IfOk result (λ made. Begins made.0.items made.1 (IsOfSome 0 (map pattern_of patterns.now))
         × AreSoundIn info.now (has_a_reversed_range (map pattern_of patterns.now)) [] made.0.items made.1 made.0.items
-        × OrdersSome made.0.items (slot_number info.now) made.1 0 (map pattern_of patterns.now)) RunsOut }
+        × OrdersSome made.0.items (slot_number info.now) made.1 0 (map pattern_of patterns.now)) }
+    ensures size { IfOk result (λ made. length made.0.items ≡ size_of_program (map pattern_of patterns.now)) }
 {
     let mut compiler = Compiler {
         list: States {
@@ -93,9 +85,7 @@ pub(crate) fn compile(
         },
         left: 0,
     };
-    let Some(last) = patterns.len().checked_sub(1) else {
-        return Err(Error::TooLarge);
-    };
+    let last = info.pattern_len() - 1;
     let mut first = compiler.pattern(info, last, &patterns[last])?;
     for index in (0..last).rev() {
         let one = compiler.pattern(info, index, &patterns[index])?;
@@ -108,28 +98,6 @@ pub(crate) fn compile(
     Ok((states, first))
 }
 
-// The slots of a group.
-fn pair_of(
-    info: &GroupInfo,
-    pattern: PatternID,
-    group: usize,
-) -> Result<(SmallIndex, SmallIndex), Error>
-    ensures number { IfOk result (λ slots. slots.0 ≡ slot_number info.now pattern group) }
-    ensures start { IfOk result (λ slots. group ≡ 0 → slots.0 ≡ 2 * pattern) }
-    ensures end { IfOk result (λ slots. group ≡ 0 → slots.1 ≡ 2 * pattern + 1) }
-    ensures start_within { IfOk result (λ slots. slots.0 < 2 * all_groups info.now) }
-    ensures end_within { IfOk result (λ slots. slots.1 < 2 * all_groups info.now) }
-    ensures refused { IfErr result RunsOut }
-{
-    let Some((start, end)) = info.slots(pattern, group) else {
-        return Err(Error::TooLarge);
-    };
-    let (Ok(start), Ok(end)) = (SmallIndex::new(start), SmallIndex::new(end)) else {
-        return Err(Error::TooLarge);
-    };
-    Ok((start, end))
-}
-
 impl Compiler {
     // The state at which matches of the pattern begin. The part is between two records of its position, in the slots of the whole match.
     fn pattern(
@@ -137,33 +105,26 @@ impl Compiler {
         info: &GroupInfo,
         index: usize,
         whole: &Part<'_>,
-    ) -> Result<StateID, Error>
-        ensures { MatchResult result (λ first. Adds self.old.list.states.items self.new.list.states.items
+    ) -> Result<StateID, AllocError>
+        requires number { IsIndex index }
+        requires groups { group_count info.now index ≡ count_groups (pattern_of whole.now) + 1 }
+        requires room { length self.old.list.states.items + size_of (pattern_of whole.now) + 3 ≤ most_states }
+        ensures made { IfOk result (λ first. Adds self.old.list.states.items self.new.list.states.items
             (λ states. Begins states first (IsOfOne index (pattern_of whole.now)) × (index < length info.now →
             AreSoundIn info.now (has_reversed_range (pattern_of whole.now)) self.old.list.states.items self.new.list.states.items first states)
-            × OrdersOne states (slot_number info.now index) first index (pattern_of whole.now))) RunsOut }
+            × OrdersOne states (slot_number info.now index) first index (pattern_of whole.now))) }
+        ensures size { OnOk result (length self.new.list.states.items ≡ length self.old.list.states.items + size_of (pattern_of whole.now) + 3) }
     {
-        let Ok(pattern) = PatternID::new(index) else {
-            return Err(Error::TooLarge);
-        };
-        let (start, end) = pair_of(info, pattern, 0)?;
-        let slots = Slots {
-            info,
-            pattern,
-            end,
-            limit: info.slot_len(),
-        };
-        self.left = whole.names.len().saturating_add(1);
+        let pattern = PatternID::must(index);
+        let slots = Slots { info, pattern };
+        let (start, end) = slots.of_group(0);
+        self.left = info.group_len(pattern);
         let accept = self.list.add(State::Accept { pattern })?;
         let after = self.list.add(State::Capture {
             slot: end,
             next: accept,
         })?;
         let body = self.part(&slots, &whole.tree, after)?;
-        // This condition never holds. It tells the prover that the groups of the part are numbered from 1.
-        if self.left != 1 {
-            return Err(Error::TooLarge);
-        }
         self.list.add(State::Capture {
             slot: start,
             next: body,
@@ -177,9 +138,12 @@ impl Compiler {
         slots: &Slots<'_>,
         tree: &Tree,
         next: StateID,
-    ) -> Result<StateID, Error>
-        ensures { MatchResult result (λ first. BuildsPart (slot_number slots.now.info.now slots.now.pattern) (slots.now.end, slots.now.limit)
-            self.old.left self.new.left self.old.list.states.items self.new.list.states.items first next (pattern_in tree.now)) RunsOut }
+    ) -> Result<StateID, AllocError>
+        requires room { length self.old.list.states.items + size_of (pattern_in tree.now) ≤ most_states }
+        requires left { count_groups (pattern_in tree.now) < self.old.left }
+        requires groups { self.old.left ≤ group_count slots.now.info.now slots.now.pattern }
+        ensures { IfOk result (λ first. BuildsPart (slot_number slots.now.info.now slots.now.pattern) (slots_between slots.now.info.now slots.now.pattern)
+            self.old.left self.new.left self.old.list.states.items self.new.list.states.items first next (pattern_in tree.now)) }
     {
         match tree {
             Tree::Empty => Ok(next),
@@ -204,14 +168,22 @@ impl Compiler {
             }
             Tree::OneOf(parts) => self.one_of(slots, parts, next),
             Tree::Repeat(times, sub) => self.repeat(slots, *times, sub, next),
-            Tree::Group(groups, sub) => self.group(slots, *groups, sub, next),
+            Tree::Group(sub) => self.group(slots, sub, next),
         }
     }
 
     #[cycle(part)]
-    fn concat(&mut self, slots: &Slots<'_>, parts: &[Tree], next: StateID) -> Result<StateID, Error>
-        ensures { MatchResult result (λ first. BuildsPart (slot_number slots.now.info.now slots.now.pattern) (slots.now.end, slots.now.limit)
-            self.old.left self.new.left self.old.list.states.items self.new.list.states.items first next (in_order (map pattern_in parts.now))) RunsOut }
+    fn concat(
+        &mut self,
+        slots: &Slots<'_>,
+        parts: &[Tree],
+        next: StateID,
+    ) -> Result<StateID, AllocError>
+        requires room { length self.old.list.states.items + size_of (in_order (map pattern_in parts.now)) ≤ most_states }
+        requires left { count_groups (in_order (map pattern_in parts.now)) < self.old.left }
+        requires groups { self.old.left ≤ group_count slots.now.info.now slots.now.pattern }
+        ensures { IfOk result (λ first. BuildsPart (slot_number slots.now.info.now slots.now.pattern) (slots_between slots.now.info.now slots.now.pattern)
+            self.old.left self.new.left self.old.list.states.items self.new.list.states.items first next (in_order (map pattern_in parts.now))) }
     {
         let mut first = next;
         for index in (0..parts.len()).rev() {
@@ -221,9 +193,17 @@ impl Compiler {
     }
 
     #[cycle(part)]
-    fn one_of(&mut self, slots: &Slots<'_>, parts: &[Tree], next: StateID) -> Result<StateID, Error>
-        ensures { MatchResult result (λ first. BuildsPart (slot_number slots.now.info.now slots.now.pattern) (slots.now.end, slots.now.limit)
-            self.old.left self.new.left self.old.list.states.items self.new.list.states.items first next (one_of (map pattern_in parts.now))) RunsOut }
+    fn one_of(
+        &mut self,
+        slots: &Slots<'_>,
+        parts: &[Tree],
+        next: StateID,
+    ) -> Result<StateID, AllocError>
+        requires room { length self.old.list.states.items + size_of (one_of (map pattern_in parts.now)) ≤ most_states }
+        requires left { count_groups (one_of (map pattern_in parts.now)) < self.old.left }
+        requires groups { self.old.left ≤ group_count slots.now.info.now slots.now.pattern }
+        ensures { IfOk result (λ first. BuildsPart (slot_number slots.now.info.now slots.now.pattern) (slots_between slots.now.info.now slots.now.pattern)
+            self.old.left self.new.left self.old.list.states.items self.new.list.states.items first next (one_of (map pattern_in parts.now))) }
     {
         if parts.is_empty() {
             return self.list.never(next);
@@ -239,26 +219,22 @@ impl Compiler {
 
     // The part between two records of its position, in the slots of its group.
     #[cycle(part)]
-    fn group(
-        &mut self,
-        slots: &Slots<'_>,
-        groups: usize,
-        sub: &Tree,
-        next: StateID,
-    ) -> Result<StateID, Error>
-        ensures { MatchResult result (λ first. BuildsPart (slot_number slots.now.info.now slots.now.pattern) (slots.now.end, slots.now.limit)
-            self.old.left self.new.left self.old.list.states.items self.new.list.states.items first next (Group 0 (pattern_in sub.now))) RunsOut }
+    fn group(&mut self, slots: &Slots<'_>, sub: &Tree, next: StateID) -> Result<StateID, AllocError>
+        requires room { length self.old.list.states.items + size_of (Group 0 (pattern_in sub.now)) ≤ most_states }
+        requires left { count_groups (Group 0 (pattern_in sub.now)) < self.old.left }
+        requires groups { self.old.left ≤ group_count slots.now.info.now slots.now.pattern }
+        ensures { IfOk result (λ first. BuildsPart (slot_number slots.now.info.now slots.now.pattern) (slots_between slots.now.info.now slots.now.pattern)
+            self.old.left self.new.left self.old.list.states.items self.new.list.states.items first next (Group 0 (pattern_in sub.now))) }
     {
-        // States are made from the last part on, so the group's number is what is left before its inner groups and itself.
-        let number = self.left.saturating_sub(groups).saturating_sub(1);
-        let (start, end) = slots.of_group(number)?;
-        let after = self.list.add(State::Capture { slot: end, next })?;
+        // Its slots are known once its inner groups have theirs, since states are made from the last part on.
+        let after = self.list.add(State::Capture {
+            slot: SmallIndex::ZERO,
+            next,
+        })?;
         let body = self.part(slots, sub, after)?;
-        // This condition never holds. It tells the prover that the inner groups are numbered after the group.
-        if self.left <= number || self.left - number != 1 {
-            return Err(Error::TooLarge);
-        }
-        self.left = number;
+        self.left -= 1;
+        let (start, end) = slots.of_group(self.left);
+        self.list.states[after.as_usize()] = State::Capture { slot: end, next };
         self.list.add(State::Capture {
             slot: start,
             next: body,
@@ -268,16 +244,19 @@ impl Compiler {
 
 impl States {
     // A state from which nothing leads on.
-    fn never(&mut self, next: StateID) -> Result<StateID, Error>
-        ensures { MatchResult result (λ first. (slots : ℕ × ℕ) → Builds slots self.old.states.items self.new.states.items first next Never) RunsOut }
+    fn never(&mut self, next: StateID) -> Result<StateID, AllocError>
+        requires { length self.old.states.items < most_states }
+        ensures builds { IfOk result (λ first. (slots : ℕ × ℕ) → Builds slots self.old.states.items self.new.states.items first next Never) }
+        ensures size { OnOk result (length self.new.states.items ≡ length self.old.states.items + 1) }
     {
-        let this = self.next_id()?;
+        let this = self.next_id();
         self.fork(this, this)
     }
 
-    fn class(&mut self, ranges: &[(u8, u8)], next: StateID) -> Result<StateID, Error>
-        ensures { MatchResult result (λ first. (slots : ℕ × ℕ) → Builds slots self.old.states.items self.new.states.items first next
-            (Class ranges.now)) RunsOut }
+    fn class(&mut self, ranges: &[(u8, u8)], next: StateID) -> Result<StateID, AllocError>
+        requires { length self.old.states.items + size_of (Class ranges.now) ≤ most_states }
+        ensures builds { IfOk result (λ first. (slots : ℕ × ℕ) → Builds slots self.old.states.items self.new.states.items first next (Class ranges.now)) }
+        ensures size { OnOk result (length self.new.states.items ≡ length self.old.states.items + size_of (Class ranges.now)) }
     {
         if ranges.is_empty() {
             return self.never(next);
@@ -293,9 +272,10 @@ impl States {
         Ok(first)
     }
 
-    fn literal(&mut self, bytes: &[u8], next: StateID) -> Result<StateID, Error>
-        ensures { MatchResult result (λ first. (slots : ℕ × ℕ) → Builds slots self.old.states.items self.new.states.items first next
-            (Literal bytes.now)) RunsOut }
+    fn literal(&mut self, bytes: &[u8], next: StateID) -> Result<StateID, AllocError>
+        requires { length self.old.states.items + length bytes.now ≤ most_states }
+        ensures builds { IfOk result (λ first. (slots : ℕ × ℕ) → Builds slots self.old.states.items self.new.states.items first next (Literal bytes.now)) }
+        ensures size { OnOk result (length self.new.states.items ≡ length self.old.states.items + length bytes.now) }
     {
         let mut first = next;
         for index in (0..bytes.len()).rev() {
@@ -309,28 +289,28 @@ impl States {
     }
 
     /// A state that leads to two, preferably to the first.
-    pub(crate) fn fork(&mut self, a: StateID, b: StateID) -> Result<StateID, Error>
-        ensures { MatchResult result (IsAdded self.old.states.items self.new.states.items (Fork a b)) RunsOut }
+    pub(crate) fn fork(&mut self, a: StateID, b: StateID) -> Result<StateID, AllocError>
+        requires { length self.old.states.items < most_states }
+        ensures { IfOk result (IsAdded self.old.states.items self.new.states.items (Fork a b)) }
     {
         self.add(State::Fork { a, b })
     }
 
     /// One more state.
-    pub(crate) fn add(&mut self, state: State) -> Result<StateID, Error>
-        ensures { MatchResult result (IsAdded self.old.states.items self.new.states.items state) RunsOut }
+    pub(crate) fn add(&mut self, state: State) -> Result<StateID, AllocError>
+        requires { length self.old.states.items < most_states }
+        ensures { IfOk result (IsAdded self.old.states.items self.new.states.items state) }
     {
-        let id = self.next_id()?;
+        let id = self.next_id();
         self.states.push(state)?;
         Ok(id)
     }
 
-    /// The number of the state that is added next.
-    pub(crate) fn next_id(&self) -> Result<StateID, Error>
-        ensures { MatchResult result (λ id. id ≡ length self.now.states.items) RunsOut }
+    // The number of the state that is added next.
+    fn next_id(&self) -> StateID
+        requires { length self.now.states.items < most_states }
+        ensures { result ≡ length self.now.states.items }
     {
-        match StateID::new(self.states.len()) {
-            Err(_) => Err(Error::TooLarge),
-            Ok(id) => Ok(id),
-        }
+        StateID::must(self.states.len())
     }
 }

@@ -1,17 +1,18 @@
 //! The states of repetitions.
-ghost use Rattle.std.specs.Prelude.{◌≡◌, ◌+◌, None, Some, map, IfOk, IfErr, MatchResult};
+ghost use Rattle.std.specs.Prelude.{◌≡◌, ◌+◌, ◌-◌, ◌<◌, ◌≤◌, None, Some, false, map, length, IfOk};
+ghost use Rattle.rsc_captures.specs.Groups.{group_count, slot_number};
+ghost use Rattle.rsc_engine.specs.Patterns as patterns;
 ghost use Rattle.rsc_engine.specs.Patterns.{Repeat, in_order};
 ghost use Rattle.rsc_engine.specs.GroupNumbers.{count_groups};
 ghost use Rattle.rsc_engine.specs.Trees.{pattern_in};
-ghost use Rattle.rsc_captures.specs.Groups.{slot_number};
-ghost use Rattle.rsc_engine.specs.LinksLayout.{BuildsPart, BuildsCopies, choice_of, copies, up_to};
-ghost use Rattle.rsc_engine.specs.Refusals.{RunsOut};
+ghost use Rattle.rsc_engine.specs.Sizes.{size_of, most_states};
+ghost use Rattle.rsc_engine.specs.LinksLayout.{BuildsPart, BuildsCopies, choice_of, copies, up_to, slots_between};
 
 use super::compile::{Compiler, Slots};
 use super::tree::{Times, Tree, may_be_empty};
-use crate::Error;
 use rsc_nfa::State;
 use rsc_primitives::StateID;
+use std::alloc::AllocError;
 
 impl Compiler {
     /// The part as often as the numbers say.
@@ -22,10 +23,13 @@ impl Compiler {
         times: Times,
         sub: &Tree,
         next: StateID,
-    ) -> Result<StateID, Error>
-        ensures { MatchResult result (λ first. BuildsPart (slot_number slots.now.info.now slots.now.pattern) (slots.now.end, slots.now.limit)
+    ) -> Result<StateID, AllocError>
+        requires room { length self.old.list.states.items + size_of (Repeat times.min times.max times.is_greedy (pattern_in sub.now)) ≤ most_states }
+        requires left { count_groups (pattern_in sub.now) < self.old.left }
+        requires groups { self.old.left ≤ group_count slots.now.info.now slots.now.pattern }
+        ensures { IfOk result (λ first. BuildsPart (slot_number slots.now.info.now slots.now.pattern) (slots_between slots.now.info.now slots.now.pattern)
             self.old.left self.new.left self.old.list.states.items self.new.list.states.items first next
-            (Repeat times.min times.max times.is_greedy (pattern_in sub.now))) RunsOut }
+            (Repeat times.min times.max times.is_greedy (pattern_in sub.now))) }
     {
         match times.max {
             None => self.unlimited(slots, times, sub, next),
@@ -41,10 +45,13 @@ impl Compiler {
         times: Times,
         sub: &Tree,
         next: StateID,
-    ) -> Result<StateID, Error>
-        ensures { MatchResult result (λ first. BuildsPart (slot_number slots.now.info.now slots.now.pattern) (slots.now.end, slots.now.limit)
+    ) -> Result<StateID, AllocError>
+        requires room { length self.old.list.states.items + size_of (Repeat times.min None times.is_greedy (pattern_in sub.now)) ≤ most_states }
+        requires left { count_groups (pattern_in sub.now) < self.old.left }
+        requires groups { self.old.left ≤ group_count slots.now.info.now slots.now.pattern }
+        ensures { IfOk result (λ first. BuildsPart (slot_number slots.now.info.now slots.now.pattern) (slots_between slots.now.info.now slots.now.pattern)
             self.old.left self.new.left self.old.list.states.items self.new.list.states.items first next
-            (Repeat times.min None times.is_greedy (pattern_in sub.now))) RunsOut }
+            (Repeat times.min None times.is_greedy (pattern_in sub.now))) }
     {
         if times.min == 0 {
             return self.star(slots, times, sub, next);
@@ -67,15 +74,18 @@ impl Compiler {
         max: usize,
         sub: &Tree,
         next: StateID,
-    ) -> Result<StateID, Error>
-        ensures { MatchResult result (λ first. BuildsPart (slot_number slots.now.info.now slots.now.pattern) (slots.now.end, slots.now.limit)
+    ) -> Result<StateID, AllocError>
+        requires room { length self.old.list.states.items + size_of (Repeat times.min (Some max) times.is_greedy (pattern_in sub.now)) ≤ most_states }
+        requires left { count_groups (pattern_in sub.now) < self.old.left }
+        requires groups { self.old.left ≤ group_count slots.now.info.now slots.now.pattern }
+        ensures { IfOk result (λ first. BuildsPart (slot_number slots.now.info.now slots.now.pattern) (slots_between slots.now.info.now slots.now.pattern)
             self.old.left self.new.left self.old.list.states.items self.new.list.states.items first next
-            (Repeat times.min (Some max) times.is_greedy (pattern_in sub.now))) RunsOut }
+            (Repeat times.min (Some max) times.is_greedy (pattern_in sub.now))) }
     {
         let more = max.saturating_sub(times.min);
         if times.min == 0 {
             if more == 0 {
-                return self.no_times(slots, times, sub, next);
+                return Ok(self.no_times(slots, times, sub, next));
             }
             return self.up_to(slots, more, times.is_greedy, sub, next);
         }
@@ -86,19 +96,14 @@ impl Compiler {
     }
 
     // The part no times: it has no states, but its groups have their numbers.
-    fn no_times(
-        &mut self,
-        slots: &Slots<'_>,
-        times: Times,
-        sub: &Tree,
-        next: StateID,
-    ) -> Result<StateID, Error>
-        ensures { MatchResult result (λ first. BuildsPart (slot_number slots.now.info.now slots.now.pattern) (slots.now.end, slots.now.limit)
-            self.old.left self.new.left self.old.list.states.items self.new.list.states.items first next
-            (Repeat 0 (Some 0) times.is_greedy (pattern_in sub.now))) RunsOut }
+    fn no_times(&mut self, slots: &Slots<'_>, times: Times, sub: &Tree, next: StateID) -> StateID
+        requires { count_groups (pattern_in sub.now) < self.old.left }
+        ensures { BuildsPart (slot_number slots.now.info.now slots.now.pattern) (slots_between slots.now.info.now slots.now.pattern)
+            self.old.left self.new.left self.old.list.states.items self.new.list.states.items result next
+            (Repeat 0 (Some 0) times.is_greedy (pattern_in sub.now)) }
     {
-        self.left = groups_left(sub, self.left)?;
-        Ok(next)
+        self.left = groups_left(sub, self.left);
+        next
     }
 
     // The part a number of times.
@@ -109,9 +114,12 @@ impl Compiler {
         count: usize,
         sub: &Tree,
         next: StateID,
-    ) -> Result<StateID, Error>
-        ensures { MatchResult result (λ first. BuildsCopies (slot_number slots.now.info.now slots.now.pattern) (slots.now.end, slots.now.limit)
-            self.old.left self.new.left self.old.list.states.items self.new.list.states.items first next count (copies count) (pattern_in sub.now)) RunsOut }
+    ) -> Result<StateID, AllocError>
+        requires room { length self.old.list.states.items + size_of (copies count (pattern_in sub.now)) ≤ most_states }
+        requires left { count_groups (pattern_in sub.now) < self.old.left }
+        requires groups { self.old.left ≤ group_count slots.now.info.now slots.now.pattern }
+        ensures { IfOk result (λ first. BuildsCopies (slot_number slots.now.info.now slots.now.pattern) (slots_between slots.now.info.now slots.now.pattern)
+            self.old.left self.new.left self.old.list.states.items self.new.list.states.items first next count (copies count) (pattern_in sub.now)) }
     {
         let left = self.left;
         let mut first = next;
@@ -132,10 +140,13 @@ impl Compiler {
         is_greedy: bool,
         sub: &Tree,
         next: StateID,
-    ) -> Result<StateID, Error>
-        ensures { MatchResult result (λ first. BuildsCopies (slot_number slots.now.info.now slots.now.pattern) (slots.now.end, slots.now.limit)
+    ) -> Result<StateID, AllocError>
+        requires room { length self.old.list.states.items + size_of (up_to is_greedy count (pattern_in sub.now)) ≤ most_states }
+        requires left { count_groups (pattern_in sub.now) < self.old.left }
+        requires groups { self.old.left ≤ group_count slots.now.info.now slots.now.pattern }
+        ensures { IfOk result (λ first. BuildsCopies (slot_number slots.now.info.now slots.now.pattern) (slots_between slots.now.info.now slots.now.pattern)
             self.old.left self.new.left self.old.list.states.items self.new.list.states.items first next count (up_to is_greedy count)
-            (pattern_in sub.now)) RunsOut }
+            (pattern_in sub.now)) }
     {
         let left = self.left;
         let mut first = next;
@@ -155,10 +166,13 @@ impl Compiler {
         times: Times,
         sub: &Tree,
         next: StateID,
-    ) -> Result<StateID, Error>
-        ensures { MatchResult result (λ first. BuildsPart (slot_number slots.now.info.now slots.now.pattern) (slots.now.end, slots.now.limit)
+    ) -> Result<StateID, AllocError>
+        requires room { length self.old.list.states.items + size_of (Repeat 0 None times.is_greedy (pattern_in sub.now)) ≤ most_states }
+        requires left { count_groups (pattern_in sub.now) < self.old.left }
+        requires groups { self.old.left ≤ group_count slots.now.info.now slots.now.pattern }
+        ensures { IfOk result (λ first. BuildsPart (slot_number slots.now.info.now slots.now.pattern) (slots_between slots.now.info.now slots.now.pattern)
             self.old.left self.new.left self.old.list.states.items self.new.list.states.items first next
-            (Repeat 0 None times.is_greedy (pattern_in sub.now))) RunsOut }
+            (Repeat 0 None times.is_greedy (pattern_in sub.now))) }
     {
         let (first, again) = self.again(slots, times.is_greedy, sub, next)?;
         // A loop over a part that may take no byte is entered by a choice of its own. It decides which match is preferred: tests show it, no clause.
@@ -176,12 +190,15 @@ impl Compiler {
         is_greedy: bool,
         sub: &Tree,
         next: StateID,
-    ) -> Result<(StateID, StateID), Error>
-        ensures first { IfOk result (λ made. BuildsPart (slot_number slots.now.info.now slots.now.pattern) (slots.now.end, slots.now.limit)
+    ) -> Result<(StateID, StateID), AllocError>
+        requires room { length self.old.list.states.items + size_of (Repeat 1 None is_greedy (pattern_in sub.now)) ≤ most_states }
+        requires left { count_groups (pattern_in sub.now) < self.old.left }
+        requires groups { self.old.left ≤ group_count slots.now.info.now slots.now.pattern }
+        ensures first { IfOk result (λ made. BuildsPart (slot_number slots.now.info.now slots.now.pattern) (slots_between slots.now.info.now slots.now.pattern)
             self.old.left self.new.left self.old.list.states.items self.new.list.states.items made.0 next (Repeat 1 None is_greedy (pattern_in sub.now))) }
-        ensures again { IfOk result (λ made. BuildsPart (slot_number slots.now.info.now slots.now.pattern) (slots.now.end, slots.now.limit)
+        ensures again { IfOk result (λ made. patterns.may_be_empty (pattern_in sub.now) ≡ false →
+            BuildsPart (slot_number slots.now.info.now slots.now.pattern) (slots_between slots.now.info.now slots.now.pattern)
             self.old.left self.new.left self.old.list.states.items self.new.list.states.items made.1 next (Repeat 0 None is_greedy (pattern_in sub.now))) }
-        ensures refused { IfErr result RunsOut }
     {
         // What it leads to isn't known yet.
         let again = self.list.fork(next, next)?;
@@ -204,45 +221,32 @@ fn choice(is_greedy: bool, part: StateID, next: StateID) -> State
 
 // How many of the pattern's groups are left to number once those of the part are.
 #[cycle(groups_left)]
-fn groups_left(tree: &Tree, left: usize) -> Result<usize, Error>
-    ensures { MatchResult result (λ now. left ≡ now + count_groups (pattern_in tree.now)) RunsOut }
+fn groups_left(tree: &Tree, left: usize) -> usize
+    ensures { result ≡ left - count_groups (pattern_in tree.now) }
 {
     match tree {
-        Tree::Empty => Ok(left),
-        Tree::Never => Ok(left),
-        Tree::Range(_, _) => Ok(left),
-        Tree::Class(_) => Ok(left),
-        Tree::Literal(_) => Ok(left),
-        Tree::Assertion(_) => Ok(left),
-        Tree::Then(one, other) => {
-            let middle = groups_left(other, left)?;
-            groups_left(one, middle)
-        }
+        Tree::Empty => left,
+        Tree::Never => left,
+        Tree::Range(_, _) => left,
+        Tree::Class(_) => left,
+        Tree::Literal(_) => left,
+        Tree::Assertion(_) => left,
+        Tree::Then(one, other) => groups_left(one, groups_left(other, left)),
         Tree::Concat(parts) => groups_left_by_all(parts, left),
-        Tree::Either(one, other) => {
-            let middle = groups_left(other, left)?;
-            groups_left(one, middle)
-        }
+        Tree::Either(one, other) => groups_left(one, groups_left(other, left)),
         Tree::OneOf(parts) => groups_left_by_all(parts, left),
         Tree::Repeat(_, sub) => groups_left(sub, left),
-        Tree::Group(_, sub) => {
-            let inner = groups_left(sub, left)?;
-            // This condition never holds, since no part has more groups than its pattern.
-            if inner == 0 {
-                return Err(Error::TooLarge);
-            }
-            Ok(inner - 1)
-        }
+        Tree::Group(sub) => groups_left(sub, left).saturating_sub(1),
     }
 }
 
 #[cycle(groups_left)]
-fn groups_left_by_all(parts: &[Tree], left: usize) -> Result<usize, Error>
-    ensures { MatchResult result (λ now. left ≡ now + count_groups (in_order (map pattern_in parts.now))) RunsOut }
+fn groups_left_by_all(parts: &[Tree], left: usize) -> usize
+    ensures { result ≡ left - count_groups (in_order (map pattern_in parts.now)) }
 {
     let mut now = left;
     for index in (0..parts.len()).rev() {
-        now = groups_left(&parts[index], now)?;
+        now = groups_left(&parts[index], now);
     }
-    Ok(now)
+    now
 }

@@ -1,7 +1,9 @@
 //! The names of groups.
-ghost use Rattle.std.specs.Prelude.{◌≡◌, ◌++◌, map, IfOk, IfErr, OnOk};
-ghost use Rattle.rsc_engine.specs.declared.error.Error.TheVariants.{OutOfMemory};
-ghost use Rattle.rsc_engine.specs.Refusals.{RefusesNames, RepeatsName, error_of};
+ghost use Rattle.std.specs.Prelude.{◌≡◌, ◌*◌, ◌≤◌, ◌⊎◌, ◌++◌, map, IfOk, IfErr, OnOk};
+ghost use Rattle.rsc_primitives.specs.Indices.{max_index};
+ghost use Rattle.rsc_captures.specs.Groups.{all_groups};
+ghost use Rattle.rsc_engine.specs.declared.error.Error.TheVariants.{OutOfMemory, Names};
+ghost use Rattle.rsc_engine.specs.Refusals.{RepeatsName, error_of};
 ghost use Rattle.rsc_engine.specs.Parts.{groups_of_pattern};
 
 use super::Part;
@@ -23,9 +25,10 @@ pub(crate) fn joined<'n>(
 
 /// The groups of all patterns: of each that of the whole match, which has no name, and then its own.
 pub(crate) fn info_of(alloc: Global, patterns: &[Part<'_>]) -> Result<GroupInfo, Error>
+    requires { 2 * all_groups (map groups_of_pattern patterns.now) ≤ max_index }
     ensures groups { IfOk result (λ info. info ≡ map groups_of_pattern patterns.now) }
     ensures names { OnOk result (¬ (RepeatsName (map groups_of_pattern patterns.now))) }
-    ensures refused { IfErr result (RefusesNames (map groups_of_pattern patterns.now)) }
+    ensures refused { IfErr result (λ e. (e ≡ OutOfMemory) ⊎ ((e ≡ Names) × RepeatsName (map groups_of_pattern patterns.now))) }
 {
     let mut all = Vec::new(alloc);
     for part in patterns {

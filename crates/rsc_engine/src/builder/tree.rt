@@ -31,8 +31,8 @@ pub(crate) enum Tree {
     OneOf(Vec<Tree>),
     /// The part repeated.
     Repeat(Times, Box<Tree>),
-    /// The part as a group, which has this many groups in it.
-    Group(usize, Box<Tree>),
+    /// The part as a group.
+    Group(Box<Tree>),
 }
 
 /// How a part is repeated.
@@ -65,7 +65,7 @@ pub(crate) fn may_be_empty(tree: &Tree) -> bool
         Tree::Either(one, other) => may_be_empty(one) | may_be_empty(other),
         Tree::OneOf(parts) => one_may_be_empty(parts),
         Tree::Repeat(times, sub) => (times.min == 0) | may_be_empty(sub),
-        Tree::Group(_, sub) => may_be_empty(sub),
+        Tree::Group(sub) => may_be_empty(sub),
     }
 }
 

@@ -1,11 +1,12 @@
 use Rattle.std.proofs.Common.{◌≡◌, ◌∙◌, sym, ap, arith, map, take, take_all, List, refl, ◌+◌, ◌++◌, ◌∷◌, []}
 use Rattle.rsc_engine.specs.Patterns.{Pattern, one_of, may_be_empty}
+use Rattle.rsc_engine.specs.GroupNumbers.{count_groups}
 use Rattle.rsc_engine.specs.FirstEnds.{loops_take_bytes}
 use Rattle.rsc_engine.specs.Parts.{pattern_of}
 use Rattle.rsc_engine.specs.Trees.{pattern_in}
 use Rattle.rsc_engine.specs.declared.builder.tree.Tree.TheVariants as variants
 use Rattle.rsc_engine.proofs.TreesLemmas.{pattern-one_of}
-use Rattle.rsc_engine.proofs.PartsLemmas.{patterns_more, one_of_empty, one_of_loops}
+use Rattle.rsc_engine.proofs.PartsLemmas.{patterns_more, one_of_empty, one_of_loops, one_of_groups}
 use Rattle.rsc_engine.proofs.builder.Builder.one_of.Goals as goal
 
 pub loop-part-preserved : goal.loop-part-preserved
@@ -31,6 +32,10 @@ invariant_of-result c =
     let same : one_of (map pattern_of (take c.loop-part.part-index c.deref-part-items.result.now)) ≡ pattern_in (variants.OneOf c.in_ok-trees.trees) =
     ap (λ parts. one_of (map pattern_of parts)) all ∙ (ap one_of (sym c.in_ok-trees.ensures.trees) ∙ sym (pattern-one_of c.in_ok-trees.trees)) in
     record {
+      groups = c.in_ok-trees.ensures.count
+          ∙ (sym (one_of_groups (map pattern_of c.args.parts.items))
+          ∙ (ap (λ (ps : List Pattern). count_groups (one_of ps)) (sym c.in_ok-trees.ensures.trees)
+          ∙ ap count_groups (sym (pattern-one_of c.in_ok-trees.trees))));
       emptiness = c.loop-part.invariant.0 ∙ ap may_be_empty same;
       loops = c.loop-part.invariant.1 ∙ ap loops_take_bytes same;
     }

@@ -1,5 +1,4 @@
 use Rattle.std.proofs.Common.{◌≡◌, ◌∙◌, ap, arith, map, take, take_all, Option, Bor, List, ℕ, Vec, Global}
-use Rattle.rsc_primitives.specs.Indices.{max_index}
 use Rattle.rsc_captures.specs.Groups.{groups_in, lists_in}
 use Rattle.rsc_engine.specs.Parts.{groups_of_pattern}
 use Rattle.rsc_engine.proofs.RefusalsLemmas.{names-refused}
@@ -15,4 +14,4 @@ returns-in-Err-clause-refused c =
     ∙ (c.loop-names.invariant
     ∙ (ap (map (λ (names : Vec (Option (Bor (List ℕ))) Global). groups_in names.items)) (names ∙ c.deref-names-items.ensures.value)
     ∙ (c.loop-part.invariant ∙ ap (map groups_of_pattern) parts))) in
-    rw (c.refusal_of.ensures, ← lists) (names-refused max_index _ _ c.in-Err.ensures.refused)
+    rw c.refusal_of.ensures (names-refused c.args.patterns.now _ c.requires (rw lists at c.in-Err.ensures.refused))

@@ -1,12 +1,19 @@
-use Rattle.std.proofs.Common.{◌≡◌, ◌∙◌, ◌<◌, ◌≤◌, ◌-◌, ◌+◌, add-one, arith, length, map, drop, length-drop, rules}
-use Rattle.rsc_engine.proofs.RefusalsLemmas.{built-weaker}
+use Rattle.std.proofs.Common.{ℕ, suc, ap, ◌%◌, ◌≡◌, ◌∙◌, ◌<◌, ◌≤◌, ◌-◌, ◌+◌, add-one, arith, length, map, drop, length-drop, rules}
+use Rattle.rsc_engine.proofs.RefusalsLemmas.{built-weaker, built-with, pattern_there}
 use Rattle.std.proofs.lemmas.List.{length-map}
 use Rattle.std.proofs.Math.Seq.{drop-length}
-use Rattle.rsc_captures.specs.Groups.{slot_number}
+use Rattle.rsc_captures.specs.Groups.{slot_number, group_count}
 use Rattle.rsc_engine.specs.Trees.{pattern_in}
 use Rattle.rsc_engine.proofs.TreesLemmas.{pattern-empty, pattern-never, pattern-class, pattern-literal, pattern-range, pattern-assertion, pattern-then, pattern-either}
-use Rattle.rsc_engine.proofs.CompileLemmas.{Builds-range, Builds-assert, BuildsPart-empty, BuildsPart-then, BuildsPart-either, BuildsPart-group, BuildsPart-one_of, BuildsPart-nothing, drop-last, drop-one}
-use Rattle.rsc_engine.proofs.LoopsLemmas.{BuildsCopies-none, BuildsCopies-more, BuildsCopies-up_to_none, BuildsCopies-up_to_more, BuildsPart-star, BuildsPart-again, BuildsPart-plus, BuildsPart-unlimited, BuildsPart-limited, BuildsPart-up_to, positive, more_than_one}
+use Rattle.rsc_engine.proofs.CompileLemmas.{group-slots, Builds-range, Builds-assert, BuildsPart-empty, BuildsPart-then, BuildsPart-either, BuildsPart-group, BuildsPart-one_of, BuildsPart-nothing, drop-last, drop-one}
+use Rattle.rsc_engine.proofs.LoopsLemmas.{BuildsCopies-none, BuildsCopies-more, BuildsCopies-up_to_none, BuildsCopies-up_to_more, BuildsPart-star, BuildsPart-again, BuildsPart-plus, BuildsPart-unlimited, BuildsPart-limited, BuildsPart-up_to, BuildsPart-zero, positive, more_than_one}
+use denote.Param.Weighed.{at_most}
+use Rattle.rsc_engine.proofs.builder.tree.Tree.TheLaws.{the_size}
+use Rattle.std.proofs.lemmas.Grind.{common_steps}
+use Rattle.rsc_engine.proofs.SizesLemmas.{in_order-room, in_order-left, one_of-last, one_of-room, copies-room, up_to-room, limited-size, unlimited-size}
+use Rattle.rsc_engine.proofs.PartsLemmas.{one_of_groups}
+use Rattle.rsc_engine.specs.Sizes.{size_of}
+use Rattle.rsc_engine.specs.LinksLayout.{up_to, slots_between}
 use Rattle.rsc_engine.proofs.builder.compile.Compiler.+part.Goals as goal
 
 pub again-returns-clause-first : goal.again-returns-clause-first
@@ -14,8 +21,8 @@ again-returns-clause-first t c =
     rw c.as_usize.ensures.value (rw c.choice.ensures (BuildsPart-plus _ _ _ _ _ _ _ _ _ _ _ _ _ c.in_ok-again.ensures c.in_ok-first.ensures))
 
 pub again-returns-clause-again : goal.again-returns-clause-again
-again-returns-clause-again t c =
-    rw c.as_usize.ensures.value (rw c.choice.ensures (BuildsPart-again _ _ _ _ _ _ _ _ _ _ _ _ _ c.in_ok-again.ensures c.in_ok-first.ensures))
+again-returns-clause-again t c = λ some.
+    rw c.as_usize.ensures.value (rw c.choice.ensures (BuildsPart-again _ _ _ _ _ _ _ _ _ _ _ _ _ some c.in_ok-again.ensures c.in_ok-first.ensures))
 
 pub concat-loop-index-preserved : goal.concat-loop-index-preserved
 concat-loop-index-preserved t c =
@@ -25,9 +32,9 @@ concat-loop-index-preserved t c =
 pub one_of-returns-then-is_empty : goal.one_of-returns-then-is_empty
 one_of-returns-then-is_empty t c =
     let none : length c.args.parts.now ≡ 0 = search rules in
-    built-weaker c.never.result _ _
-    (λ first x. BuildsPart-nothing _ _ _ _ _ first c.args.next (map pattern_in c.args.parts.now) (length-map c.args.parts.now pattern_in ∙ none) (x _))
-    c.never.ensures
+    built-with c.never.result _ _ _
+    (λ first x one. BuildsPart-nothing _ _ _ _ _ first c.args.next (map pattern_in c.args.parts.now) (length-map c.args.parts.now pattern_in ∙ none) (x _) one)
+    c.never.ensures.builds c.never.ensures.size
 
 pub one_of-loop-index-init : goal.one_of-loop-index-init
 one_of-loop-index-init t c =
@@ -51,11 +58,11 @@ copies-loop-done-preserved t c = rw add-one (BuildsCopies-more _ _ _ _ _ _ _ _ _
 
 pub part-returns-in-Range : goal.part-returns-in-Range
 part-returns-in-Range t c =
-    built-weaker c.add.result _ _ (λ id a. rw (c.in-Range.is, pattern-range) (omega arith, Builds-range _ _ _ _ _ id _ a)) c.add.ensures
+    built-weaker c.add.result _ _ (λ id a. rw (c.in-Range.is, pattern-range) (omega arith, Builds-range _ _ _ _ _ id _ a, a.one)) c.add.ensures
 
 pub part-returns-in-Assertion : goal.part-returns-in-Assertion
 part-returns-in-Assertion t c =
-    built-weaker c.add-in-Assertion.result _ _ (λ id a. rw (c.in-Assertion.is, pattern-assertion) (omega arith, Builds-assert _ _ _ _ id _ a))
+    built-weaker c.add-in-Assertion.result _ _ (λ id a. rw (c.in-Assertion.is, pattern-assertion) (omega arith, Builds-assert _ _ _ _ id _ a, a.one))
     c.add-in-Assertion.ensures
 
 pub part-returns-in_ok-middle-in-Then : goal.part-returns-in_ok-middle-in-Then
@@ -74,7 +81,7 @@ part-returns-in_ok-first-in-Either t c =
 
 pub star-returns-then-may_be_empty : goal.star-returns-then-may_be_empty
 star-returns-then-may_be_empty t c =
-    built-weaker c.add.result _ _ (λ id a. BuildsPart-star _ _ _ _ _ _ _ _ id _ _ _ c.in_ok-first.ensures.first (rw c.choice.ensures at a)) c.add.ensures
+    built-weaker c.add.result _ _ (λ id a. BuildsPart-star _ _ _ _ _ _ _ _ id _ _ _ (search rules) c.in_ok-first.ensures.first (rw c.choice.ensures at a)) c.add.ensures
 
 pub up_to-loop-done-preserved : goal.up_to-loop-done-preserved
 up_to-loop-done-preserved t c =
@@ -83,16 +90,17 @@ up_to-loop-done-preserved t c =
 
 pub part-returns-in-Never : goal.part-returns-in-Never
 part-returns-in-Never t c =
-    built-weaker c.never.result _ _ (λ first x. rw (c.in-Never.is, pattern-never) (omega arith, x _)) c.never.ensures
+    built-with c.never.result _ _ _ (λ first x one. rw (c.in-Never.is, pattern-never) (omega arith, x _, one)) c.never.ensures.builds c.never.ensures.size
 
 pub part-returns-in-Class : goal.part-returns-in-Class
 part-returns-in-Class t c =
-    built-weaker c.class.result _ _ (λ first x. rw (c.in-Class.is, pattern-class, ← c.deref.ensures.value) (omega arith, x _)) c.class.ensures
+    built-with c.class.result _ _ _ (λ first x size. rw (c.in-Class.is, pattern-class, ← c.deref.ensures.value) (omega arith, x _, size))
+    c.class.ensures.builds c.class.ensures.size
 
 pub part-returns-in-Literal : goal.part-returns-in-Literal
 part-returns-in-Literal t c =
-    built-weaker c.literal.result _ _ (λ first x. rw (c.in-Literal.is, pattern-literal, ← c.deref-in-Literal.ensures.value) (omega arith, x _))
-    c.literal.ensures
+    built-with c.literal.result _ _ _ (λ first x size. rw (c.in-Literal.is, pattern-literal, ← c.deref-in-Literal.ensures.value) (omega arith, x _, size))
+    c.literal.ensures.builds c.literal.ensures.size
 
 pub part-returns-in-Empty : goal.part-returns-in-Empty
 part-returns-in-Empty t c = rw (c.in-Empty.is, pattern-empty) (BuildsPart-empty (slot_number c.args.slots.now.info.now c.args.slots.now.pattern) _ _ _ _)
@@ -109,11 +117,16 @@ up_to-loop-done-init t c =
 
 pub group-returns : goal.group-returns
 group-returns t c =
-    let one : c.part.new.self.left ≡ c.saturating_sub-number.result + 1 = omega (arith, c.if-self-number.false, c.if-self-number-ne1.false) in
+    let lists = c.args.slots.now.info.now in
+    let number : ℕ = c.part.new.self.left - 1 in
+    let some : 0 < number = omega (arith, c.requires.left, c.in_ok-body.ensures.0) in
+    let there : number < group_count lists c.args.slots.now.pattern = omega (arith, c.requires.groups, c.requires.left, c.in_ok-body.ensures.0) in
+    let pair = group-slots lists c.args.slots.now.pattern number some (pattern_there lists c.args.slots.now.pattern number there) in
     built-weaker c.add-2.result _ _
-    (λ id a. BuildsPart-group (slot_number c.args.slots.now.info.now c.args.slots.now.pattern) _ _ _ _ _ _ _ _ _ _ _ _ id _ _
-    c.in_ok-start.ensures.start c.in_ok-start.ensures.even c.in_ok-start.ensures.end c.in_ok-start.ensures.within c.in_ok-start.ensures.number one
-    c.in_ok-after.ensures c.in_ok-body.ensures a)
+    (λ id a. BuildsPart-group (slot_number lists c.args.slots.now.pattern) _ _ _ number _ _ _ _ _ _ _ _ _ id _ (pattern_in c.args.sub.now)
+    (omega (arith, pair.0, c.of_group-start.ensures.start)) (ap (λ (slot : ℕ). slot % 2) c.of_group-start.ensures.start ∙ pair.1)
+    c.of_group-start.ensures.end c.of_group-start.ensures.within
+    c.of_group-start.ensures.start (omega (arith, some)) c.in_ok-after.ensures c.in_ok-body.ensures (rw c.as_usize.ensures.value at a))
     c.add-2.ensures
 
 pub limited-returns-then-times-eq0 : goal.limited-returns-then-times-eq0
@@ -144,3 +157,142 @@ copies-returns t c = let all : c.loop-done.done ≡ c.args.count = search rules 
 
 pub up_to-returns : goal.up_to-returns
 up_to-returns t c = let all : c.loop-done.done ≡ c.args.count = search rules in rw all at c.loop-done.invariant
+
+pub star-returns : goal.star-returns
+star-returns t c = c.in_ok-first.ensures.again (search rules)
+
+pub concat-part-requires : goal.concat-part-requires
+concat-part-requires t c = (
+  let within : c.loop-index.index - 1 < length c.args.parts.now = omega (arith, c.loop-index-test.true, c.loop-index.auto.index) in
+      let deep = at_most the_size c.args.parts.now (c.loop-index.index - 1) c.index-parts-index.result within in
+      let same = ap the_size c.index-parts-index.is in
+      first_of (omega (arith, deep, same, c.decreases), grind (arith, deep, same, c.decreases)),
+  let back : suc (c.loop-index.index - 1) ≡ c.loop-index.index = omega (arith, c.loop-index-test.true) in
+      let there : c.loop-index.index - 1 < length c.args.parts.now = omega (arith, c.loop-index-test.true, c.loop-index.auto.index) in
+      let room = rw back at (in_order-room pattern_in c.args.parts.now (c.loop-index.index - 1) c.index-parts-index.result there c.index-parts-index.is) in
+      let left = rw back at (in_order-left pattern_in c.args.parts.now (c.loop-index.index - 1) c.index-parts-index.result there c.index-parts-index.is) in (
+        omega (arith, c.requires.room, c.loop-index.invariant.2, room),
+        (omega (arith, c.requires.left, c.loop-index.invariant.0, left), omega (arith, c.requires.groups, c.loop-index.invariant.0)),
+      ),
+)
+
+pub one_of-part-requires : goal.one_of-part-requires
+one_of-part-requires t c = (
+  let within : length c.args.parts.now - 1 < length c.args.parts.now = search rules in
+      let deep = at_most the_size c.args.parts.now (length c.args.parts.now - 1) c.index-parts-last.result within in
+      let same = ap the_size c.index-parts-last.is in
+      first_of (omega (arith, deep, same, c.decreases), grind (arith, deep, same, c.decreases)),
+  let there : length c.args.parts.now - 1 < length c.args.parts.now = search rules in
+      let room = one_of-last pattern_in c.args.parts.now (length c.args.parts.now - 1) c.index-parts-last.result there c.index-parts-last.is in
+      let left = in_order-left pattern_in c.args.parts.now (length c.args.parts.now - 1) c.index-parts-last.result there c.index-parts-last.is in (
+        omega (arith, c.requires.room, room),
+        (omega (arith, c.requires.left, left, one_of_groups (map pattern_in c.args.parts.now)), c.requires.groups),
+      ),
+)
+
+pub one_of-part-requires-in-loop-index : goal.one_of-part-requires-in-loop-index
+one_of-part-requires-in-loop-index t c = (
+  let within : c.loop-index.index - 1 < length c.args.parts.now = omega (arith, c.loop-index-test.true, c.loop-index.auto.index) in
+      let deep = at_most the_size c.args.parts.now (c.loop-index.index - 1) c.index-parts-index.result within in
+      let same = ap the_size c.index-parts-index.is in
+      first_of (omega (arith, deep, same, c.decreases), grind (arith, deep, same, c.decreases)),
+  let back : suc (c.loop-index.index - 1) ≡ c.loop-index.index = omega (arith, c.loop-index-test.true) in
+      let some : 0 < length c.args.parts.now = search rules in
+      let there : suc (c.loop-index.index - 1) < length c.args.parts.now = omega (arith, some, c.loop-index-test.true, c.loop-index.auto.index) in
+      let room = rw back at (one_of-room pattern_in c.args.parts.now (c.loop-index.index - 1) c.index-parts-index.result there c.index-parts-index.is) in
+      let left = rw back at (in_order-left pattern_in c.args.parts.now (c.loop-index.index - 1) c.index-parts-index.result (omega (arith, there))
+      c.index-parts-index.is) in (
+        omega (arith, c.requires.room, c.loop-index.invariant.2, room),
+        (
+          omega (
+            arith,
+            c.requires.left,
+            c.loop-index.invariant.0,
+            left,
+            one_of_groups (map pattern_in c.args.parts.now),
+            one_of_groups (map pattern_in (drop c.loop-index.index c.args.parts.now)),
+          ),
+          omega (arith, c.requires.groups, c.loop-index.invariant.0),
+        ),
+      ),
+)
+
+pub one_of-fork-requires : goal.one_of-fork-requires
+one_of-fork-requires t c =
+    let back : suc (c.loop-index.index - 1) ≡ c.loop-index.index = omega (arith, c.loop-index-test.true) in
+    let some : 0 < length c.args.parts.now = search rules in
+    let there : suc (c.loop-index.index - 1) < length c.args.parts.now = omega (arith, some, c.loop-index-test.true, c.loop-index.auto.index) in
+    let room = rw back at (one_of-room pattern_in c.args.parts.now (c.loop-index.index - 1) c.index-parts-index.result there c.index-parts-index.is) in
+    omega (arith, c.requires.room, c.loop-index.invariant.2, c.in_ok-one.ensures.2, room)
+
+pub copies-part-requires : goal.copies-part-requires
+copies-part-requires t c = (
+  grind (arith, common_steps),
+  (
+    omega (
+      arith,
+      c.requires.room,
+      c.loop-done.invariant.2,
+      copies-room c.loop-done.done c.args.count (pattern_in c.args.sub.now) c.loop-done-test.true,
+    ),
+    (c.requires.left, c.requires.groups),
+  ),
+)
+
+pub up_to-part-requires : goal.up_to-part-requires
+up_to-part-requires t c = (
+  grind (arith, common_steps),
+  (
+    omega (
+      arith,
+      c.requires.room,
+      c.loop-done.invariant.2,
+      up_to-room c.args.is_greedy c.loop-done.done c.args.count (pattern_in c.args.sub.now) c.loop-done-test.true,
+    ),
+    (c.requires.left, c.requires.groups),
+  ),
+)
+
+pub up_to-add-requires : goal.up_to-add-requires
+up_to-add-requires t c = omega (
+  arith,
+  c.requires.room,
+  c.loop-done.invariant.2,
+  c.in_ok-one.ensures.2,
+  up_to-room c.args.is_greedy c.loop-done.done c.args.count (pattern_in c.args.sub.now) c.loop-done-test.true,
+)
+
+pub limited-up_to-requires : goal.limited-up_to-requires
+limited-up_to-requires t c =
+    let size = limited-size c.args.times.min c.args.max c.args.times.is_greedy (pattern_in c.args.sub.now) in
+    let same = ap (λ (n : ℕ). size_of (up_to c.args.times.is_greedy n (pattern_in c.args.sub.now))) c.saturating_sub-more.ensures in
+    (grind (arith, common_steps), (omega (arith, c.requires.room, size, same), (c.requires.left, c.requires.groups)))
+
+pub limited-up_to-requires-2 : goal.limited-up_to-requires-2
+limited-up_to-requires-2 t c =
+    let size = limited-size c.args.times.min c.args.max c.args.times.is_greedy (pattern_in c.args.sub.now) in
+    let same = ap (λ (n : ℕ). size_of (up_to c.args.times.is_greedy n (pattern_in c.args.sub.now))) c.saturating_sub-more.ensures in
+    (grind (arith, common_steps), (omega (arith, c.requires.room, size, same), (c.requires.left, c.requires.groups)))
+
+pub limited-copies-requires : goal.limited-copies-requires
+limited-copies-requires t c =
+    let size = limited-size c.args.times.min c.args.max c.args.times.is_greedy (pattern_in c.args.sub.now) in
+    let same = ap (λ (n : ℕ). size_of (up_to c.args.times.is_greedy n (pattern_in c.args.sub.now))) c.saturating_sub-more.ensures in (
+      grind (arith, common_steps),
+      (omega (arith, c.requires.room, size, same, c.in_ok-rest.ensures.2), (c.requires.left, c.requires.groups)),
+    )
+
+pub unlimited-copies-requires : goal.unlimited-copies-requires
+unlimited-copies-requires t c =
+    let more : 1 < c.args.times.min = more_than_one c.args.times.min c.if-times-eq0.false c.if-times-eq1.false in
+    let size = unlimited-size (c.args.times.min - 1) c.args.times.min c.args.times.is_greedy (pattern_in c.args.sub.now) (omega (arith, more)) in (
+      grind (arith, common_steps),
+      (omega (arith, c.requires.room, size, c.in_ok-last.ensures.first.2), (c.requires.left, c.requires.groups)),
+    )
+
+pub limited-returns-then-more-eq0 : goal.limited-returns-then-more-eq0
+limited-returns-then-more-eq0 t c =
+    BuildsPart-zero (slot_number c.args.slots.now.info.now c.args.slots.now.pattern)
+    (slots_between c.args.slots.now.info.now c.args.slots.now.pattern) _ _ _ _ c.args.times.min c.args.max c.no_times.result c.args.next
+    c.args.times.is_greedy (pattern_in c.args.sub.now) c.if-times-eq0.true (omega (arith, c.saturating_sub-more.ensures, c.if-times-eq0.true, c.if-more-eq0.true))
+    c.no_times.ensures

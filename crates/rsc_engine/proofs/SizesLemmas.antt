@@ -1,0 +1,116 @@
+-- How many states copies and lists of parts have, and programs.
+use Rattle.std.proofs.Common.{◌≡◌, ℕ, zero, suc, ◌+◌, ◌-◌, ◌*◌, ◌<◌, ◌≤◌, min, Bool, true, false, Some, None, List, [], ◌∷◌, map, length, length-drop, slice_get, drop, get_or, refl, sym, ap, ◌∙◌, subst, ⊎_elim, arith, suc-mul, mul-le-mul_left}
+use Rattle.std.proofs.lemmas.List.Sums.{sum_by-cons, sum_by-take-drop}
+use Rattle.rsc_engine.specs.Patterns.{Pattern, Then, Either, Repeat, in_order, one_of, may_be_empty}
+use Rattle.rsc_engine.specs.GroupNumbers.{count_groups}
+use Rattle.rsc_engine.specs.LinksLayout.{copies, optional, up_to}
+use Rattle.rsc_engine.specs.Sizes.{size_of, size_of_program}
+
+-- ---- copies of a part
+
+pub copies-size : (n : ℕ) (p : Pattern) → size_of (copies n p) ≡ n * size_of p
+copies-size zero p = omega arith
+copies-size (suc n) p = omega (arith, copies-size n p, suc-mul n (size_of p))
+
+pub optional-size : (often : Bool) (p : Pattern) → size_of (optional often p) ≡ size_of p + 1
+optional-size true p = omega arith
+optional-size false p = omega arith
+
+pub up_to-size : (often : Bool) (n : ℕ) (p : Pattern) → size_of (up_to often n p) ≡ n * (size_of p + 1)
+up_to-size often zero p = omega arith
+up_to-size often (suc n) p = omega (arith, optional-size often (Then p (up_to often n p)), up_to-size often n p, suc-mul n (size_of p + 1))
+
+-- one more copy is among all
+pub copies-room : (done count : ℕ) (p : Pattern) → done < count → size_of (copies done p) + size_of p ≤ size_of (copies count p)
+copies-room done zero p l = absurd (omega (arith, l))
+copies-room zero (suc count) p l = omega arith
+copies-room (suc done) (suc count) p l = omega (arith, copies-room done count p (omega (arith, l)))
+
+pub up_to-room : (often : Bool) (done count : ℕ) (p : Pattern) → done < count
+    → size_of (up_to often done p) + size_of p + 1 ≤ size_of (up_to often count p)
+up_to-room often done zero p l = absurd (omega (arith, l))
+up_to-room often zero (suc count) p l = omega (arith, optional-size often (Then p (up_to often count p)))
+up_to-room often (suc done) (suc count) p l = omega (
+  arith,
+  optional-size often (Then p (up_to often count p)),
+  optional-size often (Then p (up_to often done p)),
+  up_to-room often done count p (omega (arith, l)),
+)
+
+-- what must be there and then a loop
+pub unlimited-size : (n min : ℕ) (often : Bool) (p : Pattern) → n + 1 ≡ min
+    → size_of (Repeat min None often p) ≡ size_of (Repeat 1 None often p) + size_of (copies n p)
+unlimited-size n zero often p e = absurd (omega (arith, e))
+unlimited-size n (suc min) often p e =
+    let same : n ≡ min = omega (arith, e) in
+    omega (arith, copies-size n p, suc-mul min (size_of p), ap (λ (k : ℕ). k * size_of p) same)
+
+-- a loop that is entered by a choice of its own, and one that isn't
+pub entered-size : (often : Bool) (p : Pattern) → may_be_empty p ≡ true → size_of (Repeat 0 None often p) ≡ size_of p + 2
+entered-size often p e = rw e refl
+
+pub loop-size : (often : Bool) (p : Pattern) → may_be_empty p ≡ false → size_of (Repeat 0 None often p) ≡ size_of p + 1
+loop-size often p e = rw e refl
+
+-- what must be there and then what may be
+pub limited-size : (min max : ℕ) (often : Bool) (p : Pattern)
+    → size_of (Repeat min (Some max) often p) ≡ size_of (up_to often (max - min) p) + size_of (copies min p)
+limited-size min max often p = omega (arith, up_to-size often (max - min) p, copies-size min p)
+
+pub up_to_only-size : (max : ℕ) (often : Bool) (p : Pattern) → size_of (Repeat 0 (Some max) often p) ≡ size_of (up_to often max p)
+up_to_only-size max often p =
+    let all : max - 0 ≡ max = omega arith in
+    omega (arith, up_to-size often max p, ap (λ (k : ℕ). k * (size_of p + 1)) all)
+
+-- ---- parts in order, or one of them: a part and those after it
+
+pub in_order-room : {X : Type 0} (f : X → Pattern) (xs : List X) (n : ℕ) (x : X) → n < length xs → x ≡ get_or xs n x
+    → size_of (f x) + size_of (in_order (map f (drop (suc n) xs))) ≤ size_of (in_order (map f xs))
+in_order-room f [] n x l is = absurd (omega (arith, l))
+in_order-room f (y ∷ ys) zero x l is = omega (arith, ap (λ z. size_of (f z)) is)
+in_order-room f (y ∷ ys) (suc n) x l is = omega (arith, in_order-room f ys n x (omega (arith, l)) is)
+
+pub in_order-left : {X : Type 0} (f : X → Pattern) (xs : List X) (n : ℕ) (x : X) → n < length xs → x ≡ get_or xs n x
+    → count_groups (f x) + count_groups (in_order (map f (drop (suc n) xs))) ≤ count_groups (in_order (map f xs))
+in_order-left f [] n x l is = absurd (omega (arith, l))
+in_order-left f (y ∷ ys) zero x l is = omega (arith, ap (λ z. count_groups (f z)) is)
+in_order-left f (y ∷ ys) (suc n) x l is = omega (arith, in_order-left f ys n x (omega (arith, l)) is)
+
+pub one_of-more : (p : Pattern) (rest : List Pattern) → 0 < length rest → size_of (one_of (p ∷ rest)) ≡ size_of p + size_of (one_of rest) + 1
+one_of-more p [] l = absurd (omega (arith, l))
+one_of-more p (q ∷ rest) l = refl
+
+pub one_of-last : {X : Type 0} (f : X → Pattern) (xs : List X) (n : ℕ) (x : X) → n < length xs → x ≡ get_or xs n x
+    → size_of (f x) ≤ size_of (one_of (map f xs))
+one_of-last f [] n x l is = absurd (omega (arith, l))
+one_of-last f (y ∷ []) zero x l is = omega (arith, ap (λ z. size_of (f z)) is)
+one_of-last f (y ∷ z ∷ ys) zero x l is = omega (arith, ap (λ z. size_of (f z)) is)
+one_of-last f (y ∷ []) (suc n) x l is = absurd (omega (arith, l))
+one_of-last f (y ∷ z ∷ ys) (suc n) x l is = omega (arith, one_of-last f (z ∷ ys) n x (omega (arith, l)) is)
+
+pub one_of-room : {X : Type 0} (f : X → Pattern) (xs : List X) (n : ℕ) (x : X) → suc n < length xs → x ≡ get_or xs n x
+    → size_of (f x) + size_of (one_of (map f (drop (suc n) xs))) + 1 ≤ size_of (one_of (map f xs))
+one_of-room f [] n x l is = absurd (omega (arith, l))
+one_of-room f (y ∷ []) n x l is = absurd (omega (arith, l))
+one_of-room f (y ∷ z ∷ ys) zero x l is = omega (arith, ap (λ z. size_of (f z)) is)
+one_of-room f (y ∷ z ∷ ys) (suc n) x l is = omega (arith, one_of-room f (z ∷ ys) n x (omega (arith, l)) is)
+
+-- ---- the patterns of a program from the last on
+
+pub program-last : (patterns : List Pattern) (n : ℕ) (p : Pattern) → slice_get patterns n ≡ Some p → n + 1 ≡ length patterns
+    → size_of_program (drop n patterns) ≡ size_of p + 3
+program-last [] n p at last = absurd (cc)
+program-last (q ∷ []) zero p at last = let same : q ≡ p = cc in omega (arith, ap size_of same)
+program-last (q ∷ r ∷ rest) zero p at last = absurd (omega (arith, last))
+program-last (q ∷ rest) (suc n) p at last = program-last rest n p at (omega (arith, last))
+
+pub program-more : (patterns : List Pattern) (n : ℕ) (p : Pattern) → slice_get patterns n ≡ Some p → suc n < length patterns
+    → size_of_program (drop n patterns) ≡ size_of_program (drop (suc n) patterns) + size_of p + 4
+program-more [] n p at more = absurd (cc)
+program-more (q ∷ []) zero p at more = absurd (omega (arith, more))
+program-more (q ∷ r ∷ rest) zero p at more =
+    let same : q ≡ p = cc in omega (arith, ap size_of same, sum_by-cons (λ (s : Pattern). size_of s + 3) q (r ∷ rest))
+program-more (q ∷ rest) (suc n) p at more = program-more rest n p at (omega (arith, more))
+
+pub program-room : (patterns : List Pattern) (n : ℕ) → size_of_program (drop n patterns) ≤ size_of_program patterns
+program-room patterns n = omega (arith, sum_by-take-drop (λ (s : Pattern). size_of s + 3) patterns n, length-drop n patterns)
