@@ -17,7 +17,7 @@ use Rattle.rsc_engine.specs.Patterns.{Pattern}
 use Rattle.rsc_engine.specs.Sizes.{size_of_program}
 use Rattle.rsc_engine.specs.Parts.{groups_of_part, groups_of_pattern}
 use Rattle.rsc_engine.specs.declared.builder.part.Part.{Part}
-use Rattle.rsc_engine.specs.Refusals.{is_out_of_memory, RepeatsName, FailsToBuild, are_too_large, error_of, has_a_reversed_range}
+use Rattle.rsc_engine.specs.Refusals.{is_out_of_memory, RepeatsName, FailsToBuild, IsErrorOf, are_too_large, error_of, has_a_reversed_range}
 use Rattle.rsc_engine.specs.NamesLayout.{AreSound}
 use Rattle.rsc_engine.proofs.NamesLayoutLemmas.{sound-faultless}
 
@@ -173,11 +173,11 @@ pub faulty-refused : (limit : ℕ) (groups : GroupLists) (states : List State) (
     → AreSound (2 * all_groups groups) (length groups) (has_a_reversed_range patterns) 0 (length states) first states
     → ((fault ≡ OutOfMemory) × AreFaultless groups states) ⊎ IsFirstFaulty groups states fault
     → are_too_large limit patterns groups ≡ false → ¬ (RepeatsName groups)
-    → FailsToBuild limit patterns groups (cond (is_out_of_memory fault) error.OutOfMemory error.Faulty)
+    → IsErrorOf limit patterns groups (cond (is_out_of_memory fault) error.OutOfMemory error.Faulty)
 faulty-refused limit groups states patterns first fault sound (inl r) small once = rw r.0 (inl refl)
 faulty-refused limit groups states patterns first fault sound (inr f) small once = decide (is_out_of_memory fault) (has_a_reversed_range patterns) refl
   where
-    decide : (t r : Bool) → has_a_reversed_range patterns ≡ r → FailsToBuild limit patterns groups (cond t error.OutOfMemory error.Faulty)
+    decide : (t r : Bool) → has_a_reversed_range patterns ≡ r → IsErrorOf limit patterns groups (cond t error.OutOfMemory error.Faulty)
     decide true r e = inl refl
     decide false true e = inr (inr (inr (refl, small, once, e)))
     decide false false e = absurd (
@@ -201,3 +201,9 @@ not-large limit patterns lists e =
 pub is_there : {X : Type 0} (o : Option X) (P : Type 0) → IfNone o P → (P → ⊥) → IsSome o
 is_there None P p none = absurd (none p)
 is_there (Some x) P p none = search rules
+
+pub in-short : (limit : ℕ) (patterns : List Pattern) (lists : GroupLists) (e : Error) → IsErrorOf limit patterns lists e → FailsToBuild patterns lists e
+in-short limit patterns lists e (inl m) = inl (inl (inl m))
+in-short limit patterns lists e (inr (inl t)) = inl (inl (inr t.0))
+in-short limit patterns lists e (inr (inr (inl n))) = inl (inr (n.0, n.2))
+in-short limit patterns lists e (inr (inr (inr f))) = inr (f.0, f.3, f.2)

@@ -16,7 +16,7 @@ pub mod NamesLayout  -- what the states of a part or of patterns name, and wheth
 pub mod NeededLayout  -- two bytes that stand side by side in every match
 pub mod NextMatches  -- which match is next; `last` is where the last one ended, if there was one
 pub mod OrderLayout  -- by which ways of a pattern steps lead to a match, and by which the first do
-pub mod Parts  -- which pattern a part is, and which groups it has
+pub mod Parts  -- which pattern a part is, and which groups it has; and what a builder has of them
 pub mod PatternOrder  -- which match of a program's patterns is preferred
 pub mod Patterns  -- what a pattern matches, and which programs match it
 pub mod Preferred  -- which match is first

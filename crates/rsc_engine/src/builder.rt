@@ -9,7 +9,7 @@ ghost use Rattle.rsc_engine.specs.Patterns.{Empty, Never, Class, Literal, Assert
 ghost use Rattle.rsc_engine.specs.GroupEnds.{RecordsEnds};
 ghost use Rattle.rsc_engine.specs.GroupOrder.{ClosesGroups};
 ghost use Rattle.rsc_engine.specs.PatternOrder.{PrefersLesser, PrefersFirstEnds, RecordsWays, RecordsFirstWays};
-ghost use Rattle.rsc_engine.specs.Refusals.{FailsToBuild, RepeatsName, are_too_large, has_a_reversed_range};
+ghost use Rattle.rsc_engine.specs.Refusals.{FailsToBuild, IsErrorOf, RepeatsName, are_too_large, has_a_reversed_range};
 ghost use Rattle.rsc_engine.specs.Sizes.{size_of_program, most_states};
 ghost use Rattle.rsc_engine.specs.Trees.{pattern_in};
 ghost use Rattle.rsc_engine.specs.Parts.{pattern_of, patterns_of, groups_of_part, groups_of_pattern, lists_of, limit_of};
@@ -81,8 +81,24 @@ impl<'n> Builder<'n> {
         }
     }
 
-    /// Sets how many states a program may have: `build` refuses patterns with more, before it makes one. A limit above `StateID::LIMIT`, 2,147,483,647, is that,
-    /// since there are no more numbers, and so is the limit of a new builder. `Program::len` says how many states a program has.
+    /// Sets how many states a program may have. `build` answers `TooLarge` for patterns with more, before it makes a state, so a count of repetitions that comes
+    /// from outside takes no more memory than this. [`Program::len`] says how many states a program has. No program has more than `StateID::LIMIT`, 2,147,483,647
+    /// states, whatever `most` is; that is the limit of a new builder.
+    ///
+    /// # Examples
+    ///
+    /// ```
+    /// // a{1000}, with a record at each end of the match, and the state of the match
+    /// let mut builder = Builder::new(rt.alloc());
+    /// let whole = builder.repeat(builder.range(b'a', b'a'), 1000, Some(1000))?;
+    /// builder.limit_states(1002);
+    /// assert!(rt; matches!(builder.build(AsciiWord, true, whole), Err(Error::TooLarge)));
+    /// let mut builder = Builder::new(rt.alloc());
+    /// let whole = builder.repeat(builder.range(b'a', b'a'), 1000, Some(1000))?;
+    /// builder.limit_states(1003);
+    /// let program = builder.build(AsciiWord, true, whole)?;
+    /// assert!(rt; program.len() == 1003);
+    /// ```
     pub fn limit_states(&mut self, most: usize)
         ensures limit { limit_of self.new ≡ min most most_states }
         ensures patterns { patterns_of self.new ≡ patterns_of self.old }
@@ -285,8 +301,8 @@ impl<'n> Builder<'n> {
     ///
     /// # Errors
     ///
-    /// `TooLarge` if the patterns have more states than [`Builder::limit_states`] allows, or all patterns together more than 1,073,741,823 groups, those of
-    /// whole matches included; this is known before a state is made. Otherwise `Names` if a pattern has a name twice; otherwise `Faulty` if a range's first
+    /// `TooLarge` if the patterns have more states than [`Builder::limit_states`] allows, or together more than 1,073,741,823 groups, with a group for the whole
+    /// match of each pattern; this is known before a state is made. Otherwise `Names` if a pattern has a name twice; otherwise `Faulty` if a range's first
     /// byte is above its last, unless its part is repeated at most 0 times. Out of memory may come before the last two.
     ///
     /// # Examples
@@ -325,7 +341,9 @@ impl<'n> Builder<'n> {
             × (length program.automaton.states ≤ limit_of self.entry)) }
         ensures large { IsTrue (are_too_large (limit_of self.entry) (patterns_of self.entry ++ pattern_of last.entry ∷ [])
             (lists_of self.entry ++ groups_of_pattern last.entry ∷ [])) → result ≡ Err TooLarge }
-        ensures refused { IfErr result (FailsToBuild (limit_of self.entry) (patterns_of self.entry ++ pattern_of last.entry ∷ [])
+        ensures error { IfErr result (IsErrorOf (limit_of self.entry) (patterns_of self.entry ++ pattern_of last.entry ∷ [])
+            (lists_of self.entry ++ groups_of_pattern last.entry ∷ [])) }
+        ensures refused { IfErr result (FailsToBuild (patterns_of self.entry ++ pattern_of last.entry ∷ [])
             (lists_of self.entry ++ groups_of_pattern last.entry ∷ [])) }
     {
         self.build_with(LookMatcher::new(word_class), utf8, last)
@@ -336,7 +354,7 @@ impl<'n> Builder<'n> {
     ///
     /// # Errors
     ///
-    /// As [`Builder::build`]: `TooLarge` before `Names`, and `Names` before `Faulty`.
+    /// `TooLarge`, otherwise `Names`, otherwise `Faulty`, as [`Builder::build`] says. Out of memory may come before the last two.
     pub fn build_with<W: WordClass>(
         mut self,
         matcher: LookMatcher<W>,
@@ -359,7 +377,9 @@ impl<'n> Builder<'n> {
             × (length program.automaton.states ≤ limit_of self.entry)) }
         ensures large { IsTrue (are_too_large (limit_of self.entry) (patterns_of self.entry ++ pattern_of last.entry ∷ [])
             (lists_of self.entry ++ groups_of_pattern last.entry ∷ [])) → result ≡ Err TooLarge }
-        ensures refused { IfErr result (FailsToBuild (limit_of self.entry) (patterns_of self.entry ++ pattern_of last.entry ∷ [])
+        ensures error { IfErr result (IsErrorOf (limit_of self.entry) (patterns_of self.entry ++ pattern_of last.entry ∷ [])
+            (lists_of self.entry ++ groups_of_pattern last.entry ∷ [])) }
+        ensures refused { IfErr result (FailsToBuild (patterns_of self.entry ++ pattern_of last.entry ∷ [])
             (lists_of self.entry ++ groups_of_pattern last.entry ∷ [])) }
     {
         if are_too_large(self.limit, self.patterns.as_slice(), &last) {

@@ -2,3 +2,4 @@ mod alternations;
 mod build;
 mod loops;
 mod made;
+mod sizes;

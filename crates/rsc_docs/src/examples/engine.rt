@@ -74,6 +74,22 @@ fn part(rt: HostRuntime) -> Result<(), Fail> {
 }
 
 #[test]
+fn limited(rt: HostRuntime) -> Result<(), Fail> {
+    // `Builder::limit_states`
+    // a{1000}, with a record at each end of the match, and the state of the match
+    let mut builder = Builder::new(rt.alloc());
+    let whole = builder.repeat(builder.range(b'a', b'a'), 1000, Some(1000))?;
+    builder.limit_states(1002);
+    assert!(rt; matches!(builder.build(AsciiWord, true, whole), Err(Error::TooLarge)));
+    let mut builder = Builder::new(rt.alloc());
+    let whole = builder.repeat(builder.range(b'a', b'a'), 1000, Some(1000))?;
+    builder.limit_states(1003);
+    let program = builder.build(AsciiWord, true, whole)?;
+    assert!(rt; program.len() == 1003);
+    Ok(())
+}
+
+#[test]
 fn patterns(rt: HostRuntime) -> Result<(), Fail> {
     // `Builder::build`
     // The patterns `if` and [a-z]+, in this order.
