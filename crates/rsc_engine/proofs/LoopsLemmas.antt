@@ -236,8 +236,11 @@ BuildsPart-up_to slot_of slots left now old new min max first next often p none 
 
 pub BuildsPart-no_times : (slot_of : ℕ → ℕ) (slots : ℕ × ℕ) (left now : ℕ) (states : List State) (next : ℕ) (often : Bool) (p : Pattern)
     → left ≡ now + count_groups p → BuildsPart slot_of slots left now states states next next (Repeat 0 (Some 0) often p)
-BuildsPart-no_times slot_of slots left now states next often p its =
-    (its, Builds-up_to slots states states next next 0 often (numbered slot_of now p) (Builds-empty slots states next), omega (arith, up_to_only-size 0 often p))
+BuildsPart-no_times slot_of slots left now states next often p its = (
+  its,
+  Builds-up_to slots states states next next 0 often (numbered slot_of now p) (Builds-empty slots states next),
+  omega (arith, up_to_only-size 0 often p),
+)
 
 pub BuildsPart-zero : (slot_of : ℕ → ℕ) (slots : ℕ × ℕ) (left now : ℕ) (old new : List State) (min max first next : ℕ) (often : Bool) (p : Pattern)
     → min ≡ 0 → max ≡ 0 → BuildsPart slot_of slots left now old new first next (Repeat 0 (Some 0) often p)

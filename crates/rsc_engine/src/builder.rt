@@ -81,9 +81,9 @@ impl<'n> Builder<'n> {
         }
     }
 
-    /// Sets how many states a program may have. `build` answers `TooLarge` for patterns with more, before it makes a state, so a count of repetitions that comes
-    /// from outside takes no more memory than this. [`Program::len`] says how many states a program has. No program has more than `StateID::LIMIT`, 2,147,483,647
-    /// states, whatever `most` is; that is the limit of a new builder.
+    /// Sets how many states a program may have. `build` answers `TooLarge` for patterns with more, before it makes a state: so a count of repetitions from
+    /// outside makes no more than these. [`Program::len`] says how many a program has. No program has more than `StateID::LIMIT` states, 2,147,483,647,
+    /// whatever `most` is; this is the limit of a new builder.
     ///
     /// # Examples
     ///
@@ -301,9 +301,9 @@ impl<'n> Builder<'n> {
     ///
     /// # Errors
     ///
-    /// `TooLarge` if the patterns have more states than [`Builder::limit_states`] allows, or together more than 1,073,741,823 groups, with a group for the whole
-    /// match of each pattern; this is known before a state is made. Otherwise `Names` if a pattern has a name twice; otherwise `Faulty` if a range's first
-    /// byte is above its last, unless its part is repeated at most 0 times. Out of memory may come before the last two.
+    /// `TooLarge` if the patterns have more states than [`Builder::limit_states`] allows, or all together more than 1,073,741,823 groups, with one for the
+    /// whole match of each pattern; this is known before a state is made. Otherwise `Names` if a pattern has a name twice; otherwise `Faulty` if a range's
+    /// first byte is above its last, unless its part is repeated at most 0 times. Out of memory may come before the last two.
     ///
     /// # Examples
     ///

@@ -10,7 +10,10 @@ fn leaf(builder: &Builder<'static>, number: usize) -> Result<(Part<'static>, usi
         0 => Ok((builder.empty(), 0)),
         1 => Ok((builder.never(), 1)),
         2 => Ok((builder.range(b'a', b'z'), 1)),
-        3 => Ok((builder.class(&[(b'a', b'c'), (b'x', b'z'), (b'0', b'9')])?, 5)),
+        3 => Ok((
+            builder.class(&[(b'a', b'c'), (b'x', b'z'), (b'0', b'9')])?,
+            5,
+        )),
         4 => Ok((builder.literal(b"abcd")?, 4)),
         _ => Ok((builder.look(Look::Start), 1)),
     }
@@ -56,12 +59,24 @@ fn is_refused_below(alloc: Global, made: (Part<'static>, usize)) -> bool {
 fn a_part_has_as_many_states_as_its_size(rt: HostRuntime) -> Result<(), Fail> {
     let builder = Builder::new(rt.alloc());
     for number in 0..6 {
-        assert!(rt; has_size(rt.alloc(), leaf(&builder, number)?)?, "leaf {number}");
-        assert!(rt; is_refused_below(rt.alloc(), leaf(&builder, number)?), "leaf {number}");
+        assert!(rt;
+            has_size(rt.alloc(), leaf(&builder, number)?)?,
+            "leaf {number}"
+        );
+        assert!(rt;
+            is_refused_below(rt.alloc(), leaf(&builder, number)?),
+            "leaf {number}"
+        );
     }
     for number in 0..8 {
-        assert!(rt; has_size(rt.alloc(), repeated(&builder, number)?)?, "repeated {number}");
-        assert!(rt; is_refused_below(rt.alloc(), repeated(&builder, number)?), "repeated {number}");
+        assert!(rt;
+            has_size(rt.alloc(), repeated(&builder, number)?)?,
+            "repeated {number}"
+        );
+        assert!(rt;
+            is_refused_below(rt.alloc(), repeated(&builder, number)?),
+            "repeated {number}"
+        );
     }
     Ok(())
 }
@@ -87,7 +102,10 @@ fn refuses_a_great_count_at_once(rt: HostRuntime) -> Result<(), Fail> {
         let pair = builder.literal(b"ab")?;
         let whole = builder.repeat(pair, count, Some(count))?;
         let twice = builder.repeat(whole, count, None)?;
-        assert!(rt; matches!(builder.build(AsciiWord, true, twice), Err(Error::TooLarge)), "{count}");
+        assert!(rt;
+            matches!(builder.build(AsciiWord, true, twice), Err(Error::TooLarge)),
+            "{count}"
+        );
     }
     Ok(())
 }

@@ -11,5 +11,6 @@ abbrev pub invariant-loop-part : goal.invariant-loop-part
 invariant-loop-part l =
     (map pattern_in l.trees.items ++ map pattern_of (into_iter_items l.part-iterator) ≡ map pattern_of l.fn.parts.items)
     × (groups_in l.names.items ++ flat_map groups_of_part (into_iter_items l.part-iterator) ≡ flat_map groups_of_part l.fn.parts.items)
-    × (length l.names.items + count_groups (in_order (map pattern_of (into_iter_items l.part-iterator))) ≡ count_groups (in_order (map pattern_of l.fn.parts.items)))
+    × (length l.names.items + count_groups (in_order (map pattern_of (into_iter_items l.part-iterator)))
+    ≡ count_groups (in_order (map pattern_of l.fn.parts.items)))
     × (into_iter_len l.part-iterator ≡ length (into_iter_items l.part-iterator))

@@ -81,7 +81,8 @@ part-returns-in_ok-first-in-Either t c =
 
 pub star-returns-then-may_be_empty : goal.star-returns-then-may_be_empty
 star-returns-then-may_be_empty t c =
-    built-weaker c.add.result _ _ (λ id a. BuildsPart-star _ _ _ _ _ _ _ _ id _ _ _ (search rules) c.in_ok-first.ensures.first (rw c.choice.ensures at a)) c.add.ensures
+    built-weaker c.add.result _ _
+    (λ id a. BuildsPart-star _ _ _ _ _ _ _ _ id _ _ _ (search rules) c.in_ok-first.ensures.first (rw c.choice.ensures at a)) c.add.ensures
 
 pub up_to-loop-done-preserved : goal.up_to-loop-done-preserved
 up_to-loop-done-preserved t c =
@@ -294,5 +295,6 @@ pub limited-returns-then-more-eq0 : goal.limited-returns-then-more-eq0
 limited-returns-then-more-eq0 t c =
     BuildsPart-zero (slot_number c.args.slots.now.info.now c.args.slots.now.pattern)
     (slots_between c.args.slots.now.info.now c.args.slots.now.pattern) _ _ _ _ c.args.times.min c.args.max c.no_times.result c.args.next
-    c.args.times.is_greedy (pattern_in c.args.sub.now) c.if-times-eq0.true (omega (arith, c.saturating_sub-more.ensures, c.if-times-eq0.true, c.if-more-eq0.true))
+    c.args.times.is_greedy (pattern_in c.args.sub.now) c.if-times-eq0.true
+    (omega (arith, c.saturating_sub-more.ensures, c.if-times-eq0.true, c.if-more-eq0.true))
     c.no_times.ensures
