@@ -20,6 +20,7 @@ use Rattle.rsc_engine.specs.BeginsLayout.{Begins, IsOfOne, IsOfSome}
 use Rattle.rsc_engine.specs.FirstsLayout.{OrdersOne, OrdersSome}
 use Rattle.rsc_engine.proofs.FirstsLayoutLemmas.{OrdersOne-is, OrdersSome-last, OrdersSome-more}
 use Rattle.rsc_engine.specs.OrderLayout.{Orders}
+use Rattle.rsc_engine.specs.TakesLayout.{TakesCourse}
 use Rattle.rsc_engine.specs.GroupNumbers.{numbered}
 use Rattle.rsc_engine.proofs.GroupNumbersLemmas.{numbered-goes, numbered-loops, numbered-reversed}
 use Rattle.rsc_engine.proofs.LinksLayoutLemmas.{Realizes-is, Realizes-between, Realizes-capture, choice_to, choice_first, choice_next}
@@ -71,14 +72,15 @@ Begins-one states number low high accept after body first p w r = record {
 abbrev OneBegins : GroupLists → List State → List State → ℕ → ℕ → Pattern → List State → Type 0
 OneBegins groups old new first n p states =
     Begins states first (IsOfOne n p) × (n < length groups → AreSoundIn groups (has_reversed_range p) old new first states)
-    × OrdersOne states (slot_number groups n) first n p
+    × OrdersOne states (slot_number groups n) (length new) first n p
 
 pub Adds-pattern : (groups : GroupLists) (old middle later last new : List State) (accept number after start end body first index : ℕ) (p : Pattern)
     → number ≡ index → start ≡ 2 * number → end ≡ 2 * number + 1 → start < 2 * all_groups groups → end < 2 * all_groups groups
     → IsAdded old middle (Accept number) accept → IsAdded middle later (Capture end accept) after
     → Builds (end, 2 * all_groups groups) later last body after (numbered (slot_number groups index) 1 p) → IsAdded last new (Capture start body) first
     → Adds old new (λ (states : List State). Begins states first (IsOfOne index p)
-    × (index < length groups → AreSoundIn groups (has_reversed_range p) old new first states) × OrdersOne states (slot_number groups index) first index p)
+    × (index < length groups → AreSoundIn groups (has_reversed_range p) old new first states)
+    × OrdersOne states (slot_number groups index) (length new) first index p)
 Adds-pattern groups old middle later last new accept number after start end body first index p same starts ends sw ew a b x c =
     Adds-both old last new Three (λ (states : List State). slice_get states first ≡ Some (Capture start body))
     (OneBegins groups old new first index p)
@@ -96,9 +98,10 @@ Adds-pattern groups old middle later last new accept number after start end body
           x.longer c.last (grown last new (Capture start body) first c) y.0.0 y.0.1 y.1.1
           (subst (λ (r : Bool). Names (2 * all_groups groups) r (length later) (length last) states) (numbered-reversed (slot_number groups index) 1 p) y.1.2)
           z,
-      subst (λ (q : ℕ). OrdersOne states (slot_number groups index) first q p) same
-          (OrdersOne-is states (slot_number groups index) number (length later) (length last) accept after body first p (whole states y z) (plain states y)
-          y.1.3),
+      subst (λ (q : ℕ). OrdersOne states (slot_number groups index) (length new) first q p) same
+          (OrdersOne-is states (slot_number groups index) number (length later) (length last) (length new) accept after body first p
+          (whole states y z) (plain states y)
+          y.1.3 y.1.4 (omega (arith, grown last new (Capture start body) first c))),
     ))
   where
     Two : List State → Type 0
@@ -109,6 +112,7 @@ Adds-pattern groups old middle later last new accept number after start end body
         Realizes states low high (numbered (slot_number groups index) 1 p) × Encloses end (length from) (length to) low high states
         × Names (2 * all_groups groups) (has_reversed_range (numbered (slot_number groups index) 1 p)) (length from) (length to) states
         × Orders states low high (numbered (slot_number groups index) 1 p)
+        × TakesCourse (length from) (length to) low high (numbered (slot_number groups index) 1 p) states
 
     Three : List State → Type 0
     Three states = Two states × IsPart later last body after states
@@ -181,7 +185,7 @@ abbrev SomeBegin : GroupLists → List State → List State → ℕ → ℕ → 
 SomeBegin groups old new first n patterns states =
     Begins states first (IsOfSome n patterns)
     × (length patterns ≤ length groups → AreSoundIn groups (list_any has_reversed_range (drop n patterns)) old new first states)
-    × OrdersSome states (slot_number groups) first n patterns
+    × OrdersSome states (slot_number groups) (length new) first n patterns
 
 -- a test of the patterns from a number on is one of the first of them, or of those after it
 any_from : (patterns : List Pattern) (n : ℕ) (p : Pattern) → slice_get patterns n ≡ Some p
@@ -200,16 +204,17 @@ any_last patterns n p at last =
 pub Adds-last : (groups : GroupLists) (old new : List State) (first n : ℕ) (p : Pattern) (patterns : List Pattern) → slice_get patterns n ≡ Some p
     → n + 1 ≡ length patterns
     → Adds old new (λ (states : List State). Begins states first (IsOfOne n p)
-    × (n < length groups → AreSoundIn groups (has_reversed_range p) old new first states) × OrdersOne states (slot_number groups n) first n p)
+    × (n < length groups → AreSoundIn groups (has_reversed_range p) old new first states)
+    × OrdersOne states (slot_number groups n) (length new) first n p)
     → Adds old new (λ (states : List State). Begins states first (IsOfSome n patterns)
     × (length patterns ≤ length groups → AreSoundIn groups (list_any has_reversed_range (drop n patterns)) old new first states)
-    × OrdersSome states (slot_number groups) first n patterns)
+    × OrdersSome states (slot_number groups) (length new) first n patterns)
 Adds-last groups old new first n p patterns at last x =
     Adds-is old new (OneBegins groups old new first n p) (SomeBegin groups old new first n patterns)
     (λ states b. (
       Begins-is states first (IsOfOne n p) (IsOfSome n patterns) (last-is patterns n p at) (last-back patterns n p at last) b.0,
       λ l. subst (λ (r : Bool). AreSoundIn groups r old new first states) (sym (any_last patterns n p at last)) (b.1 (omega (arith, l, last))),
-      OrdersSome-last states (slot_number groups) first n p patterns at last b.2,
+      OrdersSome-last states (slot_number groups) (length new) first n p patterns at last b.2,
     )) x
 
 -- a pattern before others
@@ -234,13 +239,14 @@ pub Adds-more : (groups : GroupLists) (old middle last new : List State) (one fi
     → slice_get patterns n ≡ Some p
     → Adds old middle (λ (states : List State). Begins states first (IsOfSome (n + 1) patterns)
     × (length patterns ≤ length groups → AreSoundIn groups (list_any has_reversed_range (drop (n + 1) patterns)) old middle first states)
-    × OrdersSome states (slot_number groups) first (n + 1) patterns)
+    × OrdersSome states (slot_number groups) (length middle) first (n + 1) patterns)
     → Adds middle last (λ (states : List State). Begins states one (IsOfOne n p)
-    × (n < length groups → AreSoundIn groups (has_reversed_range p) middle last one states) × OrdersOne states (slot_number groups n) one n p)
+    × (n < length groups → AreSoundIn groups (has_reversed_range p) middle last one states)
+    × OrdersOne states (slot_number groups n) (length last) one n p)
     → IsAdded last new (Fork one first) id
     → Adds old new (λ (states : List State). Begins states id (IsOfSome n patterns)
     × (length patterns ≤ length groups → AreSoundIn groups (list_any has_reversed_range (drop n patterns)) old new id states)
-    × OrdersSome states (slot_number groups) id n patterns)
+    × OrdersSome states (slot_number groups) (length new) id n patterns)
 Adds-more groups old middle last new one first id n p patterns at x y a =
     Adds-both old last new Both
     (λ (states : List State). slice_get states id ≡ Some (Fork one first)) (SomeBegin groups old new id n patterns)
@@ -254,7 +260,8 @@ Adds-more groups old middle last new one first id n p patterns at x y a =
           (AreSound-more (2 * all_groups groups) (length groups) (has_reversed_range p) (list_any has_reversed_range (drop (n + 1) patterns)) (length old)
           (length middle) (length last) (length new) one first id states x.longer y.longer a.last (grown last new (Fork one first) id a) (b.0.1 l)
           (b.1.1 (omega (arith, l, slice_get_within patterns n p at))) is),
-      OrdersSome-more states (slot_number groups) id one first n p patterns at is b.1.0 b.0.0 b.1.2 b.0.2,
+      OrdersSome-more states (slot_number groups) (length middle) (length last) (length new) id one first n p patterns at is y.longer (omega (arith, a.last))
+          (omega (arith, grown last new (Fork one first) id a)) b.1.0 b.0.0 b.1.2 b.0.2,
     ))
   where
     Both : List State → Type 0

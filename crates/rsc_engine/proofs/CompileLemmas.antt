@@ -21,6 +21,10 @@ use Rattle.rsc_engine.proofs.EnclosesLayoutLemmas.{Encloses-one, Encloses-then, 
 use Rattle.rsc_engine.proofs.PatternsLemmas.{class-is, class-back, literal-is, literal-back}
 use Rattle.rsc_engine.specs.FirstEnds.{loops_take_bytes}
 use Rattle.rsc_engine.specs.OrderLayout.{Orders}
+use Rattle.rsc_engine.specs.Courses.{Course}
+use Rattle.rsc_engine.specs.PreferredWays.{IsCourseOf}
+use Rattle.rsc_engine.specs.TakesLayout.{TakesCourse}
+use Rattle.rsc_engine.proofs.TakesLayoutLemmas.{Takes-empty, Takes-never, Takes-range, Takes-assert, Takes-is, Takes-then, Takes-either, Takes-group, Takes-wider, class-course, byte-course}
 use Rattle.rsc_engine.proofs.FirstWaysLemmas.{IsWithin, class-within, literal-within, literal_none-within, never-within}
 use Rattle.rsc_engine.proofs.OrderLayoutLemmas.{Orders-empty, Orders-is, Orders-never, Orders-range, Orders-assert, Orders-group, Orders-then, Orders-either}
 
@@ -102,8 +106,9 @@ Adds-written old middle new state written id P a p = record {
 abbrev pub IsPart : ℕ × ℕ → ℕ → ℕ → ℕ → ℕ → Pattern → List State → Type 0
 IsPart slots low high first next p all =
     Realizes all first next p × Encloses slots.0 low high first next all × Names slots.1 (has_reversed_range p) low high all × Orders all first next p
+    × TakesCourse low high first next p all
 
--- all but the order
+-- all but the order and the course
 abbrev IsShape : ℕ × ℕ → ℕ → ℕ → ℕ → ℕ → Pattern → List State → Type 0
 IsShape slots low high first next p all =
     Realizes all first next p × Encloses slots.0 low high first next all × Names slots.1 (has_reversed_range p) low high all
@@ -121,7 +126,7 @@ part-then : (slots : ℕ × ℕ) (low middle high first between next : ℕ) (p q
     → IsPart slots low middle between next q all → IsPart slots middle high first between p all → IsPart slots low high first next (Then p q) all
 part-then slots low middle high first between next p q all l h a b =
     let s = shape-then slots low middle high first between next p q all l h (a.0, a.1, a.2) (b.0, b.1, b.2) in
-    (s.0, s.1, s.2, Orders-then all first between next p q a.0 a.3 b.3)
+    (s.0, s.1, s.2, Orders-then all first between next p q a.0 a.3 b.3, Takes-then low middle high first between next p q all l h a.4 b.4)
 
 pub Builds-then : (slots : ℕ × ℕ) (old middle new : List State) (first between next : ℕ) (p q : Pattern) → Builds slots old middle between next q
     → Builds slots middle new first between p → Builds slots old new first next (Then p q)
@@ -133,14 +138,16 @@ Builds-then slots old middle new first between next p q x y =
 -- a part is what goes where it goes
 pub Builds-is : (slots : ℕ × ℕ) (old new : List State) (first next : ℕ) (p q : Pattern) → ((x : Subject) (i j : ℕ) → Goes x p i j → Goes x q i j)
     → ((x : Subject) (i j : ℕ) → Goes x q i j → Goes x p i j) → IsWithin p q → (loops_take_bytes q ≡ true → loops_take_bytes p ≡ true)
-    → has_reversed_range p ≡ has_reversed_range q → Builds slots old new first next p → Builds slots old new first next q
-Builds-is slots old new first next p q to back first-is loops same x =
+    → has_reversed_range p ≡ has_reversed_range q → ((c : Course) → IsCourseOf p c → IsCourseOf q c) → Builds slots old new first next p
+    → Builds slots old new first next q
+Builds-is slots old new first next p q to back first-is loops same courses x =
     Adds-is old new (IsPart slots (length old) (length new) first next p) (IsPart slots (length old) (length new) first next q)
     (λ all r. (
       Realizes-is all first next p q to back loops r.0,
       r.1,
       subst (λ (b : Bool). Names slots.1 b (length old) (length new) all) same r.2,
       Orders-is all first next p q first-is loops r.3,
+      Takes-is (length old) (length new) first next p q all courses r.4,
     )) x
 
 -- no state
@@ -153,12 +160,14 @@ Builds-empty slots states next = record {
     record { begins = inr refl; stays = λ k state l h. absurd (omega (arith, l, h)) },
     Names-none slots.1 (length states) (length states) all (omega arith),
     Orders-empty all next,
+    Takes-empty (length states) (length states) next all,
   );
 }
 
 pub Builds-no_byte : (slots : ℕ × ℕ) (states : List State) (next : ℕ) → Builds slots states states next next (Literal [])
 Builds-no_byte slots states next =
-    Builds-is slots states states next next Empty (Literal []) (λ x i j g. g) (λ x i j g. g) literal_none-within (λ e. e) refl (Builds-empty slots states next)
+    Builds-is slots states states next next Empty (Literal []) (λ x i j g. g) (λ x i j g. g) literal_none-within (λ e. e) refl (λ c h. h)
+    (Builds-empty slots states next)
 
 -- ---- single states
 
@@ -168,7 +177,8 @@ grown old new state id a = a.one
 Builds-state : (slots : ℕ × ℕ) (old new : List State) (state : State) (id next : ℕ) (p : Pattern) → IsAdded old new state id
     → StaysOnWay (λ (s : ℕ). IsOnWay (length old) (length new) next s) slots.0 state
     → ((all : List State) → RecordsInPairs slots.1 all state) → (has_reversed_range p ≡ false → IsOrdered state)
-    → (has_reversed_range p ≡ true → IsOrdered state → ⊥) → ((all : List State) → slice_get all id ≡ Some state → Realizes all id next p × Orders all id next p)
+    → (has_reversed_range p ≡ true → IsOrdered state → ⊥) → ((all : List State) → slice_get all id ≡ Some state
+    → Realizes all id next p × Orders all id next p × TakesCourse (length old) (length new) id next p all)
     → Builds slots old new id next p
 Builds-state slots old new state id next p a stays below ordered reversed realizes =
     Adds-is old new (λ (all : List State). slice_get all id ≡ Some state) (IsPart slots (length old) (length new) id next p)
@@ -177,6 +187,7 @@ Builds-state slots old new state id next p a stays below ordered reversed realiz
       Encloses-one slots.0 (length old) (length new) id next all state a.last (grown old new state id a) is stays,
       Names-one slots.1 (has_reversed_range p) (length old) (length new) id all state a.last (grown old new state id a) is (below all) ordered reversed,
       (realizes all is).1,
+      (realizes all is).2,
     ))
     (Adds-one old new state id a)
 
@@ -188,19 +199,19 @@ Builds-never slots old new this id next e a =
     Builds-state slots old new (Fork this this) id next Never a (here, here) (λ all. tt) (λ e. tt) (λ e. absurd (true≢false (sym e)))
     (λ all is.
     let loop = is ∙ ap (λ (n : ℕ). Some (Fork n n)) same in
-    (Realizes-never all id next loop, Orders-never all id next loop))
+    (Realizes-never all id next loop, Orders-never all id next loop, Takes-never (length old) (length new) id next all loop))
 
 pub Builds-range : (slots : ℕ × ℕ) (old new : List State) (x y id next : ℕ) → IsAdded old new (ByteRange x y next) id
     → Builds slots old new id next (Class ((x, y) ∷ []))
 Builds-range slots old new x y id next a =
     Builds-state slots old new (ByteRange x y next) id next (Class ((x, y) ∷ [])) a (inr refl) (λ all. tt) (range-ordered x y next) (range-reversed x y next)
-    (λ all is. (Realizes-range all id x y next is, Orders-range all id x y next is))
+    (λ all is. (Realizes-range all id x y next is, Orders-range all id x y next is, Takes-range (length old) (length new) id x y next all is))
 
 pub Builds-assert : (slots : ℕ × ℕ) (old new : List State) (look : Look) (id next : ℕ) → IsAdded old new (Assert look next) id
     → Builds slots old new id next (Assertion look)
 Builds-assert slots old new look id next a =
     Builds-state slots old new (Assert look next) id next (Assertion look) a (inr refl) (λ all. tt) (λ e. tt) (λ e. absurd (true≢false (sym e)))
-    (λ all is. (Realizes-assert all id next look is, Orders-assert all id next look is))
+    (λ all is. (Realizes-assert all id next look is, Orders-assert all id next look is, Takes-assert (length old) (length new) id next look all is))
 
 shape-capture : (slots : ℕ × ℕ) (low high c id next : ℕ) (all : List State) → id ≡ low → high ≡ low + 1 → slice_get all id ≡ Some (Capture c next)
     → slots.0 < c → c < slots.1 → ((pair : ℕ) → c ≡ 2 * pair → HasClose all pair next) → IsShape slots low high id next Empty all
@@ -229,6 +240,8 @@ Builds-either slots old middle last new one other id next p q x y a =
           (Names-joined slots.1 (has_reversed_range (Either p q)) (has_reversed_range q) (has_reversed_range p) (length old) (length middle) (length last) all
           (either_back (has_reversed_range q) (has_reversed_range p)) x.longer y.longer b.0.2 b.1.2),
       Orders-either all id one other next p q is b.1.0 b.1.3 b.0.3,
+      Takes-either (length old) (length middle) (length last) (length new) one other id next p q all x.longer y.longer a.last
+          (grown last new (Fork one other) id a) is b.0.4 b.1.4,
     ))
   where
     Both : List State → Type 0
@@ -236,11 +249,11 @@ Builds-either slots old middle last new one other id next p q x y a =
 
 -- a range before others, in a class
 pub Builds-class : (slots : ℕ × ℕ) (old middle last new : List State) (x y one other id next : ℕ) (rest : List (ℕ × ℕ))
-    → Builds slots old middle other next (Class rest)
+    → 0 < length rest → Builds slots old middle other next (Class rest)
     → IsAdded middle last (ByteRange x y next) one → IsAdded last new (Fork one other) id → Builds slots old new id next (Class ((x, y) ∷ rest))
-Builds-class slots old middle last new x y one other id next rest r a b =
+Builds-class slots old middle last new x y one other id next rest some r a b =
     Builds-is slots old new id next (Either (Class ((x, y) ∷ [])) (Class rest)) (Class ((x, y) ∷ rest)) (class-is x y rest) (class-back x y rest)
-    (class-within x y rest) (λ e. e) (class-same x y rest)
+    (class-within x y rest) (λ e. e) (class-same x y rest) (class-course x y rest some)
     (Builds-either slots old middle last new one other id next (Class ((x, y) ∷ [])) (Class rest) r (Builds-range slots middle last x y one next a) b)
 
 -- a byte before others
@@ -248,7 +261,7 @@ pub Builds-byte : (slots : ℕ × ℕ) (old middle new : List State) (b first id
     → IsAdded middle new (ByteRange b b first) id → Builds slots old new id next (Literal (b ∷ rest))
 Builds-byte slots old middle new b first id next rest r a =
     Builds-is slots old new id next (Then (Class ((b, b) ∷ [])) (Literal rest)) (Literal (b ∷ rest)) (literal-is b rest) (literal-back b rest)
-    (literal-within b rest) (λ e. e) (literal-same b rest)
+    (literal-within b rest) (λ e. e) (literal-same b rest) (byte-course b rest)
     (Builds-then slots old middle new id first next (Class ((b, b) ∷ [])) (Literal rest) r (Builds-range slots middle new b b id first a))
 
 -- a part between two records, which are in the slots of a pair; the one of its end is written last
@@ -272,6 +285,8 @@ Builds-group slots old middle last new state start end body after id next p l ev
       s.1,
       subst (λ (r : Bool). Names slots.1 r (length old) (length new) all) (between-same p) s.2,
       Orders-group all id body after next start p is (y.0 ∙ ap (λ (c : ℕ). Some (Capture c next)) second) y.1.3,
+      Takes-wider (length middle) (length last) (length old) (length new) id next (Group start p) all (omega (arith, one)) (omega (arith, two))
+          (Takes-group (length middle) (length last) id body after next start p all is (y.0 ∙ ap (λ (c : ℕ). Some (Capture c next)) second) y.1.4),
     ))
   where
     Two : List State → Type 0
@@ -315,7 +330,7 @@ pub Builds-none : (slots : ℕ × ℕ) (old new : List State) (first next : ℕ)
     → Builds slots old new first next (Class ranges)
 Builds-none slots old new first next [] none x =
     Builds-is slots old new first next Never (Class []) (λ t i j g. absurd g) (λ t i j g. absurd (true≢false (sym g.0)))
-    never-within (λ e. e) refl x
+    never-within (λ e. e) refl (λ c h. h) x
 Builds-none slots old new first next (r ∷ rest) none x = absurd (omega (arith, none))
 
 -- ---- parts with the slots of their groups

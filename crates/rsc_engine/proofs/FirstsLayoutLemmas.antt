@@ -1,5 +1,5 @@
 -- The first way to a pattern's match is the pattern's first way.
-use Rattle.std.proofs.Common.{◌≡◌, ℕ, zero, suc, ◌+◌, ◌*◌, ◌<◌, ◌≤◌, inl, ⊎_elim, List, [], ◌∷◌, length, slice_get, refl, sym, ap, ◌∙◌, subst, arith, Option, Some, MatchOption}
+use Rattle.std.proofs.Common.{◌≡◌, ℕ, zero, suc, ◌+◌, ◌*◌, ◌<◌, ◌≤◌, inl, ⊎_elim, List, [], ◌∷◌, length, slice_get, slice_index_or, refl, sym, ap, ◌∙◌, subst, arith, Option, Some, MatchOption}
 use Rattle.std.proofs.lemmas.Bool.{cases_lt, cases_eq}
 use Rattle.std.proofs.lemmas.Option.{slice_get_within}
 use Rattle.rsc_nfa.specs.declared.state.State.{State}
@@ -8,7 +8,7 @@ use Rattle.rsc_nfa.specs.Steps.{StepsTo}
 use Rattle.rsc_engine.specs.Patterns.{Pattern, Empty, Group, Subject}
 use Rattle.rsc_engine.specs.LinksLayout.{Aim, Ends, Realizes}
 use Rattle.rsc_engine.specs.BeginsLayout.{Begins, IsOfOne, IsOfSome}
-use Rattle.rsc_engine.specs.FirstsLayout.{OrdersOne, OrdersSome, mark_of}
+use Rattle.rsc_engine.specs.FirstsLayout.{OrdersOne, OrdersSome, TakesFirst, mark_of}
 use Rattle.rsc_engine.specs.Ways.{Mark, GoesWith}
 use Rattle.rsc_engine.specs.FirstWays.{IsFirstWay}
 use Rattle.rsc_engine.specs.GroupNumbers.{numbered}
@@ -21,6 +21,16 @@ use Rattle.rsc_engine.proofs.WaysLayoutLemmas.{Way, Rest, from_fork, either_way,
 use Rattle.rsc_engine.proofs.OrderLayoutLemmas.{Orders-group}
 use Rattle.rsc_engine.proofs.LinksLayoutLemmas.{Realizes-between, Realizes-capture, choice_to}
 use Rattle.rsc_engine.specs.BeginsLayout.{IsWhole}
+use Rattle.rsc_engine.specs.Courses.{Course, Within, Stand, chosen}
+use Rattle.rsc_engine.specs.PreferredWays.{choices}
+use Rattle.rsc_engine.specs.PathsLayout.{Leads, IsPath, HasPath, arrive}
+use Rattle.rsc_engine.specs.CoursesLayout.{Follows}
+use Rattle.rsc_engine.specs.TakesLayout.{TakesCourse}
+use Rattle.rsc_engine.proofs.CoursesLemmas.{new-alike}
+use Rattle.rsc_engine.proofs.CoursesLayoutLemmas as paths
+use Rattle.rsc_engine.proofs.CoursesLayoutLemmas.{path_within, Follows-within}
+use Rattle.rsc_engine.proofs.RenamedLayoutLemmas.{AreBoth, IsItself, without}
+use Rattle.rsc_engine.proofs.PathsLayoutLemmas.{path_ends}
 
 -- ---- one pattern
 
@@ -37,10 +47,16 @@ stays_there states x end s i q [] earlier is steps = refl
 stays_there states x end s i q (r ∷ rest) earlier is steps =
     absurd (subst (λ (o : Option State). MatchOption o ⊥ (λ (y : State). StepsTo y x.terminator x.word_chars x.haystack end i r)) is steps.0)
 
-pub OrdersOne-is : (states : List State) (slot_of : ℕ → ℕ) (number low high accept after body first : ℕ) (p : Pattern)
+-- where a pattern is accepted a path ends
+path_stays : (states : List State) (x : Subject) (end m f q : ℕ) (s : Stand) (rest : List ℕ) → slice_get states f ≡ Some (Accept q)
+    → IsPath states x end m f s rest → arrive states f s rest ≡ (f, s)
+path_stays states x end m f q s [] is p = refl
+path_stays states x end m f q s (g ∷ rest) is p = absurd (subst (λ (o : Option State). Leads o x end f s g) is p.0)
+
+pub OrdersOne-is : (states : List State) (slot_of : ℕ → ℕ) (number low high top accept after body first : ℕ) (p : Pattern)
     → IsWhole states number low high accept after body first → Realizes states body after p → Orders states body after (numbered slot_of 1 p)
-    → OrdersOne states slot_of first number p
-OrdersOne-is states slot_of number low high accept after body first p w r o = record {
+    → TakesCourse low high body after (numbered slot_of 1 p) states → high ≤ top → OrdersOne states slot_of top first number p
+OrdersOne-is states slot_of number low high top accept after body first p w r o t l = record {
   through = λ x end from rest v.
       let g = order.through x end number from rest v in
       let there = sym (stays_there states x end accept g.to.0 number g.rest g.to.1 w.accepting g.way.steps) ∙ g.ends in
@@ -56,8 +72,26 @@ OrdersOne-is states slot_of number low high accept after body first p w r o = re
       subst (λ (k : Mark). IsFirstWay x (Group (2 * number) (numbered slot_of 1 p)) (λ j. j ≤ end) from k) (ap mark_of there)
       (way-alike x (Group (2 * number) (numbered slot_of 1 p)) (HasWay states x end number accept) (λ j. j ≤ end) from g.to (λ j v. v.1.within)
       (λ j within. ([], record { within = within; steps = tt; accepts = w.accepting })) g.first);
+  course = record { course = course; is = (t.course, refl, t.is); apart = t.numbers.apart };
+  below = λ k d m. let its = t.numbers.within k d m in omega (arith, its.1, l);
+  takes = λ x end s rest least.
+      let g = follows.goes x end number s rest least in
+      let there : (accept, g.to) ≡ arrive states first s rest =
+      sym (path_stays states x end number accept number g.to g.rest w.accepting g.least.path) ∙ g.ends in (
+        g.to,
+        new-alike x course (HasPath states x end number accept) (λ k. k.at ≤ end) s g.to
+            (λ k v. path_within states x end number accept k v.0 v.1) (λ k within. ([], (w.accepting, within))) g.first,
+        ap (λ (z : ℕ × Stand). z.1.at) there,
+        ap (λ (z : ℕ × Stand). z.1.records) there,
+      );
 }
   where
+    course : Course
+    course = Within (2 * number) t.course
+
+    follows : Follows states first accept course
+    follows = Follows-within states first body after accept (2 * number) t.course w.starting w.ending t.follows
+
     ending : Realizes states after accept Empty
     ending = Realizes-capture states after (2 * number + 1) accept w.ending
 
@@ -75,18 +109,35 @@ OrdersOne-is states slot_of number low high accept after body first p w r o = re
 same_some : (p q : Pattern) → Some p ≡ Some q → p ≡ q
 same_some p q e = cc
 
-pub OrdersSome-last : (states : List State) (slot_of : ℕ → ℕ → ℕ) (first n : ℕ) (p : Pattern) (patterns : List Pattern)
-    → slice_get patterns n ≡ Some p → n + 1 ≡ length patterns → OrdersOne states (slot_of n) first n p → OrdersSome states slot_of first n patterns
-OrdersSome-last states slot_of first n p patterns at last o m q from its =
+pub OrdersSome-last : (states : List State) (slot_of : ℕ → ℕ → ℕ) (high first n : ℕ) (p : Pattern) (patterns : List Pattern)
+    → slice_get patterns n ≡ Some p → n + 1 ≡ length patterns → OrdersOne states (slot_of n) high first n p
+    → OrdersSome states slot_of high first n patterns
+OrdersSome-last states slot_of high first n p patterns at last o m q from its =
     let there = slice_get_within patterns m q its in
     let same : m ≡ n = omega (arith, there, last, from) in
     let pattern : p ≡ q = same_some p q (sym at ∙ (ap (λ (k : ℕ). slice_get patterns k) (sym same) ∙ its)) in
-    subst (λ (k : ℕ). OrdersOne states (slot_of k) first k q) (sym same) (subst (λ (r : Pattern). OrdersOne states (slot_of n) first n r) pattern o)
+    subst (λ (k : ℕ). OrdersOne states (slot_of k) high first k q) (sym same) (subst (λ (r : Pattern). OrdersOne states (slot_of n) high first n r) pattern o)
+
+up_to_end : (end : ℕ) (R : ℕ → ℕ → Type 0) → AreBoth R (λ k. k.at ≤ end) (λ k. k.at ≤ end)
+up_to_end end R = (λ s u a l. let same = a.at in omega (arith, l, same), λ s u a l. let same = a.at in omega (arith, l, same))
+
+-- after a fork that is none of a course's choices
+after_fork : (states : List State) (x : Subject) (end m f g high : ℕ) (c : Course) (s : Stand) (most : ℕ) (last : ℕ × Stand) → high ≤ f
+    → ((k d : ℕ) → k < length (choices c) → slice_index_or (choices c) k d < high) → (w : paths.Way states x end m f g s most last)
+    → TakesFirst x c end (chosen f s) (arrive states g (chosen f s) w.rest).1 → TakesFirst x c end s last.1
+after_fork states x end m f g high c s most last l below w g_takes =
+    let u = without x c (λ k. k.at ≤ end) f high s g_takes.0 l below (up_to_end end (IsItself (λ v. v < high))) g_takes.1 in (
+      u.0,
+      u.1,
+      sym u.2.at ∙ (g_takes.2 ∙ ap (λ (z : ℕ × Stand). z.1.at) w.ends),
+      sym u.2.records ∙ (g_takes.3 ∙ ap (λ (z : ℕ × Stand). z.1.records) w.ends),
+    )
 
 -- at a fork, of a pattern that the one way leads to, and the other doesn't
-OrdersOne-first : (states : List State) (slot_of : ℕ → ℕ) (s one other m : ℕ) (p : Pattern) → slice_get states s ≡ Some (Fork one other)
-    → OrdersOne states slot_of one m p → ((a : Aim) (n i : ℕ) → a.pattern ≡ m → Ends states a n other i → ⊥) → OrdersOne states slot_of s m p
-OrdersOne-first states slot_of s one other m p is o none = record {
+OrdersOne-first : (states : List State) (slot_of : ℕ → ℕ) (high top s one other m : ℕ) (p : Pattern) → slice_get states s ≡ Some (Fork one other)
+    → high ≤ s → high ≤ top → OrdersOne states slot_of high one m p → ((a : Aim) (n i : ℕ) → a.pattern ≡ m → Ends states a n other i → ⊥)
+    → OrdersOne states slot_of top s m p
+OrdersOne-first states slot_of high top s one other m p is above l o none = record {
   through = λ x end from rest w. ⊎_elim
       (λ (v : Rest states x end m one from (length rest) (finish states (s, from.0) rest from.1)).
       subst (λ (k : (ℕ × ℕ) × List (ℕ × ℕ)). GoesWith x (Group (2 * m) (numbered slot_of 1 p)) from (mark_of k)) v.ends (o.through x end from v.rest v.way))
@@ -109,11 +160,22 @@ OrdersOne-first states slot_of s one other m p is o none = record {
       absurd (none (aim_at x end m (last_place (other, from.0) w.1.rest)) (length w.1.rest) from.0 refl
       (way_of states x end m (other, from.0) w.1.rest w.1.least.way.within w.1.least.way.steps w.1.least.way.accepts)))
       (from_fork states x end m s one other from rest is l);
+  course = o.course;
+  below = λ k d b. let its = o.below k d b in omega (arith, its, l);
+  takes = λ x end st rest least. ⊎_elim
+      (λ (w : paths.Way states x end m s one st (length rest) (arrive states s st rest)).
+      after_fork states x end m s one high o.course.course st (length rest) (arrive states s st rest) above o.below w
+      (o.takes x end (chosen s st) w.rest w.least))
+      (λ (w : (HasPath states x end m one (chosen s st) → ⊥) × paths.Way states x end m s other st (length rest) (arrive states s st rest)).
+      absurd (none (record { text = x; end = end; pattern = m; position = (arrive states other (chosen s st) w.1.rest).1.at }) (length w.1.rest) st.at refl
+      (path_ends states x end m other (chosen s st) w.1.rest w.1.least.path)))
+      ((paths.from_fork states x end m s one other st rest is least).1);
 }
 
-OrdersOne-next : (states : List State) (slot_of : ℕ → ℕ) (s one other m : ℕ) (p : Pattern) → slice_get states s ≡ Some (Fork one other)
-    → OrdersOne states slot_of other m p → ((a : Aim) (n i : ℕ) → a.pattern ≡ m → Ends states a n one i → ⊥) → OrdersOne states slot_of s m p
-OrdersOne-next states slot_of s one other m p is o none = record {
+OrdersOne-next : (states : List State) (slot_of : ℕ → ℕ) (high top s one other m : ℕ) (p : Pattern) → slice_get states s ≡ Some (Fork one other)
+    → high ≤ s → high ≤ top → OrdersOne states slot_of high other m p → ((a : Aim) (n i : ℕ) → a.pattern ≡ m → Ends states a n one i → ⊥)
+    → OrdersOne states slot_of top s m p
+OrdersOne-next states slot_of high top s one other m p is above l o none = record {
   through = λ x end from rest w. ⊎_elim
       (λ (v : Rest states x end m one from (length rest) (finish states (s, from.0) rest from.1)).
       absurd (none (aim_at x end m (last_place (one, from.0) v.rest)) (length v.rest) from.0 refl
@@ -136,18 +198,29 @@ OrdersOne-next states slot_of s one other m p is o none = record {
       subst (λ (k : (ℕ × ℕ) × List (ℕ × ℕ)). IsFirstWay x (Group (2 * m) (numbered slot_of 1 p)) (λ j. j ≤ end) from (mark_of k)) w.1.ends
       (o.goes h x end from w.1.rest w.1.least))
       (from_fork states x end m s one other from rest is l);
+  course = o.course;
+  below = λ k d b. let its = o.below k d b in omega (arith, its, l);
+  takes = λ x end st rest least. ⊎_elim
+      (λ (w : paths.Way states x end m s one st (length rest) (arrive states s st rest)).
+      absurd (none (record { text = x; end = end; pattern = m; position = (arrive states one (chosen s st) w.rest).1.at }) (length w.rest) st.at refl
+      (path_ends states x end m one (chosen s st) w.rest w.least.path)))
+      (λ (w : (HasPath states x end m one (chosen s st) → ⊥) × paths.Way states x end m s other st (length rest) (arrive states s st rest)).
+      after_fork states x end m s other high o.course.course st (length rest) (arrive states s st rest) above o.below w.1
+      (o.takes x end (chosen s st) w.1.rest w.1.least))
+      ((paths.from_fork states x end m s one other st rest is least).1);
 }
 
-pub OrdersSome-more : (states : List State) (slot_of : ℕ → ℕ → ℕ) (s one other n : ℕ) (p : Pattern) (patterns : List Pattern) → slice_get patterns n ≡ Some p
-    → slice_get states s ≡ Some (Fork one other) → Begins states one (IsOfOne n p) → Begins states other (IsOfSome (n + 1) patterns)
-    → OrdersOne states (slot_of n) one n p → OrdersSome states slot_of other (n + 1) patterns → OrdersSome states slot_of s n patterns
-OrdersSome-more states slot_of s one other n p patterns at is b c o all m q from its = ⊎_elim
+pub OrdersSome-more : (states : List State) (slot_of : ℕ → ℕ → ℕ) (low high top s one other n : ℕ) (p : Pattern) (patterns : List Pattern)
+    → slice_get patterns n ≡ Some p → slice_get states s ≡ Some (Fork one other) → low ≤ high → high ≤ s → high ≤ top → Begins states one (IsOfOne n p)
+    → Begins states other (IsOfSome (n + 1) patterns) → OrdersOne states (slot_of n) high one n p
+    → OrdersSome states slot_of low other (n + 1) patterns → OrdersSome states slot_of top s n patterns
+OrdersSome-more states slot_of low high top s one other n p patterns at is lh hs ht b c o all m q from its = ⊎_elim
     (λ (same : m ≡ n).
     let pattern : p ≡ q = same_some p q (sym at ∙ (ap (λ (k : ℕ). slice_get patterns k) (sym same) ∙ its)) in
-    subst (λ (k : ℕ). OrdersOne states (slot_of k) s k q) (sym same) (subst (λ (r : Pattern). OrdersOne states (slot_of n) s n r) pattern
-    (OrdersOne-first states (slot_of n) s one other n p is o (λ a k i e way. let sound = c.sound a k i way in omega (arith, e, sound.0)))))
+    subst (λ (k : ℕ). OrdersOne states (slot_of k) top s k q) (sym same) (subst (λ (r : Pattern). OrdersOne states (slot_of n) top s n r) pattern
+    (OrdersOne-first states (slot_of n) high top s one other n p is hs ht o (λ a k i e way. let sound = c.sound a k i way in omega (arith, e, sound.0)))))
     (λ (apart : (m ≡ n) → ⊥).
-    OrdersOne-next states (slot_of m) s one other m q is (all m q (later m from apart) its)
+    OrdersOne-next states (slot_of m) low top s one other m q is (omega (arith, lh, hs)) (omega (arith, lh, ht)) (all m q (later m from apart) its)
     (λ a k i e way. let sound = b.sound a k i way in apart (omega (arith, e, sound.0))))
     (cases_eq m n)
   where

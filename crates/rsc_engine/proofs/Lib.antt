@@ -1,6 +1,8 @@
 pub mod BacktrackLemmas  -- what is known of the places that were seen, from visit to visit
 pub mod BeginsLayoutLemmas  -- the runs of a program that was built: from the state at which a pattern begins its matches are found, and no others
 pub mod CompileLemmas  -- how lists of states grow, part by part
+pub mod CoursesLayoutLemmas  -- paths of states take the courses of parts, and the first path the first way
+pub mod CoursesLemmas  -- which way of a course is the first depends on what is wanted alone
 pub mod EnclosesLayoutLemmas  -- where the states of parts lead that are made of parts
 pub mod EntriesLemmas  -- where no match that began earlier goes on from a row
 pub mod FirstEndsLemmas  -- the first end of a pattern is an end, and the only one
@@ -21,10 +23,13 @@ pub mod NextMatchesLemmas  -- which match is next, as the search's start moves o
 pub mod NumbersLemmas  -- the numbers of places: the flags that have them, and what they say where a search begins later
 pub mod OrderLayoutLemmas  -- of the ways to a match the first one goes by the first ways of patterns
 pub mod PartsLemmas  -- what holds for parts in order, or for one of them, as the list grows
+pub mod PathsLayoutLemmas  -- runs of a program as paths of states: a preferred run is the first path, and goes its pattern's preferred way
 pub mod PatternOrderLemmas  -- of the matches from a position that of the pattern with the least number is preferred, and of its ends the first
 pub mod PatternsLemmas  -- patterns that go where others go: bytes, classes and repetitions
 pub mod PreferredLemmas  -- there is at most one preferred match, wherever a search's start is; the leftmost one, and that there is none
+pub mod PreferredWaysLemmas  -- a pattern has one preferred way, whatever numbers its choices have
 pub mod RefusalsLemmas  -- why there is no program
+pub mod RenamedLayoutLemmas  -- courses that are alike but for the numbers of their choices go the same ways
 pub mod RowsLayoutLemmas  -- a row at a position is exact, and so is the next one
 pub mod RunsLemmas  -- runs with a place before them, or in a part of a span; and what a run records is between its first position and its last
 pub mod SizesLemmas  -- how many states copies and lists of parts have, and programs
@@ -32,6 +37,7 @@ pub mod StartsLayoutLemmas  -- no match begins with a byte that isn't marked
 pub mod StepsLayoutLemmas  -- where steps lead
 pub mod SuccessorLemmas  -- a closure as it grows
 pub mod TablesLayoutLemmas  -- what the table of a DFA says is so, and stays so as it grows
+pub mod TakesLayoutLemmas  -- the courses of parts made of parts, and the numbers of their choices
 pub mod TrailLemmas  -- where a trail begins and ends, and what its visits are
 pub mod TrailsLayoutLemmas  -- the stops of a trail, as it grows and goes back
 pub mod TreesLemmas  -- the pattern of a tree, by its variants

@@ -1,5 +1,5 @@
 -- How lists of states grow by repetitions.
-use Rattle.std.proofs.Common.{Bool, true, false, subst, refl, ◌≡◌, ℕ, zero, suc, ◌+◌, ◌-◌, ◌<◌, List, length, set, slice_get, sym, arith, Option, Some, None}
+use Rattle.std.proofs.Common.{Bool, true, false, ◌∙◌, subst, refl, ◌≡◌, ℕ, zero, suc, ◌+◌, ◌-◌, ◌<◌, ◌≤◌, List, length, set, slice_get, sym, arith, Option, Some, None}
 use Rattle.std.proofs.lemmas.List.{length-set}
 use Rattle.rsc_nfa.specs.declared.state.State.{State}
 use Rattle.rsc_engine.specs.Patterns.{Pattern, Then, Repeat, may_be_empty}
@@ -8,11 +8,16 @@ use Rattle.rsc_engine.specs.Refusals.{has_reversed_range}
 use Rattle.rsc_engine.specs.NamesLayout.{Names}
 use Rattle.rsc_engine.proofs.NamesLayoutLemmas.{Names-choice, Names-loop, optional-same, up_to-same, counted-same}
 use Rattle.rsc_engine.specs.GroupNumbers.{count_groups, numbered}
+use Rattle.rsc_engine.proofs.GroupNumbersLemmas.{numbered-empty}
 use Rattle.rsc_engine.specs.LinksLayout.{Adds, Builds, BuildsPart, BuildsCopies, IsAdded, Realizes, choice_of, copies, optional, up_to}
 use Rattle.rsc_engine.proofs.LinksLayoutLemmas.{Realizes-choice, Realizes-star, Realizes-plus, is_choice}
 use Rattle.rsc_engine.proofs.EnclosesLayoutLemmas.{Encloses-choice, Encloses-loop}
 use Rattle.rsc_engine.proofs.PatternsLemmas.{star-is, star-back, up_to-is, up_to-back, limit_less, counted-is, counted-back}
 use Rattle.rsc_engine.specs.OrderLayout.{Orders}
+use Rattle.rsc_engine.specs.Courses.{Course}
+use Rattle.rsc_engine.specs.PreferredWays.{IsCourseOf}
+use Rattle.rsc_engine.specs.TakesLayout.{TakesCourse}
+use Rattle.rsc_engine.proofs.TakesLayoutLemmas.{Takes-choice, Takes-turn, Takes-again, Takes-wider, star-course, up_to-course, limited-course, unlimited-course}
 use Rattle.rsc_engine.proofs.FirstEndsLemmas.{star-loops, up_to-loops, counted-loops}
 use Rattle.rsc_engine.proofs.FirstWaysLemmas.{star-within, up_to-within, counted-within}
 use Rattle.rsc_engine.proofs.OrderLayoutLemmas.{Orders-choice, Orders-star, Orders-plus}
@@ -33,14 +38,16 @@ Builds-optional slots old last new one id next often p x a =
           (Names-choice slots.1 (has_reversed_range p) (length old) (length last) (length new) id one next all x.longer a.last
           (grown last new (choice_of often one next) id a) (is_choice all id one next often is) r.2),
       Orders-choice all id one next often p is r.0 r.3,
+      Takes-choice (length old) (length last) (length new) one id next often p all x.longer a.last
+          (grown last new (choice_of often one next) id a) is r.4,
     ))
 
 pub Builds-star : (slots : ℕ × ℕ) (old last new : List State) (one id next : ℕ) (often : Bool) (p : Pattern)
-    → Builds slots old last one next (Repeat 1 None often p) → IsAdded last new (choice_of often one next) id
+    → may_be_empty p ≡ true → Builds slots old last one next (Repeat 1 None often p) → IsAdded last new (choice_of often one next) id
     → Builds slots old new id next (Repeat 0 None often p)
-Builds-star slots old last new one id next often p x a =
+Builds-star slots old last new one id next often p empty x a =
     Builds-is slots old new id next (optional often (Repeat 1 None often p)) (Repeat 0 None often p) (star-is often p) (star-back often p) (star-within often p)
-    (star-loops often p) (optional-same often (Repeat 1 None often p))
+    (star-loops often p) (optional-same often (Repeat 1 None often p)) (star-course often p empty)
     (Builds-optional slots old last new one id next often (Repeat 1 None often p) x a)
 
 -- a loop: its fork, its part, and the fork overwritten
@@ -50,6 +57,7 @@ record LoopsOver (slots : ℕ × ℕ) (low high first again next : ℕ) (often :
   encloses : Encloses slots.0 low high again next all × Encloses slots.0 low high first next all
   names : Names slots.1 (has_reversed_range p) low high all
   orders : Orders all first again p
+  takes : TakesCourse (low + 1) high first again p all
 
 Adds-loop : (slots : ℕ × ℕ) (old middle last : List State) (state : State) (first again next : ℕ) (often : Bool) (p : Pattern) → IsAdded old middle state again
     → Builds slots middle last first again p
@@ -70,13 +78,20 @@ Adds-loop slots old middle last state first again next often p a x =
       names = Names-loop slots.1 (has_reversed_range p) (length old) (length middle) (length last) (length (set last again written)) again first next all a.last
           (grown old middle state again a) x.longer (length-set last again written) fork is.1.2;
       orders = is.1.3;
+      takes = Takes-wider (length middle) (length last) (length old + 1) (length (set last again written)) first again p all
+          (omega (arith, grown old middle state again a)) (omega (arith, length-set last again written)) is.1.4;
     })
     (Adds-written old middle last state written again (IsPart slots (length middle) (length last) first again p) a x)
 
+-- the states of a loop are some
+longer : (old middle last : List State) (state : State) (again : ℕ) (written : State) → IsAdded old middle state again → length middle ≤ length last
+    → length old < length (set last again written)
+longer old middle last state again written a l = omega (arith, grown old middle state again a, l, length-set last again written)
+
 pub Builds-again : (slots : ℕ × ℕ) (old middle last : List State) (state : State) (first again next : ℕ) (often : Bool) (p : Pattern)
-    → IsAdded old middle state again → Builds slots middle last first again p
+    → may_be_empty p ≡ false → IsAdded old middle state again → Builds slots middle last first again p
     → Builds slots old (set last again (choice_of often first next)) again next (Repeat 0 None often p)
-Builds-again slots old middle last state first again next often p a x =
+Builds-again slots old middle last state first again next often p taking a x =
     let new : List State = set last again (choice_of often first next) in
     Adds-is old new (LoopsOver slots (length old) (length new) first again next often p)
     (IsPart slots (length old) (length new) again next (Repeat 0 None often p))
@@ -85,6 +100,8 @@ Builds-again slots old middle last state first again next often p a x =
       b.encloses.0,
       b.names,
       Orders-star all again first next often p b.choice b.part b.orders,
+      Takes-turn (length old) (length new) first again next often p all taking a.last
+          (longer old middle last state again (choice_of often first next) a x.longer) b.choice b.takes,
     ))
     (Adds-loop slots old middle last state first again next often p a x)
 
@@ -100,6 +117,8 @@ Builds-plus slots old middle last state first again next often p a x =
       b.encloses.1,
       b.names,
       Orders-plus all again first next often p b.choice b.part b.orders,
+      Takes-again (length old) (length new) first again next often p all a.last (longer old middle last state again (choice_of often first next) a x.longer)
+          b.choice b.takes,
     ))
     (Adds-loop slots old middle last state first again next often p a x)
 
@@ -108,32 +127,34 @@ Builds-up_to : (slots : ℕ × ℕ) (old new : List State) (first next n : ℕ) 
     → Builds slots old new first next (Repeat 0 (Some n) often p)
 Builds-up_to slots old new first next n often p x =
     Builds-is slots old new first next (up_to often n p) (Repeat 0 (Some n) often p) (up_to-is often n p) (up_to-back often n p) (up_to-within often n p)
-    (up_to-loops often n p) (up_to-same often n p) x
+    (up_to-loops often n p) (up_to-same often n p) (up_to-course often n p) x
 
 -- a number of times, and then at least another
 Builds-counted : (slots : ℕ × ℕ) (old middle new : List State) (n m rest first next : ℕ) (max : Option ℕ) (often : Bool) (p : Pattern)
+    → ((c : Course) → IsCourseOf (Then (copies n p) (Repeat m (limit_less max n) often p)) c → IsCourseOf (Repeat (n + m) max often p) c)
     → Builds slots old middle rest next (Repeat m (limit_less max n) often p) → Builds slots middle new first rest (copies n p)
     → Builds slots old new first next (Repeat (n + m) max often p)
-Builds-counted slots old middle new n m rest first next max often p x y =
+Builds-counted slots old middle new n m rest first next max often p courses x y =
     Builds-is slots old new first next (Then (copies n p) (Repeat m (limit_less max n) often p)) (Repeat (n + m) max often p) (counted-is n m max often p)
-    (counted-back n m max often p) (counted-within n m max often p) (counted-loops n m max often p) (counted-same n m max often p)
+    (counted-back n m max often p) (counted-within n m max often p) (counted-loops n m max often p) (counted-same n m max often p) courses
     (Builds-then slots old middle new first rest next (copies n p) (Repeat m (limit_less max n) often p) x y)
 
 pub Builds-limited : (slots : ℕ × ℕ) (old middle new : List State) (min max rest first next : ℕ) (often : Bool) (p : Pattern)
-    → Builds slots old middle rest next (up_to often (max - min) p)
+    → 0 < min → Builds slots old middle rest next (up_to often (max - min) p)
     → Builds slots middle new first rest (copies min p) → Builds slots old new first next (Repeat min (Some max) often p)
-Builds-limited slots old middle new min max rest first next often p x y =
+Builds-limited slots old middle new min max rest first next often p some x y =
     let none : min + 0 ≡ min = omega arith in
     subst (λ (n : ℕ). Builds slots old new first next (Repeat n (Some max) often p)) none
-    (Builds-counted slots old middle new min 0 rest first next (Some max) often p (Builds-up_to slots old middle rest next (max - min) often p x) y)
+    (Builds-counted slots old middle new min 0 rest first next (Some max) often p (limited-course min max often p some)
+    (Builds-up_to slots old middle rest next (max - min) often p x) y)
 
 pub Builds-unlimited : (slots : ℕ × ℕ) (old middle new : List State) (min last first next : ℕ) (often : Bool) (p : Pattern)
-    → 0 < min → Builds slots old middle last next (Repeat 1 None often p)
+    → 1 < min → Builds slots old middle last next (Repeat 1 None often p)
     → Builds slots middle new first last (copies (min - 1) p) → Builds slots old new first next (Repeat min None often p)
 Builds-unlimited slots old middle new min last first next often p some x y =
     let one : min - 1 + 1 ≡ min = omega (arith, some) in
     subst (λ (n : ℕ). Builds slots old new first next (Repeat n None often p)) one
-    (Builds-counted slots old middle new (min - 1) 1 last first next None often p x y)
+    (Builds-counted slots old middle new (min - 1) 1 last first next None often p (unlimited-course min often p some) x y)
 
 -- ---- with the slots of groups
 
@@ -179,17 +200,17 @@ pub BuildsPart-star : (slot_of : ℕ → ℕ) (slots : ℕ × ℕ) (left now : �
     → BuildsPart slot_of slots left now old new id next (Repeat 0 None often p)
 BuildsPart-star slot_of slots left now old last new one id next often p empty x a = (
   x.0,
-  Builds-star slots old last new one id next often (numbered slot_of now p) x.1 a,
+  Builds-star slots old last new one id next often (numbered slot_of now p) (numbered-empty slot_of now p ∙ empty) x.1 a,
   omega (arith, x.2, a.one, entered-size often p empty),
 )
 
 pub BuildsPart-again : (slot_of : ℕ → ℕ) (slots : ℕ × ℕ) (left now : ℕ) (old middle last : List State) (state : State) (first again next : ℕ) (often : Bool)
     (p : Pattern) → may_be_empty p ≡ false → IsAdded old middle state again → BuildsPart slot_of slots left now middle last first again p
     → BuildsPart slot_of slots left now old (set last again (choice_of often first next)) again next (Repeat 0 None often p)
-BuildsPart-again slot_of slots left now old middle last state first again next often p some a x = (
+BuildsPart-again slot_of slots left now old middle last state first again next often p taking a x = (
   x.0,
-  Builds-again slots old middle last state first again next often (numbered slot_of now p) a x.1,
-  omega (arith, x.2, a.one, length-set last again (choice_of often first next), loop-size often p some),
+  Builds-again slots old middle last state first again next often (numbered slot_of now p) (numbered-empty slot_of now p ∙ taking) a x.1,
+  omega (arith, x.2, a.one, length-set last again (choice_of often first next), loop-size often p taking),
 )
 
 pub BuildsPart-plus : (slot_of : ℕ → ℕ) (slots : ℕ × ℕ) (left now : ℕ) (old middle last : List State) (state : State) (first again next : ℕ) (often : Bool)
@@ -208,7 +229,7 @@ pub BuildsPart-unlimited : (slot_of : ℕ → ℕ) (slots : ℕ × ℕ) (left mi
 BuildsPart-unlimited slot_of slots left mid now old middle new min last first next often p more x y =
     let its = y.0 (omega (arith, more)) in (
       its,
-      Builds-unlimited slots old middle new min last first next often (numbered slot_of now p) (omega (arith, more))
+      Builds-unlimited slots old middle new min last first next often (numbered slot_of now p) more
           (subst (λ (k : ℕ). Builds slots old middle last next (Repeat 1 None often (numbered slot_of k p)))
           (same_number left mid now (count_groups p) x.0 its) x.1)
           (y.1 now its),
@@ -222,7 +243,7 @@ pub BuildsPart-limited : (slot_of : ℕ → ℕ) (slots : ℕ × ℕ) (left mid 
 BuildsPart-limited slot_of slots left mid now old middle new min max rest first next often p some x y =
     let its = y.0 some in (
       its,
-      Builds-limited slots old middle new min max rest first next often (numbered slot_of now p) (x.1 now its) (y.1 now its),
+      Builds-limited slots old middle new min max rest first next often (numbered slot_of now p) some (x.1 now its) (y.1 now its),
       omega (arith, x.2, y.2, limited-size min max often p),
     )
 

@@ -122,7 +122,7 @@ before_more e p one other x = record {
     together zero l = refl
     together (suc k) l = x.together k (omega (arith, l))
 
-before_is : (e : Search) (p : ℕ × ℕ) (one other : List (ℕ × ℕ)) → IsBefore e.states p one other → IsPreferredTo e (p ∷ one) (p ∷ other)
+pub before_is : (e : Search) (p : ℕ × ℕ) (one other : List (ℕ × ℕ)) → IsBefore e.states p one other → IsPreferredTo e (p ∷ one) (p ∷ other)
 before_is e p [] other b = absurd b
 before_is e p (q ∷ one) [] b = absurd b
 before_is e p (q ∷ one) (r ∷ other) (inl f) = record {
@@ -220,7 +220,7 @@ is_least e run found other prefers first f h same = ⊎_elim
 -- ---- the first end
 
 -- a place whose state accepts the same pattern accepts too
-same_accepts : (e : Search) (p q : ℕ × ℕ) (m : ℕ) → slice_get e.states p.0 ≡ Some (Accept m) → slice_get e.states q.0 ≡ Some (Accept m) → accepts e p ≡ true
+pub same_accepts : (e : Search) (p q : ℕ × ℕ) (m : ℕ) → slice_get e.states p.0 ≡ Some (Accept m) → slice_get e.states q.0 ≡ Some (Accept m) → accepts e p ≡ true
     → accepts e q ≡ true
 same_accepts e p q m here there a = rw there (rw here at a)
 
@@ -276,7 +276,7 @@ recorded_one (Some (Capture c next)) i slot earlier = go (c == slot)
     go true = refl
     go false = refl
 
-recorded_all : (states : List State) (p : ℕ × ℕ) (rest earlier : List (ℕ × ℕ)) (slot : ℕ)
+pub recorded_all : (states : List State) (p : ℕ × ℕ) (rest earlier : List (ℕ × ℕ)) (slot : ℕ)
     → or_earlier (recorded states (p ∷ rest) slot) (last_in earlier slot) ≡ last_in (finish states p rest earlier).1 slot
 recorded_all states p [] earlier slot = refl
 recorded_all states p (q ∷ rest) earlier slot =
@@ -284,7 +284,7 @@ recorded_all states p (q ∷ rest) earlier slot =
     ∙ (ap (λ (o : Option ℕ). or_earlier (recorded states (q ∷ rest) slot) o) (recorded_one (slice_get states p.0) p.1 slot earlier)
     ∙ recorded_all states q rest (recorded_by (slice_get states p.0) p.1 earlier) slot)
 
-or_none : (o : Option ℕ) → or_earlier o None ≡ o
+pub or_none : (o : Option ℕ) → or_earlier o None ≡ o
 or_none None = refl
 or_none (Some i) = refl
 
@@ -299,7 +299,7 @@ GoesFirstWay e lists run found p =
     × ((slot : ℕ) → recorded e.states run slot ≡ last_in records slot)
 
 first_way : (e : Search) (lists : GroupLists) (patterns : List Pattern) (run : List (ℕ × ℕ)) (found : Matched) (p : Pattern)
-    → OrdersSome e.states (slot_number lists) e.start_state 0 patterns
+    → OrdersSome e.states (slot_number lists) (length e.states) e.start_state 0 patterns
     → IsPreferred e (e.start_state, (place run 0).1) run → IsMatchOf e run found → slice_get patterns found.pattern ≡ Some p → loops_take_bytes p ≡ true
     → GoesFirstWay e lists run found p
 first_way e lists patterns [] found p all preferred makes its loops = let none = preferred.is_match.some in absurd (omega (arith, none))
@@ -330,7 +330,8 @@ first_way e lists patterns (q ∷ rest) found p all preferred makes its loops =
     whole = as_whole lists found.pattern p
 
 pub PrefersFirstEnds-built : {W : Type 0} (chars : W → ℕ → Bool) (program : Compiled W) (patterns : List Pattern)
-    → OrdersSome program.automaton.states (slot_number program.automaton.groups) program.start 0 patterns → PrefersFirstEnds chars program patterns
+    → OrdersSome program.automaton.states (slot_number program.automaton.groups) (length program.automaton.states) program.start 0 patterns
+    → PrefersFirstEnds chars program patterns
 PrefersFirstEnds-built chars program patterns all = record {
   first = λ input run found p preferred makes its loops.
       let g = first_way (search_in chars program input) program.automaton.groups patterns run found p all preferred makes its loops in
@@ -341,7 +342,8 @@ PrefersFirstEnds-built chars program patterns all = record {
 }
 
 pub RecordsFirstWays-built : {W : Type 0} (chars : W → ℕ → Bool) (program : Compiled W) (patterns : List Pattern)
-    → OrdersSome program.automaton.states (slot_number program.automaton.groups) program.start 0 patterns → RecordsFirstWays chars program patterns
+    → OrdersSome program.automaton.states (slot_number program.automaton.groups) (length program.automaton.states) program.start 0 patterns
+    → RecordsFirstWays chars program patterns
 RecordsFirstWays-built chars program patterns all = record {
   first = λ input run found p preferred makes its loops.
       first_way (search_in chars program input) program.automaton.groups patterns run found p all preferred makes its loops;
@@ -350,7 +352,7 @@ RecordsFirstWays-built chars program patterns all = record {
 -- ---- any way
 
 a_way : (e : Search) (lists : GroupLists) (patterns : List Pattern) (run : List (ℕ × ℕ)) (found : Matched) (p : Pattern)
-    → OrdersSome e.states (slot_number lists) e.start_state 0 patterns
+    → OrdersSome e.states (slot_number lists) (length e.states) e.start_state 0 patterns
     → IsMatchRun e (e.start_state, found.span.start) run → IsMatchOf e run found → slice_get patterns found.pattern ≡ Some p
     → (records : List (ℕ × ℕ)) × GoesWith (subject_of e) (as_whole lists found.pattern p) (found.span.start, []) (found.span.end, records)
     × ((slot : ℕ) → recorded e.states run slot ≡ last_in records slot)
@@ -375,7 +377,8 @@ a_way e lists patterns (q ∷ rest) found p all match makes its =
     )
 
 pub RecordsWays-built : {W : Type 0} (chars : W → ℕ → Bool) (program : Compiled W) (patterns : List Pattern)
-    → OrdersSome program.automaton.states (slot_number program.automaton.groups) program.start 0 patterns → RecordsWays chars program patterns
+    → OrdersSome program.automaton.states (slot_number program.automaton.groups) (length program.automaton.states) program.start 0 patterns
+    → RecordsWays chars program patterns
 RecordsWays-built chars program patterns all = record {
   way = λ input run found p match makes its. a_way (search_in chars program input) program.automaton.groups patterns run found p all match makes its;
 }

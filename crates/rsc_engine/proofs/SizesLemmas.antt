@@ -1,7 +1,7 @@
 -- How many states copies and lists of parts have, and programs.
-use Rattle.std.proofs.Common.{◌≡◌, ℕ, zero, suc, ◌+◌, ◌-◌, ◌*◌, ◌<◌, ◌≤◌, min, Bool, true, false, Some, None, List, [], ◌∷◌, map, length, length-drop, slice_get, drop, get_or, refl, sym, ap, ◌∙◌, subst, ⊎_elim, arith, suc-mul, mul-le-mul_left}
+use Rattle.std.proofs.Common.{◌≡◌, ℕ, zero, suc, ◌+◌, ◌-◌, ◌*◌, ◌<◌, ◌≤◌, min, Bool, true, false, Some, None, List, [], ◌∷◌, map, length, length-drop, slice_get, drop, get_or, refl, ap, arith, suc-mul}
 use Rattle.std.proofs.lemmas.List.Sums.{sum_by-cons, sum_by-take-drop}
-use Rattle.rsc_engine.specs.Patterns.{Pattern, Then, Either, Repeat, in_order, one_of, may_be_empty}
+use Rattle.rsc_engine.specs.Patterns.{Pattern, Then, Repeat, in_order, one_of, may_be_empty}
 use Rattle.rsc_engine.specs.GroupNumbers.{count_groups}
 use Rattle.rsc_engine.specs.LinksLayout.{copies, optional, up_to}
 use Rattle.rsc_engine.specs.Sizes.{size_of, size_of_program}
@@ -75,10 +75,6 @@ pub in_order-left : {X : Type 0} (f : X → Pattern) (xs : List X) (n : ℕ) (x 
 in_order-left f [] n x l is = absurd (omega (arith, l))
 in_order-left f (y ∷ ys) zero x l is = omega (arith, ap (λ z. count_groups (f z)) is)
 in_order-left f (y ∷ ys) (suc n) x l is = omega (arith, in_order-left f ys n x (omega (arith, l)) is)
-
-pub one_of-more : (p : Pattern) (rest : List Pattern) → 0 < length rest → size_of (one_of (p ∷ rest)) ≡ size_of p + size_of (one_of rest) + 1
-one_of-more p [] l = absurd (omega (arith, l))
-one_of-more p (q ∷ rest) l = refl
 
 pub one_of-last : {X : Type 0} (f : X → Pattern) (xs : List X) (n : ℕ) (x : X) → n < length xs → x ≡ get_or xs n x
     → size_of (f x) ≤ size_of (one_of (map f xs))

@@ -1,4 +1,6 @@
 pub mod BeginsLayout  -- at which state the matches of a pattern, or of several, begin
+pub mod Courses  -- courses: patterns with their copies written out, and how they go without making a choice twice at one position
+pub mod CoursesLayout  -- how paths of states take a course: a choice's number is that of its fork
 pub mod EnclosesLayout  -- where the states of a part lead, and in which slots they record
 pub mod Ends  -- where matches end, and what a DFA answers
 pub mod FirstEnds  -- which end of a pattern is preferred
@@ -17,10 +19,13 @@ pub mod NeededLayout  -- two bytes that stand side by side in every match
 pub mod NextMatches  -- which match is next; `last` is where the last one ended, if there was one
 pub mod OrderLayout  -- by which ways of a pattern steps lead to a match, and by which the first do
 pub mod Parts  -- which pattern a part is, and which groups it has; and what a builder has of them
+pub mod PathsLayout  -- paths of states to a match: lists of states alone, along which the position, the records and the choices are carried
 pub mod PatternOrder  -- which match of a program's patterns is preferred
 pub mod Patterns  -- what a pattern matches, and which programs match it
 pub mod Preferred  -- which match is first
+pub mod PreferredWays  -- the courses of a pattern, and the way that it prefers
 pub mod Refusals  -- why there is no program
+pub mod RenamedLayout  -- courses that are alike but for the numbers of their choices
 pub mod RowsLayout  -- the rows of a DFA, and where a byte leads from one
 pub mod Runs  -- runs that are matches
 pub mod Searches  -- a program, what a search is over, and why it has no answer
@@ -28,6 +33,7 @@ pub mod Sizes  -- how many states a pattern has, and a program of patterns
 pub mod StartsLayout  -- the bytes with which a match may begin
 pub mod StepsLayout  -- steps from a place on
 pub mod TablesLayout  -- the table of a DFA
+pub mod TakesLayout  -- how paths of states take a course of a pattern
 pub mod TrailsLayout  -- a trail: which places each of its visits stands for, and which other ways are left to try there
 pub mod Trees  -- which pattern a tree is
 pub mod TurnsLayout  -- the flags of a loop's turns, and what turns do

@@ -11,6 +11,7 @@ use Rattle.rsc_engine.specs.FirstEnds.{loops_take_bytes, IsFirstEnd}
 use Rattle.rsc_engine.specs.Ways.{last_in, GoesWith}
 use Rattle.rsc_engine.specs.FirstWays.{IsFirstWay}
 use Rattle.rsc_engine.specs.GroupNumbers.{as_whole}
+use Rattle.rsc_engine.specs.PreferredWays.{IsPreferredWay}
 
 -- in every input, a run to a match of a lesser pattern is preferred to one from the same position to a match of another; both begin in the start state
 pub record PrefersLesser {W : Type 0} (chars : W → ℕ → Bool) (program : Compiled W) : Type 0 where
@@ -42,3 +43,12 @@ pub record RecordsWays {W : Type 0} (chars : W → ℕ → Bool) (program : Comp
       slice_get patterns found.pattern ≡ Some p →
       (records : List (ℕ × ℕ)) × GoesWith (subject_of (search_in chars program input)) (as_whole program.automaton.groups found.pattern p)
       (found.span.start, []) (found.span.end, records) × ((slot : ℕ) → recorded program.automaton.states run slot ≡ last_in records slot)
+
+-- in every input, a preferred run goes its pattern's preferred way in the span, and records in each slot what that way records there last
+pub record RecordsPreferredWays {W : Type 0} (chars : W → ℕ → Bool) (program : Compiled W) (patterns : List Pattern) : Type 0 where
+  pub preferred : (input : InputParts) (run : List (ℕ × ℕ)) (found : Matched) (p : Pattern) →
+      IsPreferred (search_in chars program input) (program.start, (place run 0).1) run → IsMatchOf (search_in chars program input) run found →
+      slice_get patterns found.pattern ≡ Some p →
+      (records : List (ℕ × ℕ)) × IsPreferredWay (subject_of (search_in chars program input)) (as_whole program.automaton.groups found.pattern p)
+      (λ j. j ≤ input.span.end) found.span.start found.span.end records
+      × ((slot : ℕ) → recorded program.automaton.states run slot ≡ last_in records slot)

@@ -8,7 +8,7 @@ ghost use Rattle.rsc_engine.specs.GroupNumbers.{count_groups};
 ghost use Rattle.rsc_engine.specs.Patterns.{Empty, Never, Class, Literal, Assertion, Then, Either, Group, in_order, one_of, Recognizes};
 ghost use Rattle.rsc_engine.specs.GroupEnds.{RecordsEnds};
 ghost use Rattle.rsc_engine.specs.GroupOrder.{ClosesGroups};
-ghost use Rattle.rsc_engine.specs.PatternOrder.{PrefersLesser, PrefersFirstEnds, RecordsWays, RecordsFirstWays};
+ghost use Rattle.rsc_engine.specs.PatternOrder.{PrefersLesser, PrefersFirstEnds, RecordsWays, RecordsFirstWays, RecordsPreferredWays};
 ghost use Rattle.rsc_engine.specs.Refusals.{FailsToBuild, IsErrorOf, RepeatsName, are_too_large, has_a_reversed_range};
 ghost use Rattle.rsc_engine.specs.Sizes.{size_of_program, most_states};
 ghost use Rattle.rsc_engine.specs.Trees.{pattern_in};
@@ -294,10 +294,9 @@ impl<'n> Builder<'n> {
     /// The program of the finished patterns and of a last one. If haystacks are text, an iteration leaves out empty matches within
     /// characters. Group 0 of a pattern is the whole match, and of the patterns that match from a position the first is preferred.
     ///
-    /// A match goes on a way of its pattern: which alternative it takes, and how often it repeats a part. A slot holds the position that this way records
-    /// in it last. If no part that may be empty is repeated without a limit, it is the first way that gets to a match, with the earlier
-    /// alternative before the later, once more before enough if the repetition is greedy, and enough before once more if it's lazy. Else it is the first of
-    /// those that come to no state twice at one position.
+    /// A match goes its pattern's preferred way: the first that gets to a match, with the earlier alternative before the later, once more before enough if
+    /// the repetition is greedy, and enough before once more if it's lazy. On a way no choice is made twice at one position, which leaves out ways only
+    /// where a part that may be empty is repeated without a limit. A slot holds the position that the way records in it last.
     ///
     /// # Errors
     ///
@@ -332,6 +331,7 @@ impl<'n> Builder<'n> {
         ensures first_ends { IfOk result (λ program. PrefersFirstEnds W.word_chars program (patterns_of self.entry ++ pattern_of last.entry ∷ [])) }
         ensures ways { IfOk result (λ program. RecordsWays W.word_chars program (patterns_of self.entry ++ pattern_of last.entry ∷ [])) }
         ensures first_ways { IfOk result (λ program. RecordsFirstWays W.word_chars program (patterns_of self.entry ++ pattern_of last.entry ∷ [])) }
+        ensures preferred_ways { IfOk result (λ program. RecordsPreferredWays W.word_chars program (patterns_of self.entry ++ pattern_of last.entry ∷ [])) }
         ensures closes { IfOk result (λ program. ClosesGroups W.word_chars program) }
         ensures text { IfOk result (λ program. program.utf8 ≡ utf8) }
         ensures matcher { IfOk result (λ program. program.automaton.matcher ≡ (10, word_class)) }
@@ -368,6 +368,7 @@ impl<'n> Builder<'n> {
         ensures first_ends { IfOk result (λ program. PrefersFirstEnds W.word_chars program (patterns_of self.entry ++ pattern_of last.entry ∷ [])) }
         ensures ways { IfOk result (λ program. RecordsWays W.word_chars program (patterns_of self.entry ++ pattern_of last.entry ∷ [])) }
         ensures first_ways { IfOk result (λ program. RecordsFirstWays W.word_chars program (patterns_of self.entry ++ pattern_of last.entry ∷ [])) }
+        ensures preferred_ways { IfOk result (λ program. RecordsPreferredWays W.word_chars program (patterns_of self.entry ++ pattern_of last.entry ∷ [])) }
         ensures closes { IfOk result (λ program. ClosesGroups W.word_chars program) }
         ensures text { IfOk result (λ program. program.utf8 ≡ utf8) }
         ensures matcher { IfOk result (λ program. program.automaton.matcher ≡ matcher) }

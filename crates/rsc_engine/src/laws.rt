@@ -16,11 +16,12 @@ ghost use Rattle.rsc_engine.specs.Ends.{IsEarliestEnd, IsLeftmostEnd};
 ghost use Rattle.rsc_engine.specs.GroupEnds.{RecordsEnds};
 ghost use Rattle.rsc_engine.specs.GroupOrder.{ClosesGroups};
 ghost use Rattle.rsc_engine.specs.declared.dfa.Answer.{Answer};
-ghost use Rattle.rsc_engine.specs.PatternOrder.{PrefersLesser, PrefersFirstEnds, RecordsWays, RecordsFirstWays};
+ghost use Rattle.rsc_engine.specs.PatternOrder.{PrefersLesser, PrefersFirstEnds, RecordsWays, RecordsFirstWays, RecordsPreferredWays};
 ghost use Rattle.rsc_engine.specs.FirstEnds.{loops_take_bytes, IsFirstEnd};
 ghost use Rattle.rsc_engine.specs.Ways.{Mark, last_in, GoesWith};
 ghost use Rattle.rsc_engine.specs.FirstWays.{IsFirstWay};
 ghost use Rattle.rsc_engine.specs.GroupNumbers.{IsGroupOf, as_whole};
+ghost use Rattle.rsc_engine.specs.PreferredWays.{IsPreferredWay};
 
 use crate::Answer;
 use rsc_look::WordClass;
@@ -36,6 +37,14 @@ pub fn there_is_one_first_match()
 /// A run to a match comes to no place twice exactly if it makes no choice twice at one position.
 pub fn only_choices_are_made_once()
     ensures { (e : Search) (from : ℕ × ℕ) (run : List (ℕ × ℕ)) → IsMatchRun e from run → IsOnce run ↔ IsOnceAtForks e.states run }
+{}
+
+/// A pattern has at most one preferred way from a position, whatever numbers its choices have.
+pub fn there_is_one_preferred_way()
+    ensures end { (x : Subject) (p : Pattern) (most i j k : ℕ) (one other : List (ℕ × ℕ)) → IsPreferredWay x p (λ m. m ≤ most) i j one →
+        IsPreferredWay x p (λ m. m ≤ most) i k other → j ≡ k }
+    ensures records { (x : Subject) (p : Pattern) (most i j k : ℕ) (one other : List (ℕ × ℕ)) → IsPreferredWay x p (λ m. m ≤ most) i j one →
+        IsPreferredWay x p (λ m. m ≤ most) i k other → one ≡ other }
 {}
 
 /// There is at most one next match, and none if the iteration is over.
@@ -198,6 +207,23 @@ pub fn the_first_group_is_the_match<W: WordClass>()
     ensures next_group { (program : Compiled W) (input : InputParts) (last : Option ℕ) (captures : Captured) (found : Matched) →
         RecordsEnds W.word_chars program → IsNextMatch (search_in W.word_chars program input) last captures found →
         2 * found.pattern + 1 < length captures.offsets → 0 < group_count captures.groups found.pattern → group_span captures 0 ≡ Some found.span }
+{}
+
+/// What a match leaves in slots: what the preferred way of its pattern from the match's start to positions in the span records there last. That way ends where
+/// the match does.
+pub fn captures_are_of_the_preferred_way<W: WordClass>()
+    ensures first { (program : Compiled W) (patterns : List Pattern) (input : InputParts) (captures : Captured) (found : Matched)
+        (p : Pattern) → RecordsPreferredWays W.word_chars program patterns → IsFirstMatch (search_in W.word_chars program input) captures found →
+        slice_get patterns found.pattern ≡ Some p →
+        (records : List (ℕ × ℕ)) × IsPreferredWay (subject_of (search_in W.word_chars program input)) (as_whole program.automaton.groups found.pattern p)
+        (λ j. j ≤ input.span.end) found.span.start found.span.end records
+        × ((slot : ℕ) → slot < length captures.offsets → slice_index_or captures.offsets slot None ≡ last_in records slot) }
+    ensures next { (program : Compiled W) (patterns : List Pattern) (input : InputParts) (last : Option ℕ) (captures : Captured) (found : Matched)
+        (p : Pattern) → RecordsPreferredWays W.word_chars program patterns → IsNextMatch (search_in W.word_chars program input) last captures found →
+        slice_get patterns found.pattern ≡ Some p →
+        (records : List (ℕ × ℕ)) × IsPreferredWay (subject_of (search_in W.word_chars program input)) (as_whole program.automaton.groups found.pattern p)
+        (λ j. j ≤ input.span.end) found.span.start found.span.end records
+        × ((slot : ℕ) → slot < length captures.offsets → slice_index_or captures.offsets slot None ≡ last_in records slot) }
 {}
 
 /// What a match leaves in slots: what a way of its pattern from the match's start to its end records there last. If each part that is repeated without a

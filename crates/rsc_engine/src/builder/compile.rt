@@ -76,7 +76,7 @@ pub(crate) fn compile(
     requires room { size_of_program (map pattern_of patterns.now) ≤ most_states }
     ensures made { IfOk result (λ made. Begins made.0.items made.1 (IsOfSome 0 (map pattern_of patterns.now))
         × AreSoundIn info.now (has_a_reversed_range (map pattern_of patterns.now)) [] made.0.items made.1 made.0.items
-        × OrdersSome made.0.items (slot_number info.now) made.1 0 (map pattern_of patterns.now)) }
+        × OrdersSome made.0.items (slot_number info.now) (length made.0.items) made.1 0 (map pattern_of patterns.now)) }
     ensures size { IfOk result (λ made. length made.0.items ≡ size_of_program (map pattern_of patterns.now)) }
 {
     let mut compiler = Compiler {
@@ -112,7 +112,7 @@ impl Compiler {
         ensures made { IfOk result (λ first. Adds self.old.list.states.items self.new.list.states.items
             (λ states. Begins states first (IsOfOne index (pattern_of whole.now)) × (index < length info.now →
             AreSoundIn info.now (has_reversed_range (pattern_of whole.now)) self.old.list.states.items self.new.list.states.items first states)
-            × OrdersOne states (slot_number info.now index) first index (pattern_of whole.now))) }
+            × OrdersOne states (slot_number info.now index) (length self.new.list.states.items) first index (pattern_of whole.now))) }
         ensures size { OnOk result (length self.new.list.states.items ≡ length self.old.list.states.items + size_of (pattern_of whole.now) + 3) }
     {
         let pattern = PatternID::must(index);

@@ -175,7 +175,7 @@ impl Compiler {
             (Repeat 0 None times.is_greedy (pattern_in sub.now))) }
     {
         let (first, again) = self.again(slots, times.is_greedy, sub, next)?;
-        // A loop over a part that may take no byte is entered by a choice of its own. It decides which match is preferred: tests show it, no clause.
+        // A loop over a part that may take no byte is entered by a choice of its own, which decides which match is preferred.
         if may_be_empty(sub) {
             return self.list.add(choice(times.is_greedy, first, next));
         }

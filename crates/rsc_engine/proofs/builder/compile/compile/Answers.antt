@@ -1,4 +1,4 @@
-use Rattle.std.proofs.Common.{[], suc, ◌≡◌, ◌<◌, ◌≤◌, ◌+◌, ◌-◌, ◌∙◌, length, map, sym, ap, arith, rules}
+use Rattle.std.proofs.Common.{[], suc, ◌≡◌, ◌<◌, ◌+◌, ◌-◌, ◌∙◌, length, map, sym, ap, arith}
 use Rattle.std.proofs.lemmas.List.{length-map}
 use Rattle.rsc_engine.specs.Parts.{pattern_of, groups_of_pattern}
 use Rattle.rsc_engine.proofs.SizesLemmas.{program-last, program-more, program-room}

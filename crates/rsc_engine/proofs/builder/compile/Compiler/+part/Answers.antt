@@ -1,4 +1,4 @@
-use Rattle.std.proofs.Common.{ℕ, suc, ap, ◌%◌, ◌≡◌, ◌∙◌, ◌<◌, ◌≤◌, ◌-◌, ◌+◌, add-one, arith, length, map, drop, length-drop, rules}
+use Rattle.std.proofs.Common.{ℕ, suc, ap, ◌%◌, ◌≡◌, ◌∙◌, ◌<◌, ◌≤◌, ◌-◌, add-one, arith, length, map, drop, length-drop, rules}
 use Rattle.rsc_engine.proofs.RefusalsLemmas.{built-weaker, built-with, pattern_there}
 use Rattle.std.proofs.lemmas.List.{length-map}
 use Rattle.std.proofs.Math.Seq.{drop-length}

@@ -1,0 +1,104 @@
+-- Courses: patterns with their copies written out, and how they go without making a choice twice at one position.
+use Rattle.std.specs.Prelude.{◌≡◌, ℕ, zero, suc, ◌+◌, ◌⊎◌, Bool, true, false, IsTrue, List, [], ◌∷◌, slice_get}
+use Rattle.std.specs.List.{Contains}
+use Rattle.rsc_look.specs.declared.assertion.Look.{Look}
+use Rattle.rsc_look.specs.Holds.{Holds}
+use Rattle.rsc_nfa.specs.Steps.{is_between}
+use Rattle.rsc_engine.specs.Patterns.{Subject}
+
+-- a pattern with its copies written out, and with a number for each of its choices
+pub data Course : Type 0 where
+  -- no byte
+  Skip : Course
+  -- nothing, not even no byte
+  Dead : Course
+  -- a byte from the one to the other
+  Byte : ℕ → ℕ → Course
+  -- a position at which an assertion holds
+  Here : Look → Course
+  -- the one, then the other
+  After : Course → Course → Course
+  -- a choice: the one or the other, preferably the first
+  Choose : ℕ → Course → Course → Course
+  -- any number of rounds; before each one, and after the last, the choice to come again, preferably or not
+  Turn : ℕ → Bool → Course → Course
+  -- a round, then any number
+  Again : ℕ → Bool → Course → Course
+  -- a group, with the first of its two slots
+  Within : ℕ → Course → Course
+
+-- a position, what was recorded before it (the last first), and which choices were made since the last byte
+pub record Stand : Type 0 where
+  pub at : ℕ
+  pub records : List (ℕ × ℕ)
+  pub made : List ℕ
+
+-- where nothing was recorded or chosen yet
+abbrev pub begin : ℕ → Stand
+begin i = record { at = i; records = []; made = [] }
+
+-- after a byte
+abbrev pub further : Stand → Stand
+further s = record { at = s.at + 1; records = s.records; made = [] }
+
+-- after a choice
+abbrev pub chosen : ℕ → Stand → Stand
+chosen w s = record { at = s.at; records = s.records; made = w ∷ s.made }
+
+-- after a record
+abbrev pub noted : ℕ → Stand → Stand
+noted slot s = record { at = s.at; records = (slot, s.at) ∷ s.records; made = s.made }
+
+-- the choice was not made at this position yet
+abbrev pub IsNew : ℕ → Stand → Type 0
+IsNew w s = ¬ (Contains s.made w)
+
+-- n rounds
+abbrev pub Turns : (Stand → Stand → Type 0) → ℕ → ℕ → Stand → Stand → Type 0
+Turns R w zero s t = IsNew w s × (t ≡ chosen w s)
+Turns R w (suc n) s t = IsNew w s × (k : Stand) × R (chosen w s) k × Turns R w n k t
+
+-- any number of rounds
+abbrev pub SomeTurns : (Stand → Stand → Type 0) → ℕ → Stand → Stand → Type 0
+SomeTurns R w s t = (n : ℕ) × Turns R w n s t
+
+-- the course goes from the one to the other, and makes no choice twice at one position
+abbrev pub GoesNew : Subject → Course → Stand → Stand → Type 0
+GoesNew x Skip s t = s ≡ t
+GoesNew x Dead s t = ⊥
+GoesNew x (Byte a b) s t = IsTrue (is_between a b (slice_get x.haystack s.at)) × (t ≡ further s)
+GoesNew x (Here look) s t = Holds look x.terminator x.word_chars x.haystack s.at × (s ≡ t)
+GoesNew x (After c d) s t = (k : Stand) × GoesNew x c s k × GoesNew x d k t
+GoesNew x (Choose w c d) s t = IsNew w s × (GoesNew x c (chosen w s) t ⊎ GoesNew x d (chosen w s) t)
+GoesNew x (Turn w often c) s t = SomeTurns (GoesNew x c) w s t
+GoesNew x (Again w often c) s t = (k : Stand) × GoesNew x c s k × SomeTurns (GoesNew x c) w k t
+GoesNew x (Within slot c) s t = (k : Stand) × GoesNew x c (noted slot s) k × (t ≡ noted (slot + 1) k)
+
+-- it goes to where something is wanted
+abbrev pub Reaches : (Stand → Type 0) → (Stand → Stand → Type 0) → Stand → Type 0
+Reaches Wanted R s = (t : Stand) × R s t × Wanted t
+
+-- n rounds, each the first from which the rest leads to where something is wanted: as often as that leads there, or as seldom
+abbrev pub FirstTurns : ((Stand → Type 0) → Stand → Stand → Type 0) → (Stand → Stand → Type 0) → ℕ → Bool → ℕ → (Stand → Type 0) → Stand → Stand → Type 0
+FirstTurns First R w often zero Wanted s t =
+    IsNew w s × (t ≡ chosen w s) × Wanted t × (often ≡ true → ¬ (Reaches (Reaches Wanted (SomeTurns R w)) R (chosen w s)))
+FirstTurns First R w often (suc n) Wanted s t =
+    IsNew w s × (often ≡ false → ¬ (Wanted (chosen w s)))
+    × (k : Stand) × First (Reaches Wanted (SomeTurns R w)) (chosen w s) k × FirstTurns First R w often n Wanted k t
+
+-- of the ways of the course to where something is wanted, which make no choice twice at one position, the first goes from the one to the other
+abbrev pub IsFirstNew : Subject → Course → (Stand → Type 0) → Stand → Stand → Type 0
+IsFirstNew x Skip Wanted s t = (s ≡ t) × Wanted t
+IsFirstNew x Dead Wanted s t = ⊥
+IsFirstNew x (Byte a b) Wanted s t = GoesNew x (Byte a b) s t × Wanted t
+IsFirstNew x (Here look) Wanted s t = GoesNew x (Here look) s t × Wanted t
+IsFirstNew x (After c d) Wanted s t = (k : Stand) × IsFirstNew x c (Reaches Wanted (GoesNew x d)) s k × IsFirstNew x d Wanted k t
+IsFirstNew x (Choose w c d) Wanted s t =
+    IsNew w s × (IsFirstNew x c Wanted (chosen w s) t ⊎ ((¬ (Reaches Wanted (GoesNew x c) (chosen w s))) × IsFirstNew x d Wanted (chosen w s) t))
+IsFirstNew x (Turn w often c) Wanted s t =
+    (n : ℕ) × FirstTurns (λ Such k l. IsFirstNew x c Such k l) (GoesNew x c) w often n Wanted s t
+IsFirstNew x (Again w often c) Wanted s t =
+    (k : Stand) × IsFirstNew x c (Reaches Wanted (SomeTurns (GoesNew x c) w)) s k
+    × (n : ℕ) × FirstTurns (λ Such l m. IsFirstNew x c Such l m) (GoesNew x c) w often n Wanted k t
+IsFirstNew x (Within slot c) Wanted s t =
+    (k : Stand) × IsFirstNew x c (λ l. Wanted (noted (slot + 1) l)) (noted slot s) k × (t ≡ noted (slot + 1) k)

@@ -1,0 +1,81 @@
+-- The courses of a pattern, and the way that it prefers.
+use Rattle.std.specs.Prelude.{◌≡◌, ℕ, zero, suc, ◌-◌, Bool, true, false, List, [], ◌∷◌, ◌++◌, Some, None}
+use Rattle.std.specs.List.{AllPairs}
+use Rattle.rsc_engine.specs.Patterns.{Pattern, Empty, Never, Class, Literal, Assertion, Then, Either, Repeat, Group, Subject, may_be_empty}
+use Rattle.rsc_engine.specs.Courses.{Course, Skip, Dead, Byte, Here, After, Choose, Turn, Again, Within, Stand, begin, IsFirstNew}
+
+-- the part or nothing, preferably the part or not
+abbrev pub may_come : Bool → ℕ → Course → Course
+may_come true w c = Choose w c Skip
+may_come false w c = Choose w Skip c
+
+-- a byte of one of the ranges
+abbrev pub IsOfRanges : List (ℕ × ℕ) → Course → Type 0
+IsOfRanges [] c = c ≡ Dead
+IsOfRanges (r ∷ []) c = c ≡ Byte r.0 r.1
+IsOfRanges (r ∷ (q ∷ rest)) c = (w : ℕ) × (d : Course) × (c ≡ Choose w (Byte r.0 r.1) d) × IsOfRanges (q ∷ rest) d
+
+-- these bytes
+abbrev pub bytes_in_order : List ℕ → Course
+bytes_in_order [] = Skip
+bytes_in_order (b ∷ rest) = After (Byte b b) (bytes_in_order rest)
+
+-- n copies
+abbrev pub AreCopies : (Course → Type 0) → ℕ → Course → Type 0
+AreCopies Is zero c = c ≡ Skip
+AreCopies Is (suc n) c = (d : Course) × (e : Course) × (c ≡ After d e) × Is d × AreCopies Is n e
+
+-- at most n copies, each after a choice of its own
+abbrev pub AreAtMost : (Course → Type 0) → Bool → ℕ → Course → Type 0
+AreAtMost Is often zero c = c ≡ Skip
+AreAtMost Is often (suc n) c = (w : ℕ) × (d : Course) × (e : Course) × (c ≡ may_come often w (After d e)) × Is d × AreAtMost Is often n e
+
+-- once or more
+abbrev pub IsAgain : (Course → Type 0) → Bool → Course → Type 0
+IsAgain Is often c = (w : ℕ) × (d : Course) × (c ≡ Again w often d) × Is d
+
+-- any number of times: a loop over what may be empty is entered by a choice of its own, another one by its turn
+abbrev pub IsStar : (Course → Type 0) → Bool → Bool → Course → Type 0
+IsStar Is true often c = (w : ℕ) × (d : Course) × (c ≡ may_come often w d) × IsAgain Is often d
+IsStar Is false often c = (w : ℕ) × (d : Course) × (c ≡ Turn w often d) × Is d
+
+-- the pattern with its copies written out, in which the choices may have any numbers
+abbrev pub IsCourseOf : Pattern → Course → Type 0
+IsCourseOf Empty c = c ≡ Skip
+IsCourseOf Never c = c ≡ Dead
+IsCourseOf (Class ranges) c = IsOfRanges ranges c
+IsCourseOf (Literal bytes) c = c ≡ bytes_in_order bytes
+IsCourseOf (Assertion look) c = c ≡ Here look
+IsCourseOf (Then a b) c = (d : Course) × (e : Course) × (c ≡ After d e) × IsCourseOf a d × IsCourseOf b e
+IsCourseOf (Either a b) c = (w : ℕ) × (d : Course) × (e : Course) × (c ≡ Choose w d e) × IsCourseOf a d × IsCourseOf b e
+IsCourseOf (Repeat zero None often a) c = IsStar (IsCourseOf a) (may_be_empty a) often c
+IsCourseOf (Repeat zero (Some max) often a) c = AreAtMost (IsCourseOf a) often max c
+IsCourseOf (Repeat (suc zero) None often a) c = IsAgain (IsCourseOf a) often c
+IsCourseOf (Repeat (suc (suc min)) None often a) c =
+    (d : Course) × (e : Course) × (c ≡ After d e) × AreCopies (IsCourseOf a) (suc min) d × IsAgain (IsCourseOf a) often e
+IsCourseOf (Repeat (suc min) (Some max) often a) c =
+    (d : Course) × (e : Course) × (c ≡ After d e) × AreCopies (IsCourseOf a) (suc min) d × AreAtMost (IsCourseOf a) often (max - suc min) e
+IsCourseOf (Group slot a) c = (d : Course) × (c ≡ Within slot d) × IsCourseOf a d
+
+-- the numbers of its choices
+abbrev pub choices : Course → List ℕ
+choices Skip = []
+choices Dead = []
+choices (Byte a b) = []
+choices (Here look) = []
+choices (After c d) = choices c ++ choices d
+choices (Choose w c d) = w ∷ (choices c ++ choices d)
+choices (Turn w often c) = w ∷ choices c
+choices (Again w often c) = w ∷ choices c
+choices (Within slot c) = choices c
+
+-- a course of the pattern in which each choice has a number of its own
+pub record HasCourse (p : Pattern) : Type 0 where
+  pub course : Course
+  pub is : IsCourseOf p course
+  pub apart : AllPairs (λ v w. ¬ (v ≡ w)) (choices course)
+
+-- the pattern's preferred way from i to a wanted position leads to j, and makes these records; the last one is first
+abbrev pub IsPreferredWay : Subject → Pattern → (ℕ → Type 0) → ℕ → ℕ → List (ℕ × ℕ) → Type 0
+IsPreferredWay x p Wanted i j records =
+    (its : HasCourse p) × (last : Stand) × IsFirstNew x its.course (λ s. Wanted s.at) (begin i) last × (last.at ≡ j) × (last.records ≡ records)
