@@ -14,7 +14,7 @@ use Rattle.rsc_engine.specs.NextMatches.{IsOpen, IsRepeated, IsSplitAt}
 use Rattle.rsc_engine.specs.Patterns.{Pattern, Then, Group, Subject, Goes, subject_of, IsMatchIn}
 use Rattle.rsc_engine.specs.FirstEnds.{IsFirstEnd}
 use Rattle.rsc_engine.specs.GroupNumbers.{as_whole}
-use Rattle.rsc_uses.specs.Texts.{text_of, GoesNowhere, GoesNowhereIn, HoldsFirstWay}
+use Rattle.rsc_uses.specs.Texts.{text_of, GoesNowhere, GoesNowhereIn, HoldsFirstWay, HoldsPreferredWay}
 
 pub goes_to : (x : Subject) (p : Pattern) (i j end : ℕ) → j ≡ end → Goes x p i j → Goes x p i end
 goes_to x p i j end e goes = subst (λ (k : ℕ). Goes x p i k) e goes
@@ -105,6 +105,21 @@ first_way_of {W = W} chars program word_class p lists input after found matcher 
     found.span after.offsets) matcher
     (subst (λ (l : GroupLists). HoldsFirstWay (subject_of (search_in chars program input)) (as_whole l 0 p) input.span.end found.span after.offsets) its
     (subst (λ (n : ℕ). HoldsFirstWay (subject_of (search_in chars program input)) (as_whole program.automaton.groups n p) input.span.end found.span
+    after.offsets) (number_of p (search_in chars program input) found m)
+    (way (m.its ∙ ap (λ (q : Pattern). Some q) (its_only p m.pattern found.pattern m.its)))))
+
+-- and its preferred way
+pub preferred_way_of : {W : Type 0} (chars : W → ℕ → Bool) (program : Compiled W) (word_class : W) (p : Pattern) (lists : GroupLists) (input : InputParts)
+    (after : Captured) (found : Matched) → program.automaton.matcher ≡ (10, word_class) → program.automaton.groups ≡ lists
+    → IsMatchIn (p ∷ []) (search_in chars program input) found
+    → (slice_get (p ∷ []) found.pattern ≡ Some p → HoldsPreferredWay (subject_of (search_in chars program input))
+    (as_whole program.automaton.groups found.pattern p) input.span.end found.span after.offsets)
+    → HoldsPreferredWay (text_of input.haystack (chars word_class)) (as_whole lists 0 p) input.span.end found.span after.offsets
+preferred_way_of {W = W} chars program word_class p lists input after found matcher its m way =
+    subst (λ (x : ℕ × W). HoldsPreferredWay (record { haystack = input.haystack; terminator = x.0; word_chars = chars x.1 }) (as_whole lists 0 p)
+    input.span.end found.span after.offsets) matcher
+    (subst (λ (l : GroupLists). HoldsPreferredWay (subject_of (search_in chars program input)) (as_whole l 0 p) input.span.end found.span after.offsets) its
+    (subst (λ (n : ℕ). HoldsPreferredWay (subject_of (search_in chars program input)) (as_whole program.automaton.groups n p) input.span.end found.span
     after.offsets) (number_of p (search_in chars program input) found m)
     (way (m.its ∙ ap (λ (q : Pattern). Some q) (its_only p m.pattern found.pattern m.its)))))
 

@@ -8,6 +8,7 @@ use Rattle.rsc_engine.specs.Patterns.{Pattern, Subject, Goes}
 use Rattle.rsc_engine.specs.Runs.{is_wanted}
 use Rattle.rsc_engine.specs.Ways.{last_in}
 use Rattle.rsc_engine.specs.FirstWays.{IsFirstWay}
+use Rattle.rsc_engine.specs.PreferredWays.{IsPreferredWay}
 
 -- a text whose lines end by \n
 abbrev pub text_of : List ℕ → (ℕ → Bool) → Subject
@@ -31,4 +32,14 @@ GoesNowhereIn input chars p =
 abbrev pub HoldsFirstWay : Subject → Pattern → ℕ → Span → List (Option ℕ) → Type 0
 HoldsFirstWay x p most span offsets =
     (records : List (ℕ × ℕ)) × IsFirstWay x p (λ j. j ≤ most) (span.start, []) (span.end, records)
+    × ((slot : ℕ) → slot < length offsets → slice_index_or offsets slot None ≡ last_in records slot)
+
+-- the pattern's preferred way to positions up to a last one leads from i to j
+abbrev pub EndsPreferredWay : Subject → Pattern → ℕ → ℕ → ℕ → Type 0
+EndsPreferredWay x p most i j = (records : List (ℕ × ℕ)) × IsPreferredWay x p (λ k. k ≤ most) i j records
+
+-- the pattern's preferred way from the span's start to positions up to a last one leads to the span's end, and the slots hold what it records in them last
+abbrev pub HoldsPreferredWay : Subject → Pattern → ℕ → Span → List (Option ℕ) → Type 0
+HoldsPreferredWay x p most span offsets =
+    (records : List (ℕ × ℕ)) × IsPreferredWay x p (λ j. j ≤ most) span.start span.end records
     × ((slot : ℕ) → slot < length offsets → slice_index_or offsets slot None ≡ last_in records slot)

@@ -9,7 +9,7 @@ ghost use Rattle.rsc_engine.specs.FirstEnds.{loops_take_bytes, IsFirstEnd};
 ghost use Rattle.rsc_engine.specs.GroupNumbers.{as_whole};
 ghost use Rattle.rsc_engine.specs.Parts.{pattern_of, groups_of_part, groups_of_pattern};
 ghost use Rattle.rsc_engine.specs.Refusals.{FailsToBuild, RepeatsName, has_a_reversed_range};
-ghost use Rattle.rsc_uses.specs.Texts.{text_of, GoesNowhere, GoesNowhereBefore, GoesNowhereIn, HoldsFirstWay};
+ghost use Rattle.rsc_uses.specs.Texts.{text_of, GoesNowhere, GoesNowhereBefore, GoesNowhereIn, HoldsFirstWay, HoldsPreferredWay, EndsPreferredWay};
 
 use rsc_captures::Captures;
 use rsc_engine::{Answer, AsciiWordClass, Builder, Dfa, Error, Matches, Part, Program, find, laws};
@@ -17,8 +17,8 @@ use rsc_look::WordClass;
 use rsc_search::{Input, Match, Span};
 use std::alloc::Global;
 
-/// Where a part goes first in a haystack, whose line terminator is `\n`: from where to where, or `None` if it goes nowhere. If its loops take bytes, it's
-/// to the first end.
+/// Where a part goes first in a haystack, whose line terminator is `\n`: from where to where, or `None` if it goes nowhere. It ends where the part's preferred
+/// way does; if its loops take bytes, that is the first end.
 ///
 /// # Errors
 ///
@@ -37,10 +37,14 @@ pub fn find_part<W: WordClass + AsciiWordClass>(
     ensures none { IfOk result (λ found. IfNone found (GoesNowhere (text_of haystack.now (W.word_chars word_class)) (pattern_of part.entry))) }
     ensures first_end { IfOk result (λ found. IfSome found (λ ends. loops_take_bytes (pattern_of part.entry) ≡ true →
         IsFirstEnd (text_of haystack.now (W.word_chars word_class)) (pattern_of part.entry) (λ j. j ≤ length haystack.now) ends.0 ends.1)) }
+    ensures way { IfOk result (λ found. IfSome found (λ ends.
+        EndsPreferredWay (text_of haystack.now (W.word_chars word_class)) (as_whole (groups_of_pattern part.entry ∷ []) 0 (pattern_of part.entry))
+        (length haystack.now) ends.0 ends.1)) }
     ensures refused { IfErr result (FailsToBuild (pattern_of part.entry ∷ []) (groups_of_pattern part.entry ∷ [])) }
 {
     laws::a_first_match_is_of_a_pattern::<W>();
     laws::a_match_ends_at_its_first_end::<W>();
+    laws::captures_are_of_the_preferred_way::<W>();
     let program = Builder::new(alloc).build(word_class, true, part)?;
     let mut captures = program.captures(alloc)?;
     let input = Input::new(haystack);
@@ -50,8 +54,8 @@ pub fn find_part<W: WordClass + AsciiWordClass>(
     }
 }
 
-/// The first match of a part, with captures whose first two slots hold where it starts and ends; so its group 0 has its span. If the part's loops take bytes,
-/// the slots of all its groups hold what its first way records there.
+/// The first match of a part, with captures whose first two slots hold where it starts and ends; so its group 0 has its span. The slots of all its groups hold
+/// what its preferred way records there; if the part's loops take bytes, that is its first way.
 pub fn find_with_slots<W: WordClass + AsciiWordClass>(
     alloc: Global,
     word_class: W,
@@ -62,6 +66,9 @@ pub fn find_with_slots<W: WordClass + AsciiWordClass>(
     ensures end { IfOk result (λ found. IfSome found (λ both. slice_index_or both.1.offsets 1 None ≡ Some both.0.span.end)) }
     ensures group { IfOk result (λ found. IfSome found (λ both. group_span both.1 0 ≡ Some both.0.span)) }
     ensures slots { IfOk result (λ found. IfSome found (λ both. length both.1.offsets ≡ 2 * all_groups (groups_of_pattern part.entry ∷ []))) }
+    ensures preferred { IfOk result (λ found. IfSome found (λ both.
+        HoldsPreferredWay (text_of input.now.haystack (W.word_chars word_class)) (as_whole (groups_of_pattern part.entry ∷ []) 0 (pattern_of part.entry))
+        input.now.span.end both.0.span both.1.offsets)) }
     ensures way { IfOk result (λ found. IfSome found (λ both. loops_take_bytes (pattern_of part.entry) ≡ true →
         HoldsFirstWay (text_of input.now.haystack (W.word_chars word_class)) (as_whole (groups_of_pattern part.entry ∷ []) 0 (pattern_of part.entry))
         input.now.span.end both.0.span both.1.offsets)) }
@@ -70,6 +77,7 @@ pub fn find_with_slots<W: WordClass + AsciiWordClass>(
 {
     laws::a_first_match_is_of_a_pattern::<W>();
     laws::captures_are_of_the_first_way::<W>();
+    laws::captures_are_of_the_preferred_way::<W>();
     laws::the_first_group_is_the_match::<W>();
     let program = Builder::new(alloc).build(word_class, true, part)?;
     let mut captures = program.captures(alloc)?;
