@@ -43,15 +43,15 @@ fn repeated(builder: &Builder<'static>, number: usize) -> Result<(Part<'static>,
 fn has_size(alloc: Global, made: (Part<'static>, usize)) -> Result<bool, Fail> {
     let (part, size) = made;
     let mut builder = Builder::new(alloc);
-    builder.limit_states(size + 3);
+    builder.limit_states(size.saturating_add(3));
     let program = builder.build(AsciiWord, true, part)?;
-    Ok(program.len() == size + 3)
+    Ok(program.len() == size.saturating_add(3))
 }
 
 fn is_refused_below(alloc: Global, made: (Part<'static>, usize)) -> bool {
     let (part, size) = made;
     let mut builder = Builder::new(alloc);
-    builder.limit_states(size + 2);
+    builder.limit_states(size.saturating_add(2));
     matches!(builder.build(AsciiWord, true, part), Err(Error::TooLarge))
 }
 
