@@ -8,10 +8,9 @@ use Rattle.rsc_nfa.specs.declared.state.State.{State}
 use Rattle.rsc_nfa.specs.declared.state.State.TheVariants.{ByteRange, Assert, Fork, Capture}
 use Rattle.rsc_engine.specs.Patterns.{Pattern, Empty, Never, Class, Literal, Assertion, Then, Either, Group, one_of, Subject, Goes}
 use Rattle.rsc_engine.specs.EnclosesLayout.{IsOnWay, StaysOnWay, Encloses}
-use Rattle.rsc_nfa.specs.Classes.{IsOrdered}
-use Rattle.rsc_engine.specs.Refusals.{has_reversed_range}
-use Rattle.rsc_engine.specs.NamesLayout.{HasClose, RecordsInPairs, Names}
-use Rattle.rsc_engine.proofs.NamesLayoutLemmas.{Names-none, Names-joined, Names-one, Names-above, either_back, range-ordered, range-reversed, class-same, literal-same, between-same}
+use Rattle.rsc_engine.specs.Features.{Feature, has_feature}
+use Rattle.rsc_engine.specs.NamesLayout.{HasClose, RecordsInPairs, Lacks, Names}
+use Rattle.rsc_engine.proofs.NamesLayoutLemmas.{Names-none, Names-joined, Names-one, Names-above, Names-alike, nothing, fork-lacks, capture-lacks, none-same, either_back, range-lacks, range-shows, assert-lacks, assert-shows, class-same, literal-same, between-same}
 use Rattle.rsc_captures.specs.Groups.{GroupLists, slot_number}
 use Rattle.std.proofs.lemmas.Bool.Decides.{nat_tests}
 use Rattle.rsc_engine.specs.GroupNumbers.{count_groups, numbered}
@@ -105,21 +104,21 @@ Adds-written old middle new state written id P a p = record {
 -- the states from low to high are a part's
 abbrev pub IsPart : ℕ × ℕ → ℕ → ℕ → ℕ → ℕ → Pattern → List State → Type 0
 IsPart slots low high first next p all =
-    Realizes all first next p × Encloses slots.0 low high first next all × Names slots.1 (has_reversed_range p) low high all × Orders all first next p
+    Realizes all first next p × Encloses slots.0 low high first next all × Names slots.1 (has_feature p) low high all × Orders all first next p
     × TakesCourse low high first next p all
 
 -- all but the order and the course
 abbrev IsShape : ℕ × ℕ → ℕ → ℕ → ℕ → ℕ → Pattern → List State → Type 0
 IsShape slots low high first next p all =
-    Realizes all first next p × Encloses slots.0 low high first next all × Names slots.1 (has_reversed_range p) low high all
+    Realizes all first next p × Encloses slots.0 low high first next all × Names slots.1 (has_feature p) low high all
 
 shape-then : (slots : ℕ × ℕ) (low middle high first between next : ℕ) (p q : Pattern) (all : List State) → low ≤ middle → middle ≤ high
     → IsShape slots low middle between next q all → IsShape slots middle high first between p all → IsShape slots low high first next (Then p q) all
 shape-then slots low middle high first between next p q all l h a b = (
   Realizes-then all first between next p q a.0 b.0,
   Encloses-then slots.0 low middle high first between next all l h a.1 b.1,
-  Names-joined slots.1 (has_reversed_range (Then p q)) (has_reversed_range q) (has_reversed_range p) low middle high all
-      (either_back (has_reversed_range q) (has_reversed_range p)) l h a.2 b.2,
+  Names-joined slots.1 (has_feature (Then p q)) (has_feature q) (has_feature p) low middle high all
+      (either_back (has_feature q) (has_feature p)) l h a.2 b.2,
 )
 
 part-then : (slots : ℕ × ℕ) (low middle high first between next : ℕ) (p q : Pattern) (all : List State) → low ≤ middle → middle ≤ high
@@ -138,14 +137,14 @@ Builds-then slots old middle new first between next p q x y =
 -- a part is what goes where it goes
 pub Builds-is : (slots : ℕ × ℕ) (old new : List State) (first next : ℕ) (p q : Pattern) → ((x : Subject) (i j : ℕ) → Goes x p i j → Goes x q i j)
     → ((x : Subject) (i j : ℕ) → Goes x q i j → Goes x p i j) → IsWithin p q → (loops_take_bytes q ≡ true → loops_take_bytes p ≡ true)
-    → has_reversed_range p ≡ has_reversed_range q → ((c : Course) → IsCourseOf p c → IsCourseOf q c) → Builds slots old new first next p
+    → ((f : Feature) → has_feature p f ≡ has_feature q f) → ((c : Course) → IsCourseOf p c → IsCourseOf q c) → Builds slots old new first next p
     → Builds slots old new first next q
 Builds-is slots old new first next p q to back first-is loops same courses x =
     Adds-is old new (IsPart slots (length old) (length new) first next p) (IsPart slots (length old) (length new) first next q)
     (λ all r. (
       Realizes-is all first next p q to back loops r.0,
       r.1,
-      subst (λ (b : Bool). Names slots.1 b (length old) (length new) all) same r.2,
+      Names-alike slots.1 (has_feature p) (has_feature q) (length old) (length new) all same r.2,
       Orders-is all first next p q first-is loops r.3,
       Takes-is (length old) (length new) first next p q all courses r.4,
     )) x
@@ -166,7 +165,7 @@ Builds-empty slots states next = record {
 
 pub Builds-no_byte : (slots : ℕ × ℕ) (states : List State) (next : ℕ) → Builds slots states states next next (Literal [])
 Builds-no_byte slots states next =
-    Builds-is slots states states next next Empty (Literal []) (λ x i j g. g) (λ x i j g. g) literal_none-within (λ e. e) refl (λ c h. h)
+    Builds-is slots states states next next Empty (Literal []) (λ x i j g. g) (λ x i j g. g) literal_none-within (λ e. e) (λ f. refl) (λ c h. h)
     (Builds-empty slots states next)
 
 -- ---- single states
@@ -176,16 +175,16 @@ grown old new state id a = a.one
 
 Builds-state : (slots : ℕ × ℕ) (old new : List State) (state : State) (id next : ℕ) (p : Pattern) → IsAdded old new state id
     → StaysOnWay (λ (s : ℕ). IsOnWay (length old) (length new) next s) slots.0 state
-    → ((all : List State) → RecordsInPairs slots.1 all state) → (has_reversed_range p ≡ false → IsOrdered state)
-    → (has_reversed_range p ≡ true → IsOrdered state → ⊥) → ((all : List State) → slice_get all id ≡ Some state
+    → ((all : List State) → RecordsInPairs slots.1 all state) → ((f : Feature) → has_feature p f ≡ false → Lacks f state)
+    → ((f : Feature) → has_feature p f ≡ true → Lacks f state → ⊥) → ((all : List State) → slice_get all id ≡ Some state
     → Realizes all id next p × Orders all id next p × TakesCourse (length old) (length new) id next p all)
     → Builds slots old new id next p
-Builds-state slots old new state id next p a stays below ordered reversed realizes =
+Builds-state slots old new state id next p a stays below lacks shows realizes =
     Adds-is old new (λ (all : List State). slice_get all id ≡ Some state) (IsPart slots (length old) (length new) id next p)
     (λ all is. (
       (realizes all is).0,
       Encloses-one slots.0 (length old) (length new) id next all state a.last (grown old new state id a) is stays,
-      Names-one slots.1 (has_reversed_range p) (length old) (length new) id all state a.last (grown old new state id a) is (below all) ordered reversed,
+      Names-one slots.1 (has_feature p) (length old) (length new) id all state a.last (grown old new state id a) is (below all) lacks shows,
       (realizes all is).1,
       (realizes all is).2,
     ))
@@ -196,7 +195,7 @@ pub Builds-never : (slots : ℕ × ℕ) (old new : List State) (this id next : �
 Builds-never slots old new this id next e a =
     let same : this ≡ id = e ∙ sym a.last in
     let here : IsOnWay (length old) (length new) next this = inl (omega (arith, e), omega (arith, e, grown old new (Fork this this) id a)) in
-    Builds-state slots old new (Fork this this) id next Never a (here, here) (λ all. tt) (λ e. tt) (λ e. absurd (true≢false (sym e)))
+    Builds-state slots old new (Fork this this) id next Never a (here, here) (λ all. tt) (λ f e. fork-lacks this this f) (λ f e. absurd (true≢false (sym e)))
     (λ all is.
     let loop = is ∙ ap (λ (n : ℕ). Some (Fork n n)) same in
     (Realizes-never all id next loop, Orders-never all id next loop, Takes-never (length old) (length new) id next all loop))
@@ -204,13 +203,13 @@ Builds-never slots old new this id next e a =
 pub Builds-range : (slots : ℕ × ℕ) (old new : List State) (x y id next : ℕ) → IsAdded old new (ByteRange x y next) id
     → Builds slots old new id next (Class ((x, y) ∷ []))
 Builds-range slots old new x y id next a =
-    Builds-state slots old new (ByteRange x y next) id next (Class ((x, y) ∷ [])) a (inr refl) (λ all. tt) (range-ordered x y next) (range-reversed x y next)
+    Builds-state slots old new (ByteRange x y next) id next (Class ((x, y) ∷ [])) a (inr refl) (λ all. tt) (range-lacks x y next) (range-shows x y next)
     (λ all is. (Realizes-range all id x y next is, Orders-range all id x y next is, Takes-range (length old) (length new) id x y next all is))
 
 pub Builds-assert : (slots : ℕ × ℕ) (old new : List State) (look : Look) (id next : ℕ) → IsAdded old new (Assert look next) id
     → Builds slots old new id next (Assertion look)
 Builds-assert slots old new look id next a =
-    Builds-state slots old new (Assert look next) id next (Assertion look) a (inr refl) (λ all. tt) (λ e. tt) (λ e. absurd (true≢false (sym e)))
+    Builds-state slots old new (Assert look next) id next (Assertion look) a (inr refl) (λ all. tt) (assert-lacks look next) (assert-shows look next)
     (λ all is. (Realizes-assert all id next look is, Orders-assert all id next look is, Takes-assert (length old) (length new) id next look all is))
 
 shape-capture : (slots : ℕ × ℕ) (low high c id next : ℕ) (all : List State) → id ≡ low → high ≡ low + 1 → slice_get all id ≡ Some (Capture c next)
@@ -218,7 +217,7 @@ shape-capture : (slots : ℕ × ℕ) (low high c id next : ℕ) (all : List Stat
 shape-capture slots low high c id next all same one is l m closed = (
   Realizes-capture all id c next is,
   Encloses-one slots.0 low high id next all (Capture c next) same one is (l, inr refl),
-  Names-one slots.1 false low high id all (Capture c next) same one is (m, closed) (λ e. tt) (λ e. absurd (true≢false (sym e))),
+  Names-one slots.1 nothing low high id all (Capture c next) same one is (m, closed) (λ f e. capture-lacks c next f) (λ f e. absurd (true≢false (sym e))),
 )
 
 -- ---- states after parts
@@ -235,10 +234,10 @@ Builds-either slots old middle last new one other id next p q x y a =
       Realizes-either all id one other next p q is b.1.0 b.0.0,
       Encloses-either slots.0 (length old) (length middle) (length last) (length new) one other id next all x.longer y.longer a.last
           (grown last new (Fork one other) id a) b.0.1 b.1.1 is,
-      Names-above slots.1 (has_reversed_range (Either p q)) (length old) (length last) (length new) id one other all
+      Names-above slots.1 (has_feature (Either p q)) (length old) (length last) (length new) id one other all
           (omega (arith, x.longer, y.longer)) a.last (grown last new (Fork one other) id a) is
-          (Names-joined slots.1 (has_reversed_range (Either p q)) (has_reversed_range q) (has_reversed_range p) (length old) (length middle) (length last) all
-          (either_back (has_reversed_range q) (has_reversed_range p)) x.longer y.longer b.0.2 b.1.2),
+          (Names-joined slots.1 (has_feature (Either p q)) (has_feature q) (has_feature p) (length old) (length middle) (length last) all
+          (either_back (has_feature q) (has_feature p)) x.longer y.longer b.0.2 b.1.2),
       Orders-either all id one other next p q is b.1.0 b.1.3 b.0.3,
       Takes-either (length old) (length middle) (length last) (length new) one other id next p q all x.longer y.longer a.last
           (grown last new (Fork one other) id a) is b.0.4 b.1.4,
@@ -283,7 +282,7 @@ Builds-group slots old middle last new state start end body after id next p l ev
       Realizes-is all id next p (Group start p) (λ t i j g. g) (λ t i j g. g) (λ e. e)
           (Realizes-between all id body after next p (Realizes-capture all after end next y.0) y.1.0 (Realizes-capture all id start body is)),
       s.1,
-      subst (λ (r : Bool). Names slots.1 r (length old) (length new) all) (between-same p) s.2,
+      Names-alike slots.1 (has_feature (Then Empty (Then p Empty))) (has_feature (Group start p)) (length old) (length new) all (between-same p) s.2,
       Orders-group all id body after next start p is (y.0 ∙ ap (λ (c : ℕ). Some (Capture c next)) second) y.1.3,
       Takes-wider (length middle) (length last) (length old) (length new) id next (Group start p) all (omega (arith, one)) (omega (arith, two))
           (Takes-group (length middle) (length last) id body after next start p all is (y.0 ∙ ap (λ (c : ℕ). Some (Capture c next)) second) y.1.4),
@@ -330,7 +329,7 @@ pub Builds-none : (slots : ℕ × ℕ) (old new : List State) (first next : ℕ)
     → Builds slots old new first next (Class ranges)
 Builds-none slots old new first next [] none x =
     Builds-is slots old new first next Never (Class []) (λ t i j g. absurd g) (λ t i j g. absurd (true≢false (sym g.0)))
-    never-within (λ e. e) refl (λ c h. h) x
+    never-within (λ e. e) none-same (λ c h. h) x
 Builds-none slots old new first next (r ∷ rest) none x = absurd (omega (arith, none))
 
 -- ---- parts with the slots of their groups

@@ -3,7 +3,7 @@ use Rattle.std.proofs.Common.{◌≡◌, ℕ, zero, suc, ◌+◌, ◌⊎◌, Boo
 use Rattle.rsc_engine.specs.Patterns.{Pattern, Empty, Never, Class, Literal, Assertion, Then, Either, Repeat, Group, Subject, SomeTimes, Goes, may_be_empty}
 use Rattle.rsc_engine.specs.FirstEnds.{loops_take_bytes, HasEndIn, AreFirstTimes, IsFirstEnd}
 use Rattle.rsc_engine.specs.GroupNumbers.{count_groups, numbered}
-use Rattle.rsc_engine.specs.Refusals.{has_reversed_range, may_occur}
+use Rattle.rsc_engine.specs.Features.{Feature, has_feature, may_occur}
 
 pub numbered-goes : (x : Subject) (slot_of : ℕ → ℕ) (n : ℕ) (p : Pattern) → Goes x (numbered slot_of n p) ≡ Goes x p
 numbered-goes x slot_of n Empty = refl
@@ -91,17 +91,17 @@ numbered-loops slot_of n (Repeat min None often a) =
 numbered-loops slot_of n (Repeat min (Some max) often a) = numbered-loops slot_of n a
 numbered-loops slot_of n (Group slot a) = numbered-loops slot_of (n + 1) a
 
-pub numbered-reversed : (slot_of : ℕ → ℕ) (n : ℕ) (p : Pattern) → has_reversed_range (numbered slot_of n p) ≡ has_reversed_range p
-numbered-reversed slot_of n Empty = refl
-numbered-reversed slot_of n Never = refl
-numbered-reversed slot_of n (Class ranges) = refl
-numbered-reversed slot_of n (Literal bytes) = refl
-numbered-reversed slot_of n (Assertion look) = refl
-numbered-reversed slot_of n (Then a b) =
-    ap (λ (c : Bool). c || has_reversed_range (numbered slot_of (n + count_groups a) b)) (numbered-reversed slot_of n a)
-    ∙ ap (λ (c : Bool). has_reversed_range a || c) (numbered-reversed slot_of (n + count_groups a) b)
-numbered-reversed slot_of n (Either a b) =
-    ap (λ (c : Bool). c || has_reversed_range (numbered slot_of (n + count_groups a) b)) (numbered-reversed slot_of n a)
-    ∙ ap (λ (c : Bool). has_reversed_range a || c) (numbered-reversed slot_of (n + count_groups a) b)
-numbered-reversed slot_of n (Repeat min max often a) = ap (λ (c : Bool). may_occur min max && c) (numbered-reversed slot_of n a)
-numbered-reversed slot_of n (Group slot a) = numbered-reversed slot_of (n + 1) a
+pub numbered-features : (slot_of : ℕ → ℕ) (n : ℕ) (p : Pattern) (f : Feature) → has_feature (numbered slot_of n p) f ≡ has_feature p f
+numbered-features slot_of n Empty f = refl
+numbered-features slot_of n Never f = refl
+numbered-features slot_of n (Class ranges) f = refl
+numbered-features slot_of n (Literal bytes) f = refl
+numbered-features slot_of n (Assertion look) f = refl
+numbered-features slot_of n (Then a b) f =
+    ap (λ (c : Bool). c || has_feature (numbered slot_of (n + count_groups a) b) f) (numbered-features slot_of n a f)
+    ∙ ap (λ (c : Bool). has_feature a f || c) (numbered-features slot_of (n + count_groups a) b f)
+numbered-features slot_of n (Either a b) f =
+    ap (λ (c : Bool). c || has_feature (numbered slot_of (n + count_groups a) b) f) (numbered-features slot_of n a f)
+    ∙ ap (λ (c : Bool). has_feature a f || c) (numbered-features slot_of (n + count_groups a) b f)
+numbered-features slot_of n (Repeat min max often a) f = ap (λ (c : Bool). may_occur min max && c) (numbered-features slot_of n a f)
+numbered-features slot_of n (Group slot a) f = numbered-features slot_of (n + 1) a f

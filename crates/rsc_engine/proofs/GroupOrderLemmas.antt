@@ -17,6 +17,7 @@ use Rattle.rsc_engine.specs.Runs.{IsMatchRun}
 use Rattle.rsc_engine.specs.Preferred.{IsOf}
 use Rattle.rsc_engine.specs.Patterns.{subject_of}
 use Rattle.rsc_engine.specs.EnclosesLayout.{IsOnWay}
+use Rattle.rsc_engine.specs.Features.{Feature}
 use Rattle.rsc_engine.specs.NamesLayout.{HasClose, AreSound}
 use Rattle.rsc_engine.specs.StepsLayout.{AreSteps, last_place}
 use Rattle.rsc_engine.specs.GroupOrder.{ClosesGroups}
@@ -125,7 +126,7 @@ closed_run e (p ∷ rest) at pair i c m is =
     let q = accepted (pattern_of_mode e.mode) (slice_get e.states (place (p ∷ rest) (length (p ∷ rest) - 1)).0) m.ends in
     closes e pair q.0 p rest i c (steps_of e p rest m.is_run) (ap (λ (z : ℕ × ℕ). slice_get e.states z.0) (sym (last_is p rest)) ∙ q.1) is
 
-pub ClosesGroups-built : {W : Type 0} (chars : W → ℕ → Bool) (program : Compiled W) (most count : ℕ) (r : Bool)
+pub ClosesGroups-built : {W : Type 0} (chars : W → ℕ → Bool) (program : Compiled W) (most count : ℕ) (r : Feature → Bool)
     → AreSound most count r 0 (length program.automaton.states) program.start program.automaton.states → ClosesGroups chars program
 ClosesGroups-built chars program most count r sound = record {
   closed = λ input run at pair i m is. closed_run (search_in chars program input) run at pair i (λ s next there. closed pair s next there) m is;

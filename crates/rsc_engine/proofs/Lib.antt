@@ -24,6 +24,7 @@ pub mod NumbersLemmas  -- the numbers of places: the flags that have them, and w
 pub mod OrderLayoutLemmas  -- of the ways to a match the first one goes by the first ways of patterns
 pub mod PartsLemmas  -- what holds for parts in order, or for one of them, as the list grows
 pub mod PathsLayoutLemmas  -- runs of a program as paths of states: a preferred run is the first path, and goes its pattern's preferred way
+pub mod PatternMatchesLemmas  -- the first and the next match of a program are those of its patterns, and there is one of each
 pub mod PatternOrderLemmas  -- of the matches from a position that of the pattern with the least number is preferred, and of its ends the first
 pub mod PatternsLemmas  -- patterns that go where others go: bytes, classes and repetitions
 pub mod PreferredLemmas  -- there is at most one preferred match, wherever a search's start is; the leftmost one, and that there is none

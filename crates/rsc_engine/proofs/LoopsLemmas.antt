@@ -4,9 +4,9 @@ use Rattle.std.proofs.lemmas.List.{length-set}
 use Rattle.rsc_nfa.specs.declared.state.State.{State}
 use Rattle.rsc_engine.specs.Patterns.{Pattern, Then, Repeat, may_be_empty}
 use Rattle.rsc_engine.specs.EnclosesLayout.{Encloses}
-use Rattle.rsc_engine.specs.Refusals.{has_reversed_range}
+use Rattle.rsc_engine.specs.Features.{has_feature}
 use Rattle.rsc_engine.specs.NamesLayout.{Names}
-use Rattle.rsc_engine.proofs.NamesLayoutLemmas.{Names-choice, Names-loop, optional-same, up_to-same, counted-same}
+use Rattle.rsc_engine.proofs.NamesLayoutLemmas.{Names-choice, Names-loop, Names-alike, optional-same, optional-back, up_to-same, counted-same}
 use Rattle.rsc_engine.specs.GroupNumbers.{count_groups, numbered}
 use Rattle.rsc_engine.proofs.GroupNumbersLemmas.{numbered-empty}
 use Rattle.rsc_engine.specs.LinksLayout.{Adds, Builds, BuildsPart, BuildsCopies, IsAdded, Realizes, choice_of, copies, optional, up_to}
@@ -34,8 +34,8 @@ Builds-optional slots old last new one id next often p x a =
       Realizes-choice all id one next often p is r.0,
       Encloses-choice slots.0 (length old) (length last) (length new) one id next all x.longer a.last (grown last new (choice_of often one next) id a) r.1
           (is_choice all id one next often is),
-      subst (λ (b : Bool). Names slots.1 b (length old) (length new) all) (sym (optional-same often p))
-          (Names-choice slots.1 (has_reversed_range p) (length old) (length last) (length new) id one next all x.longer a.last
+      Names-alike slots.1 (has_feature p) (has_feature (optional often p)) (length old) (length new) all (optional-back often p)
+          (Names-choice slots.1 (has_feature p) (length old) (length last) (length new) id one next all x.longer a.last
           (grown last new (choice_of often one next) id a) (is_choice all id one next often is) r.2),
       Orders-choice all id one next often p is r.0 r.3,
       Takes-choice (length old) (length last) (length new) one id next often p all x.longer a.last
@@ -55,7 +55,7 @@ record LoopsOver (slots : ℕ × ℕ) (low high first again next : ℕ) (often :
   choice : slice_get all again ≡ Some (choice_of often first next)
   part : Realizes all first again p
   encloses : Encloses slots.0 low high again next all × Encloses slots.0 low high first next all
-  names : Names slots.1 (has_reversed_range p) low high all
+  names : Names slots.1 (has_feature p) low high all
   orders : Orders all first again p
   takes : TakesCourse (low + 1) high first again p all
 
@@ -75,7 +75,7 @@ Adds-loop slots old middle last state first again next often p a x =
       part = is.1.0;
       encloses = Encloses-loop slots.0 (length old) (length middle) (length last) (length (set last again written)) first again next all a.last
           (grown old middle state again a) x.longer (length-set last again written) fork is.1.1;
-      names = Names-loop slots.1 (has_reversed_range p) (length old) (length middle) (length last) (length (set last again written)) again first next all a.last
+      names = Names-loop slots.1 (has_feature p) (length old) (length middle) (length last) (length (set last again written)) again first next all a.last
           (grown old middle state again a) x.longer (length-set last again written) fork is.1.2;
       orders = is.1.3;
       takes = Takes-wider (length middle) (length last) (length old + 1) (length (set last again written)) first again p all

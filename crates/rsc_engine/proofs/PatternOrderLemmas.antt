@@ -202,7 +202,7 @@ once_run e found (p ∷ rest) m f = record {
     at = ap (λ (z : ℕ × ℕ). slice_get e.states z.0) (s.ends ∙ sym (last_is p rest)) ∙ f.pattern
 
 -- in the search, of runs from one place to matches of two patterns, the lesser pattern's is preferred
-abbrev Prefers : Search → Type 0
+abbrev pub Prefers : Search → Type 0
 Prefers e = (one other : List (ℕ × ℕ)) (found beaten : Matched) → IsMatchRun e (e.start_state, found.span.start) one → IsMatchOf e one found
     → IsMatchRun e (e.start_state, found.span.start) other → IsMatchOf e other beaten → found.pattern < beaten.pattern → IsPreferredTo e one other
 

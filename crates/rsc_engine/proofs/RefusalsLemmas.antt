@@ -17,6 +17,7 @@ use Rattle.rsc_engine.specs.Patterns.{Pattern}
 use Rattle.rsc_engine.specs.Sizes.{size_of_program}
 use Rattle.rsc_engine.specs.Parts.{groups_of_part, groups_of_pattern}
 use Rattle.rsc_engine.specs.declared.builder.part.Part.{Part}
+use Rattle.rsc_engine.specs.Features.{some_has}
 use Rattle.rsc_engine.specs.Refusals.{is_out_of_memory, RepeatsName, FailsToBuild, IsErrorOf, are_too_large, error_of, has_a_reversed_range}
 use Rattle.rsc_engine.specs.NamesLayout.{AreSound}
 use Rattle.rsc_engine.proofs.NamesLayoutLemmas.{sound-faultless}
@@ -170,7 +171,7 @@ pattern_there lists p g l = ⊎_elim
 
 -- why there is no automaton, of states that name what is there
 pub faulty-refused : (limit : ℕ) (groups : GroupLists) (states : List State) (patterns : List Pattern) (first : ℕ) (fault : BuildError)
-    → AreSound (2 * all_groups groups) (length groups) (has_a_reversed_range patterns) 0 (length states) first states
+    → AreSound (2 * all_groups groups) (length groups) (some_has patterns) 0 (length states) first states
     → ((fault ≡ OutOfMemory) × AreFaultless groups states) ⊎ IsFirstFaulty groups states fault
     → are_too_large limit patterns groups ≡ false → ¬ (RepeatsName groups)
     → IsErrorOf limit patterns groups (cond (is_out_of_memory fault) error.OutOfMemory error.Faulty)
@@ -181,7 +182,7 @@ faulty-refused limit groups states patterns first fault sound (inr f) small once
     decide true r e = inl refl
     decide false true e = inr (inr (inr (refl, small, once, e)))
     decide false false e = absurd (
-        let none = sound-faultless groups states (has_a_reversed_range patterns) first sound e f.state f.there in
+        let none = sound-faultless groups states (some_has patterns) first sound e f.state f.there in
         let some = f.fault in
         cc)
 

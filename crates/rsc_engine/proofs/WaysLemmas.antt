@@ -35,6 +35,42 @@ with-goes x (Either a b) m n g = ⊎_elim
 with-goes x (Repeat min max often a) m n g = (g.0, g.1, g.2, times-goes (GoesWith x a) (Goes x a) (with-goes x a) g.0 m n g.3)
 with-goes x (Group slot a) m n g = subst (λ (k : Mark). Goes x a m.0 k.0) (sym g.2) (with-goes x a (with_record slot m) g.0 g.1)
 
+-- ---- what was recorded stays recorded
+
+record-grows : (s i slot j : ℕ) (r : List (ℕ × ℕ)) → last_in r slot ≡ Some j → (k : ℕ) × (last_in ((s, i) ∷ r) slot ≡ Some k)
+record-grows s i slot j r h = decide (nat_eq s slot) refl
+  where
+    decide : (t : Bool) → nat_eq s slot ≡ t → (k : ℕ) × (cond t (Some i) (last_in r slot) ≡ Some k)
+    decide true e = (i, refl)
+    decide false e = (j, h)
+
+times-grows : (R : Mark → Mark → Type 0) (slot : ℕ)
+    → ((m n : Mark) (i : ℕ) → R m n → last_in m.1 slot ≡ Some i → (j : ℕ) × (last_in n.1 slot ≡ Some j))
+    → (t : ℕ) (m n : Mark) (i : ℕ) → TimesWith R t m n → last_in m.1 slot ≡ Some i → (j : ℕ) × (last_in n.1 slot ≡ Some j)
+times-grows R slot grows zero m n i g h = (i, subst (λ (k : Mark). last_in k.1 slot ≡ Some i) g h)
+times-grows R slot grows (suc t) m n i g h =
+    let first = grows m g.0 i g.1 h in times-grows R slot grows t g.0 n first.0 g.2 first.1
+
+pub stays_recorded : (x : Subject) (p : Pattern) (slot : ℕ) (m n : Mark) (i : ℕ) → GoesWith x p m n → last_in m.1 slot ≡ Some i
+    → (j : ℕ) × (last_in n.1 slot ≡ Some j)
+stays_recorded x Empty slot m n i g h = (i, subst (λ (k : Mark). last_in k.1 slot ≡ Some i) g h)
+stays_recorded x Never slot m n i g h = absurd g
+stays_recorded x (Class ranges) slot m n i g h = (i, subst (λ (r : List (ℕ × ℕ)). last_in r slot ≡ Some i) g.1 h)
+stays_recorded x (Literal bytes) slot m n i g h = (i, subst (λ (r : List (ℕ × ℕ)). last_in r slot ≡ Some i) g.1 h)
+stays_recorded x (Assertion look) slot m n i g h = (i, subst (λ (r : List (ℕ × ℕ)). last_in r slot ≡ Some i) g.1 h)
+stays_recorded x (Then a b) slot m n i g h =
+    let first = stays_recorded x a slot m g.0 i g.1 h in stays_recorded x b slot g.0 n first.0 g.2 first.1
+stays_recorded x (Either a b) slot m n i g h = ⊎_elim
+    (λ (k : GoesWith x a m n). stays_recorded x a slot m n i k h)
+    (λ (k : GoesWith x b m n). stays_recorded x b slot m n i k h)
+    g
+stays_recorded x (Repeat min max often a) slot m n i g h = times-grows (GoesWith x a) slot (stays_recorded x a slot) g.0 m n i g.3 h
+stays_recorded x (Group s a) slot m n i g h =
+    let first = record-grows s m.0 slot i m.1 h in
+    let then = stays_recorded x a slot (with_record s m) g.0 first.0 g.1 first.1 in
+    let last = record-grows (s + 1) g.0.0 slot then.0 g.0.1 then.1 in
+    (last.0, subst (λ (k : Mark). last_in k.1 slot ≡ Some last.0) (sym g.2) last.1)
+
 -- ---- a record in a slot
 
 same_slot : (s i : ℕ) (r : List (ℕ × ℕ)) → last_in ((s, i) ∷ r) s ≡ Some i
@@ -296,6 +332,14 @@ span_parts offsets s span e = at_start (slice_index_or offsets s None) refl e
     at_start None from f = absurd (cc)
     at_start (Some i) from f = at_end i from (slice_index_or offsets (s + 1) None) refl f
 
+-- the span of a group is in its slots
+pub span_there : (lists : GroupLists) (m g : ℕ) (c : Captured) → g < group_count lists m → c.groups ≡ lists → c.pattern ≡ Some m
+    → group_span c g ≡ span_at c.offsets (slot_number lists m g)
+span_there lists m g c l groups pattern =
+    ap (λ (o : Option ℕ). option_and_then (λ (q : ℕ). option_and_then (λ (s : ℕ). span_at c.offsets s) (first_slot c.groups q g)) o) pattern
+    ∙ (ap (λ (these : GroupLists). option_and_then (λ (s : ℕ). span_at c.offsets s) (first_slot these m g)) groups
+    ∙ ap (λ (o : Option ℕ). option_and_then (λ (s : ℕ). span_at c.offsets s) o) (first_slot-number lists m g l))
+
 pub span-goes : (x : Subject) (lists : GroupLists) (m : ℕ) (p a : Pattern) (g start end : ℕ) (records : List (ℕ × ℕ)) (c : Captured) (span : Span)
     → g < group_count lists m → c.groups ≡ lists → c.pattern ≡ Some m → IsGroupOf g a (Group 0 p)
     → GoesWith x (as_whole lists m p) (start, []) (end, records)
@@ -308,10 +352,7 @@ span-goes x lists m p a g start end records c span l groups pattern is way holds
     slot = slot_number lists m g
 
     path : group_span c g ≡ span_at c.offsets (slot_number lists m g)
-    path =
-        ap (λ (o : Option ℕ). option_and_then (λ (q : ℕ). option_and_then (λ (s : ℕ). span_at c.offsets s) (first_slot c.groups q g)) o) pattern
-        ∙ (ap (λ (these : GroupLists). option_and_then (λ (s : ℕ). span_at c.offsets s) (first_slot these m g)) groups
-        ∙ ap (λ (o : Option ℕ). option_and_then (λ (s : ℕ). span_at c.offsets s) o) (first_slot-number lists m g l))
+    path = span_there lists m g c l groups pattern
 
     two : (slice_index_or c.offsets (slot_number lists m g) None ≡ Some span.start)
         × (slice_index_or c.offsets (slot_number lists m g + 1) None ≡ Some span.end)

@@ -3,6 +3,7 @@ pub mod Courses  -- courses: patterns with their copies written out, and how the
 pub mod CoursesLayout  -- how paths of states take a course: a choice's number is that of its fork
 pub mod EnclosesLayout  -- where the states of a part lead, and in which slots they record
 pub mod Ends  -- where matches end, and what a DFA answers
+pub mod Features  -- what stands in a pattern, in parts that may be there
 pub mod FirstEnds  -- which end of a pattern is preferred
 pub mod FirstWays  -- which way of a pattern is preferred
 pub mod FirstsLayout  -- how many ways lead to a pattern's match at most, and which of them is the first
@@ -14,12 +15,13 @@ pub mod GroupsLayout  -- slots without a match
 pub mod LawfulLayout  -- the laws of steps and runs that the proof of `dfa` rests on, as one record: each is a law of a library below
 pub mod LinksLayout  -- how the states of a part lead on
 pub mod MovesLayout  -- what a state does at a position
-pub mod NamesLayout  -- what the states of a part or of patterns name, and whether a range of theirs is reversed
+pub mod NamesLayout  -- what the states of a part or of patterns name, and which features of patterns they have
 pub mod NeededLayout  -- two bytes that stand side by side in every match
 pub mod NextMatches  -- which match is next; `last` is where the last one ended, if there was one
 pub mod OrderLayout  -- by which ways of a pattern steps lead to a match, and by which the first do
 pub mod Parts  -- which pattern a part is, and which groups it has; and what a builder has of them
 pub mod PathsLayout  -- paths of states to a match: lists of states alone, along which the position, the records and the choices are carried
+pub mod PatternMatches  -- which match of patterns is first, and which is next, by the patterns alone
 pub mod PatternOrder  -- which match of a program's patterns is preferred
 pub mod Patterns  -- what a pattern matches, and which programs match it
 pub mod Preferred  -- which match is first

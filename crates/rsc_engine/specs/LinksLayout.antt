@@ -6,7 +6,7 @@ use Rattle.rsc_nfa.specs.Steps.{IsStep}
 use Rattle.rsc_engine.specs.Patterns.{Pattern, Empty, Then, Either, Subject, Goes}
 use Rattle.rsc_engine.specs.EnclosesLayout.{Encloses}
 use Rattle.rsc_engine.specs.NamesLayout.{Names}
-use Rattle.rsc_engine.specs.Refusals.{has_reversed_range}
+use Rattle.rsc_engine.specs.Features.{has_feature}
 use Rattle.rsc_engine.specs.FirstEnds.{loops_take_bytes}
 use Rattle.rsc_engine.specs.GroupNumbers.{count_groups, numbered}
 use Rattle.rsc_engine.specs.OrderLayout.{Orders}
@@ -62,7 +62,7 @@ pub record Adds (old new : List State) (Holds : List State → Type 0) : Type 0 
 abbrev pub Builds : ℕ × ℕ → List State → List State → ℕ → ℕ → Pattern → Type 0
 Builds slots old new first next p =
     Adds old new (λ states. Realizes states first next p × Encloses slots.0 (length old) (length new) first next states
-    × Names slots.1 (has_reversed_range p) (length old) (length new) states × Orders states first next p
+    × Names slots.1 (has_feature p) (length old) (length new) states × Orders states first next p
     × TakesCourse (length old) (length new) first next p states)
 
 -- between which slots the parts of a pattern record: after the end of its whole match, below the limit of all slots

@@ -1,13 +1,17 @@
 //! A builder: each call makes a part of a pattern, and larger parts are made of smaller ones.
 ghost use Rattle.std.specs.Prelude.{false, true, IsTrue, min, ◌≡◌, ◌<◌, ◌≤◌, ◌++◌, [], ◌∷◌, None, Some, Err, map, flat_map, length, IfOk, IfErr, OnOk, OnErr};
+ghost use Rattle.std.specs.List.{list_any};
 ghost use Rattle.rsc_captures.specs.Groups.{groups_in};
+ghost use Rattle.rsc_nfa.specs.Classes.{asserts};
 ghost use Rattle.rsc_engine.specs.declared.error.Error.TheVariants.{OutOfMemory, EmptyClass, TooLarge};
 ghost use Rattle.rsc_engine.specs.Patterns as patterns;
 ghost use Rattle.rsc_engine.specs.FirstEnds.{loops_take_bytes};
+ghost use Rattle.rsc_engine.specs.Features.{asks};
 ghost use Rattle.rsc_engine.specs.GroupNumbers.{count_groups};
 ghost use Rattle.rsc_engine.specs.Patterns.{Empty, Never, Class, Literal, Assertion, Then, Either, Group, in_order, one_of, Recognizes};
 ghost use Rattle.rsc_engine.specs.GroupEnds.{RecordsEnds};
 ghost use Rattle.rsc_engine.specs.GroupOrder.{ClosesGroups};
+ghost use Rattle.rsc_engine.specs.PatternMatches.{IsBuiltOf};
 ghost use Rattle.rsc_engine.specs.PatternOrder.{PrefersLesser, PrefersFirstEnds, RecordsWays, RecordsFirstWays, RecordsPreferredWays};
 ghost use Rattle.rsc_engine.specs.Refusals.{FailsToBuild, IsErrorOf, RepeatsName, are_too_large, has_a_reversed_range};
 ghost use Rattle.rsc_engine.specs.Sizes.{size_of_program, most_states};
@@ -333,10 +337,13 @@ impl<'n> Builder<'n> {
         ensures first_ways { IfOk result (λ program. RecordsFirstWays W.word_chars program (patterns_of self.entry ++ pattern_of last.entry ∷ [])) }
         ensures preferred_ways { IfOk result (λ program. RecordsPreferredWays W.word_chars program (patterns_of self.entry ++ pattern_of last.entry ∷ [])) }
         ensures closes { IfOk result (λ program. ClosesGroups W.word_chars program) }
+        ensures built { IfOk result (λ program. IsBuiltOf W.word_chars program (patterns_of self.entry ++ pattern_of last.entry ∷ [])) }
         ensures text { IfOk result (λ program. program.utf8 ≡ utf8) }
         ensures matcher { IfOk result (λ program. program.automaton.matcher ≡ (10, word_class)) }
         ensures names { OnOk result (¬ (RepeatsName (lists_of self.entry ++ groups_of_pattern last.entry ∷ []))) }
         ensures ordered { OnOk result (has_a_reversed_range (patterns_of self.entry ++ pattern_of last.entry ∷ []) ≡ false) }
+        ensures looks { IfOk result (λ program. (look : Look) → list_any (asserts look) program.automaton.states
+            ≡ list_any (asks look) (patterns_of self.entry ++ pattern_of last.entry ∷ [])) }
         ensures size { IfOk result (λ program. (length program.automaton.states ≡ size_of_program (patterns_of self.entry ++ pattern_of last.entry ∷ []))
             × (length program.automaton.states ≤ limit_of self.entry)) }
         ensures large { IsTrue (are_too_large (limit_of self.entry) (patterns_of self.entry ++ pattern_of last.entry ∷ [])
@@ -370,10 +377,13 @@ impl<'n> Builder<'n> {
         ensures first_ways { IfOk result (λ program. RecordsFirstWays W.word_chars program (patterns_of self.entry ++ pattern_of last.entry ∷ [])) }
         ensures preferred_ways { IfOk result (λ program. RecordsPreferredWays W.word_chars program (patterns_of self.entry ++ pattern_of last.entry ∷ [])) }
         ensures closes { IfOk result (λ program. ClosesGroups W.word_chars program) }
+        ensures built { IfOk result (λ program. IsBuiltOf W.word_chars program (patterns_of self.entry ++ pattern_of last.entry ∷ [])) }
         ensures text { IfOk result (λ program. program.utf8 ≡ utf8) }
         ensures matcher { IfOk result (λ program. program.automaton.matcher ≡ matcher) }
         ensures names { OnOk result (¬ (RepeatsName (lists_of self.entry ++ groups_of_pattern last.entry ∷ []))) }
         ensures ordered { OnOk result (has_a_reversed_range (patterns_of self.entry ++ pattern_of last.entry ∷ []) ≡ false) }
+        ensures looks { IfOk result (λ program. (look : Look) → list_any (asserts look) program.automaton.states
+            ≡ list_any (asks look) (patterns_of self.entry ++ pattern_of last.entry ∷ [])) }
         ensures size { IfOk result (λ program. (length program.automaton.states ≡ size_of_program (patterns_of self.entry ++ pattern_of last.entry ∷ []))
             × (length program.automaton.states ≤ limit_of self.entry)) }
         ensures large { IsTrue (are_too_large (limit_of self.entry) (patterns_of self.entry ++ pattern_of last.entry ∷ [])

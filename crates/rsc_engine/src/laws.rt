@@ -26,6 +26,8 @@ ghost use Rattle.rsc_engine.specs.PreferredWays.{IsPreferredWay};
 use crate::Answer;
 use rsc_look::WordClass;
 
+pub mod patterns;
+
 /// From a place there is at most one preferred run; in a search there is at most one leftmost-first run, and none if no match begins
 /// where one may.
 pub fn there_is_one_first_match()
@@ -51,6 +53,14 @@ pub fn there_is_one_preferred_way()
 pub fn there_is_one_next_match()
     ensures next { (e : Search) (last : Option ℕ) (one other : List (ℕ × ℕ)) → IsNext e last one → IsNext e last other → one ≡ other }
     ensures over { (e : Search) (last : Option ℕ) (run : List (ℕ × ℕ)) → IsOver e last → ¬ (IsNext e last run) }
+{}
+
+/// A match determines its captures: two that are first, or next, in captures over the same groups with as many slots are one, and the captures hold the same.
+pub fn there_is_one_match_with_captures()
+    ensures first { (e : Search) (one other : Captured) (m n : Matched) → IsFirstMatch e one m → IsFirstMatch e other n →
+        one.groups ≡ other.groups → length one.offsets ≡ length other.offsets → (m ≡ n) × (one ≡ other) }
+    ensures next { (e : Search) (last : Option ℕ) (one other : Captured) (m n : Matched) → IsNextMatch e last one m → IsNextMatch e last other n →
+        one.groups ≡ other.groups → length one.offsets ≡ length other.offsets → (m ≡ n) × (one ≡ other) }
 {}
 
 /// There is at most one list of all matches of what is left.

@@ -4,6 +4,7 @@ ghost use Rattle.rsc_captures.specs.Captured.{no_offsets};
 ghost use Rattle.rsc_captures.specs.Groups.{all_groups};
 ghost use Rattle.rsc_nfa.specs.Automata.{Automaton};
 ghost use Rattle.rsc_engine.specs.declared.error.Error.TheVariants.{OutOfMemory};
+ghost use Rattle.rsc_engine.specs.PatternMatches.{HasSlotsOf};
 ghost use Rattle.rsc_engine.specs.Searches.{Compiled, IsStateOf};
 
 use crate::Error;
@@ -107,6 +108,7 @@ impl<W: WordClass> Program<W> {
     /// Out of memory.
     pub fn captures(&self, alloc: Global) -> Result<Captures, Error>
         ensures made { IfOk result (λ c. c ≡ no_offsets self.now.automaton.groups (2 * all_groups self.now.automaton.groups)) }
+        ensures slots { IfOk result (HasSlotsOf self.now) }
         ensures refused { IfErr result (λ e. e ≡ OutOfMemory) }
     {
         Ok(Captures::all(alloc, self.nfa.group_info().clone()?)?)

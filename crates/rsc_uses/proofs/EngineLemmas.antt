@@ -5,24 +5,25 @@ use Rattle.rsc_search.specs.Matches.{Matched}
 use Rattle.rsc_engine.specs.Searches.{search_in}
 use Rattle.rsc_engine.specs.NextMatches.{Left, IsNextOf, IsOver, AreAll, after}
 
--- these are the first matches of what is left, and then the other is left
-pub AreFirst : {W : Type 0} → (W → ℕ → Bool) → Left W → List Matched → Left W → Type 0
-AreFirst chars left [] end = left ≡ end
-AreFirst chars left (found ∷ rest) end = IsNextOf chars left found × AreFirst chars (after left found) rest end
+-- these are the first of what is left, each with its match, and then the other is left
+pub AreFirst : {W X : Type 0} → (Left W → X → Type 0) → (X → Matched) → Left W → List X → Left W → Type 0
+AreFirst Next its left [] end = left ≡ end
+AreFirst Next its left (one ∷ rest) end = Next left one × AreFirst Next its (after left (its one)) rest end
 
-pub first_none : {W : Type 0} (chars : W → ℕ → Bool) (left : Left W) → AreFirst chars left [] left
+pub first_none : {W X : Type 0} (Next : Left W → X → Type 0) (its : X → Matched) (left : Left W) → AreFirst Next its left [] left
 unfolding AreFirst
-first_none chars left = refl
+first_none Next its left = refl
 
 -- one more
-pub first_more : {W : Type 0} (chars : W → ℕ → Bool) (left : Left W) (all : List Matched) (end : Left W) (found : Matched) → AreFirst chars left all end
-    → IsNextOf chars end found → AreFirst chars left (all ++ found ∷ []) (after end found)
+pub first_more : {W X : Type 0} (Next : Left W → X → Type 0) (its : X → Matched) (left : Left W) (all : List X) (end : Left W) (one : X)
+    → AreFirst Next its left all end → Next end one → AreFirst Next its left (all ++ one ∷ []) (after end (its one))
 unfolding AreFirst
-first_more {W = W} chars left [] end found same next = (subst (λ (x : Left W). IsNextOf chars x found) (sym same) next, ap (λ (x : Left W). after x found) same)
-first_more chars left (one ∷ rest) end found first next = (first.0, first_more chars (after left one) rest end found first.1 next)
+first_more {W = W} Next its left [] end one same next =
+    (subst (λ (x : Left W). Next x one) (sym same) next, ap (λ (x : Left W). after x (its one)) same)
+first_more Next its left (other ∷ rest) end one first next = (first.0, first_more Next its (after left (its other)) rest end one first.1 next)
 
 -- and none after the last
-pub first_all : {W : Type 0} (chars : W → ℕ → Bool) (left : Left W) (all : List Matched) (end : Left W) → AreFirst chars left all end
+pub first_all : {W : Type 0} (chars : W → ℕ → Bool) (left : Left W) (all : List Matched) (end : Left W) → AreFirst (IsNextOf chars) (λ m. m) left all end
     → IsOver (search_in chars end.program end.input) end.last → AreAll chars left all
 unfolding AreFirst
 first_all {W = W} chars left [] end same over = subst (λ (x : Left W). IsOver (search_in chars x.program x.input) x.last) (sym same) over

@@ -1,11 +1,12 @@
 -- What matches of a program say of the pattern that it's built of.
-use Rattle.std.proofs.Common.{◌≡◌, ℕ, zero, suc, ◌+◌, ◌*◌, ◌<◌, ◌≤◌, ◌⊎◌, inl, inr, ◌∙◌, true≢false, true, false, Option, Some, None, Bool, List, [], ◌∷◌, length, slice_get, refl, sym, ap, subst, arith}
+use Rattle.std.proofs.Common.{nat_eq, cond, ◌≡◌, ℕ, zero, suc, ◌+◌, ◌*◌, ◌<◌, ◌≤◌, ◌⊎◌, inl, inr, ◌∙◌, true≢false, true, false, Option, Some, None, Bool, List, [], ◌∷◌, length, slice_get, refl, sym, ap, subst, arith}
+use Rattle.std.proofs.lemmas.Bool.Decides.{nat_tests}
 use Rattle.std.proofs.lemmas.List.{length-replicate}
 use Rattle.rsc_nfa.specs.Steps.{place}
 use Rattle.rsc_search.specs.Inputs.{InputParts, whole}
 use Rattle.rsc_search.specs.Matches.{Matched}
 use Rattle.rsc_search.specs.Modes.{pattern_of_mode}
-use Rattle.rsc_captures.specs.Groups.{Groups, GroupLists, group_count, all_groups}
+use Rattle.rsc_captures.specs.Groups.{Groups, GroupLists, group_count, slot_number, all_groups}
 use Rattle.rsc_captures.specs.Captured.{Captured, no_offsets, group_span}
 use Rattle.rsc_engine.specs.Searches.{Compiled, Search, search_in}
 use Rattle.rsc_engine.specs.Runs.{is_wanted}
@@ -14,6 +15,8 @@ use Rattle.rsc_engine.specs.NextMatches.{IsOpen, IsRepeated, IsSplitAt}
 use Rattle.rsc_engine.specs.Patterns.{Pattern, Then, Group, Subject, Goes, subject_of, IsMatchIn}
 use Rattle.rsc_engine.specs.FirstEnds.{IsFirstEnd}
 use Rattle.rsc_engine.specs.GroupNumbers.{as_whole}
+use Rattle.rsc_engine.specs.Ways.{Mark, last_in, with_record, GoesWith}
+use Rattle.rsc_engine.specs.PatternMatches.{recorded_span}
 use Rattle.rsc_uses.specs.Texts.{text_of, GoesNowhere, GoesNowhereIn, HoldsFirstWay, HoldsPreferredWay}
 
 pub goes_to : (x : Subject) (p : Pattern) (i j end : ℕ) → j ≡ end → Goes x p i j → Goes x p i end
@@ -53,6 +56,9 @@ number_of p e found m = only found.pattern m.its
     only : (n : ℕ) → slice_get (p ∷ []) n ≡ Some m.pattern → n ≡ 0
     only zero h = refl
     only (suc n) h = absurd (cc)
+
+pub its_of : (p : Pattern) (e : Search) (found : Matched) → IsMatchIn (p ∷ []) e found → slice_get (p ∷ []) found.pattern ≡ Some p
+its_of p e found m = m.its ∙ ap (λ (q : Pattern). Some q) (its_only p m.pattern found.pattern m.its)
 
 -- its pattern has a first group
 has_first : (lists : GroupLists) (groups : Groups) (p : ℕ) → lists ≡ (None ∷ groups) ∷ [] → p ≡ 0 → 0 < group_count lists p
@@ -133,6 +139,69 @@ group_goes {W = W} chars program word_class p q groups haystack found i j matche
     subst (λ (x : ℕ × W). Goes (record { haystack = haystack; terminator = x.0; word_chars = chars x.1 }) p i j) matcher
     (law (m.its ∙ ap (λ (r : Pattern). Some r) (its_only (Then (Group 0 p) q) m.pattern found.pattern m.its))
     (rw (lists, number_of (Then (Group 0 p) q) (search_in chars program (whole haystack)) found m) (omega arith)))
+
+-- ---- a group that is gone through first is set
+
+in_slot : (s i : ℕ) (r : List (ℕ × ℕ)) → last_in ((s, i) ∷ r) s ≡ Some i
+in_slot s i r = let e : nat_eq s s ≡ true = grind (arith, nat_tests) in rw e refl
+
+in_more : (s i slot j : ℕ) (r : List (ℕ × ℕ)) → last_in r slot ≡ Some j → (k : ℕ) × (last_in ((s, i) ∷ r) slot ≡ Some k)
+in_more s i slot j r h = decide (nat_eq s slot)
+  where
+    decide : (t : Bool) → (k : ℕ) × (cond t (Some i) (last_in r slot) ≡ Some k)
+    decide true = (i, refl)
+    decide false = (j, h)
+
+-- what a way finds recorded stays recorded
+abbrev pub Stays : Subject → Type 0
+Stays x = (r : Pattern) (slot : ℕ) (k l : Mark) (i : ℕ) → GoesWith x r k l → last_in k.1 slot ≡ Some i → (j : ℕ) × (last_in l.1 slot ≡ Some j)
+
+pub group_set : (x : Subject) (whole slot : ℕ) (p q : Pattern) (m n : Mark) → Stays x → GoesWith x (Group whole (Then (Group slot p) q)) m n
+    → (i j : ℕ) × (last_in n.1 slot ≡ Some i) × (last_in n.1 (slot + 1) ≡ Some j)
+group_set x whole slot p q m n stays g = (
+  last_one.0,
+  last_two.0,
+  subst (λ (k : Mark). last_in k.1 slot ≡ Some last_one.0) (sym g.2) last_one.1,
+  subst (λ (k : Mark). last_in k.1 (slot + 1) ≡ Some last_two.0) (sym g.2) last_two.1,
+)
+  where
+    inner : Mark
+    inner = g.1.1.0
+
+    part : (i : ℕ) × (last_in g.1.1.0.1 slot ≡ Some i)
+    part = stays p slot (with_record slot (with_record whole m)) g.1.1.0 m.0 g.1.1.1 (in_slot slot m.0 ((whole, m.0) ∷ m.1))
+
+    first : (i : ℕ) × (last_in ((slot + 1, g.1.1.0.0) ∷ g.1.1.0.1) slot ≡ Some i)
+    first = in_more (slot + 1) g.1.1.0.0 slot part.0 g.1.1.0.1 part.1
+
+    one : (i : ℕ) × (last_in g.0.1 slot ≡ Some i)
+    one = stays q slot g.1.0 g.0 first.0 g.1.2 (subst (λ (k : Mark). last_in k.1 slot ≡ Some first.0) (sym g.1.1.2) first.1)
+
+    two : (j : ℕ) × (last_in g.0.1 (slot + 1) ≡ Some j)
+    two = stays q (slot + 1) g.1.0 g.0 g.1.1.0.0 g.1.2
+        (subst (λ (k : Mark). last_in k.1 (slot + 1) ≡ Some g.1.1.0.0) (sym g.1.1.2) (in_slot (slot + 1) g.1.1.0.0 g.1.1.0.1))
+
+    last_one : (i : ℕ) × (last_in ((whole + 1, g.0.0) ∷ g.0.1) slot ≡ Some i)
+    last_one = in_more (whole + 1) g.0.0 slot one.0 g.0.1 one.1
+
+    last_two : (j : ℕ) × (last_in ((whole + 1, g.0.0) ∷ g.0.1) (slot + 1) ≡ Some j)
+    last_two = in_more (whole + 1) g.0.0 (slot + 1) two.0 g.0.1 two.1
+
+-- so it has a span
+pub span_set : (x : Subject) (whole slot : ℕ) (p q : Pattern) (m n : Mark) → Stays x → GoesWith x (Group whole (Then (Group slot p) q)) m n
+    → recorded_span n.1 slot ≡ None → ⊥
+span_set x whole slot p q m n stays g none =
+    let both = group_set x whole slot p q m n stays g in
+    let some : recorded_span n.1 slot ≡ Some (record { start = both.0; end = both.1 }) = rw (both.2, both.3) refl in
+    absurd (cc)
+
+-- captures that are made for a program of such a pattern have room for that group
+pub group_there : (lists : GroupLists) (groups : Groups) (made after : Captured) (pattern : ℕ) → lists ≡ (None ∷ None ∷ groups) ∷ []
+    → made ≡ no_offsets lists (2 * all_groups lists) → length after.offsets ≡ length made.offsets → pattern ≡ 0
+    → (1 < group_count lists pattern) × (slot_number lists pattern 1 + 1 < length after.offsets)
+group_there lists groups made after pattern is is_made same zero_is =
+    let slots = count_slots lists lists made after refl is_made same in
+    rw (is, zero_is) (omega arith, omega (arith, slots, ap all_groups is))
 
 -- where one of the patterns goes is a match
 pub match_in : {W : Type 0} (chars : W → ℕ → Bool) (program : Compiled W) (word_class : W) (patterns : List Pattern) (n : ℕ) (p : Pattern) (input : InputParts)

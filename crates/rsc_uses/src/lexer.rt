@@ -6,17 +6,17 @@ ghost use Rattle.rsc_primitives.specs.Utf8.{is_word_byte};
 ghost use Rattle.rsc_engine.specs.Patterns.{Class, Repeat, Goes, may_be_empty};
 ghost use Rattle.rsc_engine.specs.Parts.{pattern_of, patterns_of, groups_of_pattern, lists_of};
 ghost use Rattle.rsc_engine.specs.Refusals.{FailsToBuild, RunsOut};
-ghost use Rattle.rsc_uses.specs.Lexed.{AreLexed};
+ghost use Rattle.rsc_uses.specs.Lexed.{AreLexed, AreLexedWith};
 ghost use Rattle.rsc_uses.specs.Texts.{text_of, GoesNowhere};
 
 use crate::engine::all_matches;
-use rsc_engine::{AsciiWordClass, Builder, Error, Part, find, laws};
+use rsc_engine::{AsciiWordClass, Builder, Error, Matches, Part, find, laws};
 use rsc_look::{AsciiWord, WordClass};
-use rsc_search::{Anchored, Input, Match};
+use rsc_search::{Anchored, Input, Match, Span};
 use std::alloc::Global;
 
-/// The tokens of a text: each is of the first pattern that goes on from where the token before it ended, to its first end if its loops take bytes; and from
-/// the end of the last none goes on. No pattern may be empty.
+/// The tokens of a text: each is of the first pattern that goes on from where the token before it ended, and ends where that pattern's preferred way does, which
+/// is its first end if its loops take bytes; and from the end of the last none goes on. No pattern may be empty.
 pub fn tokens_of<'n, W: WordClass + AsciiWordClass>(
     alloc: Global,
     word_class: W,
@@ -26,18 +26,53 @@ pub fn tokens_of<'n, W: WordClass + AsciiWordClass>(
 ) -> Result<Vec<Match>, Error>
     requires { list_any may_be_empty (patterns_of builder ++ pattern_of last ∷ []) ≡ false }
     ensures tokens { IfOk result (λ tokens.
-        AreLexed (text_of text.now (W.word_chars word_class)) (patterns_of builder.entry ++ pattern_of last.entry ∷ []) 0 tokens.items) }
+        AreLexed (text_of text.now (W.word_chars word_class)) (patterns_of builder.entry ++ pattern_of last.entry ∷ [])
+        (lists_of builder.entry ++ groups_of_pattern last.entry ∷ []) 0 tokens.items) }
     ensures refused { IfErr result (FailsToBuild (patterns_of builder.entry ++ pattern_of last.entry ∷ [])
         (lists_of builder.entry ++ groups_of_pattern last.entry ∷ [])) }
 {
-    laws::a_next_match_is_of_a_pattern::<W>();
-    laws::a_match_is_of_the_least_pattern::<W>();
     laws::anchored_matches_are_side_by_side::<W>();
     laws::a_match_ends_at_its_first_end::<W>();
     let program = builder.build(word_class, true, last)?;
     let input = Input::new(text).anchored(Anchored::Yes);
     let tokens = all_matches(alloc, &program, input)?;
     Ok(tokens)
+}
+
+/// The tokens of a text as `tokens_of` finds them, each with the span of a group of its pattern: what the pattern's preferred way goes through last, or `None`.
+pub fn tokens_with_group<'n, W: WordClass + AsciiWordClass>(
+    alloc: Global,
+    word_class: W,
+    builder: Builder<'n>,
+    last: Part<'n>,
+    group: usize,
+    text: &[u8],
+) -> Result<Vec<(Match, Option<Span>)>, Error>
+    requires { list_any may_be_empty (patterns_of builder ++ pattern_of last ∷ []) ≡ false }
+    ensures tokens { IfOk result (λ tokens.
+        AreLexedWith (text_of text.now (W.word_chars word_class)) (patterns_of builder.entry ++ pattern_of last.entry ∷ [])
+        (lists_of builder.entry ++ groups_of_pattern last.entry ∷ []) group 0 tokens.items) }
+    ensures refused { IfErr result (FailsToBuild (patterns_of builder.entry ++ pattern_of last.entry ∷ [])
+        (lists_of builder.entry ++ groups_of_pattern last.entry ∷ [])) }
+{
+    laws::anchored_matches_are_side_by_side::<W>();
+    laws::a_match_ends_at_its_first_end::<W>();
+    laws::patterns::a_group_spans_what_its_way_records();
+    let program = builder.build(word_class, true, last)?;
+    let mut captures = program.captures(alloc)?;
+    let input = Input::new(text).anchored(Anchored::Yes);
+    let mut matches = Matches::new(alloc, &program, input)?;
+    let mut all = Vec::new(alloc);
+    'matches: loop {
+        match matches.next(&mut captures)? {
+            None => return Ok(all),
+            Some(found) => {
+                // So that the slots of the group are known to be there.
+                let _slots = captures.group_info().slots(found.pattern(), group);
+                all.push((found, captures.get_group(group)))?;
+            }
+        }
+    }
 }
 
 /// The tokens of a text in the patterns of a list and of a last part, as `tokens_of` finds them; `None` exactly if one of them may be empty.
@@ -49,7 +84,8 @@ pub fn tokens_of_parts<'n, W: WordClass + AsciiWordClass>(
     text: &[u8],
 ) -> Result<Option<Vec<Match>>, Error>
     ensures some { IfOk result (λ found. IfSome found (λ tokens.
-        AreLexed (text_of text.now (W.word_chars word_class)) (map pattern_of parts.entry.items ++ pattern_of last.entry ∷ []) 0 tokens.items)) }
+        AreLexed (text_of text.now (W.word_chars word_class)) (map pattern_of parts.entry.items ++ pattern_of last.entry ∷ [])
+        (map groups_of_pattern parts.entry.items ++ groups_of_pattern last.entry ∷ []) 0 tokens.items)) }
     ensures none { IfOk result (λ found. IsTrue (is_none found) ↔
         IsTrue (list_any may_be_empty (map pattern_of parts.entry.items ++ pattern_of last.entry ∷ []))) }
     ensures refused { IfErr result (FailsToBuild (map pattern_of parts.entry.items ++ pattern_of last.entry ∷ [])
@@ -71,7 +107,8 @@ pub fn tokens_of_parts<'n, W: WordClass + AsciiWordClass>(
 /// The tokens of a text in three kinds: runs of small letters, runs of digits, and single bytes of any kind.
 pub fn letters_and_digits(alloc: Global, text: &[u8]) -> Result<Vec<Match>, Error>
     ensures tokens { IfOk result (λ tokens. AreLexed (text_of text.now is_word_byte)
-        (Repeat 1 None true (Class ((97, 122) ∷ [])) ∷ Repeat 1 None true (Class ((48, 57) ∷ [])) ∷ Class ((0, 255) ∷ []) ∷ []) 0 tokens.items) }
+        (Repeat 1 None true (Class ((97, 122) ∷ [])) ∷ Repeat 1 None true (Class ((48, 57) ∷ [])) ∷ Class ((0, 255) ∷ []) ∷ [])
+        ((None ∷ []) ∷ (None ∷ []) ∷ (None ∷ []) ∷ []) 0 tokens.items) }
     ensures refused { IfErr result RunsOut }
 {
     let mut builder = Builder::new(alloc);

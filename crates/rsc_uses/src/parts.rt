@@ -114,11 +114,16 @@ pub fn find_before<'n, W: WordClass + AsciiWordClass>(
 ) -> Result<Option<Span>, Error>
     ensures goes { IfOk result (λ found. IfSome found (λ span.
         Goes (text_of haystack.now (W.word_chars word_class)) (pattern_of part.entry) span.start span.end)) }
+    ensures none { IfOk result (λ found. IfNone found
+        (GoesNowhere (text_of haystack.now (W.word_chars word_class)) (Then (pattern_of part.entry) (pattern_of after.entry)))) }
     ensures refused { IfErr result (FailsToBuild (Then (Group 0 (pattern_of part.entry)) (pattern_of after.entry) ∷ [])
         ((None ∷ None ∷ groups_of_part part.entry ++ groups_of_part after.entry) ∷ [])) }
 {
     laws::a_first_match_is_of_a_pattern::<W>();
     laws::a_group_is_where_its_part_goes::<W>();
+    laws::captures_are_of_the_first_way::<W>();
+    laws::patterns::a_group_spans_what_its_way_records();
+    laws::patterns::what_was_recorded_stays();
     let builder = Builder::new(alloc);
     let group = builder.group(None, part)?;
     let both = builder.then(group, after)?;

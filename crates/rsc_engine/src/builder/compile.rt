@@ -12,7 +12,7 @@ ghost use Rattle.rsc_engine.specs.LinksLayout.{Adds, Builds, BuildsPart, IsAdded
 ghost use Rattle.rsc_engine.specs.BeginsLayout.{Begins, IsOfOne, IsOfSome};
 ghost use Rattle.rsc_engine.specs.FirstsLayout.{OrdersOne, OrdersSome};
 ghost use Rattle.rsc_engine.specs.NamesLayout.{AreSoundIn};
-ghost use Rattle.rsc_engine.specs.Refusals.{has_reversed_range, has_a_reversed_range};
+ghost use Rattle.rsc_engine.specs.Features.{has_feature, some_has};
 
 use super::Part;
 use super::tree::Tree;
@@ -75,7 +75,7 @@ pub(crate) fn compile(
     requires groups { info.now ≡ map groups_of_pattern patterns.now }
     requires room { size_of_program (map pattern_of patterns.now) ≤ most_states }
     ensures made { IfOk result (λ made. Begins made.0.items made.1 (IsOfSome 0 (map pattern_of patterns.now))
-        × AreSoundIn info.now (has_a_reversed_range (map pattern_of patterns.now)) [] made.0.items made.1 made.0.items
+        × AreSoundIn info.now (some_has (map pattern_of patterns.now)) [] made.0.items made.1 made.0.items
         × OrdersSome made.0.items (slot_number info.now) (length made.0.items) made.1 0 (map pattern_of patterns.now)) }
     ensures size { IfOk result (λ made. length made.0.items ≡ size_of_program (map pattern_of patterns.now)) }
 {
@@ -111,7 +111,7 @@ impl Compiler {
         requires room { length self.old.list.states.items + size_of (pattern_of whole.now) + 3 ≤ most_states }
         ensures made { IfOk result (λ first. Adds self.old.list.states.items self.new.list.states.items
             (λ states. Begins states first (IsOfOne index (pattern_of whole.now)) × (index < length info.now →
-            AreSoundIn info.now (has_reversed_range (pattern_of whole.now)) self.old.list.states.items self.new.list.states.items first states)
+            AreSoundIn info.now (has_feature (pattern_of whole.now)) self.old.list.states.items self.new.list.states.items first states)
             × OrdersOne states (slot_number info.now index) (length self.new.list.states.items) first index (pattern_of whole.now))) }
         ensures size { OnOk result (length self.new.list.states.items ≡ length self.old.list.states.items + size_of (pattern_of whole.now) + 3) }
     {

@@ -225,6 +225,25 @@ fn tokens_stand_side_by_side(rt: HostRuntime) -> Result<(), Fail> {
 }
 
 #[test]
+fn tokens_have_the_span_of_a_group(rt: HostRuntime) -> Result<(), Fail> {
+    let mut builder = Builder::new(rt.alloc());
+    // [a-z]=([0-9])*, and any byte.
+    let digit = builder.group(None, builder.range(b'0', b'9'))?;
+    let digits = builder.star(digit)?;
+    let equals = builder.then(builder.literal(b"=")?, digits)?;
+    let pair = builder.then(builder.range(b'a', b'z'), equals)?;
+    builder.pattern(pair)?;
+    let other = builder.range(0, 0xFF);
+    let tokens = lexer::tokens_with_group(rt.alloc(), AsciiWord, builder, other, 1, b"a=12-b=")?;
+    assert!(rt; tokens.len() == 3);
+    let wanted = [(4, Some((3, 4))), (5, None), (7, None)];
+    for ((token, span), (end, group)) in tokens.iter().zip(wanted) {
+        assert!(rt; token.end() == end && span.map(|it| (it.start, it.end)) == group);
+    }
+    Ok(())
+}
+
+#[test]
 fn tokens_in_the_patterns_of_a_list(rt: HostRuntime) -> Result<(), Fail> {
     let builder = Builder::new(rt.alloc());
     let mut keywords = Vec::new(rt.alloc());

@@ -1,11 +1,12 @@
 use Rattle.std.proofs.Common.{◌∙◌, ap, None}
+use Rattle.rsc_engine.specs.NextMatches.{IsNextOf}
 use Rattle.rsc_uses.proofs.EngineLemmas.{first_none, first_more, first_all, fewer_left}
 use Rattle.rsc_uses.proofs.engine.all_over.Goals as goal
 
 pub matches-init : goal.matches-init
 matches-init g c = record {
   first = rw (c.new-all.ensures.items, c.in_ok-matches.ensures.made)
-      (first_none g.W.WordClass.word_chars (record { program = c.args.cache; input = c.args.input; last = None }));
+      (first_none (IsNextOf g.W.WordClass.word_chars) (λ m. m) (record { program = c.args.cache; input = c.args.input; last = None }));
   program = ap (λ x. x.program) c.in_ok-matches.ensures.made;
 }
 
@@ -19,7 +20,7 @@ matches-preserved g c =
     let on = rw c.in-Some.is at c.in_ok-next.ensures.on in
     record {
       first = rw (c.in_ok-push-in-Some.ensures.items, on)
-          (first_more g.W.WordClass.word_chars (record { program = c.args.cache; input = c.args.input; last = None }) c.matches.all.items c.matches.matches
+          (first_more (IsNextOf g.W.WordClass.word_chars) (λ m. m) (record { program = c.args.cache; input = c.args.input; last = None }) c.matches.all.items c.matches.matches
           c.in-Some.found c.matches.invariant.first (_, rw c.in-Some.is at c.in_ok-next.ensures.found));
       program = ap (λ x. x.program) on ∙ c.matches.invariant.program;
     }
