@@ -6,7 +6,7 @@ use Rattle.rsc_engine.specs.Searches.{search_in}
 use Rattle.rsc_engine.specs.NextMatches.{Left, IsNextOf, IsOver, AreAll, after}
 
 -- these are the first of what is left, each with its match, and then the other is left
-pub AreFirst : {W X : Type 0} → (Left W → X → Type 0) → (X → Matched) → Left W → List X → Left W → Type 0
+unfoldable pub AreFirst : {W X : Type 0} → (Left W → X → Type 0) → (X → Matched) → Left W → List X → Left W → Type 0
 AreFirst Next its left [] end = left ≡ end
 AreFirst Next its left (one ∷ rest) end = Next left one × AreFirst Next its (after left (its one)) rest end
 

@@ -1,11 +1,13 @@
 -- Matches that stand side by side are tokens.
-use Rattle.std.proofs.Common.{◌≡◌, ◌∙◌, ℕ, ◌+◌, ◌*◌, ◌<◌, ◌≤◌, Bool, false, true, List, [], ◌∷◌, length, slice_get, refl, sym, subst, arith, Option, Some}
+use Rattle.std.proofs.Common.{nat_lt, ◌≡◌, ◌∙◌, ℕ, ◌+◌, ◌*◌, ◌<◌, ◌≤◌, Bool, false, true, List, [], ◌∷◌, length, slice_get, refl, sym, subst, arith, Option, Some}
+use Rattle.std.specs.Option.{IfSome}
+use Rattle.std.proofs.lemmas.Bool.Decides.{nat_tests}
 use Rattle.rsc_search.specs.declared.anchored.Anchored.TheVariants.{No, Yes}
 use Rattle.rsc_search.specs.Inputs.{InputParts}
 use Rattle.rsc_search.specs.Matches.{Matched}
 use Rattle.rsc_search.specs.declared.span.Span.{Span}
 use Rattle.rsc_captures.specs.Captured.{Captured, group_span}
-use Rattle.rsc_captures.specs.Groups.{GroupLists, group_count, slot_number, all_groups}
+use Rattle.rsc_captures.specs.Groups.{GroupLists, group_count, slot_number, slot_of, all_groups}
 use Rattle.rsc_engine.specs.Searches.{Compiled, search_in}
 use Rattle.rsc_engine.specs.NextMatches.{Left, IsNextMatch, IsOver, AreAll}
 use Rattle.rsc_engine.specs.Patterns.{Pattern, Subject, Goes, subject_of, IsMatchIn}
@@ -58,22 +60,26 @@ token : {W : Type 0} (chars : W → ℕ → Bool) (program : Compiled W) (patter
     → (its : IsLexed (read_by chars program.automaton.matcher text) patterns program.automaton.groups at found) × (records : List (ℕ × ℕ))
     × IsPreferredWay (read_by chars program.automaton.matcher text) (as_whole program.automaton.groups found.pattern its.pattern)
     (λ j. j ≤ length text) at found.span.end records × HoldRecords captures found records
-token chars program patterns text at last captures found laws next =
-    (record {
-      pattern = m.pattern;
-      its = m.its;
-      start = start;
-      end = m.end;
-      goes = subst (λ (i : ℕ). Goes (read_by chars program.automaton.matcher text) m.pattern i found.span.end) start m.goes;
-      way = (n.records, way);
-      first_end = λ loops.
-          subst (λ (i : ℕ). IsFirstEnd (read_by chars program.automaton.matcher text) m.pattern (λ j. j ≤ length text) i found.span.end) start
-          (laws.first_end (rest_of text at) last captures found m.pattern next m.its loops);
-      first = λ number pattern to l its within goes.
-          let least = n.preferred.least (record { pattern = number; span = record { start = at; end = to } })
-          (match_at chars program patterns text at number to pattern its within goes) (sym start) in
-          absurd (omega (arith, least, l));
-    }, n.records, way, n.hold)
+token chars program patterns text at last captures found laws next = (
+  record {
+    pattern = m.pattern;
+    its = m.its;
+    start = start;
+    end = m.end;
+    goes = subst (λ (i : ℕ). Goes (read_by chars program.automaton.matcher text) m.pattern i found.span.end) start m.goes;
+    way = (n.records, way);
+    first_end = λ loops.
+        subst (λ (i : ℕ). IsFirstEnd (read_by chars program.automaton.matcher text) m.pattern (λ j. j ≤ length text) i found.span.end) start
+        (laws.first_end (rest_of text at) last captures found m.pattern next m.its loops);
+    first = λ number pattern to l its within goes.
+        let least = n.preferred.least (record { pattern = number; span = record { start = at; end = to } })
+        (match_at chars program patterns text at number to pattern its within goes) (sym start) in
+        absurd (omega (arith, least, l));
+  },
+  n.records,
+  way,
+  n.hold,
+)
   where
     n : IsNextOfAll patterns program.automaton.groups (search_in chars program (rest_of text at)) last captures found
     n = laws.built.next (rest_of text at) last captures found next
@@ -107,6 +113,13 @@ IsNextWith chars group left both =
     × HasSlotsOf left.program captures × (both.1 ≡ group_span captures group)
     × (group < group_count left.program.automaton.groups both.0.pattern →
     slot_number left.program.automaton.groups both.0.pattern group + 1 < 2 * all_groups left.program.automaton.groups)
+
+-- a group that is there has its slots
+pub slot_within : (lists others : GroupLists) (p g : ℕ) (o : Option ℕ) → lists ≡ others → o ≡ slot_of lists p g
+    → IfSome o (λ slot. slot + 1 < 2 * all_groups lists) → g < group_count others p → slot_number others p g + 1 < 2 * all_groups others
+slot_within lists others p g o same is within l =
+    let e : nat_lt g (group_count lists p) ≡ true = rw same (grind (arith, nat_tests)) in
+    rw (← same) (rw (is, e) at within)
 
 -- what the law on spans says
 abbrev pub Spans : Type 0

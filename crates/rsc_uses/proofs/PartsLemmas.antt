@@ -7,6 +7,7 @@ use Rattle.rsc_search.specs.Inputs.{InputParts, whole}
 use Rattle.rsc_search.specs.Matches.{Matched}
 use Rattle.rsc_search.specs.Modes.{pattern_of_mode}
 use Rattle.rsc_captures.specs.Groups.{Groups, GroupLists, group_count, slot_number, all_groups}
+use Rattle.rsc_search.specs.declared.span.Span.{Span}
 use Rattle.rsc_captures.specs.Captured.{Captured, no_offsets, group_span}
 use Rattle.rsc_engine.specs.Searches.{Compiled, Search, search_in}
 use Rattle.rsc_engine.specs.Runs.{is_wanted}
@@ -194,6 +195,11 @@ span_set x whole slot p q m n stays g none =
     let both = group_set x whole slot p q m n stays g in
     let some : recorded_span n.1 slot ≡ Some (record { start = both.0; end = both.1 }) = rw (both.2, both.3) refl in
     absurd (cc)
+
+-- but a group that isn't set has none
+pub no_span : (c : Captured) (g slot : ℕ) (records : List (ℕ × ℕ)) (o : Option Span) → o ≡ group_span c g → o ≡ None
+    → group_span c g ≡ recorded_span records slot → recorded_span records slot ≡ None
+no_span c g slot records o is none same = sym same ∙ (sym is ∙ none)
 
 -- captures that are made for a program of such a pattern have room for that group
 pub group_there : (lists : GroupLists) (groups : Groups) (made after : Captured) (pattern : ℕ) → lists ≡ (None ∷ None ∷ groups) ∷ []

@@ -68,7 +68,7 @@ pub fn tokens_with_group<'n, W: WordClass + AsciiWordClass>(
             None => return Ok(all),
             Some(found) => {
                 // So that the slots of the group are known to be there.
-                let _slots = captures.group_info().slots(found.pattern(), group);
+                let _slot = captures.group_info().slot(found.pattern(), group);
                 all.push((found, captures.get_group(group)))?;
             }
         }

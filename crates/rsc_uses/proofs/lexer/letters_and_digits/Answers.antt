@@ -11,4 +11,12 @@ returns-clause-tokens c =
       c.range.ensures.part,
       c.range-2.ensures.part,
       c.range-other.ensures.part,
+      c.in_ok-pattern-2.ensures.groups,
+      c.in_ok-pattern.ensures.groups,
+      c.new-builder.ensures.groups,
+      c.in_ok-letters.ensures.groups,
+      c.in_ok-digits.ensures.groups,
+      c.range.ensures.groups,
+      c.range-2.ensures.groups,
+      c.range-other.ensures.groups,
     ) at c.tokens_of.ensures.tokens

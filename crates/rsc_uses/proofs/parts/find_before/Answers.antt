@@ -7,7 +7,7 @@ use Rattle.rsc_engine.specs.GroupNumbers.{numbered, count_groups}
 use Rattle.rsc_engine.specs.Patterns.{subject_of}
 use Rattle.rsc_engine.specs.Searches.{search_in}
 use Rattle.rsc_captures.specs.Groups.{slot_number}
-use Rattle.rsc_uses.proofs.PartsLemmas.{group_goes, goes_nowhere, number_of, its_of, group_there, span_set}
+use Rattle.rsc_uses.proofs.PartsLemmas.{group_goes, goes_nowhere, number_of, its_of, group_there, span_set, no_span}
 use Rattle.rsc_uses.proofs.parts.find_before.Goals as goal
 
 pub returns-clause-goes : goal.returns-clause-goes
@@ -62,4 +62,4 @@ returns-in-None-get_group-clause-none g c =
     (record { pattern = first.is_of.pattern; slots = w.2 }) room.0 room.1 in
     absurd (span_set (subject_of e) (2 * found.pattern) (slot_of 1) (numbered slot_of 2 p) (numbered slot_of (1 + count_groups (Group 0 p)) q)
     (found.span.start, []) (found.span.end, w.0) (λ r slot k l i. c.what_was_recorded_stays.ensures (subject_of e) r slot k l i) w.1
-    (sym span ∙ (sym c.get_group.ensures.span ∙ c.in-None-get_group.is)))
+    (no_span c.find.new.captures 1 (slot_of 1) w.0 c.get_group.result c.get_group.ensures.span c.in-None-get_group.is span))
