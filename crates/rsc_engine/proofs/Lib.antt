@@ -17,7 +17,7 @@ pub mod LawfulLayoutLemmas  -- what follows from the laws of steps: the bytes on
 pub mod LawsLemmas  -- what first and next matches and ends are, of a program that recognizes patterns
 pub mod LinksLayoutLemmas  -- how single states lead on, and what follows for parts made of parts
 pub mod LoopsLemmas  -- how lists of states grow by repetitions
-pub mod NamesLayoutLemmas  -- what the states of parts name that are made of parts, and whether a range of theirs is reversed
+pub mod NamesLayoutLemmas  -- what the states of parts name that are made of parts, and which features they have
 pub mod NeededLayoutLemmas  -- no match is where no byte of the one range is directly after one of the other
 pub mod NextMatchesLemmas  -- which match is next, as the search's start moves on
 pub mod NumbersLemmas  -- the numbers of places: the flags that have them, and what they say where a search begins later

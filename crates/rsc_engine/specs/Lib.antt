@@ -21,7 +21,7 @@ pub mod NextMatches  -- which match is next; `last` is where the last one ended,
 pub mod OrderLayout  -- by which ways of a pattern steps lead to a match, and by which the first do
 pub mod Parts  -- which pattern a part is, and which groups it has; and what a builder has of them
 pub mod PathsLayout  -- paths of states to a match: lists of states alone, along which the position, the records and the choices are carried
-pub mod PatternMatches  -- which match of patterns is first, and which is next, by the patterns alone
+pub mod PatternMatches  -- which match of patterns is first, and which is next, by the patterns alone; `last` is where the last one ended, if there was one
 pub mod PatternOrder  -- which match of a program's patterns is preferred
 pub mod Patterns  -- what a pattern matches, and which programs match it
 pub mod Preferred  -- which match is first

@@ -1,7 +1,7 @@
 //! Laws of matches that a caller can cite: functions whose contracts are the laws.
 ghost use Rattle.std.specs.Prelude.{true, false, ◌↔◌, ◌≡◌, ◌+◌, ◌*◌, ◌<◌, ◌≤◌, ◌⊎◌, ℕ, List, [], length, Option, Some, None, slice_get, slice_index_or};
 ghost use Rattle.std.specs.List.{list_any};
-ghost use Rattle.rsc_captures.specs.Groups.{group_count, slot_number};
+ghost use Rattle.rsc_captures.specs.Groups.{GroupLists, group_count, slot_number};
 ghost use Rattle.rsc_captures.specs.Captured.{Captured, group_span};
 ghost use Rattle.rsc_search.specs.Inputs.{InputParts};
 ghost use Rattle.rsc_search.specs.Matches.{Matched};
@@ -22,11 +22,10 @@ ghost use Rattle.rsc_engine.specs.Ways.{Mark, last_in, GoesWith};
 ghost use Rattle.rsc_engine.specs.FirstWays.{IsFirstWay};
 ghost use Rattle.rsc_engine.specs.GroupNumbers.{IsGroupOf, as_whole};
 ghost use Rattle.rsc_engine.specs.PreferredWays.{IsPreferredWay};
+ghost use Rattle.rsc_engine.specs.PatternMatches.{HoldRecords, recorded_span, IsFirstOf, IsNextOfAll, IsOverOf};
 
 use crate::Answer;
 use rsc_look::WordClass;
-
-pub mod patterns;
 
 /// From a place there is at most one preferred run; in a search there is at most one leftmost-first run, and none if no match begins
 /// where one may.
@@ -314,6 +313,34 @@ pub fn a_group_that_begins_ends<W: WordClass>()
     ensures next_span { (program : Compiled W) (input : InputParts) (last : Option ℕ) (captures : Captured) (found : Matched) (group : ℕ) (span : Span) →
         ClosesGroups W.word_chars program → IsNextMatch (search_in W.word_chars program input) last captures found →
         group_span captures group ≡ Some span → (found.span.start ≤ span.start) × (span.start ≤ span.end) × (span.end ≤ found.span.end) }
+{}
+
+/// Patterns have at most one first match and at most one next match in a search, and no next one if the iteration is over. Captures over the same groups
+/// with as many slots then hold the same.
+pub fn there_is_one_match_of_patterns()
+    ensures first { (patterns : List Pattern) (lists : GroupLists) (e : Search) (one other : Captured) (m n : Matched) →
+        IsFirstOf patterns lists e one m → IsFirstOf patterns lists e other n →
+        (m ≡ n) × (one.groups ≡ other.groups → length one.offsets ≡ length other.offsets → one ≡ other) }
+    ensures next { (patterns : List Pattern) (lists : GroupLists) (e : Search) (last : Option ℕ) (one other : Captured) (m n : Matched) →
+        IsNextOfAll patterns lists e last one m → IsNextOfAll patterns lists e last other n →
+        (m ≡ n) × (one.groups ≡ other.groups → length one.offsets ≡ length other.offsets → one ≡ other) }
+    ensures over { (patterns : List Pattern) (lists : GroupLists) (e : Search) (last : Option ℕ) (captures : Captured) (m : Matched) →
+        IsNextOfAll patterns lists e last captures m → ¬ (IsOverOf patterns lists e last) }
+{}
+
+/// What a way of a pattern finds recorded in a slot stays recorded there, or is recorded later: so a group that each way goes through is set.
+#[tactic(auto, using(crate::proofs::WaysLemmas::stays_recorded))]
+pub fn what_was_recorded_stays()
+    ensures { (x : Subject) (p : Pattern) (slot : ℕ) (m n : Mark) (i : ℕ) → GoesWith x p m n → last_in m.1 slot ≡ Some i →
+        (j : ℕ) × (last_in n.1 slot ≡ Some j) }
+{}
+
+/// The span of a group in a match's captures: from the position that the match's way recorded last in the group's first slot to the one in its second.
+#[tactic(auto, using(crate::proofs::PatternMatchesLemmas::recorded_there))]
+pub fn a_group_spans_what_its_way_records()
+    ensures { (lists : GroupLists) (captures : Captured) (m : Matched) (records : List (ℕ × ℕ)) (group : ℕ) → captures.groups ≡ lists →
+        HoldRecords captures m records → group < group_count lists m.pattern → slot_number lists m.pattern group + 1 < length captures.offsets →
+        group_span captures group ≡ recorded_span records (slot_number lists m.pattern group) }
 {}
 
 /// A clone of an answer is that answer, and none is refused.

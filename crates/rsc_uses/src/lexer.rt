@@ -15,8 +15,8 @@ use rsc_look::{AsciiWord, WordClass};
 use rsc_search::{Anchored, Input, Match, Span};
 use std::alloc::Global;
 
-/// The tokens of a text: each is of the first pattern that goes on from where the token before it ended, and ends where that pattern's preferred way does, which
-/// is its first end if its loops take bytes; and from the end of the last none goes on. No pattern may be empty.
+/// The tokens of a text: each is of the first pattern that goes on from where the token before it ended, and ends where that pattern's preferred way does,
+/// which is its first end if its loops take bytes; and from the end of the last none goes on. No pattern may be empty.
 pub fn tokens_of<'n, W: WordClass + AsciiWordClass>(
     alloc: Global,
     word_class: W,
@@ -57,7 +57,7 @@ pub fn tokens_with_group<'n, W: WordClass + AsciiWordClass>(
 {
     laws::anchored_matches_are_side_by_side::<W>();
     laws::a_match_ends_at_its_first_end::<W>();
-    laws::patterns::a_group_spans_what_its_way_records();
+    laws::a_group_spans_what_its_way_records();
     let program = builder.build(word_class, true, last)?;
     let mut captures = program.captures(alloc)?;
     let input = Input::new(text).anchored(Anchored::Yes);

@@ -122,8 +122,8 @@ pub fn find_before<'n, W: WordClass + AsciiWordClass>(
     laws::a_first_match_is_of_a_pattern::<W>();
     laws::a_group_is_where_its_part_goes::<W>();
     laws::captures_are_of_the_first_way::<W>();
-    laws::patterns::a_group_spans_what_its_way_records();
-    laws::patterns::what_was_recorded_stays();
+    laws::a_group_spans_what_its_way_records();
+    laws::what_was_recorded_stays();
     let builder = Builder::new(alloc);
     let group = builder.group(None, part)?;
     let both = builder.then(group, after)?;

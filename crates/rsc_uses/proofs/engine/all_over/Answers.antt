@@ -20,8 +20,8 @@ matches-preserved g c =
     let on = rw c.in-Some.is at c.in_ok-next.ensures.on in
     record {
       first = rw (c.in_ok-push-in-Some.ensures.items, on)
-          (first_more (IsNextOf g.W.WordClass.word_chars) (λ m. m) (record { program = c.args.cache; input = c.args.input; last = None }) c.matches.all.items c.matches.matches
-          c.in-Some.found c.matches.invariant.first (_, rw c.in-Some.is at c.in_ok-next.ensures.found));
+          (first_more (IsNextOf g.W.WordClass.word_chars) (λ m. m) (record { program = c.args.cache; input = c.args.input; last = None }) c.matches.all.items
+          c.matches.matches c.in-Some.found c.matches.invariant.first (_, rw c.in-Some.is at c.in_ok-next.ensures.found));
       program = ap (λ x. x.program) on ∙ c.matches.invariant.program;
     }
 

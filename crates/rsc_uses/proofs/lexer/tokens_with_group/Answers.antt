@@ -31,8 +31,8 @@ matches-preserved g c =
             rw c.in-Some.is at c.in_ok-next.ensures.found,
             (groups, slots),
             c.get_group.ensures.span,
-            slot_within c.group_info.result.now c.matches.matches.program.automaton.groups c.in-Some.found.pattern c.args.group c.slot-slot.result (c.group_info.ensures ∙ groups)
-                (rw c.pattern.ensures at c.slot-slot.ensures.value) c.slot-slot.ensures.within,
+            slot_within c.group_info.result.now c.matches.matches.program.automaton.groups c.in-Some.found.pattern c.args.group c.slot-slot.result
+                (c.group_info.ensures ∙ groups) (rw c.pattern.ensures at c.slot-slot.ensures.value) c.slot-slot.ensures.within,
           ));
       program = ap (λ x. x.program) on ∙ c.matches.invariant.program;
       groups = rw on groups;

@@ -1,5 +1,5 @@
 use Rattle.rsc_engine.proofs.PatternMatchesLemmas.{one_first_of, one_next_of, not_over_of}
-use Rattle.rsc_engine.proofs.laws.patterns.there_is_one_match_of_patterns.Goals as goal
+use Rattle.rsc_engine.proofs.laws.there_is_one_match_of_patterns.Goals as goal
 
 pub returns-clause-first : goal.returns-clause-first
 returns-clause-first g = one_first_of
