@@ -25,7 +25,6 @@ use Rattle.rsc_engine.proofs.GroupNumbersLemmas.{numbered-goes, numbered-loops, 
 use Rattle.rsc_engine.proofs.LinksLayoutLemmas.{Realizes-is, Realizes-between, Realizes-capture, choice_to, choice_first, choice_next}
 use Rattle.rsc_engine.proofs.CompileLemmas.{Adds-one, Adds-both, Adds-is, grown}
 use Rattle.rsc_engine.specs.BeginsLayout.{IsWhole}
-use Rattle.rsc_engine.proofs.GroupEndsLemmas.{RecordsFrom-one, RecordsFrom-fork}
 use Rattle.rsc_search.specs.Matches.{Matched}
 use Rattle.rsc_search.specs.Modes.{pattern_of_mode}
 use Rattle.rsc_engine.specs.Searches.{Search, Compiled, search_in}
@@ -53,7 +52,6 @@ Begins-one states number low high accept after body first p w r = record {
   complete = λ a i s within.
       whole.complete a i a.position s.1
       (record { steps = 0; ends = (w.accepting ∙ ap (λ (q : ℕ). Some (Accept q)) (sym s.0), refl, within) });
-  records = RecordsFrom-one states number low high accept after body first w;
   prefers = PrefersFrom-one states first number p sound;
 }
   where
@@ -146,7 +144,6 @@ Begins-is : (states : List State) (first : ℕ) (P Q : Aim → ℕ → Type 0) �
 Begins-is states first P Q to back b = record {
   sound = λ a n i e. to a i (b.sound a n i e);
   complete = λ a i q within. b.complete a i (back a i q) within;
-  records = b.records;
   prefers = b.prefers;
 }
 
@@ -161,7 +158,6 @@ Begins-either states s one other P Q is b c apart = record {
       (λ (x : P a i). choice_first states a s i one other (inl is) (b.complete a i x within))
       (λ (x : Q a i). choice_next states a s i one other (inl is) (c.complete a i x within))
       h;
-  records = RecordsFrom-fork states s one other is b.records c.records;
   prefers = PrefersFrom-fork states s one other P Q is b c apart;
 }
 

@@ -9,7 +9,7 @@ use Rattle.rsc_nfa.specs.declared.state.State.TheVariants.{ByteRange, Assert, Fo
 use Rattle.rsc_engine.specs.Patterns.{Pattern, Empty, Never, Class, Literal, Assertion, Then, Either, Group, one_of, Subject, Goes}
 use Rattle.rsc_engine.specs.EnclosesLayout.{IsOnWay, StaysOnWay, Encloses}
 use Rattle.rsc_engine.specs.Features.{Feature, has_feature}
-use Rattle.rsc_engine.specs.NamesLayout.{HasClose, RecordsInPairs, Lacks, Names}
+use Rattle.rsc_engine.specs.NamesLayout.{RecordsBelow, Lacks, Names}
 use Rattle.rsc_engine.proofs.NamesLayoutLemmas.{Names-none, Names-joined, Names-one, Names-above, Names-alike, nothing, fork-lacks, capture-lacks, none-same, either_back, range-lacks, range-shows, assert-lacks, assert-shows, class-same, literal-same, between-same}
 use Rattle.rsc_captures.specs.Groups.{GroupLists, slot_number}
 use Rattle.std.proofs.lemmas.Bool.Decides.{nat_tests}
@@ -175,7 +175,7 @@ grown old new state id a = a.one
 
 Builds-state : (slots : ℕ × ℕ) (old new : List State) (state : State) (id next : ℕ) (p : Pattern) → IsAdded old new state id
     → StaysOnWay (λ (s : ℕ). IsOnWay (length old) (length new) next s) slots.0 state
-    → ((all : List State) → RecordsInPairs slots.1 all state) → ((f : Feature) → has_feature p f ≡ false → Lacks f state)
+    → RecordsBelow slots.1 state → ((f : Feature) → has_feature p f ≡ false → Lacks f state)
     → ((f : Feature) → has_feature p f ≡ true → Lacks f state → ⊥) → ((all : List State) → slice_get all id ≡ Some state
     → Realizes all id next p × Orders all id next p × TakesCourse (length old) (length new) id next p all)
     → Builds slots old new id next p
@@ -184,7 +184,7 @@ Builds-state slots old new state id next p a stays below lacks shows realizes =
     (λ all is. (
       (realizes all is).0,
       Encloses-one slots.0 (length old) (length new) id next all state a.last (grown old new state id a) is stays,
-      Names-one slots.1 (has_feature p) (length old) (length new) id all state a.last (grown old new state id a) is (below all) lacks shows,
+      Names-one slots.1 (has_feature p) (length old) (length new) id all state a.last (grown old new state id a) is below lacks shows,
       (realizes all is).1,
       (realizes all is).2,
     ))
@@ -195,7 +195,7 @@ pub Builds-never : (slots : ℕ × ℕ) (old new : List State) (this id next : �
 Builds-never slots old new this id next e a =
     let same : this ≡ id = e ∙ sym a.last in
     let here : IsOnWay (length old) (length new) next this = inl (omega (arith, e), omega (arith, e, grown old new (Fork this this) id a)) in
-    Builds-state slots old new (Fork this this) id next Never a (here, here) (λ all. tt) (λ f e. fork-lacks this this f) (λ f e. absurd (true≢false (sym e)))
+    Builds-state slots old new (Fork this this) id next Never a (here, here) tt (λ f e. fork-lacks this this f) (λ f e. absurd (true≢false (sym e)))
     (λ all is.
     let loop = is ∙ ap (λ (n : ℕ). Some (Fork n n)) same in
     (Realizes-never all id next loop, Orders-never all id next loop, Takes-never (length old) (length new) id next all loop))
@@ -203,21 +203,21 @@ Builds-never slots old new this id next e a =
 pub Builds-range : (slots : ℕ × ℕ) (old new : List State) (x y id next : ℕ) → IsAdded old new (ByteRange x y next) id
     → Builds slots old new id next (Class ((x, y) ∷ []))
 Builds-range slots old new x y id next a =
-    Builds-state slots old new (ByteRange x y next) id next (Class ((x, y) ∷ [])) a (inr refl) (λ all. tt) (range-lacks x y next) (range-shows x y next)
+    Builds-state slots old new (ByteRange x y next) id next (Class ((x, y) ∷ [])) a (inr refl) tt (range-lacks x y next) (range-shows x y next)
     (λ all is. (Realizes-range all id x y next is, Orders-range all id x y next is, Takes-range (length old) (length new) id x y next all is))
 
 pub Builds-assert : (slots : ℕ × ℕ) (old new : List State) (look : Look) (id next : ℕ) → IsAdded old new (Assert look next) id
     → Builds slots old new id next (Assertion look)
 Builds-assert slots old new look id next a =
-    Builds-state slots old new (Assert look next) id next (Assertion look) a (inr refl) (λ all. tt) (assert-lacks look next) (assert-shows look next)
+    Builds-state slots old new (Assert look next) id next (Assertion look) a (inr refl) tt (assert-lacks look next) (assert-shows look next)
     (λ all is. (Realizes-assert all id next look is, Orders-assert all id next look is, Takes-assert (length old) (length new) id next look all is))
 
 shape-capture : (slots : ℕ × ℕ) (low high c id next : ℕ) (all : List State) → id ≡ low → high ≡ low + 1 → slice_get all id ≡ Some (Capture c next)
-    → slots.0 < c → c < slots.1 → ((pair : ℕ) → c ≡ 2 * pair → HasClose all pair next) → IsShape slots low high id next Empty all
-shape-capture slots low high c id next all same one is l m closed = (
+    → slots.0 < c → c < slots.1 → IsShape slots low high id next Empty all
+shape-capture slots low high c id next all same one is l m = (
   Realizes-capture all id c next is,
   Encloses-one slots.0 low high id next all (Capture c next) same one is (l, inr refl),
-  Names-one slots.1 nothing low high id all (Capture c next) same one is (m, closed) (λ f e. capture-lacks c next f) (λ f e. absurd (true≢false (sym e))),
+  Names-one slots.1 nothing low high id all (Capture c next) same one is m (λ f e. capture-lacks c next f) (λ f e. absurd (true≢false (sym e))),
 )
 
 -- ---- states after parts
@@ -276,9 +276,9 @@ Builds-group slots old middle last new state start end body after id next p l ev
     (λ all y is.
     let s = shape-then slots (length old) (length last) (length new) id body next Empty (Then p Empty) all (omega (arith, x.longer, one)) (omega (arith, two))
     (shape-then slots (length old) (length middle) (length last) body after next p Empty all (omega (arith, one)) x.longer
-    (shape-capture slots (length old) (length middle) end after next all a.last one y.0 (omega (arith, l, second)) m (λ pair e. absurd (odd pair e)))
+    (shape-capture slots (length old) (length middle) end after next all a.last one y.0 (omega (arith, l, second)) m)
     (y.1.0, y.1.1, y.1.2))
-    (shape-capture slots (length last) (length new) start id body all (b.last ∙ same) two is l (omega (arith, m, second)) (λ pair e. closed all y pair e)) in (
+    (shape-capture slots (length last) (length new) start id body all (b.last ∙ same) two is l (omega (arith, m, second))) in (
       Realizes-is all id next p (Group start p) (λ t i j g. g) (λ t i j g. g) (λ e. e)
           (Realizes-between all id body after next p (Realizes-capture all after end next y.0) y.1.0 (Realizes-capture all id start body is)),
       s.1,
@@ -299,20 +299,6 @@ Builds-group slots old middle last new state start end body after id next p l ev
 
     two : length new ≡ length last + 1
     two = omega (arith, b.one, same)
-
-    odd : (pair : ℕ) → end ≡ 2 * pair → ⊥
-    odd pair e = omega (arith, e, second, even, div-add-mod start 2)
-
-    closed : (all : List State) → Two all → (pair : ℕ) → start ≡ 2 * pair → HasClose all pair body
-    closed all y pair e = record {
-      slot = slots.0;
-      low = length middle;
-      high = length last;
-      close = after;
-      next = next;
-      its = y.0 ∙ ap (λ (s : ℕ). Some (Capture s next)) (omega (arith, e, second));
-      encloses = y.1.1;
-    }
 
 -- ---- a list from an index on
 

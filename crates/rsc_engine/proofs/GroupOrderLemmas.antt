@@ -1,141 +1,133 @@
--- A group that begins in a run of a program that was built ends there or later.
-use Rattle.std.proofs.Common.{nat_eq, nat_lt, ◌≡◌, ℕ, ◌+◌, ◌*◌, ◌-◌, ◌<◌, ◌≤◌, inl, inr, ⊎_elim, Bool, true, false, true≢false, cond, List, [], ◌∷◌, length, slice_get, slice_index_or, refl, sym, ap, ◌∙◌, subst, arith, Option, Some, None, option_and_then}
+-- A group that begins on a way of a pattern ends there or later.
+use Rattle.std.proofs.Common.{nat_eq, nat_lt, ◌≡◌, ℕ, zero, suc, ◌+◌, ◌*◌, ◌-◌, ◌<◌, ◌≤◌, ◌⊎◌, inl, inr, ⊎_elim, Bool, true, false, cond, List, [], ◌∷◌, length, slice_get, slice_index_or, refl, sym, ap, ◌∙◌, subst, arith, Option, Some, None, option_and_then}
 use Rattle.std.specs.Option.{option_map}
-use Rattle.std.proofs.lemmas.Bool.{cases_lt, eqb-true}
+use Rattle.std.proofs.lemmas.Bool.{cases_lt, cases_eq}
 use Rattle.std.proofs.lemmas.List.{get_or_past}
-use Rattle.std.proofs.lemmas.Option.{same_Some, slice_get_within}
-use Rattle.rsc_nfa.specs.declared.state.State.{State}
-use Rattle.rsc_nfa.specs.declared.state.State.TheVariants.{ByteRange, Assert, Fork, Capture, Accept}
-use Rattle.rsc_nfa.specs.Steps.{place, is_capture_of, or_earlier, recorded}
+use Rattle.std.proofs.lemmas.Option.{same_Some}
+use Rattle.rsc_nfa.specs.Steps.{place, recorded}
+use Rattle.rsc_search.specs.Inputs.{InputParts}
 use Rattle.rsc_search.specs.declared.span.Span.{Span}
 use Rattle.rsc_search.specs.Matches.{Matched}
 use Rattle.rsc_search.specs.Modes.{pattern_of_mode}
 use Rattle.rsc_captures.specs.Groups.{GroupLists, group_count, slot_number, slot_of, explicit_before}
 use Rattle.rsc_captures.specs.Captured.{Captured, span_at, first_slot, group_span}
 use Rattle.rsc_engine.specs.Searches.{Search, Compiled, search_in}
-use Rattle.rsc_engine.specs.Runs.{IsMatchRun}
+use Rattle.rsc_engine.specs.Runs.{IsMatchRun, IsMatchOf}
 use Rattle.rsc_engine.specs.Preferred.{IsOf}
-use Rattle.rsc_engine.specs.Patterns.{subject_of}
-use Rattle.rsc_engine.specs.EnclosesLayout.{IsOnWay}
-use Rattle.rsc_engine.specs.Features.{Feature}
-use Rattle.rsc_engine.specs.NamesLayout.{HasClose, AreSound}
-use Rattle.rsc_engine.specs.StepsLayout.{AreSteps, last_place}
+use Rattle.rsc_engine.specs.Patterns.{Pattern, Empty, Never, Class, Literal, Assertion, Then, Either, Repeat, Group, Subject, subject_of, Recognizes}
+use Rattle.rsc_engine.specs.Ways.{Mark, last_in, with_record, TimesWith, GoesWith}
+use Rattle.rsc_engine.specs.GroupNumbers.{count_groups, numbered}
+use Rattle.rsc_engine.specs.PatternOrder.{RecordsWays}
 use Rattle.rsc_engine.specs.GroupOrder.{ClosesGroups}
-use Rattle.rsc_engine.proofs.WalksLayoutLemmas.{leads-rises}
 use Rattle.rsc_engine.proofs.LawsLemmas.{accepted}
-use Rattle.rsc_engine.proofs.StepsLayoutLemmas.{step_of, steps_of, last_is}
-use Rattle.rsc_engine.proofs.GroupEndsLemmas.{unrecorded, kept, first_recorded, step_within, records_in, no_capture}
+use Rattle.rsc_engine.proofs.PatternsLemmas.{goes-forward}
+use Rattle.rsc_engine.proofs.WaysLemmas.{same_slot, other_slot, slot_later}
 
--- ---- from a record on
+-- ---- along a way
 
--- the steps record in the slot, at the position or later
-abbrev IsRecordedFrom : List State → ℕ × ℕ → List (ℕ × ℕ) → ℕ → ℕ → Type 0
-IsRecordedFrom states p rest slot i = (j : ℕ) × (recorded states (p ∷ rest) slot ≡ Some j) × (i ≤ j)
+-- nothing was recorded later than here; and in each pair of slots, but those of groups that are open, what is in the first has an end in the second
+record IsClosedBut (Opens : ℕ → Type 0) (m : Mark) : Type 0 where
+  before : (slot i : ℕ) → last_in m.1 slot ≡ Some i → i ≤ m.0
+  closed : (pair i : ℕ) → (Opens pair → ⊥) → last_in m.1 (2 * pair) ≡ Some i → (j : ℕ) × (last_in m.1 (2 * pair + 1) ≡ Some j) × (i ≤ j)
 
--- the steps record at no earlier position than their first
-recorded_later : (e : Search) (p : ℕ × ℕ) (rest : List (ℕ × ℕ)) (slot j : ℕ) → AreSteps e.states (subject_of e) e.end p rest
-    → recorded e.states (p ∷ rest) slot ≡ Some j → p.1 ≤ j
-recorded_later e p [] slot j steps at = absurd (none_there j at)
-  where
-    none_there : (i : ℕ) → None ≡ Some i → ⊥
-    none_there i h = absurd (cc)
-recorded_later e p (q ∷ rest) slot j steps at =
-    go (λ k is. recorded_later e q rest slot k steps.1 is) (recorded e.states (q ∷ rest) slot) refl (is_capture_of slot (slice_get e.states p.0)) at
-  where
-    go : ((k : ℕ) → recorded e.states (q ∷ rest) slot ≡ Some k → q.1 ≤ k) → (o : Option ℕ) → recorded e.states (q ∷ rest) slot ≡ o → (b : Bool)
-        → or_earlier o (cond b (Some p.1) None) ≡ Some j → p.1 ≤ j
-    go later (Some k) is b f = let same : k ≡ j = same_Some k j f in omega (arith, later k is, same, leads-rises e p q steps.0)
-    go later None is true f = let same : p.1 ≡ j = same_Some p.1 j f in omega (arith, same)
-    go later None is false f = absurd (cc)
+closed-later : (Opens : ℕ → Type 0) (m k : Mark) → m.1 ≡ k.1 → m.0 ≤ k.0 → IsClosedBut Opens m → IsClosedBut Opens k
+closed-later Opens m k same l c = record {
+  before = λ slot i h. let b = c.before slot i (ap (λ (r : List (ℕ × ℕ)). last_in r slot) same ∙ h) in omega (arith, b, l);
+  closed = λ pair i none h.
+      let r = c.closed pair i none (ap (λ (r : List (ℕ × ℕ)). last_in r (2 * pair)) same ∙ h) in
+      (r.0, ap (λ (r : List (ℕ × ℕ)). last_in r (2 * pair + 1)) (sym same) ∙ r.1, r.2);
+}
 
--- a step from a state that records in the slot
-recorded_here : (e : Search) (s slot next : ℕ) (p q : ℕ × ℕ) (rest : List (ℕ × ℕ)) → p.0 ≡ s → slice_get e.states s ≡ Some (Capture slot next)
-    → AreSteps e.states (subject_of e) e.end p (q ∷ rest) → IsRecordedFrom e.states p (q ∷ rest) slot p.1
-recorded_here e s slot next p q rest same is steps = go (recorded e.states (q ∷ rest) slot) refl
-  where
-    go : (o : Option ℕ) → recorded e.states (q ∷ rest) slot ≡ o → IsRecordedFrom e.states p (q ∷ rest) slot p.1
-    go None at = (p.1, first_recorded e.states p q rest slot (records_in e.states s slot next slot p same is refl) at, omega arith)
-    go (Some j) at =
-        let later = recorded_later e q rest slot j steps.1 at in
-        (j, kept e.states p q rest slot j at, omega (arith, later, leads-rises e p q steps.0))
+-- a record at the position
+recorded-before : (slot : ℕ) (m : Mark) → ((other i : ℕ) → last_in m.1 other ≡ Some i → i ≤ m.0) → (other i : ℕ)
+    → last_in ((slot, m.0) ∷ m.1) other ≡ Some i → i ≤ m.0
+recorded-before slot m before other i h = ⊎_elim
+    (λ (same : slot ≡ other).
+    let at : m.0 ≡ i = same_Some m.0 i (sym (subst (λ (s : ℕ). last_in ((slot, m.0) ∷ m.1) s ≡ Some m.0) same (same_slot slot m.0 m.1)) ∙ h) in
+    omega (arith, at))
+    (λ (apart : (slot ≡ other) → ⊥). before other i (sym (other_slot slot other m.0 m.1 apart) ∙ h))
+    (cases_eq slot other)
 
--- among states that are left to a record in the second slot of a pair alone
-closed_later : (e : Search) (pair first number : ℕ) (h : HasClose e.states pair first) (p : ℕ × ℕ) (rest : List (ℕ × ℕ))
-    → IsOnWay h.low h.high h.close p.0 → AreSteps e.states (subject_of e) e.end p rest
-    → slice_get e.states (last_place p rest).0 ≡ Some (Accept number) → IsRecordedFrom e.states p rest (2 * pair + 1) p.1
-closed_later e pair first number h p [] (inl w) steps at = absurd (h.encloses.stays p.0 (Accept number) w.0 w.1 at)
-closed_later e pair first number h p [] (inr same) steps at =
-    absurd (no_capture (2 * pair + 1) h.next number (sym h.its ∙ (ap (λ (s : ℕ). slice_get e.states s) (sym same) ∙ at)))
-closed_later e pair first number h p (q ∷ rest) (inl w) steps at =
-    let l = step_within e.states (subject_of e) e.end h.slot h.low h.high first h.close p q h.encloses w.0 w.1 steps.0 in
-    let r = closed_later e pair first number h q rest l.to steps.1 at in
-    (r.0, kept e.states p q rest (2 * pair + 1) r.0 r.1, omega (arith, r.2, leads-rises e p q steps.0))
-closed_later e pair first number h p (q ∷ rest) (inr same) steps at = recorded_here e h.close (2 * pair + 1) h.next p q rest same h.its steps
+opened : (Opens : ℕ → Type 0) (slot pair : ℕ) (m : Mark) → slot ≡ 2 * pair → IsClosedBut Opens m
+    → IsClosedBut (λ q. Opens q ⊎ (q ≡ pair)) (with_record slot m)
+opened Opens slot pair m is c = record {
+  before = λ other i h. recorded-before slot m (λ s j at. c.before s j at) other i h;
+  closed = λ other i none h.
+      let r = c.closed other i (λ o. none (inl o))
+      (sym (other_slot slot (2 * other) m.0 m.1 (λ e. none (inr (omega (arith, e, is))))) ∙ h) in
+      (r.0, other_slot slot (2 * other + 1) m.0 m.1 (λ e. absurd (omega (arith, e, is))) ∙ r.1, r.2);
+}
 
-capture_there : (slot : ℕ) (o : Option State) → is_capture_of slot o ≡ true → (next : ℕ) × (o ≡ Some (Capture slot next))
-capture_there slot None e = absurd (true≢false (sym e))
-capture_there slot (Some (ByteRange a b next)) e = absurd (true≢false (sym e))
-capture_there slot (Some (Assert l next)) e = absurd (true≢false (sym e))
-capture_there slot (Some (Fork a b)) e = absurd (true≢false (sym e))
-capture_there slot (Some (Capture c next)) e = (next, ap (λ (n : ℕ). Some (Capture n next)) (eqb-true c slot e))
-capture_there slot (Some (Accept q)) e = absurd (true≢false (sym e))
+ended : (Opens : ℕ → Type 0) (slot pair : ℕ) (m : Mark) → slot ≡ 2 * pair → IsClosedBut (λ q. Opens q ⊎ (q ≡ pair)) m
+    → IsClosedBut Opens (with_record (slot + 1) m)
+ended Opens slot pair m is c = record {
+  before = λ other i h. recorded-before (slot + 1) m (λ s j at. c.before s j at) other i h;
+  closed = λ other i none h.
+      let at : last_in m.1 (2 * other) ≡ Some i = sym (other_slot (slot + 1) (2 * other) m.0 m.1 (λ e. absurd (omega (arith, e, is)))) ∙ h in ⊎_elim
+      (λ (same : other ≡ pair).
+      let there : slot + 1 ≡ 2 * other + 1 = omega (arith, same, is) in
+      (m.0, subst (λ (s : ℕ). last_in ((slot + 1, m.0) ∷ m.1) s ≡ Some m.0) there (same_slot (slot + 1) m.0 m.1), c.before (2 * other) i at))
+      (λ (apart : (other ≡ pair) → ⊥).
+      let r = c.closed other i (λ o. ⊎_elim (λ (p : Opens other). none p) (λ (e : other ≡ pair). apart e) o) at in
+      (r.0, other_slot (slot + 1) (2 * other + 1) m.0 m.1 (λ e. apart (omega (arith, e, is))) ∙ r.1, r.2))
+      (cases_eq other pair);
+}
+
+times-closed : (Opens : ℕ → Type 0) (R : Mark → Mark → Type 0) → ((m k : Mark) → IsClosedBut Opens m → R m k → IsClosedBut Opens k) → (t : ℕ) (m k : Mark)
+    → IsClosedBut Opens m → TimesWith R t m k → IsClosedBut Opens k
+times-closed Opens R along zero m k c g = subst (IsClosedBut Opens) g c
+times-closed Opens R along (suc t) m k c g = times-closed Opens R along t g.0 k (along m g.0 c g.1) g.2
+
+closed-along : (f : ℕ → ℕ) → ((g : ℕ) → (h : ℕ) × (f g ≡ 2 * h)) → (x : Subject) (p : Pattern) (n : ℕ) (Opens : ℕ → Type 0) (m k : Mark)
+    → IsClosedBut Opens m → GoesWith x (numbered f n p) m k → IsClosedBut Opens k
+closed-along f even x Empty n Opens m k c g = subst (IsClosedBut Opens) g c
+closed-along f even x Never n Opens m k c g = absurd g
+closed-along f even x (Class ranges) n Opens m k c g = closed-later Opens m k g.1 (goes-forward x (Class ranges) m.0 k.0 g.0) c
+closed-along f even x (Literal bytes) n Opens m k c g = closed-later Opens m k g.1 (goes-forward x (Literal bytes) m.0 k.0 g.0) c
+closed-along f even x (Assertion look) n Opens m k c g = closed-later Opens m k g.1 (goes-forward x (Assertion look) m.0 k.0 g.0) c
+closed-along f even x (Then a b) n Opens m k c g =
+    closed-along f even x b (n + count_groups a) Opens g.0 k (closed-along f even x a n Opens m g.0 c g.1) g.2
+closed-along f even x (Either a b) n Opens m k c g = ⊎_elim
+    (λ (w : GoesWith x (numbered f n a) m k). closed-along f even x a n Opens m k c w)
+    (λ (w : GoesWith x (numbered f (n + count_groups a) b) m k). closed-along f even x b (n + count_groups a) Opens m k c w)
+    g
+closed-along f even x (Repeat min max often a) n Opens m k c g =
+    times-closed Opens (GoesWith x (numbered f n a)) (closed-along f even x a n Opens) g.0 m k c g.3
+closed-along f even x (Group slot a) n Opens m k c g =
+    let e = even n in
+    subst (IsClosedBut Opens) (sym g.2)
+    (ended Opens (f n) e.0 g.0 e.1
+    (closed-along f even x a (n + 1) (λ q. Opens q ⊎ (q ≡ e.0)) (with_record (f n) m) g.0 (opened Opens (f n) e.0 m e.1 c) g.1))
+
+-- the first slot of each group is the first of a pair
+even_slots : (lists : GroupLists) (m g : ℕ) → (h : ℕ) × (slot_number lists m g ≡ 2 * h)
+even_slots lists m zero = (m, refl)
+even_slots lists m (suc g) = (length lists + explicit_before lists m + g, omega (arith, slot_later lists m g))
 
 -- ---- along a run
 
--- whatever records in the first slot of the pair, what comes next is closed
-abbrev IsClosed : List State → ℕ → Type 0
-IsClosed states pair = (s next : ℕ) → slice_get states s ≡ Some (Capture (2 * pair) next) → HasClose states pair next
-
-closes : (e : Search) (pair number : ℕ) (p : ℕ × ℕ) (rest : List (ℕ × ℕ)) (i : ℕ) → IsClosed e.states pair
-    → AreSteps e.states (subject_of e) e.end p rest → slice_get e.states (last_place p rest).0 ≡ Some (Accept number)
-    → recorded e.states (p ∷ rest) (2 * pair) ≡ Some i → IsRecordedFrom e.states p rest (2 * pair + 1) i
-closes e pair number p [] i c steps at is = absurd (none_there i is)
+pub ClosesGroups-built : {W : Type 0} (chars : W → ℕ → Bool) (program : Compiled W) (patterns : List Pattern) → Recognizes chars program patterns
+    → RecordsWays chars program patterns → ClosesGroups chars program
+ClosesGroups-built chars program patterns r ways = record { closed = each }
   where
     none_there : (i : ℕ) → None ≡ Some i → ⊥
     none_there i h = absurd (cc)
-closes e pair number p (q ∷ rest) i c steps at is =
-    go (λ j later. closes e pair number q rest j c steps.1 at later) (recorded e.states (q ∷ rest) (2 * pair)) refl
-  where
-    -- the step records
-    here : recorded e.states (q ∷ rest) (2 * pair) ≡ None → (b : Bool) → is_capture_of (2 * pair) (slice_get e.states p.0) ≡ b
-        → IsRecordedFrom e.states p (q ∷ rest) (2 * pair + 1) i
-    here none true is_one =
-        let n = capture_there (2 * pair) (slice_get e.states p.0) is_one in
-        let step : (q.0 ≡ n.0) × (q.1 ≡ p.1) = step_of e.states (subject_of e) e.end p.0 p q (Capture (2 * pair) n.0) refl n.1 steps.0 in
-        let h = c p.0 n.0 n.1 in
-        let r = closed_later e pair n.0 number h q rest (subst (λ (s : ℕ). IsOnWay h.low h.high h.close s) (sym step.0) h.encloses.begins) steps.1 at in
-        let same : p.1 ≡ i = same_Some p.1 i (sym (first_recorded e.states p q rest (2 * pair) is_one none) ∙ is) in
-        (r.0, kept e.states p q rest (2 * pair + 1) r.0 r.1, omega (arith, r.2, step.1, same))
-    here none false is_none = absurd (none_there i (sym none ∙ (sym (unrecorded e.states p q rest (2 * pair) is_none) ∙ is)))
-      where
-        none_there : (i : ℕ) → None ≡ Some i → ⊥
-        none_there i h = absurd (cc)
 
-    go : ((j : ℕ) → recorded e.states (q ∷ rest) (2 * pair) ≡ Some j → IsRecordedFrom e.states q rest (2 * pair + 1) j) → (o : Option ℕ)
-        → recorded e.states (q ∷ rest) (2 * pair) ≡ o → IsRecordedFrom e.states p (q ∷ rest) (2 * pair + 1) i
-    go closed None none = here none (is_capture_of (2 * pair) (slice_get e.states p.0)) refl
-    go closed (Some j) later =
-        let r = closed j later in
-        let same : j ≡ i = same_Some j i (sym (kept e.states p q rest (2 * pair) j later) ∙ is) in
-        (r.0, kept e.states p q rest (2 * pair + 1) r.0 r.1, omega (arith, r.2, same))
-
-closed_run : (e : Search) (run : List (ℕ × ℕ)) (at pair i : ℕ) → IsClosed e.states pair → IsMatchRun e (e.start_state, at) run
-    → recorded e.states run (2 * pair) ≡ Some i → (j : ℕ) × (recorded e.states run (2 * pair + 1) ≡ Some j) × (i ≤ j)
-closed_run e [] at pair i c m is = absurd (omega (arith, m.some))
-closed_run e (p ∷ rest) at pair i c m is =
-    let q = accepted (pattern_of_mode e.mode) (slice_get e.states (place (p ∷ rest) (length (p ∷ rest) - 1)).0) m.ends in
-    closes e pair q.0 p rest i c (steps_of e p rest m.is_run) (ap (λ (z : ℕ × ℕ). slice_get e.states z.0) (sym (last_is p rest)) ∙ q.1) is
-
-pub ClosesGroups-built : {W : Type 0} (chars : W → ℕ → Bool) (program : Compiled W) (most count : ℕ) (r : Feature → Bool)
-    → AreSound most count r 0 (length program.automaton.states) program.start program.automaton.states → ClosesGroups chars program
-ClosesGroups-built chars program most count r sound = record {
-  closed = λ input run at pair i m is. closed_run (search_in chars program input) run at pair i (λ s next there. closed pair s next there) m is;
-}
-  where
-    closed : (pair : ℕ) → IsClosed program.automaton.states pair
-    closed pair s next there =
-        (sound.names.slots s (Capture (2 * pair) next) (omega arith) (slice_get_within program.automaton.states s (Capture (2 * pair) next) there) there).1
-        pair refl
+    each : (input : InputParts) (run : List (ℕ × ℕ)) (at pair i : ℕ) → IsMatchRun (search_in chars program input) (program.start, at) run
+        → recorded program.automaton.states run (2 * pair) ≡ Some i
+        → (j : ℕ) × (recorded program.automaton.states run (2 * pair + 1) ≡ Some j) × (i ≤ j)
+    each input run at pair i m is =
+        let e = search_in chars program input in
+        let q = accepted (pattern_of_mode e.mode) (slice_get e.states (place run (length run - 1)).0) m.ends in
+        let found : Matched = record { pattern = q.0; span = record { start = at; end = (place run (length run - 1)).1 } } in
+        let makes : IsMatchOf e run found = record { pattern = q.1; start = sym (ap (λ (p : ℕ × ℕ). p.1) m.begins); end = refl } in
+        let its = (r.exactly input found).0 (record { run = run; is_match = m; makes = makes }) in
+        let w = ways.way input run found its.pattern m makes its.its in
+        let all = closed-along (slot_number program.automaton.groups q.0) (even_slots program.automaton.groups q.0) (subject_of e) (Group 0 its.pattern) 0
+        (λ p. ⊥) (at, []) (found.span.end, w.0)
+        (record { before = λ slot j h. absurd (none_there j h); closed = λ other j none h. absurd (none_there j h) }) w.1 in
+        let one = all.closed pair i (λ h. h) (sym (w.2 (2 * pair)) ∙ is) in
+        (one.0, w.2 (2 * pair + 1) ∙ one.1, one.2)
 
 -- ---- the slots of captures
 

@@ -16,7 +16,7 @@ use Rattle.rsc_engine.specs.Features.{Feature, Reversed, Asks, may_occur, has_fe
 use Rattle.rsc_engine.specs.EnclosesLayout.{IsOnWay, StaysOnWay, Encloses}
 use Rattle.rsc_engine.specs.LinksLayout.{IsChoice, copies, optional, up_to}
 use Rattle.rsc_engine.proofs.PatternsLemmas.{limit_less, no_less}
-use Rattle.rsc_engine.specs.NamesLayout.{EachOf, HasClose, RecordsInPairs, Lacks, HasOne, Names, LeadsBelow, AreSound}
+use Rattle.rsc_engine.specs.NamesLayout.{EachOf, RecordsBelow, Lacks, HasOne, Names, LeadsBelow, AreSound}
 
 -- ---- one list of states after the other
 
@@ -85,7 +85,7 @@ Names-alike most r s low high states same x =
 pub Names-joined : (most : ℕ) (s r q : Feature → Bool) (low middle high : ℕ) (states : List State) → IsEither s r q → low ≤ middle → middle ≤ high
     → Names most r low middle states → Names most q middle high states → Names most s low high states
 Names-joined most s r q low middle high states e l m x y = record {
-  slots = each-joined (RecordsInPairs most states) low middle high states x.slots y.slots;
+  slots = each-joined (RecordsBelow most) low middle high states x.slots y.slots;
   lacks = λ f n. each-joined (Lacks f) low middle high states (x.lacks f (e.neither f n).0) (y.lacks f (e.neither f n).1);
   shows = λ f o. ⊎_elim
       (λ (z : r f ≡ true). wider f low middle low high states (omega arith) m (x.shows f z))
@@ -94,12 +94,12 @@ Names-joined most s r q low middle high states e l m x y = record {
 }
 
 pub Names-one : (most : ℕ) (r : Feature → Bool) (low high id : ℕ) (states : List State) (state : State) → id ≡ low → high ≡ low + 1
-    → slice_get states id ≡ Some state → RecordsInPairs most states state → ((f : Feature) → r f ≡ false → Lacks f state)
+    → slice_get states id ≡ Some state → RecordsBelow most state → ((f : Feature) → r f ≡ false → Lacks f state)
     → ((f : Feature) → r f ≡ true → Lacks f state → ⊥) → Names most r low high states
 Names-one most r low high id states state same one is below lacks shows =
     let here : slice_get states low ≡ Some state = subst (λ (n : ℕ). slice_get states n ≡ Some state) same is in
     record {
-      slots = each-one (RecordsInPairs most states) low high states state one here below;
+      slots = each-one (RecordsBelow most) low high states state one here below;
       lacks = λ f e. each-one (Lacks f) low high states state one here (lacks f e);
       shows = λ f e. record { state = low; its = state; from = omega arith; to = omega (arith, one); here = here; shows = shows f e };
     }
@@ -266,7 +266,7 @@ leads_more high most count (Accept p) l x = x
 
 -- a state without a feature above others
 Names-more : (most : ℕ) (r : Feature → Bool) (low last high id : ℕ) (states : List State) (state : State) → low ≤ last → id ≡ last → high ≡ last + 1
-    → slice_get states id ≡ Some state → RecordsInPairs most states state → ((f : Feature) → Lacks f state) → Names most r low last states
+    → slice_get states id ≡ Some state → RecordsBelow most state → ((f : Feature) → Lacks f state) → Names most r low last states
     → Names most r low high states
 Names-more most r low last high id states state l same one is below lacks x =
     Names-alike most (λ f. r f || nothing f) r low high states (λ f. or_none (r f))
@@ -299,11 +299,11 @@ AreSound-pattern most count r low later last high accept number after start end 
           (λ k state m h is. leads_below (λ (s : ℕ). IsOnWay later last after s) high count slot state inside (x.stays k state m h is))
           (each-one Below last high states (Capture start body) eh (subst (λ (s : ℕ). slice_get states s ≡ Some (Capture start body)) ef is_first)
           (inside body x.begins))));
-      names = Names-more most r low last high first states (Capture start body) (omega (arith, el, l)) ef eh is_first (sm, λ pair e. closed pair e)
+      names = Names-more most r low last high first states (Capture start body) (omega (arith, el, l)) ef eh is_first sm
           (capture-lacks start body)
           (Names-joined most r nothing r low later last states (either nothing r) (omega (arith, el)) l
           (Names-more most nothing low (low + 1) later after states (Capture end accept) (omega arith) eb (omega (arith, el)) is_after
-          (em, λ pair e. absurd (omega (arith, e, ends))) (capture-lacks end accept)
+          em (capture-lacks end accept)
           (Names-more most nothing low low (low + 1) accept states (Accept number) (omega arith) ea refl is_accept tt (accept-lacks number)
           (Names-none most low low states (omega arith))))
           names);
@@ -311,17 +311,6 @@ AreSound-pattern most count r low later last high accept number after start end 
   where
     Below : State → Type 0
     Below = LeadsBelow high count
-
-    closed : (pair : ℕ) → start ≡ 2 * pair → HasClose states pair body
-    closed pair e = record {
-      slot = slot;
-      low = later;
-      high = last;
-      close = after;
-      next = accept;
-      its = is_after ∙ ap (λ (s : ℕ). Some (Capture s accept)) (omega (arith, e, starts, ends));
-      encloses = x;
-    }
 
     inside : (s : ℕ) → IsOnWay later last after s → s < high
     inside = on_way_below later last high after (omega (arith, eh)) (omega (arith, eb, el, l, eh))
@@ -350,12 +339,12 @@ no_fault : (n s target : ℕ) → target < n → target_fault n s target ≡ Non
 no_fault n s target l = let e : nat_lt target n ≡ true = grind (arith, nat_tests) in rw e refl
 
 state_clear : (groups : GroupLists) (states : List State) (n s : ℕ) (state : State) → LeadsBelow n (length groups) state
-    → RecordsInPairs (2 * all_groups groups) states state → IsOrdered state → fault_of_state groups n s state ≡ None
+    → RecordsBelow (2 * all_groups groups) state → IsOrdered state → fault_of_state groups n s state ≡ None
 state_clear groups states n s (ByteRange a b next) x y z = let e : nat_lt b a ≡ false = grind (arith, nat_tests) in rw (e, no_fault n s next x) refl
 state_clear groups states n s (Assert l next) x y z = no_fault n s next x
 state_clear groups states n s (Fork a b) x y z = rw (no_fault n s a x.0, no_fault n s b x.1) refl
 state_clear groups states n s (Capture slot next) x y z =
-    let below = y.0 in let e : nat_lt slot (2 * all_groups groups) ≡ true = grind (arith, nat_tests) in rw (no_fault n s next x, e) refl
+    let below = y in let e : nat_lt slot (2 * all_groups groups) ≡ true = grind (arith, nat_tests) in rw (no_fault n s next x, e) refl
 state_clear groups states n s (Accept p) x y z = let e : nat_lt p (length groups) ≡ true = grind (arith, nat_tests) in rw e refl
 
 -- they have no fault without a reversed range

@@ -73,10 +73,10 @@ stays_recorded x (Group s a) slot m n i g h =
 
 -- ---- a record in a slot
 
-same_slot : (s i : ℕ) (r : List (ℕ × ℕ)) → last_in ((s, i) ∷ r) s ≡ Some i
+pub same_slot : (s i : ℕ) (r : List (ℕ × ℕ)) → last_in ((s, i) ∷ r) s ≡ Some i
 same_slot s i r = ap (λ (b : Bool). cond b (Some i) (last_in r s)) (eq-eqb s s refl)
 
-other_slot : (slot s i : ℕ) (r : List (ℕ × ℕ)) → (slot ≡ s → ⊥) → last_in ((slot, i) ∷ r) s ≡ last_in r s
+pub other_slot : (slot s i : ℕ) (r : List (ℕ × ℕ)) → (slot ≡ s → ⊥) → last_in ((slot, i) ∷ r) s ≡ last_in r s
 other_slot slot s i r apart = ap (λ (b : Bool). cond b (Some i) (last_in r s)) (ne_eqb slot s apart)
 
 -- the slots of two groups are apart
@@ -255,7 +255,7 @@ may-set f apart x (Group slot b) a n (suc g) h e is m k w =
 
 -- ---- of a pattern with its slots
 
-slot_later : (lists : GroupLists) (m g : ℕ) → slot_number lists m (suc g) ≡ 2 * length lists + 2 * explicit_before lists m + 2 * g
+pub slot_later : (lists : GroupLists) (m g : ℕ) → slot_number lists m (suc g) ≡ 2 * length lists + 2 * explicit_before lists m + 2 * g
 slot_later lists m g =
     let one : suc g - 1 ≡ g = omega arith in
     ap (λ (b : Bool). cond b (2 * m) (2 * length lists + 2 * explicit_before lists m + 2 * (suc g - 1))) (ne_eqb (suc g) 0 (λ e. absurd (omega (arith, e))))
@@ -287,6 +287,16 @@ group-goes x lists m p a g i start end records there is way at = ⊎_elim
   where
     none_there : (i : ℕ) → None ≡ Some i → ⊥
     none_there i h = absurd (cc)
+
+-- the slots of the whole pattern hold its ends
+pub whole-records : (x : Subject) (lists : GroupLists) (m : ℕ) (p : Pattern) (start end : ℕ) (records : List (ℕ × ℕ)) → m < length lists
+    → GoesWith x (as_whole lists m p) (start, []) (end, records) → (last_in records (2 * m) ≡ Some start) × (last_in records (2 * m + 1) ≡ Some end)
+whole-records x lists m p start end records there w =
+    let keeps = keeps-others (slot_number lists m) (slots-apart lists m there) x p 1 0 (inl (omega arith)) (with_record (2 * m) (start, [])) w.0 w.1 in (
+      subst (λ (z : Mark). last_in z.1 (2 * m) ≡ Some start) (sym w.2)
+          (other_slot (2 * m + 1) (2 * m) w.0.0 w.0.1 (λ e. absurd (omega (arith, e))) ∙ (keeps.0 ∙ same_slot (2 * m) start [])),
+      subst (λ (z : Mark). last_in z.1 (2 * m + 1) ≡ Some z.0) (sym w.2) (same_slot (2 * m + 1) w.0.0 w.0.1),
+    )
 
 -- ---- the span of a group
 

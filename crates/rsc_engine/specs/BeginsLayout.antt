@@ -2,7 +2,6 @@
 use Rattle.std.specs.Prelude.{◌≡◌, ℕ, ◌+◌, ◌*◌, ◌<◌, ◌≤◌, List, ◌∷◌, slice_get, Some}
 use Rattle.rsc_nfa.specs.declared.state.State.{State}
 use Rattle.rsc_nfa.specs.declared.state.State.TheVariants.{Capture, Accept}
-use Rattle.rsc_nfa.specs.Steps.{recorded}
 use Rattle.rsc_engine.specs.Patterns.{Pattern, Subject, Goes}
 use Rattle.rsc_engine.specs.EnclosesLayout.{Encloses}
 use Rattle.rsc_engine.specs.LinksLayout.{Aim, Ends, HasEnd}
@@ -16,23 +15,16 @@ pub record IsWhole (states : List State) (number low high accept after body firs
   pub encloses : Encloses (2 * number + 1) low high body after states
   pub starting : slice_get states first ≡ Some (Capture (2 * number) body)
 
--- what steps from the state `first` to a match record in the slots of the whole match: its ends
-pub record RecordsFrom (states : List State) (first : ℕ) : Type 0 where
-  pub ends : (x : Subject) (end number : ℕ) (p : ℕ × ℕ) (rest : List (ℕ × ℕ)) → p.0 ≡ first → AreSteps states x end p rest →
-      slice_get states (last_place p rest).0 ≡ Some (Accept number) →
-      (recorded states (p ∷ rest) (2 * number) ≡ Some p.1) × (recorded states (p ∷ rest) (2 * number + 1) ≡ Some (last_place p rest).1)
-
 -- steps from the state `first` to a match of the lesser of two patterns are before steps to a match of the other
 pub record PrefersFrom (states : List State) (first : ℕ) : Type 0 where
   pub before : (x : Subject) (end m n : ℕ) (p : ℕ × ℕ) (one other : List (ℕ × ℕ)) → p.0 ≡ first → p.1 ≤ end →
       AreSteps states x end p one → AreSteps states x end p other → slice_get states (last_place p one).0 ≡ Some (Accept m) →
       slice_get states (last_place p other).0 ≡ Some (Accept n) → m < n → IsBefore states p one other
 
--- from the state `first` exactly the matches that are looked for are found, their ends are recorded, and lesser patterns are preferred
+-- from the state `first` exactly the matches that are looked for are found, and lesser patterns are preferred
 pub record Begins (states : List State) (first : ℕ) (IsSought : Aim → ℕ → Type 0) : Type 0 where
   pub sound : (a : Aim) (n i : ℕ) → Ends states a n first i → IsSought a i
   pub complete : (a : Aim) (i : ℕ) → IsSought a i → a.position ≤ a.end → HasEnd states a first i
-  pub records : RecordsFrom states first
   pub prefers : PrefersFrom states first
 
 -- the match is of this pattern, with this number
