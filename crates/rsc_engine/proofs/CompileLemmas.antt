@@ -1,7 +1,6 @@
 -- How lists of states grow, part by part.
-use Rattle.std.proofs.Common.{nat_eq, Bool, true, false, subst, true≢false, drop, drop-cons, get_or, ◌≡◌, ℕ, zero, suc, ◌+◌, ◌-◌, ◌*◌, ◌%◌, ◌<◌, ◌≤◌, inl, inr, List, [], ◌∷◌, ◌++◌, length, set, slice_get, refl, sym, ap, ◌∙◌, arith, length-append, Some}
+use Rattle.std.proofs.Common.{nat_eq, true, false, subst, true≢false, drop, drop-cons, get_or, ◌≡◌, ℕ, zero, suc, ◌+◌, ◌-◌, ◌*◌, ◌<◌, ◌≤◌, inl, inr, List, [], ◌∷◌, ◌++◌, length, set, slice_get, refl, sym, ap, ◌∙◌, arith, length-append, Some}
 use Rattle.std.proofs.lemmas.List.{length-set}
-use Rattle.std.proofs.Math.Nat.{div-add-mod}
 use Rattle.std.proofs.Math.Seq.{drop-length}
 use Rattle.rsc_look.specs.declared.assertion.Look.{Look}
 use Rattle.rsc_nfa.specs.declared.state.State.{State}
@@ -265,10 +264,10 @@ Builds-byte slots old middle new b first id next rest r a =
 
 -- a part between two records, which are in the slots of a pair; the one of its end is written last
 pub Builds-group : (slots : ℕ × ℕ) (old middle last new : List State) (state : State) (start end body after id next : ℕ) (p : Pattern)
-    → slots.0 < start → start % 2 ≡ 0 → end ≡ start + 1 → end < slots.1
+    → slots.0 < start → end ≡ start + 1 → end < slots.1
     → IsAdded old middle state after → Builds slots middle last body after p → IsAdded (set last after (Capture end next)) new (Capture start body) id
     → Builds slots old new id next (Group start p)
-Builds-group slots old middle last new state start end body after id next p l even second m a x b =
+Builds-group slots old middle last new state start end body after id next p l second m a x b =
     Adds-both old (set last after (Capture end next)) new Two (λ (all : List State). slice_get all id ≡ Some (Capture start body))
     (IsPart slots (length old) (length new) id next (Group start p))
     (Adds-written old middle last state (Capture end next) after (IsPart slots (length middle) (length last) body after p) a x)
@@ -361,23 +360,22 @@ BuildsPart-nothing slot_of slots left old new first next (p ∷ rest) none x one
 
 pub BuildsPart-group : (slot_of : ℕ → ℕ) (slots : ℕ × ℕ) (left inner number : ℕ) (old middle last new : List State) (state : State)
     (start end body after id next : ℕ) (p : Pattern)
-    → slots.0 < start → start % 2 ≡ 0 → end ≡ start + 1 → end < slots.1 → start ≡ slot_of number → inner ≡ number + 1
+    → slots.0 < start → end ≡ start + 1 → end < slots.1 → start ≡ slot_of number → inner ≡ number + 1
     → IsAdded old middle state after → BuildsPart slot_of slots left inner middle last body after p
     → IsAdded (set last after (Capture end next)) new (Capture start body) id → BuildsPart slot_of slots left number old new id next (Group 0 p)
-BuildsPart-group slot_of slots left inner number old middle last new state start end body after id next p l even second m its one a x b = (
+BuildsPart-group slot_of slots left inner number old middle last new state start end body after id next p l second m its one a x b = (
   omega (arith, x.0, one),
   subst (λ (slot : ℕ). Builds slots old new id next (Group slot (numbered slot_of (number + 1) p))) its
-      (Builds-group slots old middle last new state start end body after id next (numbered slot_of (number + 1) p) l even second m a
+      (Builds-group slots old middle last new state start end body after id next (numbered slot_of (number + 1) p) l second m a
       (subst (λ (n : ℕ). Builds slots middle last body after (numbered slot_of n p)) one x.1) b),
   omega (arith, x.2, a.one, b.one, length-set last after (Capture end next)),
 )
 
 -- ---- the slots of a group of a part
 
--- they come after those of the whole match, and are a pair
-pub group-slots : (lists : GroupLists) (p g : ℕ) → 0 < g → p < length lists
-    → (2 * p + 1 < slot_number lists p g) × (slot_number lists p g % 2 ≡ 0)
+-- they come after those of the whole match
+pub group-slots : (lists : GroupLists) (p g : ℕ) → 0 < g → p < length lists → 2 * p + 1 < slot_number lists p g
 group-slots lists p zero some l = absurd (omega (arith, some))
 group-slots lists p (suc g) some l =
     let later : nat_eq (suc g) 0 ≡ false = grind (arith, nat_tests) in
-    rw later (omega (arith, l), omega arith)
+    rw later (omega (arith, l))

@@ -12,7 +12,7 @@ use Rattle.rsc_look.specs.declared.assertion.Look.{Look}
 use Rattle.rsc_nfa.specs.Classes.{IsOrdered, asserts}
 use Rattle.rsc_nfa.specs.Faults.{target_fault, fault_of_state, fault_in, AreFaultless}
 use Rattle.rsc_engine.specs.Patterns.{Pattern, Empty, Never, Class, Literal, Assertion, Then, Either, Repeat}
-use Rattle.rsc_engine.specs.Features.{Feature, Reversed, Asks, may_occur, has_feature, some_has}
+use Rattle.rsc_engine.specs.Features.{Feature, Reversed, Asks, may_occur, has_feature}
 use Rattle.rsc_engine.specs.EnclosesLayout.{IsOnWay, StaysOnWay, Encloses}
 use Rattle.rsc_engine.specs.LinksLayout.{IsChoice, copies, optional, up_to}
 use Rattle.rsc_engine.proofs.PatternsLemmas.{limit_less, no_less}

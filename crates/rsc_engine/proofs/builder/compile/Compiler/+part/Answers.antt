@@ -1,4 +1,4 @@
-use Rattle.std.proofs.Common.{ℕ, suc, ap, ◌%◌, ◌≡◌, ◌∙◌, ◌<◌, ◌≤◌, ◌-◌, add-one, arith, length, map, drop, length-drop, rules}
+use Rattle.std.proofs.Common.{ℕ, suc, ap, ◌≡◌, ◌∙◌, ◌<◌, ◌≤◌, ◌-◌, add-one, arith, length, map, drop, length-drop, rules}
 use Rattle.rsc_engine.proofs.RefusalsLemmas.{built-weaker, built-with, pattern_there}
 use Rattle.std.proofs.lemmas.List.{length-map}
 use Rattle.std.proofs.Math.Seq.{drop-length}
@@ -122,11 +122,10 @@ group-returns t c =
     let number : ℕ = c.part.new.self.left - 1 in
     let some : 0 < number = omega (arith, c.requires.left, c.in_ok-body.ensures.0) in
     let there : number < group_count lists c.args.slots.now.pattern = omega (arith, c.requires.groups, c.requires.left, c.in_ok-body.ensures.0) in
-    let pair = group-slots lists c.args.slots.now.pattern number some (pattern_there lists c.args.slots.now.pattern number there) in
+    let above = group-slots lists c.args.slots.now.pattern number some (pattern_there lists c.args.slots.now.pattern number there) in
     built-weaker c.add-2.result _ _
     (λ id a. BuildsPart-group (slot_number lists c.args.slots.now.pattern) _ _ _ number _ _ _ _ _ _ _ _ _ id _ (pattern_in c.args.sub.now)
-    (omega (arith, pair.0, c.of_group-start.ensures.start)) (ap (λ (slot : ℕ). slot % 2) c.of_group-start.ensures.start ∙ pair.1)
-    c.of_group-start.ensures.end c.of_group-start.ensures.within
+    (omega (arith, above, c.of_group-start.ensures.start)) c.of_group-start.ensures.end c.of_group-start.ensures.within
     c.of_group-start.ensures.start (omega (arith, some)) c.in_ok-after.ensures c.in_ok-body.ensures (rw c.as_usize.ensures.value at a))
     c.add-2.ensures
 
