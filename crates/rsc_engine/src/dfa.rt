@@ -12,15 +12,18 @@ ghost use Rattle.rsc_engine.specs.RowsLayout.{machine, IsPlan, IsNeverEntered};
 ghost use Rattle.rsc_engine.specs.TablesLayout.{IsExact};
 
 mod entries;
+mod forward;
 mod lawful;
 mod needed;
+mod ordered;
 mod plan;
 mod successor;
 mod table;
 
-use crate::first::{end_from, find_from, is_match_by_walk};
+use crate::first::{find_from, is_match_by_walk};
 use crate::{AsciiWordClass, Error, Program};
 use entries::Step;
+use forward::first_end;
 use lawful::steps_are_lawful;
 use needed::Needed;
 use plan::{Plan, after_of, before_of};
@@ -271,22 +274,24 @@ impl<'p, W: WordClass + AsciiWordClass> Dfa<'p, W> {
         find_from(self.alloc, self.plan.program, input, captures, from)
     }
 
-    /// The position at which the leftmost-first match in an input's span ends; `None` if no match begins where one may. The DFA tells from
-    /// where on to look, and the backtracker finds the end.
+    /// The position at which the leftmost-first match in an input's span ends; `None` if no match begins where one may.
     ///
     /// # Errors
     ///
-    /// Out of memory, or of the backtracker `TooLarge`, where the span has too many positions for the number of states.
+    /// Out of memory.
     pub fn leftmost_end(&mut self, input: &Input<'_>) -> Result<Option<usize>, Error>
         ensures program { self.new ≡ self.old }
         ensures found { IfOk result (λ found. IfSome found (IsLeftmostEnd (search_in W.word_chars self.old input.now))) }
         ensures none { IfOk result (λ found. IfNone found (HasNone (search_in W.word_chars self.old input.now))) }
-        ensures refused { IfErr result (FailsFor (search_in W.word_chars self.old input.now)) }
+        ensures memory { IfErr result (λ e. e ≡ OutOfMemory) }
     {
-        let Some(from) = self.begin(input)? else {
+        if self.lacks_needed(input) {
             return Ok(None);
-        };
-        end_from(self.alloc, self.plan.program, input, from)
+        }
+        match first_end(self.alloc, self.plan.program, input)? {
+            None => Ok(None),
+            Some(last) => Ok(Some(last.1)),
+        }
     }
 }
 
