@@ -10,25 +10,14 @@ use Rattle.rsc_engine.specs.Preferred.{HasNone, MayBegin}
 use Rattle.rsc_engine.specs.Ends.{IsLeftmostEnd}
 use Rattle.rsc_engine.specs.RowsLayout.{AreStates}
 use Rattle.rsc_engine.specs.DecidesLayout.{last_of, unseen, Decides, IsLastPlace}
-use Rattle.rsc_engine.specs.PassesLayout.{Looks, Status, Open, Closed, later, answer_of, Opens, IsFound, IsLeftOver, IsDue}
+use Rattle.rsc_engine.specs.PassesLayout.{Looks, Status, Open, Closed, later, answer_of, Opens, IsFound, IsLeftOver, IsDue, placed}
 use Rattle.rsc_engine.specs.RowsLayout.{AddsOne}
 use Rattle.rsc_engine.specs.OrderedLayout.{IsLooked, IsOfPattern, IsEndOf}
+use Rattle.rsc_engine.specs.RowsLayout.{machine_of, IsNear}
+use Rattle.rsc_engine.specs.ForwardLayout.{beside, Continues, IsAdvanced, last_with, IsHeld, IsGoing}
+use Rattle.rsc_engine.proofs.NearLemmas.{looks-near, looks-end}
 use Rattle.rsc_engine.proofs.DecidesLayoutLemmas.{decides-start}
 use Rattle.rsc_engine.proofs.PassesLayoutLemmas.{looked, beyond, settled, next_due}
-
--- what the loop's variables say of the status
-abbrev pub IsHeld : Search → Status → Bool → Option (ℕ × ℕ) → Type 0
-IsHeld e Open begins last = (begins ≡ true) × (last ≡ None) × (e.mode ≡ No)
-IsHeld e (Closed None) begins last = (begins ≡ false) × (last ≡ None)
-IsHeld e (Closed (Some q)) begins last = (begins ≡ false) × ((p : ℕ) × (last ≡ Some (p, q.1)) × (slice_get e.states q.0 ≡ Some (Accept p)))
-
--- what the loop keeps, before it looks at position k
-pub record IsGoing (e : Search) (k : ℕ) (begins : Bool) (last : Option (ℕ × ℕ)) (list : List ℕ) : Type 0 where
-  pub status : Status
-  pub held : IsHeld e status begins last
-  pub low : e.start ≤ k
-  pub due : k ≤ e.end → IsDue e k status list
-  pub over : e.end < k → IsFound e (answer_of status)
 
 free_of : (e : Search) (status : Status) (begins : Bool) (last : Option (ℕ × ℕ)) → IsHeld e status begins last → (e.mode ≡ No) ⊎ (¬ (status ≡ Open))
 free_of e Open begins last h = inl h.2
@@ -61,7 +50,7 @@ more e k status after list out next found seen begins last low high same none lo
           (free_of e after begins last held));
     }
 
-pub going-match : (e : Search) (k : ℕ) (begins : Bool) (last : Option (ℕ × ℕ)) (list : List ℕ) (p : ℕ) (out : List ℕ) → IsGoing e k begins last list → k ≤ e.end
+going-match : (e : Search) (k : ℕ) (begins : Bool) (last : Option (ℕ × ℕ)) (list : List ℕ) (p : ℕ) (out : List ℕ) → IsGoing e k begins last list → k ≤ e.end
     → IsLooked e k list (Some p) out → IsGoing e (k + 1) false (Some (p, k)) out
 going-match e k begins last list p out g high l = go l.found l.looks l.of_pattern
   where
@@ -71,7 +60,7 @@ going-match e k begins last list p out g high l = go l.found l.looks l.of_patter
         more e k g.status (Closed (Some q)) list out out (Some q) l.seen false (Some (p, k)) g.low high refl l.none_seen looks (g.due high)
         (refl, (p, ap (λ (n : ℕ). Some (p, n)) (sym of.1), of.0)) refl
 
-pub going-closed : (e : Search) (k : ℕ) (begins : Bool) (last : Option (ℕ × ℕ)) (list out : List ℕ) → IsGoing e k begins last list → k ≤ e.end
+going-closed : (e : Search) (k : ℕ) (begins : Bool) (last : Option (ℕ × ℕ)) (list out : List ℕ) → IsGoing e k begins last list → k ≤ e.end
     → begins ≡ false → IsLooked e k list None out → IsGoing e (k + 1) begins last out
 going-closed e k begins last list out g high shut l = go l.found l.looks l.of_pattern g.status g.held (g.due high)
   where
@@ -84,7 +73,7 @@ going-closed e k begins last list out g high shut l = go l.found l.looks l.of_pa
     go None looks of (Closed (Some q)) held due =
         more e k (Closed (Some q)) (Closed (Some q)) list out out None l.seen begins last g.low high refl l.none_seen looks due held refl
 
-pub going-open : (e : Search) (k : ℕ) (begins : Bool) (last : Option (ℕ × ℕ)) (list out next : List ℕ) → IsGoing e k begins last list → k ≤ e.end
+going-open : (e : Search) (k : ℕ) (begins : Bool) (last : Option (ℕ × ℕ)) (list out next : List ℕ) → IsGoing e k begins last list → k ≤ e.end
     → begins ≡ true → IsLooked e k list None out → AddsOne out e.start_state next → IsGoing e (k + 1) begins last next
 going-open e k begins last list out next g high free l adds = go l.found l.looks l.of_pattern g.status g.held (g.due high)
   where
@@ -96,7 +85,98 @@ going-open e k begins last list out next g high free l adds = go l.found l.looks
     go None looks of (Closed None) held due = absurd (true≢false (sym free ∙ held.0))
     go None looks of (Closed (Some q)) held due = absurd (true≢false (sym free ∙ held.0))
 
--- before the first position
+-- ---- a look, and the list of the next position
+
+pub going-advanced : (e : Search) (k : ℕ) (begins : Bool) (last : Option (ℕ × ℕ)) (list : List ℕ) (found : Option ℕ) (after : Bool) (next : List ℕ)
+    → IsGoing e k begins last list → k ≤ e.end → IsAdvanced e k begins list found after next → IsGoing e (k + 1) after (last_with found k last) next
+going-advanced e k begins last list found after next g high a = go found begins g a.looked a.continues
+  where
+    go : (found : Option ℕ) (begins : Bool) → IsGoing e k begins last list → IsLooked e k list found a.out
+        → Continues e.start_state begins found a.out after next → IsGoing e (k + 1) after (last_with found k last) next
+    go (Some p) begins g l c = rw (c.0, c.1) (going-match e k begins last list p a.out g high l)
+    go None true g l c = rw c.0 (going-open e k true last list a.out next g high refl l c.1)
+    go None false g l c = rw (c.0, c.1) (going-closed e k false last list a.out g high refl l)
+
+-- beyond the end of the span no list matters
+going-past : (e : Search) (k : ℕ) (begins : Bool) (last : Option (ℕ × ℕ)) (list other : List ℕ) → IsGoing e k begins last list → e.end < k
+    → IsGoing e k begins last other
+going-past e k begins last list other g past = record {
+  status = g.status;
+  held = g.held;
+  low = g.low;
+  due = λ within. absurd (omega (arith, within, past));
+  over = g.over;
+}
+
+-- what was found beside a small haystack is found at the position
+of_placed : (e : Search) (near : List ℕ) (k at : ℕ) (found : Option (ℕ × ℕ)) (pattern : Option ℕ)
+    → IsOfPattern (beside (machine_of e) e.mode near) at found pattern → IsOfPattern e k (placed k found) pattern
+of_placed e near k at None None h = tt
+of_placed e near k at (Some q) (Some p) h = (h.0, refl)
+of_placed e near k at None (Some p) h = absurd h
+of_placed e near k at (Some q) None h = absurd h
+
+-- a list like the one that continues after the one look, after another look that found the same
+next_like : (first : ℕ) (begins : Bool) (found : Option ℕ) (out : List ℕ) (after : Bool) (next other : List ℕ) → Continues first begins found out after next
+    → (like : List ℕ) × Continues first begins found other after like
+next_like first begins (Some p) out after next other c = (other, (c.0, refl))
+next_like first true None out after next other c = (other ++ first ∷ [], (c.0, inl refl))
+next_like first false None out after next other c = (other, (c.0, refl))
+
+-- the same where the look is beside a small haystack that stands for the position
+pub going-near : (e : Search) (k : ℕ) (near : List ℕ) (at : ℕ) (begins : Bool) (last : Option (ℕ × ℕ)) (list : List ℕ) (found : Option ℕ) (after : Bool)
+    (next : List ℕ) → IsNear e k near at → IsGoing e k begins last list → k ≤ e.end
+    → IsAdvanced (beside (machine_of e) e.mode near) at begins list found after next → IsGoing e (k + 1) after (last_with found k last) next
+going-near e k near at begins last list found after next n g high a = ⊎_elim within at_end (cases_lt k e.end)
+  where
+    within : k < e.end → IsGoing e (k + 1) after (last_with found k last) next
+    within l = going-advanced e k begins last list found after next g high (record {
+      out = a.out;
+      looked = record {
+        seen = a.looked.seen;
+        none_seen = a.looked.none_seen;
+        found = placed k a.looked.found;
+        looks = looks-near e k near at n g.low l a.looked.seen list [] a.out a.looked.found a.looked.looks;
+        of_pattern = of_placed e near k at a.looked.found found a.looked.of_pattern;
+      };
+      continues = a.continues;
+    })
+
+    at_end : e.end ≤ k → IsGoing e (k + 1) after (last_with found k last) next
+    at_end l =
+        let looks = looks-end e k near at n g.low (omega (arith, l, high)) a.looked.seen list [] a.out a.looked.found a.looked.looks [] in
+        let like = next_like e.start_state begins found a.out after next looks.0 a.continues in
+        going-past e (k + 1) after (last_with found k last) like.0 next
+        (going-advanced e k begins last list found after like.0 g high (record {
+          out = looks.0;
+          looked = record {
+            seen = a.looked.seen;
+            none_seen = a.looked.none_seen;
+            found = placed k a.looked.found;
+            looks = looks.1;
+            of_pattern = of_placed e near k at a.looked.found found a.looked.of_pattern;
+          };
+          continues = like.1;
+        })) (omega (arith, l))
+
+-- a list without a state, where no match begins later, is the last
+pub going-over : (e : Search) (k : ℕ) (begins : Bool) (last : Option (ℕ × ℕ)) (list : List ℕ) → IsGoing e k begins last list → list ≡ [] → begins ≡ false
+    → IsGoing e (k + e.end + 1) begins last list
+going-over e k begins last list g empty shut = record {
+  status = g.status;
+  held = g.held;
+  low = omega (arith, g.low);
+  due = λ within. absurd (omega (arith, within));
+  over = λ _. ⊎_elim (λ (past : e.end < k). g.over past) (λ (within : k ≤ e.end). settled_now g.status g.held
+      (subst (λ (l : List ℕ). IsDue e k g.status l) empty (g.due within))) (cases_lt e.end k);
+}
+  where
+    settled_now : (status : Status) → IsHeld e status begins last → IsDue e k status [] → IsFound e (answer_of status)
+    settled_now Open held due = absurd (true≢false (sym held.0 ∙ shut))
+    settled_now (Closed l) held due = due
+
+-- ---- before the first position
+
 pub going-first : (e : Search) (begins : Bool) (list : List ℕ) → e.start ≤ e.end → (begins ≡ true → e.mode ≡ No) → (begins ≡ false → ¬ (e.mode ≡ No))
     → list ≡ e.start_state ∷ [] → IsGoing e e.start begins None list
 going-first e begins list within free anchored is = go begins refl

@@ -11,6 +11,7 @@ pub mod FirstEndsLemmas  -- the first end of a pattern is an end, and the only o
 pub mod FirstWaysLemmas  -- the first way of a pattern leads to its first end, depends on what is wanted alone, and is the only one; patterns with the same one
 pub mod FirstsLayoutLemmas  -- the first way to a pattern's match is the pattern's first way
 pub mod FlagsLayoutLemmas  -- flags, by the bits of their blocks
+pub mod ForwardLayoutLemmas  -- the table of the forward pass: what it says is so, and stays so as it grows
 pub mod ForwardLemmas  -- the loop of a forward pass, from position to position
 pub mod GroupEndsLemmas  -- what the runs of a program that was built record in the slots of the whole match
 pub mod GroupNumbersLemmas  -- with the slots of its groups a pattern goes as without

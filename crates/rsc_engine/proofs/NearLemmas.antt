@@ -5,7 +5,8 @@ use Rattle.rsc_nfa.specs.declared.state.State.TheVariants.{ByteRange, Assert, Fo
 use Rattle.rsc_nfa.specs.Steps.{StepsTo}
 use Rattle.rsc_engine.specs.Searches.{Search}
 use Rattle.rsc_engine.specs.Runs.{Leads, IsPlace, accepts}
-use Rattle.rsc_engine.specs.RowsLayout.{IsNear}
+use Rattle.rsc_engine.specs.RowsLayout.{machine_of, IsNear}
+use Rattle.rsc_engine.specs.ForwardLayout.{beside}
 use Rattle.rsc_engine.specs.DecidesLayout.{IsMore}
 use Rattle.rsc_engine.specs.PassesLayout.{IsNoFork, Looks, done, again, fork, single, stuck, over, matched, placed}
 use Rattle.rsc_engine.specs.RowsLayout.{AddsOne}
@@ -25,7 +26,7 @@ step_goes e q r l = go (slice_get e.states q.0) l
 
 module _ (e : Search) (i : ℕ) (near : List ℕ) (at : ℕ) (n : IsNear e i near at) (low : e.start ≤ i) where
   abbrev pub small : Search
-  small = record e { haystack = near; start = 0; end = length near }
+  small = beside (machine_of e) e.mode near
 
   module _ (within : i < e.end) where
     -- where steps lead, beside the small haystack

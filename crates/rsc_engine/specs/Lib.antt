@@ -8,6 +8,7 @@ pub mod FirstEnds  -- which end of a pattern is preferred
 pub mod FirstWays  -- which way of a pattern is preferred
 pub mod FirstsLayout  -- how many ways lead to a pattern's match at most, and which of them is the first
 pub mod FlagsLayout  -- how the code holds flags: 64 to a block
+pub mod ForwardLayout  -- the forward pass, and the table of its rows
 pub mod GroupEnds  -- the group of the whole match: what runs record in its slots
 pub mod GroupNumbers  -- how the groups of a pattern are numbered, and which slots they have
 pub mod GroupOrder  -- where groups begin and end

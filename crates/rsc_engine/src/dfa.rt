@@ -10,9 +10,12 @@ ghost use Rattle.rsc_engine.specs.Preferred.{HasNone, IsFirstMatch, IsCleared, I
 ghost use Rattle.rsc_engine.specs.Ends.{IsAnswer, IsLeftmostEnd, BeginsFrom};
 ghost use Rattle.rsc_engine.specs.RowsLayout.{machine, IsPlan, IsNeverEntered};
 ghost use Rattle.rsc_engine.specs.TablesLayout.{IsExact};
+ghost use Rattle.rsc_engine.specs.ForwardLayout.{IsForwardTable};
 
 mod entries;
 mod forward;
+mod forward_entries;
+mod forward_table;
 mod lawful;
 mod needed;
 mod ordered;
@@ -24,6 +27,7 @@ use crate::first::{find_from, is_match_by_walk};
 use crate::{AsciiWordClass, Error, Program};
 use entries::Step;
 use forward::first_end;
+use forward_table::ForwardTable;
 use lawful::steps_are_lawful;
 use needed::Needed;
 use plan::{Plan, after_of, before_of};
@@ -91,6 +95,7 @@ pub struct Dfa<'p, W: WordClass> {
     alloc: Global,
     plan: Plan<'p, W>,
     table: Table,
+    forward: ForwardTable,
     // What each match has, if that is known, and whether it was looked for.
     needed: Option<Needed>,
     is_sought: bool,
@@ -103,6 +108,7 @@ impl<W: WordClass> Drop for Dfa<'_, W> {
             alloc: _,
             plan: _,
             table: _,
+            forward: _,
             needed: _,
             is_sought: _,
         } = self;
@@ -115,6 +121,7 @@ impl<'p, W: WordClass> Model for Dfa<'p, W> {
     ghost use Rattle.rsc_engine.specs.NeededLayout.{NeedsPair};
     ghost use Rattle.rsc_engine.specs.RowsLayout.{machine, IsPlan, IsNeverEntered};
     ghost use Rattle.rsc_engine.specs.TablesLayout.{IsExact};
+    ghost use Rattle.rsc_engine.specs.ForwardLayout.{IsForwardTable};
 
     ghost Value = { Compiled W };
 
@@ -123,6 +130,7 @@ impl<'p, W: WordClass> Model for Dfa<'p, W> {
     ghost invariant = { λ d. IsPlan (machine W.word_chars d.plan.program.now) d.plan.classes d.plan.width d.plan.unicode
         × (d.plan.is_start_never_entered ≡ true → IsNeverEntered (machine W.word_chars d.plan.program.now))
         × IsExact (machine W.word_chars d.plan.program.now) d.plan.classes d.plan.width d.table.rows.items d.table.leads.items
+        × IsForwardTable (machine W.word_chars d.plan.program.now) d.plan.classes d.plan.width d.plan.most_rows d.forward.rows.items d.forward.leads.items
         × IfSome d.needed (λ n. NeedsPair (machine W.word_chars d.plan.program.now) n.first n.second) };
 }
 
@@ -136,6 +144,7 @@ impl<'p, W: WordClass + AsciiWordClass> Dfa<'p, W> {
             alloc,
             plan: Plan::new(program, most_rows),
             table: Table::new(alloc),
+            forward: ForwardTable::new(alloc),
             needed: None,
             is_sought: false,
         }
@@ -288,7 +297,7 @@ impl<'p, W: WordClass + AsciiWordClass> Dfa<'p, W> {
         if self.lacks_needed(input) {
             return Ok(None);
         }
-        match first_end(self.alloc, self.plan.program, input)? {
+        match first_end(self.alloc, &self.plan, &mut self.forward, input)? {
             None => Ok(None),
             Some(last) => Ok(Some(last.1)),
         }

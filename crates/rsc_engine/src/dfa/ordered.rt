@@ -3,15 +3,18 @@ ghost use Rattle.std.specs.Prelude.{◌≡◌, ◌+◌, ◌*◌, ◌<◌, ◌≤
 ghost use Rattle.rsc_search.specs.Modes.{pattern_of_mode};
 ghost use Rattle.rsc_engine.specs.Runs.{is_wanted};
 ghost use Rattle.rsc_engine.specs.Searches.{search_in};
-ghost use Rattle.rsc_engine.specs.RowsLayout.{Gathers, AddsOne, AreStates};
+ghost use Rattle.std.specs.List.{Contains};
+ghost use Rattle.rsc_engine.specs.RowsLayout.{machine, around, middle, Gathers, AddsOne, AreStates};
+ghost use Rattle.rsc_engine.specs.ForwardLayout.{beside, IsAdvanced};
 ghost use Rattle.rsc_engine.specs.declared.error.Error.TheVariants.{OutOfMemory};
 ghost use Rattle.rsc_engine.specs.OrderedLayout.{IsWayOn, IsThere, IsLooked};
 
+use super::successor::near_of;
 use crate::{Error, Program};
 use rsc_look::WordClass;
 use rsc_nfa::State;
 use rsc_primitives::{PatternID, StateID};
-use rsc_search::Input;
+use rsc_search::{Anchored, Input};
 use std::alloc::Global;
 
 /// What a state does at a position.
@@ -142,4 +145,81 @@ fn add(sid: StateID, seen: &mut Vec<bool>, list: &mut Vec<StateID>) -> Result<()
         seen[sid.as_usize()] = true;
     }
     Ok(())
+}
+
+/// The pattern of a match that ends at the position, whether matches may begin later, and the ordered list of the states after the byte there: with the
+/// start state last, as long as they may.
+pub(crate) fn advance<W: WordClass>(
+    alloc: Global,
+    program: &Program<W>,
+    input: &Input<'_>,
+    at: usize,
+    begins: bool,
+    list: &[StateID],
+) -> Result<(Option<PatternID>, bool, Vec<StateID>), Error>
+    requires start { input.now.span.start ≤ at }
+    requires at { at ≤ input.now.span.end }
+    requires list { AreStates (length program.now.automaton.states) list.now }
+    ensures advanced { IfOk result (λ r. IsAdvanced (search_in W.word_chars program.now input.now) at begins list.now r.0 r.1 r.2.items) }
+    ensures states { IfOk result (λ r. AreStates (length program.now.automaton.states) r.2.items) }
+    ensures memory { IfErr result (λ e. e ≡ OutOfMemory) }
+{
+    let (found, next) = look(alloc, program, input, at, list)?;
+    if found.is_some() || !begins {
+        return Ok((found, false, next));
+    }
+    Ok((None, true, with_start(program, next)?))
+}
+
+/// The same beside two bytes, or fewer, which stand for each position between such bytes.
+pub(crate) fn advance_beside<W: WordClass>(
+    alloc: Global,
+    program: &Program<W>,
+    mode: &Anchored,
+    before: Option<u8>,
+    after: Option<u8>,
+    begins: bool,
+    list: &[StateID],
+) -> Result<(Option<PatternID>, bool, Vec<StateID>), Error>
+    requires { AreStates (length program.now.automaton.states) list.now }
+    ensures advanced { IfOk result (λ r. IsAdvanced (beside (machine W.word_chars program.now) mode.now (around before after)) (middle before)
+        begins list.now r.0 r.1 r.2.items) }
+    ensures states { IfOk result (λ r. AreStates (length program.now.automaton.states) r.2.items) }
+    ensures memory { IfErr result (λ e. e ≡ OutOfMemory) }
+{
+    let near = near_of(alloc, before, after)?;
+    let input = Input::new(near.as_slice()).anchored(*mode);
+    let at = usize::from(before.is_some());
+    advance(alloc, program, &input, at, begins, list)
+}
+
+// The list with the start state last, unless it is there.
+fn with_start<W: WordClass>(
+    program: &Program<W>,
+    list: Vec<StateID>,
+) -> Result<Vec<StateID>, Error>
+    requires { AreStates (length program.now.automaton.states) list.items }
+    ensures adds { IfOk result (λ next. AddsOne list.items program.now.start next.items) }
+    ensures states { IfOk result (λ next. AreStates (length program.now.automaton.states) next.items) }
+    ensures memory { IfErr result (λ e. e ≡ OutOfMemory) }
+{
+    let mut next = list;
+    let start = program.start();
+    if has(next.as_slice(), start) {
+        return Ok(next);
+    }
+    next.push(start)?;
+    Ok(next)
+}
+
+// Whether the list has the state.
+fn has(list: &[StateID], sid: StateID) -> bool
+    ensures { result ≡ true → Contains list.now sid }
+{
+    for one in list {
+        if *one == sid {
+            return true;
+        }
+    }
+    false
 }
