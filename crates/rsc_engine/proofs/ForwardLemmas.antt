@@ -1,6 +1,7 @@
 -- The loop of a pass, from position to position.
 use Rattle.std.proofs.Common.{◌≡◌, ◌↔◌, IsTrue, not, ℕ, zero, suc, ◌+◌, ◌-◌, ◌<◌, ◌≤◌, ◌⊎◌, inl, inr, ⊎_elim, Bool, true, false, true≢false, List, [], ◌∷◌, ◌++◌, length, refl, sym, ap, subst, ◌∙◌, arith, slice_get, Option, Some, None, IfSome, IfNone}
 use Rattle.std.proofs.lemmas.Bool.{cases_lt}
+use Rattle.rsc_nfa.specs.Steps.{place}
 use Rattle.rsc_nfa.specs.declared.state.State.TheVariants.{Accept}
 use Rattle.rsc_search.specs.declared.anchored.Anchored.{Anchored}
 use Rattle.rsc_search.specs.declared.anchored.Anchored.TheVariants.{No, Yes, Pattern}
@@ -264,3 +265,7 @@ one_state n list s is l = subst (λ (x : List ℕ). AreStates n x) (sym is) one
 
 pub leftmost-end : (e : Search) (p i : ℕ) → IsEndOf e p i → IsLeftmostEnd e i
 leftmost-end e p i x = record { run = x.run; is_first = x.is_first; ends = x.end }
+
+-- where a match ends, one begins
+pub end-some : (e : Search) (p i : ℕ) → IsEndOf e p i → ¬ (HasNone e)
+end-some e p i x none = none (place x.run 0).1 x.is_first.begins x.run x.is_first.preferred.is_match

@@ -40,6 +40,7 @@ pub mod RenamedLayoutLemmas  -- courses that are alike but for the numbers of th
 pub mod RowsLayoutLemmas  -- a row at a position is exact, and so is the next one
 pub mod RunsLemmas  -- runs with a place before them, or in a part of a span; and what a run records is between its first position and its last
 pub mod SizesLemmas  -- how many states copies and lists of parts have, and programs
+pub mod SpanPartsLemmas  -- the leftmost-first match in a part of a span that has it
 pub mod StartsLayoutLemmas  -- no match begins with a byte that isn't marked
 pub mod StepsLayoutLemmas  -- where steps lead
 pub mod SuccessorLemmas  -- a closure as it grows

@@ -51,3 +51,7 @@ pub record IsEndOf (e : Search) (p i : ℕ) : Type 0 where
   pub is_first : IsLeftmostFirst e run
   pub pattern : slice_get e.states (last_of run).0 ≡ Some (Accept p)
   pub end : (last_of run).1 ≡ i
+
+-- the leftmost-first match, of some pattern, ends at the position
+abbrev pub EndsAt : Search → ℕ → Type 0
+EndsAt e i = (p : ℕ) × IsEndOf e p i

@@ -63,6 +63,28 @@ pub(crate) fn first_end<W: WordClass>(
     }
 }
 
+/// Whether a match begins where one may.
+pub(crate) fn has_match<W: WordClass>(
+    alloc: Global,
+    plan: &Plan<'_, W>,
+    table: &mut ForwardTable,
+    input: &Input<'_>,
+) -> Result<bool, Error>
+    requires plan { IsPlan (machine W.word_chars plan.now.program.now) plan.now.classes plan.now.width plan.now.unicode }
+    requires exact { IsForwardTable (machine W.word_chars plan.now.program.now) plan.now.classes plan.now.width plan.now.most_rows
+        table.old.rows.items table.old.leads.items }
+    ensures exact { IsForwardTable (machine W.word_chars plan.now.program.now) plan.now.classes plan.now.width plan.now.most_rows
+        table.new.rows.items table.new.leads.items }
+    ensures some { IfOk result (λ found. found ≡ true → ¬ (HasNone (search_in W.word_chars plan.now.program.now input.now))) }
+    ensures none { IfOk result (λ found. found ≡ false → HasNone (search_in W.word_chars plan.now.program.now input.now)) }
+    ensures memory { IfErr result (λ e. e ≡ OutOfMemory) }
+{
+    let Some(_) = first_end(alloc, plan, table, input)? else {
+        return Ok(false);
+    };
+    Ok(true)
+}
+
 // A list of one state.
 fn one(alloc: Global, sid: StateID) -> Result<Vec<StateID>, Error>
     ensures one { IfOk result (λ list. list.items ≡ sid ∷ []) }
