@@ -53,7 +53,7 @@ run-before e p run there leads r = record { places = places; steps = steps }
     steps (suc k) l = let one : suc k + 1 ≡ suc (k + 1) = omega arith in rw one (r.steps k (omega (arith, l)))
 
 -- a step up to an earlier end is one
-step-wider : (e : Search) (n : ℕ) (p q : ℕ × ℕ) → n ≤ e.end → IsStep e.states e.terminator e.word_chars e.haystack n p q → Leads e p q
+pub step-wider : (e : Search) (n : ℕ) (p q : ℕ × ℕ) → n ≤ e.end → IsStep e.states e.terminator e.word_chars e.haystack n p q → Leads e p q
 step-wider e n p q le s = go (slice_get e.states p.0) s
   where
     go : (o : Option State) → MatchOption o ⊥ (λ (state : State). StepsTo state e.terminator e.word_chars e.haystack n p.1 q)

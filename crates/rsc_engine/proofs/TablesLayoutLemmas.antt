@@ -30,12 +30,12 @@ use Rattle.rsc_engine.proofs.RowsLayoutLemmas.{first_row, match_here, next_row, 
 
 -- ---- rows stay where they are
 
-get_before : {X : Type 0} → (xs : List X) (x y : X) (k : ℕ) → slice_get xs k ≡ Some y → slice_get (xs ++ x ∷ []) k ≡ Some y
+pub get_before : {X : Type 0} → (xs : List X) (x y : X) (k : ℕ) → slice_get xs k ≡ Some y → slice_get (xs ++ x ∷ []) k ≡ Some y
 get_before [] x y k e = absurd (cc)
 get_before (z ∷ xs) x y zero e = e
 get_before (z ∷ xs) x y (suc k) e = get_before xs x y k e
 
-get_last : {X : Type 0} → (xs : List X) (x : X) → slice_get (xs ++ x ∷ []) (length xs) ≡ Some x
+pub get_last : {X : Type 0} → (xs : List X) (x : X) → slice_get (xs ++ x ∷ []) (length xs) ≡ Some x
 get_last [] x = refl
 get_last (z ∷ xs) x = get_last xs x
 
@@ -109,25 +109,25 @@ pub column_below : (classes : List ℕ) (width : ℕ) (unit : Option ℕ) → wi
 column_below classes width None e bounded b = omega (arith, e)
 column_below classes width (Some u) e bounded b = omega (arith, e, bounded.within u b)
 
-column_alike : (classes : List ℕ) (u v : Option ℕ) → LastClassIsGreatest classes → IfSome u (λ b. b < 256) → IfSome v (λ b. b < 256)
+pub column_alike : (classes : List ℕ) (u v : Option ℕ) → LastClassIsGreatest classes → IfSome u (λ b. b < 256) → IfSome v (λ b. b < 256)
     → column classes u ≡ column classes v → Alike classes u v
 column_alike classes None None bounded a b e = tt
 column_alike classes (Some u) (Some v) bounded a b e = (a, b, e)
 column_alike classes None (Some v) bounded a b e = absurd (omega (arith, e, bounded.within v b))
 column_alike classes (Some u) None bounded a b e = absurd (omega (arith, e, bounded.within u a))
 
-one_entry : (width k row c d : ℕ) → c < width → d < width → k * width + c ≡ row * width + d → (k ≡ row) × (c ≡ d)
+pub one_entry : (width k row c d : ℕ) → c < width → d < width → k * width + c ≡ row * width + d → (k ≡ row) × (c ≡ d)
 one_entry width k row c d l h e = (
   sym (div-mul-add k width c l) ∙ ap (λ (x : ℕ). x / width) e ∙ div-mul-add row width d h,
   sym (mod-mul-add k width c l) ∙ ap (λ (x : ℕ). x % width) e ∙ mod-mul-add row width d h,
 )
 
-map_some : {X : Type 0} → (o : Option X) (P Q : X → Type 0) → ((x : X) → P x → Q x) → IfSome o P → IfSome o Q
+pub map_some : {X : Type 0} → (o : Option X) (P Q : X → Type 0) → ((x : X) → P x → Q x) → IfSome o P → IfSome o Q
 map_some None P Q f x = x
 map_some (Some y) P Q f x = f y x
 
 -- an entry that says nothing, or what holds
-written_so : (o : Option Step) (step : Step) (P : Step → Type 0) → (o ≡ None) ⊎ (o ≡ Some step) → P step → IfSome o P
+pub written_so : {X : Type 0} → (o : Option X) (step : X) (P : X → Type 0) → (o ≡ None) ⊎ (o ≡ Some step) → P step → IfSome o P
 written_so None step P w x = tt
 written_so (Some y) step P (inl e) x = absurd (cc)
 written_so (Some y) step P (inr e) x = let same : step ≡ y = cc in subst P same x
@@ -207,10 +207,10 @@ sound_at m rows k row all there =
 
 -- ---- a search
 
-some_same : {X : Type 0} → (x y : X) → Some x ≡ Some y → x ≡ y
+pub some_same : {X : Type 0} → (x y : X) → Some x ≡ Some y → x ≡ y
 some_same x y e = cc
 
-plain_alike : (m : Machine) (classes : List ℕ) (width : ℕ) (unicode : Bool) (p q : Option ℕ) → IsPlan m classes width unicode
+pub plain_alike : (m : Machine) (classes : List ℕ) (width : ℕ) (unicode : Bool) (p q : Option ℕ) → IsPlan m classes width unicode
     → Alike classes p q → IsPlainUnit m q → IsPlainUnit m p
 plain_alike m classes width unicode None None plan a x = x
 plain_alike m classes width unicode (Some b) (Some c) plan a x = λ is. plan.parted is c b (x is) a.0 (sym a.2)

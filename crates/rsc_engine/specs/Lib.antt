@@ -1,6 +1,7 @@
 pub mod BeginsLayout  -- at which state the matches of a pattern, or of several, begin
 pub mod Courses  -- courses: patterns with their copies written out, and how they go without making a choice twice at one position
 pub mod CoursesLayout  -- how paths of states take a course: a choice's number is that of its fork
+pub mod DecidesLayout  -- what an ordered list of states decides: the first of them from which a match is reached
 pub mod EnclosesLayout  -- where the states of a part lead, and in which slots they record
 pub mod Ends  -- where matches end, and what a DFA answers
 pub mod Features  -- what stands in a pattern, in parts that may be there
@@ -8,6 +9,7 @@ pub mod FirstEnds  -- which end of a pattern is preferred
 pub mod FirstWays  -- which way of a pattern is preferred
 pub mod FirstsLayout  -- how many ways lead to a pattern's match at most, and which of them is the first
 pub mod FlagsLayout  -- how the code holds flags: 64 to a block
+pub mod ForwardLayout  -- the forward pass, and the table of its rows
 pub mod GroupEnds  -- the group of the whole match: what runs record in its slots
 pub mod GroupNumbers  -- how the groups of a pattern are numbered, and which slots they have
 pub mod GroupOrder  -- where groups begin and end
@@ -19,7 +21,9 @@ pub mod NamesLayout  -- what the states of a part or of patterns name, and which
 pub mod NeededLayout  -- two bytes that stand side by side in every match
 pub mod NextMatches  -- which match is next; `last` is where the last one ended, if there was one
 pub mod OrderLayout  -- by which ways of a pattern steps lead to a match, and by which the first do
+pub mod OrderedLayout  -- what a state does at a position, and what a look at an ordered list of states finds
 pub mod Parts  -- which pattern a part is, and which groups it has; and what a builder has of them
+pub mod PassesLayout  -- a look at an ordered list of states, and what a pass of such looks knows
 pub mod PathsLayout  -- paths of states to a match: lists of states alone, along which the position, the records and the choices are carried
 pub mod PatternMatches  -- which match of patterns is first, and which is next, by the patterns alone; `last` is where the last one ended, if there was one
 pub mod PatternOrder  -- which match of a program's patterns is preferred

@@ -23,6 +23,7 @@ pub record Machine : Type 0 where
   pub terminator : ℕ
   pub word_chars : ℕ → Bool
   pub first : ℕ
+  pub utf8 : Bool
 
 abbrev pub machine : {W : Type 0} → (W → ℕ → Bool) → Compiled W → Machine
 machine chars p = record {
@@ -30,10 +31,11 @@ machine chars p = record {
   terminator = p.automaton.matcher.0;
   word_chars = chars p.automaton.matcher.1;
   first = p.start;
+  utf8 = p.utf8;
 }
 
 abbrev pub machine_of : Search → Machine
-machine_of e = record { states = e.states; terminator = e.terminator; word_chars = e.word_chars; first = e.start_state }
+machine_of e = record { states = e.states; terminator = e.terminator; word_chars = e.word_chars; first = e.start_state; utf8 = e.utf8 }
 
 -- the byte before a position and the byte after it as a haystack, and the position in it
 abbrev pub around : Option ℕ → Option ℕ → List ℕ

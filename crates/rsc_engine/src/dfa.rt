@@ -10,17 +10,25 @@ ghost use Rattle.rsc_engine.specs.Preferred.{HasNone, IsFirstMatch, IsCleared, I
 ghost use Rattle.rsc_engine.specs.Ends.{IsAnswer, IsLeftmostEnd, BeginsFrom};
 ghost use Rattle.rsc_engine.specs.RowsLayout.{machine, IsPlan, IsNeverEntered};
 ghost use Rattle.rsc_engine.specs.TablesLayout.{IsExact};
+ghost use Rattle.rsc_engine.specs.ForwardLayout.{IsForwardTable, StartsFrom};
+ghost use Rattle.rsc_engine.specs.OrderedLayout.{EndsAt};
 
 mod entries;
+mod forward;
+mod forward_entries;
+mod forward_table;
 mod lawful;
 mod needed;
+mod ordered;
 mod plan;
 mod successor;
 mod table;
 
-use crate::first::{end_from, find_from, is_match_by_walk};
+use crate::first::{find_from, is_match_by_walk};
 use crate::{AsciiWordClass, Error, Program};
 use entries::Step;
+use forward::{first_end, has_match};
+use forward_table::ForwardTable;
 use lawful::steps_are_lawful;
 use needed::Needed;
 use plan::{Plan, after_of, before_of};
@@ -88,6 +96,7 @@ pub struct Dfa<'p, W: WordClass> {
     alloc: Global,
     plan: Plan<'p, W>,
     table: Table,
+    forward: ForwardTable,
     // What each match has, if that is known, and whether it was looked for.
     needed: Option<Needed>,
     is_sought: bool,
@@ -100,6 +109,7 @@ impl<W: WordClass> Drop for Dfa<'_, W> {
             alloc: _,
             plan: _,
             table: _,
+            forward: _,
             needed: _,
             is_sought: _,
         } = self;
@@ -112,6 +122,7 @@ impl<'p, W: WordClass> Model for Dfa<'p, W> {
     ghost use Rattle.rsc_engine.specs.NeededLayout.{NeedsPair};
     ghost use Rattle.rsc_engine.specs.RowsLayout.{machine, IsPlan, IsNeverEntered};
     ghost use Rattle.rsc_engine.specs.TablesLayout.{IsExact};
+    ghost use Rattle.rsc_engine.specs.ForwardLayout.{IsForwardTable};
 
     ghost Value = { Compiled W };
 
@@ -120,6 +131,7 @@ impl<'p, W: WordClass> Model for Dfa<'p, W> {
     ghost invariant = { λ d. IsPlan (machine W.word_chars d.plan.program.now) d.plan.classes d.plan.width d.plan.unicode
         × (d.plan.is_start_never_entered ≡ true → IsNeverEntered (machine W.word_chars d.plan.program.now))
         × IsExact (machine W.word_chars d.plan.program.now) d.plan.classes d.plan.width d.table.rows.items d.table.leads.items
+        × IsForwardTable (machine W.word_chars d.plan.program.now) d.plan.classes d.plan.width d.plan.most_rows d.forward.rows.items d.forward.leads.items
         × IfSome d.needed (λ n. NeedsPair (machine W.word_chars d.plan.program.now) n.first n.second) };
 }
 
@@ -133,6 +145,7 @@ impl<'p, W: WordClass + AsciiWordClass> Dfa<'p, W> {
             alloc,
             plan: Plan::new(program, most_rows),
             table: Table::new(alloc),
+            forward: ForwardTable::new(alloc),
             needed: None,
             is_sought: false,
         }
@@ -222,16 +235,16 @@ impl<'p, W: WordClass + AsciiWordClass> Dfa<'p, W> {
         Ok(Some(begin))
     }
 
-    /// Whether a match begins where one may, in the span of the input. Where the DFA quits, the backtracker answers.
+    /// Whether a match begins where one may, in the span of the input.
     ///
     /// # Errors
     ///
-    /// Out of memory, or of the backtracker `TooLarge`, where the span has too many positions for the number of states.
+    /// Out of memory.
     pub fn is_match(&mut self, input: &Input<'_>) -> Result<bool, Error>
         ensures program { self.new ≡ self.old }
         ensures some { IfOk result (λ found. found ≡ true → ¬ (HasNone (search_in W.word_chars self.old input.now))) }
         ensures none { IfOk result (λ found. found ≡ false → HasNone (search_in W.word_chars self.old input.now)) }
-        ensures refused { IfErr result (FailsFor (search_in W.word_chars self.old input.now)) }
+        ensures memory { IfErr result (λ e. e ≡ OutOfMemory) }
     {
         if self.begins_near(input) {
             return Ok(true);
@@ -239,7 +252,7 @@ impl<'p, W: WordClass + AsciiWordClass> Dfa<'p, W> {
         match self.earliest_end(input)? {
             Answer::End(_) => Ok(true),
             Answer::NoMatch => Ok(false),
-            Answer::Quit(_) => is_match_by_walk(self.alloc, self.plan.program, input),
+            Answer::Quit(_) => has_match(self.alloc, &self.plan, &mut self.forward, input),
         }
     }
 
@@ -265,29 +278,85 @@ impl<'p, W: WordClass + AsciiWordClass> Dfa<'p, W> {
         ensures refused { IfErr result (FailsFor (search_in W.word_chars self.old input.now)) }
     {
         captures.clear();
+        let Some(from) = self.first_from(input)? else {
+            return Ok(None);
+        };
+        let Some(end) = self.end_from(input, from)? else {
+            return Ok(None);
+        };
+        // In the part of the span that ends where the match does, so that the walk takes no more memory than that needs.
+        find_from(self.alloc, self.plan.program, &part_of(input, from, end), captures, from)
+    }
+
+    // A position of the span before which no match begins; `None` if no match begins where one may.
+    fn first_from(&mut self, input: &Input<'_>) -> Result<Option<usize>, Error>
+        ensures program { self.new ≡ self.old }
+        ensures none { IfOk result (λ found. IfNone found (HasNone (search_in W.word_chars self.old input.now))) }
+        ensures some { IfOk result (λ found. IfSome found (StartsFrom (search_in W.word_chars self.old input.now))) }
+        ensures memory { IfErr result (λ e. e ≡ OutOfMemory) }
+    {
+        let start = input.start();
+        let end = input.end();
+        if start > end {
+            return Ok(None);
+        }
+        if input.get_anchored().is_anchored() {
+            return Ok(Some(start));
+        }
         let Some(from) = self.begin(input)? else {
             return Ok(None);
         };
-        find_from(self.alloc, self.plan.program, input, captures, from)
+        if from > end {
+            return Ok(None);
+        }
+        Ok(Some(from))
     }
 
-    /// The position at which the leftmost-first match in an input's span ends; `None` if no match begins where one may. The DFA tells from
-    /// where on to look, and the backtracker finds the end.
+    // Where the leftmost-first match ends, if no match begins before a position.
+    fn end_from(&mut self, input: &Input<'_>, from: usize) -> Result<Option<usize>, Error>
+        requires { StartsFrom (search_in W.word_chars self.old input.now) from }
+        ensures program { self.new ≡ self.old }
+        ensures some { IfOk result (λ found. IfSome found (EndsAt (search_in W.word_chars self.old input.now))) }
+        ensures none { IfOk result (λ found. IfNone found (HasNone (search_in W.word_chars self.old input.now))) }
+        ensures memory { IfErr result (λ e. e ≡ OutOfMemory) }
+    {
+        let rest = part_of(input, from, input.end());
+        match first_end(self.alloc, &self.plan, &mut self.forward, &rest)? {
+            None => Ok(None),
+            Some(last) => Ok(Some(last.1)),
+        }
+    }
+
+    /// The position at which the leftmost-first match in an input's span ends; `None` if no match begins where one may.
     ///
     /// # Errors
     ///
-    /// Out of memory, or of the backtracker `TooLarge`, where the span has too many positions for the number of states.
+    /// Out of memory.
     pub fn leftmost_end(&mut self, input: &Input<'_>) -> Result<Option<usize>, Error>
         ensures program { self.new ≡ self.old }
         ensures found { IfOk result (λ found. IfSome found (IsLeftmostEnd (search_in W.word_chars self.old input.now))) }
         ensures none { IfOk result (λ found. IfNone found (HasNone (search_in W.word_chars self.old input.now))) }
-        ensures refused { IfErr result (FailsFor (search_in W.word_chars self.old input.now)) }
+        ensures memory { IfErr result (λ e. e ≡ OutOfMemory) }
     {
-        let Some(from) = self.begin(input)? else {
+        if self.lacks_needed(input) {
             return Ok(None);
-        };
-        end_from(self.alloc, self.plan.program, input, from)
+        }
+        match first_end(self.alloc, &self.plan, &mut self.forward, input)? {
+            None => Ok(None),
+            Some(last) => Ok(Some(last.1)),
+        }
     }
+}
+
+// The input with a part of its span.
+fn part_of<'h>(input: &Input<'h>, start: usize, end: usize) -> Input<'h>
+    requires order { start ≤ end + 1 }
+    requires within { end ≤ input.now.span.end }
+    ensures { result ≡ record { haystack = input.now.haystack; span = record { start = start; end = end }; anchored = input.now.anchored; earliest = false } }
+{
+    // For the prover: the end is in the haystack.
+    let _end = input.end();
+    Input::new(input.haystack()).span(Span { start, end }).anchored(input.get_anchored())
 }
 
 /// Whether an input's span is long, and a match may begin anywhere in it.

@@ -2,7 +2,7 @@
 ghost use Rattle.std.specs.Prelude.{◌≡◌, ◌≤◌, IfOk, IfErr, IfSome, IfNone, OnErr, true, false, length};
 ghost use Rattle.rsc_engine.specs.Searches.{search_in, FailsFor};
 ghost use Rattle.rsc_engine.specs.Preferred.{IsLeftmostFirst, IsFirstMatch, HasNone, IsCleared, IsInSpan};
-ghost use Rattle.rsc_engine.specs.Ends.{BeginsFrom, IsLeftmostEnd};
+ghost use Rattle.rsc_engine.specs.Ends.{BeginsFrom};
 ghost use Rattle.rsc_engine.specs.TrailsLayout.{run_of};
 
 use crate::backtrack::Walk;
@@ -10,7 +10,6 @@ use crate::dfa::{MOST_ROWS, is_long};
 use crate::groups::write_match;
 use crate::numbers::flags_needed;
 use crate::starts::Starts;
-use crate::trail::last_place;
 use crate::{AsciiWordClass, Dfa, Error, Program};
 use rsc_captures::Captures;
 use rsc_look::WordClass;
@@ -84,24 +83,6 @@ pub(crate) fn find_from<W: WordClass>(
     match first_run(alloc, program, input, from)? {
         None => Ok(None),
         Some(walk) => Ok(Some(write_match(program, input, walk.trail.as_slice(), captures))),
-    }
-}
-
-/// Where the leftmost-first match ends, if no match begins before a position in the span.
-pub(crate) fn end_from<W: WordClass>(
-    alloc: Global,
-    program: &Program<W>,
-    input: &Input<'_>,
-    from: usize,
-) -> Result<Option<usize>, Error>
-    requires { BeginsFrom (search_in W.word_chars program.now input.now) from }
-    ensures found { IfOk result (λ found. IfSome found (IsLeftmostEnd (search_in W.word_chars program.now input.now))) }
-    ensures none { IfOk result (λ found. IfNone found (HasNone (search_in W.word_chars program.now input.now))) }
-    ensures refused { IfErr result (FailsFor (search_in W.word_chars program.now input.now)) }
-{
-    match first_run(alloc, program, input, from)? {
-        None => Ok(None),
-        Some(walk) => Ok(Some(last_place(walk.trail.as_slice()).1)),
     }
 }
 

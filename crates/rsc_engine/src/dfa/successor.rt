@@ -46,8 +46,8 @@ pub(crate) fn successor<W: WordClass>(
     Ok(Some(next))
 }
 
-// The small haystack of the bytes on both sides.
-fn near_of(alloc: Global, before: Option<u8>, after: Option<u8>) -> Result<Vec<u8>, Error>
+/// The small haystack of the bytes on both sides.
+pub(crate) fn near_of(alloc: Global, before: Option<u8>, after: Option<u8>) -> Result<Vec<u8>, Error>
     ensures near { IfOk result (λ near. near.items ≡ around before after) }
     ensures memory { IfErr result (λ e. e ≡ OutOfMemory) }
 {

@@ -1,0 +1,75 @@
+use Rattle.std.proofs.Common.{◌≡◌, ◌+◌, ◌*◌, ◌<◌, ◌≤◌, ◌++◌, ◌∷◌, [], ℕ, false, true, not, count_by, length, replicate, refl, sym, subst, ap, ◌∙◌, arith, rules, List, Bool, get_or, length-append}
+use Rattle.std.proofs.lemmas.Grind.{common_steps}
+use Rattle.rsc_engine.specs.Searches.{search_in}
+use Rattle.rsc_engine.proofs.OrderedLemmas.{IsStack, stack-first, stack-again, stack-stuck, stack-one, stack-two, stack-over, stack-match, stack-last, stack-states, fewer, read, popped-there}
+use Rattle.rsc_engine.proofs.dfa.ordered.look.Goals as goal
+
+pub stack-init : goal.stack-init
+stack-init g c =
+    stack-first _ _ _ _ _ _ _ _
+    (c.in_ok-seen.ensures.items_if_clones_equal (λ y e. e) ∙ ap (λ (n : ℕ). replicate n false) c.len-count.ensures)
+    (c.in_ok-taken.ensures.items_if_clones_equal (λ y e. e) ∙ ap (λ (n : ℕ). replicate n false) c.len-count.ensures)
+    c.in_ok-stack.ensures.reversed c.new-next.ensures.items c.requires.list
+
+pub stack-preserved-then-index : goal.stack-preserved-then-index
+stack-preserved-then-index g c =
+    stack-again _ _ _ _ _ _ _ _ _ _ c.stack.invariant c.in-Some.ensures.items
+    (read _ _ _ _ _ _ _ _ _ _ c.stack.invariant c.in-Some.ensures.items _ _ true c.as_usize.ensures.value c.index.ensures c.if-index.true)
+
+pub stack-preserved-in-Stuck : goal.stack-preserved-in-Stuck
+stack-preserved-in-Stuck g c =
+    rw (c.as_usize-in-Some.ensures.value) (stack-stuck _ _ _ _ _ _ _ _ _ _ c.stack.invariant c.in-Some.ensures.items refl c.requires.start c.requires.at
+    (read _ _ _ _ _ _ _ _ _ _ c.stack.invariant c.in-Some.ensures.items _ _ false c.as_usize.ensures.value c.index.ensures c.if-index.false)
+    c.in-Stuck.ensures.way)
+
+pub stack-preserved-in-Continue-branch-4 : goal.stack-preserved-in-Continue-branch-4
+stack-preserved-in-Continue-branch-4 g c =
+    rw (c.as_usize-in-Some.ensures.value, c.in_ok-push-in-One.ensures.items)
+    (stack-one _ _ _ _ _ _ _ _ _ _ c.stack.invariant c.in-Some.ensures.items refl c.requires.start c.requires.at
+    (read _ _ _ _ _ _ _ _ _ _ c.stack.invariant c.in-Some.ensures.items _ _ false c.as_usize.ensures.value c.index.ensures c.if-index.false)
+    c.in-One.to c.in-One.ensures.way c.in-One.ensures.there)
+
+pub stack-preserved-in-Continue-branch-5 : goal.stack-preserved-in-Continue-branch-5
+stack-preserved-in-Continue-branch-5 g c =
+    rw (c.as_usize-in-Some.ensures.value)
+    (stack-over _ _ _ _ _ _ _ _ _ _ c.stack.invariant c.in-Some.ensures.items refl c.requires.start c.requires.at
+    (read _ _ _ _ _ _ _ _ _ _ c.stack.invariant c.in-Some.ensures.items _ _ false c.as_usize.ensures.value c.index.ensures c.if-index.false)
+    c.in-Over.to _ _ c.in-Over.ensures.way c.add.ensures.len c.in_ok-add-in-Over.ensures.gathers c.in_ok-add-in-Over.ensures.adds)
+
+pub stack-preserved : goal.stack-preserved
+stack-preserved g c =
+    rw (c.as_usize-in-Some.ensures.value, c.in_ok-push-in-Two-2.ensures.items, c.in_ok-push-in-Two.ensures.items)
+    (stack-two _ _ _ _ _ _ _ _ _ _ c.stack.invariant c.in-Some.ensures.items refl c.requires.start c.requires.at
+    (read _ _ _ _ _ _ _ _ _ _ c.stack.invariant c.in-Some.ensures.items _ _ false c.as_usize.ensures.value c.index.ensures c.if-index.false)
+    c.in-Two.a c.in-Two.b c.in-Two.ensures.way c.in-Two.ensures.there)
+
+pub returns-in-Match-clause-looked : goal.returns-in-Match-clause-looked
+returns-in-Match-clause-looked g c =
+    stack-match _ _ _ _ _ _ _ _ _ _ c.stack.invariant c.in-Some.ensures.items refl c.requires.start c.requires.at
+    (read _ _ _ _ _ _ _ _ _ _ c.stack.invariant c.in-Some.ensures.items _ _ false c.as_usize.ensures.value c.index.ensures c.if-index.false)
+    c.in-Match.pattern c.in-Match.ensures.way
+
+pub returns-clause-looked : goal.returns-clause-looked
+returns-clause-looked g c = stack-last _ _ _ _ _ _ _ _ c.stack.invariant (let e = (rw c.in_default.is at c.pop.ensures.cases).0 in omega (arith, e, c.stack.stack.ok))
+
+pub stack-smaller-in-Continue-branch-4 : goal.stack-smaller-in-Continue-branch-4
+stack-smaller-in-Continue-branch-4 g c =
+    let less = fewer _ _ _ _ _ _ _ _ _ _ c.stack.invariant c.in-Some.ensures.items
+    (read _ _ _ _ _ _ _ _ _ _ c.stack.invariant c.in-Some.ensures.items _ _ false c.as_usize.ensures.value c.index.ensures c.if-index.false) in
+    rw (c.as_usize-in-Some.ensures.value, c.in_ok-push-in-One.ensures.items)
+    (omega (arith, less, ap length c.in-Some.ensures.items, length-append c.pop.new.self.items (c.in-Some.sid ∷ []),
+    length-append c.pop.new.self.items (c.in-One.to ∷ [])))
+
+pub stack-smaller : goal.stack-smaller
+stack-smaller g c =
+    let less = fewer _ _ _ _ _ _ _ _ _ _ c.stack.invariant c.in-Some.ensures.items
+    (read _ _ _ _ _ _ _ _ _ _ c.stack.invariant c.in-Some.ensures.items _ _ false c.as_usize.ensures.value c.index.ensures c.if-index.false) in
+    rw (c.as_usize-in-Some.ensures.value, c.in_ok-push-in-Two-2.ensures.items, c.in_ok-push-in-Two.ensures.items)
+    (omega (arith, less, ap length c.in-Some.ensures.items, length-append c.pop.new.self.items (c.in-Some.sid ∷ []),
+    length-append c.pop.new.self.items (c.in-Two.b ∷ []), length-append (c.pop.new.self.items ++ c.in-Two.b ∷ []) (c.in-Two.a ∷ [])))
+
+pub returns-in-Match-clause-states : goal.returns-in-Match-clause-states
+returns-in-Match-clause-states g c = stack-states _ _ _ _ _ _ _ _ c.stack.invariant
+
+pub returns-clause-states : goal.returns-clause-states
+returns-clause-states g c = stack-states _ _ _ _ _ _ _ _ c.stack.invariant

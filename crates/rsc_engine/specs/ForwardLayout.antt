@@ -1,0 +1,148 @@
+-- The forward pass, and the table of its rows. These serve the proof of `dfa`, whose public contracts cite `Ends`, `Preferred` and `Searches` alone.
+use Rattle.std.specs.Prelude.{◌≡◌, ℕ, ◌+◌, ◌*◌, ◌<◌, ◌≤◌, ◌⊎◌, Bool, true, false, List, [], ◌∷◌, length, slice_get, slice_index_or, Option, Some, None, IfSome}
+use Rattle.std.specs.List.{All}
+use Rattle.rsc_search.specs.declared.anchored.Anchored.{Anchored}
+use Rattle.rsc_search.specs.declared.anchored.Anchored.TheVariants.{No}
+use Rattle.rsc_look.specs.Holds.{byte_before, byte_after}
+use Rattle.rsc_nfa.specs.declared.state.State.TheVariants.{Accept}
+use Rattle.rsc_engine.specs.declared.dfa.forward_table.ForwardRow.{ForwardRow}
+use Rattle.rsc_engine.specs.declared.dfa.entries.Lead.{Lead}
+use Rattle.rsc_engine.specs.declared.dfa.entries.Lead.TheVariants.{Unknown, Match, To, Last}
+use Rattle.rsc_engine.specs.Searches.{Search}
+use Rattle.rsc_engine.specs.Runs.{HasNoMatch}
+use Rattle.rsc_engine.specs.RowsLayout.{Machine, Alike, AreStates, IsPlainUnit, AddsOne, around, middle}
+use Rattle.rsc_engine.specs.TablesLayout.{column}
+use Rattle.rsc_engine.specs.PassesLayout.{Status, Open, Closed, answer_of, IsFound, IsDue}
+use Rattle.rsc_engine.specs.OrderedLayout.{IsLooked}
+
+-- the search of a small haystack
+abbrev pub beside : Machine → Anchored → List ℕ → Search
+beside m mode near = record {
+  states = m.states;
+  terminator = m.terminator;
+  word_chars = m.word_chars;
+  start_state = m.first;
+  utf8 = m.utf8;
+  haystack = near;
+  start = 0;
+  end = length near;
+  mode = mode;
+}
+
+-- ---- a step
+
+-- after a look: whether matches may begin later, and the next list, which has the start state last as long as they may
+abbrev pub Continues : ℕ → Bool → Option ℕ → List ℕ → Bool → List ℕ → Type 0
+Continues first begins (Some p) out after next = (after ≡ false) × (next ≡ out)
+Continues first true None out after next = (after ≡ true) × AddsOne out first next
+Continues first false None out after next = (after ≡ false) × (next ≡ out)
+
+-- a look at the list finds a match of the pattern, or none, and this is the next list
+pub record IsAdvanced (e : Search) (i : ℕ) (begins : Bool) (list : List ℕ) (found : Option ℕ) (after : Bool) (next : List ℕ) : Type 0 where
+  pub out : List ℕ
+  pub looked : IsLooked e i list found out
+  pub continues : Continues e.start_state begins found out after next
+
+-- the pattern and the end of the last match found, after a look at the position
+abbrev pub last_with : Option ℕ → ℕ → Option (ℕ × ℕ) → Option (ℕ × ℕ)
+last_with None i last = last
+last_with (Some p) i last = Some (p, i)
+
+-- what the pass's variables say of the status
+abbrev pub IsHeld : Search → Status → Bool → Option (ℕ × ℕ) → Type 0
+IsHeld e Open begins last = (begins ≡ true) × (last ≡ None) × (e.mode ≡ No)
+IsHeld e (Closed None) begins last = (begins ≡ false) × (last ≡ None)
+IsHeld e (Closed (Some q)) begins last = (begins ≡ false) × ((p : ℕ) × (last ≡ Some (p, q.1)) × (slice_get e.states q.0 ≡ Some (Accept p)))
+
+-- what the pass keeps, before it looks at the list at position k
+pub record IsGoing (e : Search) (k : ℕ) (begins : Bool) (last : Option (ℕ × ℕ)) (list : List ℕ) : Type 0 where
+  pub status : Status
+  pub held : IsHeld e status begins last
+  pub low : e.start ≤ k
+  pub due : k ≤ e.end → IsDue e k status list
+  pub over : e.end < k → IsFound e (answer_of status)
+
+-- ---- rows
+
+-- the row to which an entry leads
+abbrev pub row_of : Lead → Option ℕ
+row_of Unknown = None
+row_of Match = None
+row_of (To row) = Some row
+row_of (Last row) = Some row
+
+-- the pattern of the match that a row knows of
+abbrev pub pattern_in : Option ForwardRow → Option ℕ
+pattern_in None = None
+pattern_in (Some row) = row.found
+
+-- the row is there, with that list and status, of a byte of the class
+pub record IsForwardRow (classes : List ℕ) (rows : List ForwardRow) (k : ℕ) (mode : Anchored) (begins : Bool) (found : Option ℕ) (before : Option ℕ)
+    (list : List ℕ) : Type 0 where
+  pub to : ForwardRow
+  pub there : slice_get rows k ≡ Some to
+  pub same_mode : to.mode ≡ mode
+  pub same_begins : to.begins ≡ begins
+  pub same_found : to.found ≡ found
+  pub alike : Alike classes before to.before
+  pub is_list : to.list.items ≡ list
+
+-- a look beside two bytes leads from the one row to the other
+pub record IsForward (m : Machine) (classes : List ℕ) (rows : List ForwardRow) (from : ForwardRow) (unit : Option ℕ) (next : ℕ) : Type 0 where
+  pub found : Option ℕ
+  pub after : Bool
+  pub list : List ℕ
+  pub is_row : IsForwardRow classes rows next from.mode after found unit list
+  pub advanced : IsAdvanced (beside m from.mode (around from.before unit)) (middle from.before) from.begins from.list.items found after list
+
+-- what an entry says of the units of a class: no assertion looks at a byte above 7F there
+pub record IsForwardTo (m : Machine) (classes : List ℕ) (old new : List ForwardRow) (row : ℕ) (unit : Option ℕ) (next : ℕ) : Type 0 where
+  pub from : ForwardRow
+  pub there : slice_get old row ≡ Some from
+  pub other : Option ℕ
+  pub alike : Alike classes unit other
+  pub plain_before : IsPlainUnit m from.before
+  pub plain : IsPlainUnit m other
+  pub leads : IsForward m classes new from other next
+
+-- the row's list is of states
+pub record IsSoundForwardRow (m : Machine) (row : ForwardRow) : Type 0 where
+  pub states : AreStates (length m.states) row.list.items
+
+-- there are at most that many, or one
+abbrev pub AreFew : ℕ → ℕ → Type 0
+AreFew most n = (n ≤ most) ⊎ (n ≤ 1)
+
+-- the rows are few, each is of states, and each entry says what holds
+pub record IsForwardTable (m : Machine) (classes : List ℕ) (width most : ℕ) (rows : List ForwardRow) (leads : List Lead) : Type 0 where
+  pub few : AreFew most (length rows)
+  pub sound : All (IsSoundForwardRow m) rows
+  pub room : length rows * width ≤ length leads
+  pub each : (k : ℕ) (unit : Option ℕ) → IfSome unit (λ b. b < 256)
+      → IfSome (row_of (slice_index_or leads (k * width + column classes unit) Unknown)) (IsForwardTo m classes rows rows k unit)
+
+-- each row is where it was
+pub record IsForwardGrown (old new : List ForwardRow) : Type 0 where
+  pub kept : (k : ℕ) (row : ForwardRow) → slice_get old k ≡ Some row → slice_get new k ≡ Some row
+
+-- the row is that of the position, if this is the last match found before it
+pub record StandsForward (e : Search) (classes : List ℕ) (rows : List ForwardRow) (k i : ℕ) (last : Option (ℕ × ℕ)) : Type 0 where
+  pub row : ForwardRow
+  pub there : slice_get rows k ≡ Some row
+  pub same_mode : row.mode ≡ e.mode
+  pub alike : Alike classes (byte_before e.haystack i) row.before
+  pub going : IsGoing e i row.begins last row.list.items
+
+-- from where a pass stands at the position, the row that is next is that of the next one
+abbrev pub GoesForward : Search → List ℕ → List ForwardRow → List ForwardRow → ℕ → ℕ → ℕ → Type 0
+GoesForward e classes old new k i next = (last : Option (ℕ × ℕ)) → StandsForward e classes old k i last
+    → StandsForward e classes new next (i + 1) (last_with (pattern_in (slice_get new next)) i last)
+
+-- ---- where a pass begins
+
+-- the position is in the span, no match begins before it, and it's the span's start if the search is anchored
+pub record StartsFrom (e : Search) (from : ℕ) : Type 0 where
+  pub start : e.start ≤ from
+  pub end : from ≤ e.end
+  pub anchored : ¬ (e.mode ≡ No) → from ≡ e.start
+  pub none : (at : ℕ) → e.start ≤ at → at < from → HasNoMatch e at
