@@ -1,0 +1,3 @@
+pub mod PartReplacementsLemmas
+pub mod ReplacementsLemmas
+pub mod TemplatesLemmas

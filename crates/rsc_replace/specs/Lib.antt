@@ -1,0 +1,3 @@
+pub mod PartReplacements
+pub mod Replacements
+pub mod Templates

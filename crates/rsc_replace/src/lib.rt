@@ -1,0 +1,11 @@
+//! Replaces the matches of a program, or of one part of a pattern, in a text by what a template stands for.
+//!
+//! [`expand`] reads a template: `$0`, `$1` and `$name` stand for groups. [`replace_all`] replaces all matches of a program, [`replace_part`] those of a part,
+//! and its contract speaks of the part's pattern alone.
+#![tactic(auto)]
+
+mod replace;
+mod template;
+
+pub use replace::replace_all;
+pub use template::expand;
