@@ -1,9 +1,8 @@
 -- Lemmas on an iteration that replaces, and on what determines it.
 use Rattle.std.specs.Option.{ForSome}
-use Rattle.std.proofs.Common.{◌≡◌, ◌∙◌, ℕ, ◌+◌, ◌-◌, ◌<◌, ◌≤◌, Bool, Option, None, Some, zero, suc, List, [], ◌∷◌, ◌++◌, take, drop, length, length-drop, slice_range, slice_index_or, refl, sym, ap, subst, arith, append_assoc}
+use Rattle.std.proofs.Common.{◌≡◌, ◌∙◌, ℕ, ◌+◌, ◌-◌, ◌<◌, ◌≤◌, Bool, Option, None, Some, suc, List, [], ◌∷◌, ◌++◌, take, drop, length, length-drop, slice_range, slice_index_or, refl, sym, ap, subst, arith, append_assoc}
 use Rattle.std.proofs.Math.Seq.{take-length}
 use Rattle.rsc_search.specs.Matches.{Matched}
-use Rattle.rsc_search.specs.declared.span.Span.{Span}
 use Rattle.rsc_captures.specs.Captured.{Captured}
 use Rattle.rsc_captures.specs.Groups.{GroupLists}
 use Rattle.rsc_engine.specs.Searches.{Search, search_in}

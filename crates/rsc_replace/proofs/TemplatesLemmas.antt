@@ -1,5 +1,5 @@
 -- Lemmas on what a template stands for.
-use Rattle.std.proofs.Common.{◌≡◌, ◌≢◌, ◌+◌, ◌<◌, ◌≤◌, ◌^◌, ◌==◌, ◌∙◌, ◌&&◌, nat_lt, not, ℕ, zero, suc, Bool, true, false, List, [], ◌∷◌, ◌++◌, Option, None, Some, length, slice_index, get_or, take, drop, refl, sym, ap, subst, arith, eq-eqb, lt-ltb, ltb-true, inl, inr, append-nil, get_or-take, IsUtf8}
+use Rattle.std.proofs.Common.{◌≡◌, ◌+◌, ◌<◌, ◌≤◌, ◌^◌, ◌==◌, ◌∙◌, ◌&&◌, nat_lt, not, ℕ, zero, suc, Bool, true, false, List, [], ◌∷◌, ◌++◌, None, Some, length, slice_index, get_or, take, drop, refl, sym, ap, subst, arith, eq-eqb, lt-ltb, ltb-true, inl, inr, append-nil, get_or-take, IsUtf8}
 use Rattle.std.proofs.lemmas.Bool.{and_parts, cases_lt}
 use Rattle.std.proofs.lemmas.Bool.Decides.{nat_tests}
 use Rattle.std.proofs.lemmas.List.Sums.{prefix_len_passes, prefix_len_stops}
@@ -11,8 +11,7 @@ use Rattle.std.specs.List.{prefix_len}
 use Rattle.std.specs.Str.{all_ascii_digits}
 use Rattle.std.specs.Str.Parse.{IsNumeral, digits_value, without_leading_plus}
 use Rattle.rsc_primitives.specs.Utf8.{is_word_byte}
-use Rattle.rsc_search.specs.declared.span.Span.{Span}
-use Rattle.rsc_captures.specs.Captured.{Captured, group_span, named_span}
+use Rattle.rsc_captures.specs.Captured.{Captured}
 use Rattle.rsc_replace.specs.Templates.{dollar, number_of, span_called, bytes_of, count_before, reference, dollar_piece, filled_after, filled}
 
 -- `parse` reads it as a `usize`

@@ -4,8 +4,10 @@
 //! and its contract speaks of the part's pattern alone.
 #![tactic(auto)]
 
+/// Laws that a caller can cite.
+pub mod laws;
 mod replace;
 mod template;
 
-pub use replace::replace_all;
+pub use replace::{replace_all, replace_part};
 pub use template::expand;

@@ -1,11 +1,16 @@
 //! Texts with all matches replaced.
-ghost use Rattle.std.specs.Prelude.{◌≡◌, ◌∷◌, [], IfOk, IfErr, None};
+ghost use Rattle.std.specs.Prelude.{◌≡◌, ◌∷◌, [], IsTrue, IfOk, IfErr, OnOk, Err, None, false};
 ghost use Rattle.rsc_search.specs.Inputs.{whole};
 ghost use Rattle.rsc_engine.specs.Searches.{search_in, FailsFor};
+ghost use Rattle.rsc_engine.specs.declared.error.Error.TheVariants.{TooLarge};
+ghost use Rattle.rsc_engine.specs.Parts.{pattern_of, groups_of_pattern};
+ghost use Rattle.rsc_engine.specs.Refusals.{RepeatsName, are_too_large, has_a_reversed_range};
+ghost use Rattle.rsc_engine.specs.Sizes.{most_states};
+ghost use Rattle.rsc_replace.specs.PartReplacements.{FailsToReplace, IsPartReplaced, text_of};
 ghost use Rattle.rsc_replace.specs.Replacements.{IsReplaced};
 
 use crate::expand;
-use rsc_engine::{AsciiWordClass, Error, Matches, Program};
+use rsc_engine::{AsciiWordClass, Builder, Error, Matches, Part, Program, laws};
 use rsc_look::WordClass;
 use rsc_search::Input;
 use std::alloc::Global;
@@ -42,4 +47,33 @@ pub fn replace_all<W: WordClass + AsciiWordClass>(
             }
         }
     }
+}
+
+/// The text with each match of a part replaced by what the template stands for, as [`expand`] reads it.
+///
+/// The part is a whole pattern, and the text is taken for text: no match is empty within a character. A match begins at the first position from which the
+/// pattern matches, goes its preferred way, and ends where that way does; the next one begins there or later, and isn't empty there. `$0` is the match, and
+/// `$1` what the way went through in the part's first group the last time.
+///
+/// # Errors
+///
+/// As [`Builder::build`], and `TooLarge` where the text has too many positions for the number of states.
+pub fn replace_part<W: WordClass + AsciiWordClass>(
+    alloc: Global,
+    word_class: W,
+    part: Part<'_>,
+    text: &[u8],
+    template: &[u8],
+) -> Result<Vec<u8>, Error>
+    ensures replaced { IfOk result (λ out. IsPartReplaced (text_of text.now (W.word_chars word_class))
+        (groups_of_pattern part.entry) (pattern_of part.entry) template.now out.items) }
+    ensures large { IsTrue (are_too_large most_states (pattern_of part.entry ∷ []) (groups_of_pattern part.entry ∷ [])) → result ≡ Err TooLarge }
+    ensures names { OnOk result (¬ (RepeatsName (groups_of_pattern part.entry ∷ []))) }
+    ensures ordered { OnOk result (has_a_reversed_range (pattern_of part.entry ∷ []) ≡ false) }
+    ensures refused { IfErr result (FailsToReplace (pattern_of part.entry) (groups_of_pattern part.entry) text.now) }
+{
+    laws::the_first_group_is_the_match::<W>();
+    let program = Builder::new(alloc).build(word_class, true, part)?;
+    let out = replace_all(alloc, &program, text, template)?;
+    Ok(out)
 }

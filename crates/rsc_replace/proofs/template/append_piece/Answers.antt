@@ -1,4 +1,4 @@
-use Rattle.std.proofs.Common.{◌≡◌, ◌++◌, ◌==◌, ◌∙◌, ℕ, List, [], ◌∷◌, true, false, take, drop, slice_index, sym, subst, arith}
+use Rattle.std.proofs.Common.{◌≡◌, ◌++◌, ◌∙◌, ℕ, List, [], ◌∷◌, take, drop, sym, subst, arith}
 use Rattle.rsc_replace.specs.Templates.{dollar, bytes_of, span_called, count_before, dollar_piece, filled}
 use Rattle.rsc_replace.proofs.TemplatesLemmas.{before_dollar, piece_at, two_dollars, lone_dollar, group_dollar}
 use Rattle.rsc_replace.proofs.template.append_piece.Goals as goal

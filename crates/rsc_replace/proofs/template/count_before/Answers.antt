@@ -1,4 +1,4 @@
-use Rattle.std.proofs.Common.{◌<◌, ◌==◌, ℕ, not, length, sym, arith}
+use Rattle.std.proofs.Common.{◌==◌, ℕ, not, length, sym, arith}
 use Rattle.std.proofs.lemmas.Bool.Decides.{nat_tests}
 use Rattle.std.proofs.lemmas.List.Sums.{prefix_len_is}
 use Rattle.rsc_replace.proofs.template.count_before.Goals as goal

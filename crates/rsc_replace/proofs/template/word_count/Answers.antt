@@ -1,4 +1,4 @@
-use Rattle.std.proofs.Common.{◌∙◌, ◌<◌, length, sym, arith}
+use Rattle.std.proofs.Common.{length, sym, arith}
 use Rattle.std.proofs.lemmas.List.Sums.{prefix_len_is}
 use Rattle.rsc_primitives.specs.Utf8.{is_word_byte}
 use Rattle.rsc_replace.proofs.template.word_count.Goals as goal
