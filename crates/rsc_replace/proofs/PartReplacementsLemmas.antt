@@ -56,7 +56,8 @@ accepted wanted (Some (Fork a b)) e = absurd (cc)
 accepted wanted (Some (Capture slot next)) e = absurd (cc)
 accepted wanted (Some (Accept q)) e = (q, refl)
 
-module _ {W : Type 0} (chars : W → ℕ → Bool) (program : Compiled W) (groups : Groups) (p : Pattern) (its : IsProgramOf chars program groups p) (text : List ℕ) where
+module _ {W : Type 0} (chars : W → ℕ → Bool) (program : Compiled W) (groups : Groups) (p : Pattern) (its : IsProgramOf chars program groups p)
+    (text : List ℕ) where
   abbrev x : Subject
   x = read_by chars program.automaton.matcher text
 
