@@ -20,6 +20,21 @@ use std::alloc::Global;
 /// # Errors
 ///
 /// Out of memory, or `TooLarge` where the text has too many positions for the program's number of states.
+///
+/// # Examples
+///
+/// ```
+/// // ([a-z]+) ([a-z]+)
+/// let builder = Builder::new(rt.alloc());
+/// let letters = builder.plus(builder.range(b'a', b'z'))?;
+/// let one = builder.group(None, letters)?;
+/// let letters = builder.plus(builder.range(b'a', b'z'))?;
+/// let other = builder.group(None, letters)?;
+/// let pair = builder.concat(vec![in rt.alloc(); one, builder.literal(b" ")?, other]?)?;
+/// let program = builder.build(AsciiWord, true, pair)?;
+/// let out = replace_all(rt.alloc(), &program, b"ab cd, e f", b"$2-$1")?;
+/// assert!(rt; out.as_slice() == b"cd-ab, f-e".as_slice());
+/// ```
 pub fn replace_all<W: WordClass + AsciiWordClass>(
     alloc: Global,
     program: &Program<W>,
@@ -58,6 +73,19 @@ pub fn replace_all<W: WordClass + AsciiWordClass>(
 /// # Errors
 ///
 /// As [`Builder::build`], and `TooLarge` where the text has too many positions for the number of states.
+///
+/// # Examples
+///
+/// ```
+/// // a*, which is empty before `b`, and not where a match has just ended
+/// let builder = Builder::new(rt.alloc());
+/// let part = builder.star(builder.range(b'a', b'a'))?;
+/// let out = replace_part(rt.alloc(), AsciiWord, part, b"baa", b"<$0>")?;
+/// assert!(rt; out.as_slice() == b"<>b<aa>".as_slice());
+/// let reversed = builder.range(b'z', b'a');
+/// let refused = replace_part(rt.alloc(), AsciiWord, reversed, b"baa", b"-");
+/// assert!(rt; matches!(refused, Err(Error::Faulty)));
+/// ```
 pub fn replace_part<W: WordClass + AsciiWordClass>(
     alloc: Global,
     word_class: W,

@@ -19,6 +19,26 @@ use std::alloc::{AllocError, Global};
 /// # Errors
 ///
 /// Out of memory. Then a first part of it may have been appended.
+///
+/// # Examples
+///
+/// ```
+/// // (?P<key>[a-z]+)=([0-9]+)?
+/// let builder = Builder::new(rt.alloc());
+/// let letters = builder.plus(builder.range(b'a', b'z'))?;
+/// let key = builder.group(Some("key"), letters)?;
+/// let digits = builder.plus(builder.range(b'0', b'9'))?;
+/// let value = builder.optional(builder.group(None, digits)?)?;
+/// let pair = builder.concat(vec![in rt.alloc(); key, builder.literal(b"=")?, value]?)?;
+/// let program = builder.build(AsciiWord, true, pair)?;
+/// let mut captures = program.captures(rt.alloc())?;
+/// let text = b"- ab=12 -";
+/// let found = find(rt.alloc(), &program, &Input::new(text), &mut captures)?;
+/// assert!(rt; found.is_some());
+/// let mut out = Vec::new(rt.alloc());
+/// expand(&mut out, text, &captures, b"$2 ${key}s $$1 $9;$")?;
+/// assert!(rt; out.as_slice() == b"12 abs $1 ;$".as_slice());
+/// ```
 pub fn expand(
     out: &mut Vec<u8>,
     text: &[u8],

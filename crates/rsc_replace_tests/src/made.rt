@@ -1,7 +1,7 @@
 //! Parts by a short notation, and rows of texts that are replaced.
 //!
-//! A character is a call of the builder, and takes its parts from those before it: `a`, `b`, `c` and a space are literals, and `E` is `é`; `.` is `[ab]`, `W` is
-//! `[a-z]`; `B`, `X` and `Z` are `\b`, `\A` and `\z`; `,` joins the last two parts and `|` chooses between them; `*`, `+`, `?` and `R`, which is `{2,3}`,
+//! A character is a call of the builder, and takes its parts from those before it: `a`, `b`, `c` and a space are literals, and `E` is `é`; `.` is `[ab]`, `W`
+//! is `[a-z]`; `B`, `X` and `Z` are `\b`, `\A` and `\z`; `,` joins the last two parts and `|` chooses between them; `*`, `+`, `?` and `R`, which is `{2,3}`,
 //! repeat the last part, and `S`, `P` and `Q` are `*?`, `+?` and `??`; `G` makes a group of it, and `K` the group `key`.
 use rsc_engine::{Builder, Error, Part};
 use rsc_look::{AsciiWord, Look};
