@@ -7,30 +7,30 @@ use Rattle.std.proofs.lemmas.Str.Parse.{numerals_by_value, tells_all_ascii_digit
 use Rattle.std.proofs.lemmas.List.{drop_all, get_or_past}
 use Rattle.std.proofs.lemmas.List.Folds.{length-prefix_len}
 use Rattle.std.proofs.lemmas.Str.{IsUtf8-from_ascii}
-use Rattle.std.specs.List.{prefix_len}
+use Rattle.std.specs.List.{list_any, prefix_len}
 use Rattle.std.specs.Str.{all_ascii_digits}
 use Rattle.std.specs.Str.Parse.{IsNumeral, digits_value, without_leading_plus}
 use Rattle.rsc_primitives.specs.Utf8.{is_word_byte}
 use Rattle.rsc_captures.specs.Captured.{Captured}
-use Rattle.rsc_replace.specs.Templates.{dollar, number_of, span_called, bytes_of, count_before, reference, dollar_piece, filled_after, filled}
+use Rattle.rsc_replace.specs.Templates.{dollar, as_number, span_called, bytes_of, count_before, reference, dollar_piece, filled_after, filled}
 
 -- `parse` reads it as a `usize`
 abbrev pub FitsNumber : List ℕ → Type 0
 FitsNumber bs = IsNumeral 10 bs × (digits_value 10 bs < 2 ^ 64)
 
-pub number_read : (name : List ℕ) (n : ℕ) → FitsNumber (without_leading_plus name) → n ≡ digits_value 10 (without_leading_plus name) → number_of name ≡ Some n
-unfolding number_of
+pub number_read : (name : List ℕ) (n : ℕ) → FitsNumber (without_leading_plus name) → n ≡ digits_value 10 (without_leading_plus name) → as_number name ≡ Some n
+unfolding as_number
 number_read name n fits is =
     let digits : all_ascii_digits (without_leading_plus name) ≡ true =
     (numerals_by_value (λ (ds : List ℕ). all_ascii_digits ds ≡ true) tells_all_ascii_digits).from (without_leading_plus name) fits.0.1 in
     rw (lt-ltb _ _ fits.0.0, digits, lt-ltb _ _ fits.1, is) refl
 
-pub number_refused : (name : List ℕ) → ¬ (FitsNumber (without_leading_plus name)) → number_of name ≡ None
-unfolding number_of
+pub number_refused : (name : List ℕ) → ¬ (FitsNumber (without_leading_plus name)) → as_number name ≡ None
+unfolding as_number
 number_refused name fails =
     let ds = without_leading_plus name in
     let test = nat_lt 0 (length ds) && (all_ascii_digits ds && nat_lt (digits_value 10 ds) (2 ^ 64)) in
-    elim test as (λ (v : Bool). test ≡ v → number_of name ≡ None) [
+    elim test as (λ (v : Bool). test ≡ v → as_number name ≡ None) [
       | true ↦ λ e.
           let some = and_parts (nat_lt 0 (length ds)) (all_ascii_digits ds && nat_lt (digits_value 10 ds) (2 ^ 64)) e in
           let both = and_parts (all_ascii_digits ds) (nat_lt (digits_value 10 ds) (2 ^ 64)) some.1 in
@@ -110,3 +110,12 @@ pub all_read : (text : List ℕ) (captures : Captured) (template done : List ℕ
 unfolding filled_after
 all_read text captures template done at past is =
     is ∙ (ap (λ (t : List ℕ). done ++ filled text captures t) (drop_all at template past) ∙ append-nil done)
+
+pub plain : (text : List ℕ) (captures : Captured) (t : List ℕ) → list_any (λ b. b == dollar) t ≡ false → filled text captures t ≡ t
+unfolding filled_after
+plain text captures [] none = refl
+plain text captures (b ∷ t) none =
+    elim (b == dollar) as (λ (v : Bool). (b == dollar) ≡ v → filled text captures (b ∷ t) ≡ b ∷ t) [
+      | true ↦ λ e. absurd (cc (rw e at none))
+      | false ↦ λ e. rw e (ap (λ (s : List ℕ). b ∷ s) (plain text captures t (rw e at none)))
+    ] refl

@@ -15,8 +15,8 @@ use Rattle.rsc_engine.specs.Sizes.{size_of_program, most_states}
 use Rattle.rsc_replace.specs.Replacements.{MatchWith, with_matches_filled}
 
 -- a text whose lines end by \n
-abbrev pub text_of : List ℕ → (ℕ → Bool) → Subject
-text_of haystack chars = record { haystack = haystack; terminator = 10; word_chars = chars }
+abbrev pub read_as_text : List ℕ → (ℕ → Bool) → Subject
+read_as_text haystack chars = record { haystack = haystack; terminator = 10; word_chars = chars }
 
 -- where a match begins and ends, and what it records in slots, the last record first
 pub record Way : Type 0 where

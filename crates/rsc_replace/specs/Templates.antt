@@ -20,14 +20,14 @@ abbrev pub closing : ℕ
 closing = 0x7D
 
 -- the number that a name is, if `parse` reads it as a `usize`: decimal digits, before which a plus may stand
-unfoldable pub number_of : List ℕ → Option ℕ
-number_of name =
+unfoldable pub as_number : List ℕ → Option ℕ
+as_number name =
     let digits = without_leading_plus name in
     if nat_lt 0 (length digits) && (all_ascii_digits digits && nat_lt (digits_value 10 digits) (2 ^ 64)) then Some (digits_value 10 digits) else None
 
 -- the span of the group that a name in a template stands for: the group with this number, or else with this name
 abbrev pub span_called : Captured → List ℕ → Option Span
-span_called captures name = option_map_or (group_span captures) (number_of name) (named_span captures name)
+span_called captures name = option_map_or (group_span captures) (as_number name) (named_span captures name)
 
 -- the bytes of a text in a group's span; none where the group took no part, or isn't there
 abbrev pub bytes_of : List ℕ → Option Span → List ℕ

@@ -1,5 +1,6 @@
 //! Laws of replacements that a caller can cite: functions whose contracts are the laws.
-ghost use Rattle.std.specs.Prelude.{◌≡◌, ℕ, List, Option, length};
+ghost use Rattle.std.specs.Prelude.{◌≡◌, ◌==◌, ℕ, List, Option, false, length};
+ghost use Rattle.std.specs.List.{list_any};
 ghost use Rattle.rsc_search.specs.Matches.{Matched};
 ghost use Rattle.rsc_captures.specs.Captured.{Captured};
 ghost use Rattle.rsc_captures.specs.Groups.{Groups};
@@ -7,10 +8,16 @@ ghost use Rattle.rsc_engine.specs.Searches.{Search};
 ghost use Rattle.rsc_engine.specs.NextMatches.{IsNextMatch, Left};
 ghost use Rattle.rsc_engine.specs.Patterns.{Pattern, Subject};
 ghost use Rattle.rsc_replace.specs.Replacements.{AreAllWith, IsReplaced, MatchWith};
+ghost use Rattle.rsc_replace.specs.Templates.{filled};
 ghost use Rattle.rsc_replace.specs.PartReplacements.{AreAllWays, IsPartReplaced, Way};
 
 use rsc_engine::laws;
 use rsc_look::WordClass;
+
+/// A template without a `$` stands for itself.
+pub fn a_template_without_dollars_is_itself()
+    ensures { (text : List ℕ) (captures : Captured) (template : List ℕ) → list_any (λ b. b == 0x24) template ≡ false → filled text captures template ≡ template }
+{}
 
 /// There is at most one next match, and in captures over the same groups with as many slots it leaves the same.
 pub fn a_next_match_has_one_outcome()

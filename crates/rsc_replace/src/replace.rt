@@ -6,7 +6,7 @@ ghost use Rattle.rsc_engine.specs.declared.error.Error.TheVariants.{TooLarge};
 ghost use Rattle.rsc_engine.specs.Parts.{pattern_of, groups_of_pattern};
 ghost use Rattle.rsc_engine.specs.Refusals.{RepeatsName, are_too_large, has_a_reversed_range};
 ghost use Rattle.rsc_engine.specs.Sizes.{most_states};
-ghost use Rattle.rsc_replace.specs.PartReplacements.{FailsToReplace, IsPartReplaced, text_of};
+ghost use Rattle.rsc_replace.specs.PartReplacements.{FailsToReplace, IsPartReplaced, read_as_text};
 ghost use Rattle.rsc_replace.specs.Replacements.{IsReplaced};
 
 use crate::expand;
@@ -93,7 +93,7 @@ pub fn replace_part<W: WordClass + AsciiWordClass>(
     text: &[u8],
     template: &[u8],
 ) -> Result<Vec<u8>, Error>
-    ensures replaced { IfOk result (λ out. IsPartReplaced (text_of text.now (W.word_chars word_class))
+    ensures replaced { IfOk result (λ out. IsPartReplaced (read_as_text text.now (W.word_chars word_class))
         (groups_of_pattern part.entry) (pattern_of part.entry) template.now out.items) }
     ensures large { IsTrue (are_too_large most_states (pattern_of part.entry ∷ []) (groups_of_pattern part.entry ∷ [])) → result ≡ Err TooLarge }
     ensures names { OnOk result (¬ (RepeatsName (groups_of_pattern part.entry ∷ []))) }
