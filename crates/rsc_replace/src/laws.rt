@@ -16,7 +16,8 @@ use rsc_look::WordClass;
 
 /// A template without a `$` stands for itself.
 pub fn a_template_without_dollars_is_itself()
-    ensures { (text : List ℕ) (captures : Captured) (template : List ℕ) → list_any (λ b. b == 0x24) template ≡ false → filled text captures template ≡ template }
+    ensures { (text : List ℕ) (captures : Captured) (template : List ℕ) → list_any (λ b. b == 0x24) template ≡ false →
+        filled text captures template ≡ template }
 {}
 
 /// There is at most one next match, and in captures over the same groups with as many slots it leaves the same.

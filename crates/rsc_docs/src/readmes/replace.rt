@@ -17,6 +17,7 @@ fn example(rt: HostRuntime) -> Result<(), Fail> {
     assert!(rt; out.as_slice() == b"11/2026, 01/2027".as_slice());
 
     // A part by itself: no program is made before the call.
+    let builder = Builder::new(rt.alloc());
     let spaces = builder.plus(builder.literal(b" ")?)?;
     let out = replace_part(rt.alloc(), AsciiWord, spaces, b"a  b   c", b" ")?;
     assert!(rt; out.as_slice() == b"a b c".as_slice());
