@@ -17,7 +17,7 @@ import re
 from heads import Source, head
 
 CRATES = pathlib.Path(__file__).resolve().parent.parent / "crates"
-LIBRARIES = ("rsc_primitives", "rsc_alphabet", "rsc_look", "rsc_search", "rsc_captures", "rsc_nfa", "rsc_engine")
+LIBRARIES = ("rsc_primitives", "rsc_alphabet", "rsc_look", "rsc_search", "rsc_captures", "rsc_nfa", "rsc_engine", "rsc_replace")
 # Where a pattern may bind names: in a closure, an arm, `matches!`, `let` and `for`; but not the `let` of one variable.
 PATTERN = re.compile(r"(?<!\|)\|([^|=;]*)\|(?!\|)|^(?=([^\n]*)=>)|\bmatches!\([^,]*(,[^;]*)|\blet (?!(?:mut )?\w+ = )([^=]*)=|\bfor ([^={]*?) in ", flags=re.M)
 CHAIN = re.compile(r"\blet (?:mut )?(\w+) = &?(?:mut )?|(?<![\w.:])(?=[A-Za-z_])")

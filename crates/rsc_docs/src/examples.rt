@@ -5,4 +5,5 @@ mod engine;
 mod look;
 mod nfa;
 mod primitives;
+mod replace;
 mod search;

@@ -12,10 +12,10 @@ pub mod FirstWaysLemmas  -- the first way of a pattern leads to its first end, d
 pub mod FirstsLayoutLemmas  -- the first way to a pattern's match is the pattern's first way
 pub mod FlagsLayoutLemmas  -- flags, by the bits of their blocks
 pub mod ForwardLayoutLemmas  -- the table of the forward pass: what it says is so, and stays so as it grows
-pub mod ForwardLemmas  -- the loop of a forward pass, from position to position
-pub mod GroupEndsLemmas  -- what the runs of a program that was built record in the slots of the whole match
+pub mod ForwardLemmas  -- the loop of a pass, from position to position
+pub mod GroupEndsLemmas  -- what a run to a match records in the slots of the whole match, and what captures hold there
 pub mod GroupNumbersLemmas  -- with the slots of its groups a pattern goes as without
-pub mod GroupOrderLemmas  -- a group that begins in a run of a program that was built ends there or later
+pub mod GroupOrderLemmas  -- a group that begins on a way of a pattern ends there or later
 pub mod GroupsLayoutLemmas  -- what a trail's run records, from its end on
 pub mod LawfulLayoutLemmas  -- what follows from the laws of steps: the bytes on both sides, or others of their classes, stand for a position
 pub mod LawsLemmas  -- what first and next matches and ends are, of a program that recognizes patterns

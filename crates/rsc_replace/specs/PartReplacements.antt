@@ -1,0 +1,73 @@
+-- A text with all matches of one pattern replaced, said of the pattern alone.
+use Rattle.std.specs.Prelude.{◌≡◌, ℕ, ◌+◌, ◌*◌, ◌^◌, ◌<◌, ◌≤◌, ◌⊎◌, Bool, List, [], ◌∷◌, length, map, Option, Some, None}
+use Rattle.std.specs.List.{range_with_len}
+use Rattle.rsc_primitives.specs.Decoding.{IsCharBoundary}
+use Rattle.rsc_captures.specs.Captured.{Captured, group_span}
+use Rattle.rsc_captures.specs.Groups.{Groups, all_groups}
+use Rattle.rsc_engine.specs.declared.error.Error.{Error}
+use Rattle.rsc_engine.specs.declared.error.Error.TheVariants.{TooLarge}
+use Rattle.rsc_engine.specs.Patterns.{Pattern, Subject, Goes}
+use Rattle.rsc_engine.specs.Ways.{last_in}
+use Rattle.rsc_engine.specs.GroupNumbers.{as_whole}
+use Rattle.rsc_engine.specs.PreferredWays.{IsPreferredWay}
+use Rattle.rsc_engine.specs.Refusals.{IsErrorOf}
+use Rattle.rsc_engine.specs.Sizes.{size_of_program, most_states}
+use Rattle.rsc_replace.specs.Replacements.{MatchWith, with_matches_filled}
+
+-- a text whose lines end by \n
+abbrev pub read_as_text : List ℕ → (ℕ → Bool) → Subject
+read_as_text haystack chars = record { haystack = haystack; terminator = 10; word_chars = chars }
+
+-- where a match begins and ends, and what it records in slots, the last record first
+pub record Way : Type 0 where
+  pub start : ℕ
+  pub end : ℕ
+  pub records : List (ℕ × ℕ)
+
+-- the captures that a way leaves: in each slot of the groups what it recorded there last
+abbrev pub captures_of : Groups → Way → Captured
+captures_of groups w =
+    record { groups = groups ∷ []; pattern = Some 0; offsets = map (last_in w.records) (range_with_len 0 (2 * all_groups (groups ∷ []))) }
+
+-- the match of a way
+abbrev pub match_of_way : Groups → Way → MatchWith
+match_of_way groups w = record { found = record { pattern = 0; span = record { start = w.start; end = w.end } }; captures = captures_of groups w }
+
+-- the way is the one that the pattern prefers from its start to positions of the text
+abbrev pub IsBestWay : Subject → Groups → Pattern → Way → Type 0
+IsBestWay x groups p w = IsPreferredWay x (as_whole (groups ∷ []) 0 p) (λ j. j ≤ length x.haystack) w.start w.end w.records
+
+-- the way is empty, and where the last match ended or within a character
+abbrev pub IsLeftOut : Subject → Option ℕ → Way → Type 0
+IsLeftOut x last w = (w.start ≡ w.end) × ((last ≡ Some w.start) ⊎ (¬ (IsCharBoundary x.haystack w.start)))
+
+-- no match begins at the position: the pattern goes nowhere from there, or the way that it prefers is left out
+abbrev pub HasNoneAt : Subject → Groups → Pattern → Option ℕ → ℕ → Type 0
+HasNoneAt x groups p last at =
+    ((j : ℕ) → j ≤ length x.haystack → ¬ (Goes x p at j)) ⊎ ((w : Way) × (w.start ≡ at) × IsBestWay x groups p w × IsLeftOut x last w)
+
+-- the first match from a position on; `last` is where the one before it ended, if there was one
+pub record IsNextWay (x : Subject) (groups : Groups) (p : Pattern) (last : Option ℕ) (from : ℕ) (w : Way) : Type 0 where
+  pub start : (from ≤ w.start) × (w.start ≤ length x.haystack)
+  pub end : w.end ≤ length x.haystack
+  pub goes : Goes x p w.start w.end
+  pub best : IsBestWay x groups p w
+  pub whole : group_span (captures_of groups w) 0 ≡ Some (record { start = w.start; end = w.end })
+  pub taken : ¬ (IsLeftOut x last w)
+  pub none_before : (at : ℕ) → from ≤ at → at < w.start → HasNoneAt x groups p last at
+
+-- these are all matches from a position on, in order
+abbrev pub AreAllWays : Subject → Groups → Pattern → Option ℕ → ℕ → List Way → Type 0
+AreAllWays x groups p last from [] = (at : ℕ) → from ≤ at → at ≤ length x.haystack → HasNoneAt x groups p last at
+AreAllWays x groups p last from (w ∷ rest) = IsNextWay x groups p last from w × AreAllWays x groups p (Some w.end) w.end rest
+
+-- these bytes are the text with all matches of the pattern replaced by what the template stands for
+abbrev pub IsPartReplaced : Subject → Groups → Pattern → List ℕ → List ℕ → Type 0
+IsPartReplaced x groups p template out =
+    (all : List Way) × AreAllWays x groups p None 0 all × (out ≡ with_matches_filled x.haystack template 0 (map (match_of_way groups) all))
+
+-- why nothing is replaced: there is no program of the pattern, or the text has too many positions for its number of states
+abbrev pub FailsToReplace : Pattern → Groups → List ℕ → Error → Type 0
+FailsToReplace p groups text e =
+    IsErrorOf most_states (p ∷ []) (groups ∷ []) e
+    ⊎ ((e ≡ TooLarge) × (2 ^ 64 ≤ (length text + 1) * size_of_program (p ∷ [])))

@@ -1,0 +1,37 @@
+-- A text with all matches of a program replaced.
+use Rattle.std.specs.Prelude.{◌≡◌, ℕ, ◌*◌, Bool, List, [], ◌∷◌, ◌++◌, drop, length, slice_range}
+use Rattle.rsc_search.specs.Matches.{Matched}
+use Rattle.rsc_captures.specs.Captured.{Captured}
+use Rattle.rsc_captures.specs.Groups.{all_groups}
+use Rattle.rsc_engine.specs.Searches.{Compiled, search_in}
+use Rattle.rsc_engine.specs.NextMatches.{Left, IsNextMatch, IsOver, after}
+use Rattle.rsc_replace.specs.Templates.{filled}
+
+-- the captures are over the program's groups, with slots for all of them
+pub record HasRoomFor {W : Type 0} (program : Compiled W) (captures : Captured) : Type 0 where
+  pub groups : captures.groups ≡ program.automaton.groups
+  pub slots : length captures.offsets ≡ 2 * all_groups program.automaton.groups
+
+-- a match with its captures
+pub record MatchWith : Type 0 where
+  pub found : Matched
+  pub captures : Captured
+
+-- these are all matches of what is left, in order, each with its captures, which have room for all groups
+abbrev pub AreAllWith : {W : Type 0} → (W → ℕ → Bool) → Left W → List MatchWith → Type 0
+AreAllWith chars left [] = IsOver (search_in chars left.program left.input) left.last
+AreAllWith chars left (m ∷ rest) =
+    IsNextMatch (search_in chars left.program left.input) left.last m.captures m.found
+    × HasRoomFor left.program m.captures
+    × AreAllWith chars (after left m.found) rest
+
+-- the text from a position on, with each match replaced by what the template stands for; between matches are the text's own bytes
+abbrev pub with_matches_filled : List ℕ → List ℕ → ℕ → List MatchWith → List ℕ
+with_matches_filled text template from [] = drop from text
+with_matches_filled text template from (m ∷ rest) =
+    slice_range text from m.found.span.start ++ (filled text m.captures template ++ with_matches_filled text template m.found.span.end rest)
+
+-- these bytes are the rest of the haystack, with all matches that are left replaced
+abbrev pub IsReplaced : {W : Type 0} → (W → ℕ → Bool) → List ℕ → Left W → List ℕ → Type 0
+IsReplaced chars template left out =
+    (all : List MatchWith) × AreAllWith chars left all × (out ≡ with_matches_filled left.input.haystack template left.input.span.start all)

@@ -1,0 +1,48 @@
+//! Laws of replacements that a caller can cite: functions whose contracts are the laws.
+ghost use Rattle.std.specs.Prelude.{◌≡◌, ◌==◌, ℕ, List, Option, false, length};
+ghost use Rattle.std.specs.List.{list_any};
+ghost use Rattle.rsc_search.specs.Matches.{Matched};
+ghost use Rattle.rsc_captures.specs.Captured.{Captured};
+ghost use Rattle.rsc_captures.specs.Groups.{Groups};
+ghost use Rattle.rsc_engine.specs.Searches.{Search};
+ghost use Rattle.rsc_engine.specs.NextMatches.{IsNextMatch, Left};
+ghost use Rattle.rsc_engine.specs.Patterns.{Pattern, Subject};
+ghost use Rattle.rsc_replace.specs.Replacements.{AreAllWith, IsReplaced, MatchWith};
+ghost use Rattle.rsc_replace.specs.Templates.{filled};
+ghost use Rattle.rsc_replace.specs.PartReplacements.{AreAllWays, IsPartReplaced, Way};
+
+use rsc_engine::laws;
+use rsc_look::WordClass;
+
+/// A template without a `$` stands for itself.
+pub fn a_template_without_dollars_is_itself()
+    ensures { (text : List ℕ) (captures : Captured) (template : List ℕ) → list_any (λ b. b == 0x24) template ≡ false →
+        filled text captures template ≡ template }
+{}
+
+/// There is at most one next match, and in captures over the same groups with as many slots it leaves the same.
+pub fn a_next_match_has_one_outcome()
+    ensures { (e : Search) (last : Option ℕ) (one other : Captured) (m n : Matched) → IsNextMatch e last one m → IsNextMatch e last other n →
+        one.groups ≡ other.groups → length one.offsets ≡ length other.offsets → (m ≡ n) × (one ≡ other) }
+{
+    laws::there_is_one_next_match();
+}
+
+/// There is at most one list of all matches that are left with their captures, and so one text in which they are replaced.
+pub fn there_is_one_replaced_text<W: WordClass>()
+    ensures all { (left : Left W) (one other : List MatchWith) → AreAllWith W.word_chars left one → AreAllWith W.word_chars left other → one ≡ other }
+    ensures text { (left : Left W) (template one other : List ℕ) → IsReplaced W.word_chars template left one →
+        IsReplaced W.word_chars template left other → one ≡ other }
+{
+    laws::there_is_one_next_match();
+}
+
+/// There is at most one list of all matches of a pattern in a text, and so one text in which they are replaced.
+pub fn there_is_one_text_without_a_part()
+    ensures all { (x : Subject) (groups : Groups) (p : Pattern) (last : Option ℕ) (from : ℕ) (one other : List Way) →
+        AreAllWays x groups p last from one → AreAllWays x groups p last from other → one ≡ other }
+    ensures text { (x : Subject) (groups : Groups) (p : Pattern) (template one other : List ℕ) → IsPartReplaced x groups p template one →
+        IsPartReplaced x groups p template other → one ≡ other }
+{
+    laws::there_is_one_preferred_way();
+}

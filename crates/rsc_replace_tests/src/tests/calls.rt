@@ -1,0 +1,69 @@
+//! The calls that replace: between matches, at both ends of a text, at empty matches, with several patterns, and why nothing is replaced.
+use crate::made::{first_wrong, part_of};
+use rsc_engine::{Builder, Error};
+use rsc_look::AsciiWord;
+use rsc_replace::{replace_all, replace_part};
+use std::test::Fail;
+
+#[test]
+fn all_matches_are_replaced(rt: HostRuntime) -> Result<(), Fail> {
+    let rows = [
+        // The original's examples of replacements: two words in the other order, and named groups.
+        "W+G ,W+K,\t$2 $1\tab cd\tcd ab",
+        "W+G ,W+K,\t${key}_$1\tab cd, e f\tcd_ab, f_e",
+        // No match, the whole text, both ends, and nothing in place of a match.
+        "a\t-\tbcb\tbcb",
+        "W+\t<$0>\tabc\t<abc>",
+        "a\t-\tabba\t-bb-",
+        "a\t\tabba\tbb",
+        "a\t-\t\t",
+    ];
+    assert!(rt; first_wrong(rt.alloc(), &rows)?.is_none());
+    Ok(())
+}
+
+#[test]
+fn each_match_has_its_own_groups(rt: HostRuntime) -> Result<(), Fail> {
+    let rows = [
+        "aGbG|\t[$1|$2]\tabca\t[a|][|b]c[a|]",
+        "aGbG|+\t[$1|$2]\tab b a\t[a|b] [|b] [a|]",
+    ];
+    assert!(rt; first_wrong(rt.alloc(), &rows)?.is_none());
+    Ok(())
+}
+
+#[test]
+fn empty_matches_are_replaced(rt: HostRuntime) -> Result<(), Fail> {
+    let rows = [
+        "a*\t<$0>\tbaaé\t<>b<aa>é<>",
+        "aS\t-\taé\t-a-é-",
+        "B\t|\tab cé\t|ab| |c|é",
+        "Z\t.\té\té.",
+    ];
+    assert!(rt; first_wrong(rt.alloc(), &rows)?.is_none());
+    Ok(())
+}
+
+#[test]
+fn names_are_those_of_the_pattern_that_matched(rt: HostRuntime) -> Result<(), Fail> {
+    let mut builder = Builder::new(rt.alloc());
+    let keyed = part_of(rt.alloc(), &builder, "aaK,")?;
+    builder.pattern(keyed)?;
+    let other = part_of(rt.alloc(), &builder, "bGcK,")?;
+    let program = builder.build(AsciiWord, true, other)?;
+    let out = replace_all(rt.alloc(), &program, b"aa-bc", b"[$key $1 $2]")?;
+    assert!(rt; out.as_slice() == b"[a a ]-[c b c]".as_slice());
+    Ok(())
+}
+
+#[test]
+fn a_part_without_a_program_is_refused(rt: HostRuntime) -> Result<(), Fail> {
+    let builder = Builder::new(rt.alloc());
+    let reversed = builder.range(b'b', b'a');
+    let refused = replace_part(rt.alloc(), AsciiWord, reversed, b"ab", b"-");
+    assert!(rt; matches!(refused, Err(Error::Faulty)));
+    let twice = part_of(rt.alloc(), &builder, "aKbK,")?;
+    let refused = replace_part(rt.alloc(), AsciiWord, twice, b"ab", b"-");
+    assert!(rt; matches!(refused, Err(Error::Names)));
+    Ok(())
+}
