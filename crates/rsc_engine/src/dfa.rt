@@ -1,7 +1,8 @@
-//! A lazy DFA: a table of rows that searches fill as they go, and that answers without a run of the backtracker where it can.
+//! A lazy DFA: two tables of rows that searches fill as they go.
 //!
-//! A row is a set of states ([`successor`] makes it, from the one before and a byte); the [`table`] has the rows and, in its [`entries`], which row each
-//! class of bytes leads to; the [`plan`] has what stays the same. [`needed`] finds bytes that each match has, without which no row is looked at.
+//! In the one a row is a set of states ([`successor`] makes it, from the one before and a byte): it says where the first match to end ends ([`earliest`]). In
+//! the other it is an ordered list ([`ordered`] looks at it): it says where the leftmost-first match ends ([`forward`]). The [`plan`] has what stays the same.
+//! [`needed`] finds bytes that each match has, without which no row is looked at.
 ghost use Rattle.std.specs.Prelude.{◌≡◌, ◌+◌, ◌-◌, ◌<◌, ◌≤◌, IfOk, IfErr, IfSome, IfNone, OnErr, true, false, length};
 ghost use Rattle.rsc_search.specs.declared.anchored.Anchored.TheVariants.{No};
 ghost use Rattle.rsc_engine.specs.declared.error.Error.TheVariants.{OutOfMemory};
@@ -13,9 +14,11 @@ ghost use Rattle.rsc_engine.specs.TablesLayout.{IsExact};
 ghost use Rattle.rsc_engine.specs.ForwardLayout.{IsForwardTable, StartsFrom};
 ghost use Rattle.rsc_engine.specs.OrderedLayout.{EndsAt};
 
+mod earliest;
 mod entries;
 mod forward;
 mod forward_entries;
+mod forward_steps;
 mod forward_table;
 mod lawful;
 mod needed;
@@ -26,12 +29,11 @@ mod table;
 
 use crate::first::{find_from, is_match_by_walk};
 use crate::{AsciiWordClass, Error, Program};
-use entries::Step;
-use forward::{first_end, has_match};
+use earliest::search;
+use forward::{first_end, has_match, part_of};
 use forward_table::ForwardTable;
-use lawful::steps_are_lawful;
 use needed::Needed;
-use plan::{Plan, after_of, before_of};
+use plan::Plan;
 use rsc_captures::Captures;
 use rsc_look::WordClass;
 use rsc_primitives::StateID;
@@ -256,12 +258,11 @@ impl<'p, W: WordClass + AsciiWordClass> Dfa<'p, W> {
         }
     }
 
-    /// The leftmost-first match in an input's span, as [`find`](crate::find) answers it. If there is no match, the DFA mostly finds that out without the
-    /// backtracker.
+    /// The leftmost-first match in an input's span, as [`find`](crate::find) answers it. The rows say whether there is one, and where it ends.
     ///
     /// # Errors
     ///
-    /// Out of memory, or of the backtracker `TooLarge`, where the span has too many positions for the number of states.
+    /// Out of memory, or `TooLarge` where the span has too many positions for the number of states.
     pub fn find(
         &mut self,
         input: &Input<'_>,
@@ -348,76 +349,10 @@ impl<'p, W: WordClass + AsciiWordClass> Dfa<'p, W> {
     }
 }
 
-// The input with a part of its span.
-fn part_of<'h>(input: &Input<'h>, start: usize, end: usize) -> Input<'h>
-    requires order { start ≤ end + 1 }
-    requires within { end ≤ input.now.span.end }
-    ensures { result ≡ record { haystack = input.now.haystack; span = record { start = start; end = end }; anchored = input.now.anchored; earliest = false } }
-{
-    // For the prover: the end is in the haystack.
-    let _end = input.end();
-    Input::new(input.haystack()).span(Span { start, end }).anchored(input.get_anchored())
-}
-
 /// Whether an input's span is long, and a match may begin anywhere in it.
 pub(crate) fn is_long(input: &Input<'_>) -> bool
     ensures long { result ≡ true → input.now.span.start + LONG ≤ input.now.span.end }
     ensures anywhere { result ≡ true → input.now.anchored ≡ No }
 {
     !input.get_anchored().is_anchored() && input.end().saturating_sub(input.start()) >= LONG
-}
-
-// The answer of `earliest_end` by a table, and a position before which no match begins: as late as the rows tell, if it's wanted.
-fn search<W: WordClass>(
-    alloc: Global,
-    plan: &Plan<'_, W>,
-    table: &mut Table,
-    input: &Input<'_>,
-    wants_begin: bool,
-) -> Result<(Answer, usize), Error>
-    requires never_entered { plan.now.is_start_never_entered ≡ true → IsNeverEntered (machine W.word_chars plan.now.program.now) }
-    requires plan { IsPlan (machine W.word_chars plan.now.program.now) plan.now.classes plan.now.width plan.now.unicode }
-    requires exact { IsExact (machine W.word_chars plan.now.program.now) plan.now.classes plan.now.width table.old.rows.items table.old.leads.items }
-    ensures exact { IsExact (machine W.word_chars plan.now.program.now) plan.now.classes plan.now.width table.new.rows.items table.new.leads.items }
-    ensures answer { IfOk result (λ r. IsAnswer (search_in W.word_chars plan.now.program.now input.now) r.0) }
-    ensures begin { IfOk result (λ r. BeginsFrom (search_in W.word_chars plan.now.program.now input.now) r.1) }
-    ensures memory { IfErr result (λ e. e ≡ OutOfMemory) }
-{
-    steps_are_lawful();
-    let start = input.start();
-    let end = input.end();
-    if start > end {
-        return Ok((Answer::NoMatch, start));
-    }
-    let haystack = input.haystack();
-    let before = before_of(haystack, start);
-    if plan.quits_at(before) {
-        return Ok((Answer::Quit(start - 1), start));
-    }
-    let mode = input.get_anchored();
-    let mut first = Vec::new(alloc);
-    first.push(plan.program.start())?;
-    let found = table.row_of(plan, &mode, before, first)?;
-    let mut row = found.0;
-    let mut at = start;
-    let mut begin = start;
-    'rows: loop {
-        let (here, position, from) = table.follow(plan, input, row, at, begin, wants_begin);
-        let step = table.step(plan, here, after_of(haystack, position))?;
-        match step {
-            Step::Matches => return Ok((Answer::End(position), from)),
-            Step::Quits => return Ok((Answer::Quit(position), from)),
-            Step::Goes(next) => {
-                if position == end {
-                    return Ok((Answer::NoMatch, from));
-                }
-                if table.has_no_state(next) {
-                    return Ok((Answer::NoMatch, from));
-                }
-                begin = from;
-                row = next;
-                at = position + 1;
-            }
-        }
-    }
 }

@@ -2,7 +2,7 @@ use Rattle.std.proofs.Common.{◌≡◌, ◌<◌, ◌≤◌, ◌+◌, [], ◌∷
 use Rattle.rsc_look.specs.Holds.{byte_after}
 use Rattle.rsc_engine.specs.Searches.{search_in}
 use Rattle.rsc_engine.proofs.TablesLayoutLemmas.{IsSearched, StandsAt-first, StandsAt-next, StandsAt-match, StandsAt-last, StandsAt-none, StandsAt-within, quit_here, begins_first}
-use Rattle.rsc_engine.proofs.dfa.search.Goals as goal
+use Rattle.rsc_engine.proofs.dfa.earliest.search.Goals as goal
 
 pub rows-init : goal.rows-init
 rows-init g c =

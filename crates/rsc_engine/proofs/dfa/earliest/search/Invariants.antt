@@ -3,7 +3,7 @@ use Rattle.rsc_engine.specs.Searches.{search_in}
 use Rattle.rsc_engine.specs.RowsLayout.{machine}
 use Rattle.rsc_engine.specs.TablesLayout.{IsExact, StandsAt}
 use Rattle.rsc_engine.specs.Ends.{BeginsFrom}
-use Rattle.rsc_engine.proofs.dfa.search.Given as goal
+use Rattle.rsc_engine.proofs.dfa.earliest.search.Given as goal
 
 abbrev pub invariant-rows : goal.invariant-rows
 invariant-rows g l = record {
