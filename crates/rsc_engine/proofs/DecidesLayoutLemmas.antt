@@ -1,14 +1,14 @@
 -- What a list decides as its states are looked at, one after the other.
-use Rattle.std.proofs.Common.{◌≡◌, ℕ, zero, suc, ◌+◌, ◌-◌, ◌<◌, ◌≤◌, ◌⊎◌, inl, inr, ⊎_elim, Bool, true, false, true≢false, List, [], ◌∷◌, ◌++◌, length, refl, sym, ap, subst, ◌∙◌, arith, slice_get, Option, Some, None}
+use Rattle.std.proofs.Common.{◌≡◌, ℕ, zero, suc, ◌+◌, ◌-◌, ◌<◌, ◌≤◌, ◌⊎◌, inl, inr, ⊎_elim, Bool, true, false, true≢false, List, [], ◌∷◌, ◌++◌, length, refl, sym, ap, subst, ◌∙◌, arith, slice_get, Some}
 use Rattle.std.specs.List.{Contains}
 use Rattle.std.proofs.lemmas.Bool.{cases_lt}
 use Rattle.rsc_nfa.specs.Steps.{place}
 use Rattle.rsc_nfa.specs.declared.state.State.TheVariants.{Fork}
 use Rattle.rsc_engine.specs.Searches.{Search}
-use Rattle.rsc_engine.specs.Runs.{Leads, IsPlace, accepts, IsMatchRun, HasNoMatch}
-use Rattle.rsc_engine.specs.Preferred.{IsOnce, IsPreferredTo, MayBegin, IsLeftmostFirst}
-use Rattle.rsc_engine.specs.DecidesLayout.{last_of, Avoids, IsOpenMatch, IsHopeless, IsBest, IsMore, unseen, Decides, IsLastPlace}
-use Rattle.rsc_engine.proofs.AvoidsLemmas.{match-one, avoids-one, not_true, first_of_fork, last-before, open-more, best-less, best-before, hopeless-before, best-over, hopeless-over}
+use Rattle.rsc_engine.specs.Runs.{Leads, IsPlace, accepts, HasNoMatch}
+use Rattle.rsc_engine.specs.Preferred.{MayBegin}
+use Rattle.rsc_engine.specs.DecidesLayout.{last_of, IsHopeless, IsBest, IsMore, unseen, Decides, IsLastPlace}
+use Rattle.rsc_engine.proofs.ForwardStepsLemmas.{match-one, avoids-one, first_of_fork, last-before, open-more, best-less, best-before, hopeless-before, best-over, hopeless-over}
 
 module _ (e : Search) (i : ℕ) (claim : ℕ × ℕ → Type 0) where
   -- a state from which no match is reached may count as seen
@@ -86,10 +86,13 @@ module _ (e : Search) (i : ℕ) (claim : ℕ × ℕ → Type 0) where
       stays q l = (rw is at l).1
 
       hopeless : IsHopeless e i after a → IsHopeless e i after b → IsHopeless e i seen s
-      hopeless none other = hopeless-before e i seen after s g (rw is refl) (λ q l. (stays q l, ⊎_elim
-          (λ (h : q.0 ≡ a). subst (λ (n : ℕ). IsHopeless e i after n) (sym h) none)
-          (λ (h : q.0 ≡ b). subst (λ (n : ℕ). IsHopeless e i after n) (sym h) other)
-          (rw is at l).0))
+      hopeless none other = hopeless-before e i seen after s g (rw is refl) (λ q l. (
+        stays q l,
+        ⊎_elim
+            (λ (h : q.0 ≡ a). subst (λ (n : ℕ). IsHopeless e i after n) (sym h) none)
+            (λ (h : q.0 ≡ b). subst (λ (n : ℕ). IsHopeless e i after n) (sym h) other)
+            (rw is at l).0,
+      ))
 
   -- a state from which one step leads on with no byte passes on to where it leads
   pub decides-single : (seen after : ℕ → Bool) (s t : ℕ) (rest : Type 0) (list : List ℕ) → IsMore seen s after → seen s ≡ false → IsPlace e (s, i)

@@ -1,5 +1,5 @@
 -- The table of the forward pass: what it says is so, and stays so as it grows.
-use Rattle.std.proofs.Common.{◌≡◌, ℕ, suc, ◌+◌, ◌*◌, ◌<◌, ◌≤◌, ◌⊎◌, ⊎_elim, inl, inr, Bool, true, false, List, [], ◌∷◌, ◌++◌, length, get_or, set, slice_index_or, refl, sym, ap, ◌∙◌, subst, arith, length-append, slice_get, Option, Some, None, Result, Ok, Err, IfSome, IfNone, IfOk}
+use Rattle.std.proofs.Common.{◌≡◌, ℕ, suc, ◌+◌, ◌*◌, ◌<◌, ◌≤◌, ◌⊎◌, ⊎_elim, inr, Bool, List, [], ◌∷◌, ◌++◌, length, get_or, set, slice_index_or, refl, sym, ap, ◌∙◌, subst, arith, length-append, slice_get, Option, Some, None, Result, Ok, Err, IfSome, IfOk}
 use Rattle.std.proofs.lemmas.Bool.{cases_eq}
 use Rattle.std.proofs.lemmas.Grind.{get_or-set_at}
 use Rattle.std.proofs.lemmas.List.{get_or-set_other, length-set}
@@ -14,14 +14,12 @@ use Rattle.rsc_engine.specs.declared.dfa.forward_table.ForwardRow.{ForwardRow}
 use Rattle.rsc_engine.specs.declared.dfa.entries.Lead.{Lead}
 use Rattle.rsc_engine.specs.declared.dfa.entries.Lead.TheVariants.{Unknown}
 use Rattle.rsc_engine.specs.Searches.{Search}
-use Rattle.rsc_engine.specs.Preferred.{HasNone}
-use Rattle.rsc_engine.specs.OrderedLayout.{IsEndOf}
 use Rattle.rsc_engine.specs.RowsLayout.{Machine, machine_of, Alike, IsPlainUnit, IsNear, around, middle}
 use Rattle.rsc_engine.specs.TablesLayout.{column}
 use Rattle.rsc_engine.specs.ForwardLayout.{beside, IsAdvanced, last_with, IsGoing, row_of, pattern_in, IsForwardRow, IsForward, IsForwardTo, IsSoundForwardRow, AreFew, IsForwardTable, IsForwardGrown, StandsForward, GoesForward}
 use Rattle.rsc_engine.proofs.LawfulLayoutLemmas.{IsNear-from, Alike-self, Alike-trans}
 use Rattle.rsc_engine.proofs.TablesLayoutLemmas.{get_before, get_last, column_below, column_alike, one_entry, map_some, written_so, some_same, plain_alike, IsSearched}
-use Rattle.rsc_engine.proofs.ForwardLemmas.{going-advanced, going-near, going-over, going-found, going-none}
+use Rattle.rsc_engine.proofs.ForwardLemmas.{going-advanced, going-near}
 
 -- ---- rows stay where they are
 
@@ -205,7 +203,8 @@ module _ (e : Search) (classes : List ℕ) where
   goes-here old new k i next row found after list high there byte r a = λ last on.
       let same : on.row ≡ row = some_same on.row row (sym on.there ∙ there) in
       stands old new next i last found after list (byte_after e.haystack i) (Alike-self classes (byte_after e.haystack i) (byte_after e.haystack i) refl byte) r
-      (going-advanced e i row.begins last row.list.items found after list (subst (λ (x : ForwardRow). IsGoing e i x.begins last x.list.items) same on.going) high a)
+      (going-advanced e i row.begins last row.list.items found after list
+      (subst (λ (x : ForwardRow). IsGoing e i x.begins last x.list.items) same on.going) high a)
 
   module _ (width : ℕ) (unicode : Bool) (s : IsSearched e classes width unicode) where
     -- made beside two bytes of these classes
@@ -214,7 +213,8 @@ module _ (e : Search) (classes : List ℕ) where
     goes-forward old new k i next high a = λ last on.
         let same : on.row ≡ a.from = some_same on.row a.from (sym on.there ∙ a.there) in
         let at : StandsForward e classes old k i last = on in
-        let before : Alike classes (byte_before e.haystack i) a.from.before = subst (λ (x : ForwardRow). Alike classes (byte_before e.haystack i) x.before) same on.alike in
+        let before : Alike classes (byte_before e.haystack i) a.from.before =
+        subst (λ (x : ForwardRow). Alike classes (byte_before e.haystack i) x.before) same on.alike in
         let mode : a.from.mode ≡ e.mode = subst (λ (x : ForwardRow). x.mode ≡ e.mode) same on.same_mode in
         let near : IsNear e i (around a.from.before a.other) (middle a.from.before) =
         IsNear-from s.laws classes e width unicode i a.from.before a.other s.plan s.within high before a.alike
@@ -238,29 +238,7 @@ module _ (e : Search) (classes : List ℕ) where
     going = rw (r.same_begins, r.is_list) going;
   }
 
--- the row of the position is there
-pub stands-within : (e : Search) (classes : List ℕ) (rows : List ForwardRow) (k i : ℕ) (last : Option (ℕ × ℕ)) → StandsForward e classes rows k i last
-    → k < length rows
-stands-within e classes rows k i last on = slice_get_within rows k on.row on.there
-
 -- what is so of each result, if there is one
 pub map_ok : {X E : Type 0} → (r : Result X E) (P Q : X → Type 0) → ((x : X) → P x → Q x) → IfOk r P → IfOk r Q
 map_ok (Ok x) P Q f p = f x p
 map_ok (Err e) P Q f p = tt
-
--- after the last look, or before a list with nothing left
-pub ends-here : (e : Search) (classes : List ℕ) (rows : List ForwardRow) (k i : ℕ) (last : Option (ℕ × ℕ)) → StandsForward e classes rows k i last
-    → e.end < i → IfSome last (λ f. IsEndOf e f.0 f.1) × IfNone last (HasNone e)
-ends-here e classes rows k i last on past = (
-  going-found e i on.row.begins last on.row.list.items on.going past,
-  going-none e i on.row.begins last on.row.list.items on.going past,
-)
-
-pub ends-over : (e : Search) (classes : List ℕ) (rows : List ForwardRow) (k i : ℕ) (last : Option (ℕ × ℕ)) → StandsForward e classes rows k i last
-    → ((row : ForwardRow) → slice_get rows k ≡ Some row → (row.list.items ≡ []) × (row.begins ≡ false))
-    → IfSome last (λ f. IsEndOf e f.0 f.1) × IfNone last (HasNone e)
-ends-over e classes rows k i last on over =
-    let going = going-over e i on.row.begins last on.row.list.items on.going (over on.row on.there).0 (over on.row on.there).1 in (
-      going-found e (i + e.end + 1) on.row.begins last on.row.list.items going (omega arith),
-      going-none e (i + e.end + 1) on.row.begins last on.row.list.items going (omega arith),
-    )

@@ -1,22 +1,20 @@
 -- The loop of a pass, from position to position.
-use Rattle.std.proofs.Common.{◌≡◌, ◌↔◌, IsTrue, not, ℕ, zero, suc, ◌+◌, ◌-◌, ◌<◌, ◌≤◌, ◌⊎◌, inl, inr, ⊎_elim, Bool, true, false, true≢false, List, [], ◌∷◌, ◌++◌, length, refl, sym, ap, subst, ◌∙◌, arith, slice_get, Option, Some, None, IfSome, IfNone}
+use Rattle.std.proofs.Common.{◌≡◌, ◌↔◌, IsTrue, not, ℕ, ◌+◌, ◌-◌, ◌<◌, ◌≤◌, ◌⊎◌, inl, inr, ⊎_elim, Bool, true, false, true≢false, List, [], ◌∷◌, ◌++◌, refl, sym, ap, subst, ◌∙◌, arith, Option, Some, None}
 use Rattle.std.proofs.lemmas.Bool.{cases_lt}
 use Rattle.rsc_nfa.specs.Steps.{place}
-use Rattle.rsc_nfa.specs.declared.state.State.TheVariants.{Accept}
 use Rattle.rsc_search.specs.declared.anchored.Anchored.{Anchored}
 use Rattle.rsc_search.specs.declared.anchored.Anchored.TheVariants.{No, Yes, Pattern}
 use Rattle.rsc_engine.specs.Searches.{Search}
 use Rattle.rsc_engine.specs.Runs.{HasNoMatch}
 use Rattle.rsc_engine.specs.Preferred.{HasNone, MayBegin}
 use Rattle.rsc_engine.specs.Ends.{IsLeftmostEnd}
-use Rattle.rsc_engine.specs.RowsLayout.{AreStates}
-use Rattle.rsc_engine.specs.DecidesLayout.{last_of, unseen, Decides, IsLastPlace}
-use Rattle.rsc_engine.specs.PassesLayout.{Looks, Status, Open, Closed, later, answer_of, Opens, IsFound, IsLeftOver, IsDue, placed}
+use Rattle.rsc_engine.specs.DecidesLayout.{unseen, Decides, IsLastPlace}
+use Rattle.rsc_engine.specs.PassesLayout.{Looks, Status, Open, Closed, later, Opens, IsLeftOver, IsDue, placed}
 use Rattle.rsc_engine.specs.RowsLayout.{AddsOne}
 use Rattle.rsc_engine.specs.OrderedLayout.{IsLooked, IsOfPattern, IsEndOf}
 use Rattle.rsc_engine.specs.RowsLayout.{machine_of, IsNear}
 use Rattle.rsc_engine.specs.ForwardLayout.{beside, Continues, IsAdvanced, last_with, IsHeld, IsGoing}
-use Rattle.rsc_engine.proofs.NearLemmas.{looks-near, looks-end}
+use Rattle.rsc_engine.proofs.OrderedLayoutLemmas.{looks-near, looks-end}
 use Rattle.rsc_engine.proofs.DecidesLayoutLemmas.{decides-start}
 use Rattle.rsc_engine.proofs.PassesLayoutLemmas.{looked, beyond, settled, next_due}
 
@@ -39,7 +37,8 @@ more e k status after list out next found seen begins last low high same none lo
 }
   where
     now : Decides e (k + 1) unseen (IsLastPlace e) (IsLeftOver e k after) out
-    now = subst (λ (s : Status). Decides e (k + 1) unseen (IsLastPlace e) (IsLeftOver e k s) out) (sym same) (looked e k status list out found seen none looks due)
+    now = subst (λ (s : Status). Decides e (k + 1) unseen (IsLastPlace e) (IsLeftOver e k s) out) (sym same)
+        (looked e k status list out found seen none looks due)
 
     may : k + 1 ≤ e.end → after ≡ Open → MayBegin e (k + 1)
     may within is = record {
@@ -160,22 +159,6 @@ going-near e k near at begins last list found after next n g high a = ⊎_elim w
           continues = like.1;
         })) (omega (arith, l))
 
--- a list without a state, where no match begins later, is the last
-pub going-over : (e : Search) (k : ℕ) (begins : Bool) (last : Option (ℕ × ℕ)) (list : List ℕ) → IsGoing e k begins last list → list ≡ [] → begins ≡ false
-    → IsGoing e (k + e.end + 1) begins last list
-going-over e k begins last list g empty shut = record {
-  status = g.status;
-  held = g.held;
-  low = omega (arith, g.low);
-  due = λ within. absurd (omega (arith, within));
-  over = λ _. ⊎_elim (λ (past : e.end < k). g.over past) (λ (within : k ≤ e.end). settled_now g.status g.held
-      (subst (λ (l : List ℕ). IsDue e k g.status l) empty (g.due within))) (cases_lt e.end k);
-}
-  where
-    settled_now : (status : Status) → IsHeld e status begins last → IsDue e k status [] → IsFound e (answer_of status)
-    settled_now Open held due = absurd (true≢false (sym held.0 ∙ shut))
-    settled_now (Closed l) held due = due
-
 -- ---- before the first position
 
 pub going-first : (e : Search) (begins : Bool) (list : List ℕ) → e.start ≤ e.end → (begins ≡ true → e.mode ≡ No) → (begins ≡ false → ¬ (e.mode ≡ No))
@@ -196,48 +179,17 @@ going-first e begins list within free anchored is = go begins refl
       status = Closed None;
       held = (same, refl);
       low = omega arith;
-      due = λ _. subst (λ (l : List ℕ). IsDue e e.start (Closed None) l) (sym is) (first.0, λ hopeless at may run m.
-          first.1 hopeless at may.start (omega (arith, may.anchored (anchored same))) run m);
+      due = λ _. subst (λ (l : List ℕ). IsDue e e.start (Closed None) l) (sym is) (
+        first.0,
+        λ hopeless at may run m.
+            first.1 hopeless at may.start (omega (arith, may.anchored (anchored same))) run m,
+      );
       over = λ past. absurd (omega (arith, past, within));
     }
       where
         first : Decides e e.start unseen (IsLastPlace e) ((at : ℕ) → e.start ≤ at → at < e.start + 1 → HasNoMatch e at) (e.start_state ∷ [])
         first = decides-start e e.start (record { start = omega arith; end = within; anchored = λ _. refl })
             (λ at low l. absurd (omega (arith, low, l)))
-
--- after the last one
-end_of : (e : Search) (q : ℕ × ℕ) (p : ℕ) → slice_get e.states q.0 ≡ Some (Accept p) → IsLastPlace e q → IsEndOf e p q.1
-end_of e q p is f = record {
-  run = f.run;
-  is_first = f.is_first;
-  pattern = subst (λ (r : ℕ × ℕ). slice_get e.states r.0 ≡ Some (Accept p)) (sym f.ends) is;
-  end = ap (λ (r : ℕ × ℕ). r.1) f.ends;
-}
-
-some_same : (a b : ℕ × ℕ) → Some a ≡ Some b → a ≡ b
-some_same a b h = cc
-
-pub going-found : (e : Search) (k : ℕ) (begins : Bool) (last : Option (ℕ × ℕ)) (list : List ℕ) → IsGoing e k begins last list → e.end < k
-    → IfSome last (λ f. IsEndOf e f.0 f.1)
-going-found e k begins last list g past = go last g.status g.held (g.over past)
-  where
-    go : (last : Option (ℕ × ℕ)) (status : Status) → IsHeld e status begins last → IsFound e (answer_of status) → IfSome last (λ f. IsEndOf e f.0 f.1)
-    go None status held f = tt
-    go (Some r) Open held f = absurd (cc)
-    go (Some r) (Closed None) held f = absurd (cc)
-    go (Some r) (Closed (Some q)) held f =
-        let same : (held.1.0, q.1) ≡ r = sym (some_same r (held.1.0, q.1) held.1.1) in
-        subst (λ (x : ℕ × ℕ). IsEndOf e x.0 x.1) same (end_of e q held.1.0 held.1.2 f)
-
-pub going-none : (e : Search) (k : ℕ) (begins : Bool) (last : Option (ℕ × ℕ)) (list : List ℕ) → IsGoing e k begins last list → e.end < k
-    → IfNone last (HasNone e)
-going-none e k begins last list g past = go last g.status g.held (g.over past)
-  where
-    go : (last : Option (ℕ × ℕ)) (status : Status) → IsHeld e status begins last → IsFound e (answer_of status) → IfNone last (HasNone e)
-    go (Some r) status held f = tt
-    go None Open held f = f
-    go None (Closed None) held f = f
-    go None (Closed (Some q)) held f = absurd (cc)
 
 is_no : (mode : Anchored) → (mode ≡ No) ⊎ (¬ (mode ≡ No))
 is_no No = inl refl
@@ -255,13 +207,6 @@ free_if false m mode both same h = ⊎_elim
 pub anchored_if : (r : Bool) (m mode : Anchored) → IsTrue r ↔ (¬ (m ≡ No)) → m ≡ mode → not r ≡ false → ¬ (mode ≡ No)
 anchored_if false m mode both same h = absurd (true≢false h)
 anchored_if true m mode both same h = λ is. both.0 refl (same ∙ is)
-
-pub one_state : (n : ℕ) (list : List ℕ) (s : ℕ) → list ≡ s ∷ [] → s < n → AreStates n list
-one_state n list s is l = subst (λ (x : List ℕ). AreStates n x) (sym is) one
-  where
-    one : AreStates n (s ∷ [])
-    one zero d h = l
-    one (suc k) d h = absurd (omega (arith, h))
 
 pub leftmost-end : (e : Search) (p i : ℕ) → IsEndOf e p i → IsLeftmostEnd e i
 leftmost-end e p i x = record { run = x.run; is_first = x.is_first; ends = x.end }

@@ -1,10 +1,10 @@
-pub mod AvoidsLemmas  -- runs that avoid what was seen, with a place before them, and what is left of them
 pub mod BacktrackLemmas  -- what is known of the places that were seen, from visit to visit
 pub mod BeginsLayoutLemmas  -- the runs of a program that was built: from the state at which a pattern begins its matches are found, and no others
 pub mod CompileLemmas  -- how lists of states grow, part by part
 pub mod CoursesLayoutLemmas  -- paths of states take the courses of parts, and the first path the first way
 pub mod CoursesLemmas  -- which way of a course is the first depends on what is wanted alone
 pub mod DecidesLayoutLemmas  -- what a list decides as its states are looked at, one after the other
+pub mod DfaLemmas  -- the leftmost-first match in a part of a span that has it
 pub mod EnclosesLayoutLemmas  -- where the states of parts lead that are made of parts
 pub mod EntriesLemmas  -- where no match that began earlier goes on from a row
 pub mod FirstEndsLemmas  -- the first end of a pattern is an end, and the only one
@@ -13,6 +13,7 @@ pub mod FirstsLayoutLemmas  -- the first way to a pattern's match is the pattern
 pub mod FlagsLayoutLemmas  -- flags, by the bits of their blocks
 pub mod ForwardLayoutLemmas  -- the table of the forward pass: what it says is so, and stays so as it grows
 pub mod ForwardLemmas  -- the loop of a pass, from position to position
+pub mod ForwardStepsLemmas  -- runs that avoid what was seen, with a place before them, and what is left of them
 pub mod GroupEndsLemmas  -- what a run to a match records in the slots of the whole match, and what captures hold there
 pub mod GroupNumbersLemmas  -- with the slots of its groups a pattern goes as without
 pub mod GroupOrderLemmas  -- a group that begins on a way of a pattern ends there or later
@@ -22,11 +23,11 @@ pub mod LawsLemmas  -- what first and next matches and ends are, of a program th
 pub mod LinksLayoutLemmas  -- how single states lead on, and what follows for parts made of parts
 pub mod LoopsLemmas  -- how lists of states grow by repetitions
 pub mod NamesLayoutLemmas  -- what the states of parts name that are made of parts, and which features they have
-pub mod NearLemmas  -- a look at a list beside a small haystack is one at each position for which the small haystack stands
 pub mod NeededLayoutLemmas  -- no match is where no byte of the one range is directly after one of the other
 pub mod NextMatchesLemmas  -- which match is next, as the search's start moves on
 pub mod NumbersLemmas  -- the numbers of places: the flags that have them, and what they say where a search begins later
 pub mod OrderLayoutLemmas  -- of the ways to a match the first one goes by the first ways of patterns
+pub mod OrderedLayoutLemmas  -- a look at a list beside a small haystack is one at each position for which the small haystack stands
 pub mod OrderedLemmas  -- a look at a list, as its stack goes down
 pub mod PartsLemmas  -- what holds for parts in order, or for one of them, as the list grows
 pub mod PassesLayoutLemmas  -- what a pass finds is the end of the leftmost-first match
@@ -41,7 +42,6 @@ pub mod RenamedLayoutLemmas  -- courses that are alike but for the numbers of th
 pub mod RowsLayoutLemmas  -- a row at a position is exact, and so is the next one
 pub mod RunsLemmas  -- runs with a place before them, or in a part of a span; and what a run records is between its first position and its last
 pub mod SizesLemmas  -- how many states copies and lists of parts have, and programs
-pub mod SpanPartsLemmas  -- the leftmost-first match in a part of a span that has it
 pub mod StartsLayoutLemmas  -- no match begins with a byte that isn't marked
 pub mod StepsLayoutLemmas  -- where steps lead
 pub mod SuccessorLemmas  -- a closure as it grows

@@ -1,20 +1,19 @@
 -- A look at a list, as its stack goes down.
-use Rattle.std.proofs.Common.{◌≡◌, ℕ, ◌+◌, ◌-◌, ◌<◌, ◌≤◌, ◌⊎◌, inl, inr, ⊎_elim, Bool, true, false, cond, not, count_by, replicate, length-append, true≢false, List, [], ◌∷◌, ◌++◌, length, reverse, get_or, set, refl, sym, ap, subst, ◌∙◌, arith, slice_get, Option, Some, None}
+use Rattle.std.proofs.Common.{◌≡◌, ℕ, ◌+◌, ◌-◌, ◌<◌, ◌≤◌, ◌⊎◌, inl, inr, ⊎_elim, Bool, true, false, cond, not, count_by, replicate, length-append, true≢false, List, [], ◌∷◌, ◌++◌, length, reverse, get_or, set, refl, sym, ap, subst, ◌∙◌, arith, Option, Some, None}
 use Rattle.std.proofs.lemmas.Bool.{cases_eq, cases_lt}
 use Rattle.std.proofs.lemmas.List.Sums.{sum_by-set}
 use Rattle.std.specs.List.{Contains}
 use Rattle.std.proofs.lemmas.List.{get_or-set_same, get_or-set_other, length-set, reverse-append, reverse-reverse, length-reverse, get_or-reverse, length-replicate, get_or-replicate, get_or_past, get_or_default, get_or_append_left, get_or-append_right}
-use Rattle.std.proofs.lemmas.List.Elements.{Contains-get_or, Contains-append_left, Contains-push, Contains-push_cases}
+use Rattle.std.proofs.lemmas.List.Elements.{Contains-get_or}
 use Rattle.rsc_engine.specs.RowsLayout.{Gathers, AreStates}
-use Rattle.rsc_nfa.specs.declared.state.State.TheVariants.{Fork, Accept}
 use Rattle.rsc_engine.specs.Searches.{Search}
-use Rattle.rsc_engine.specs.Runs.{Leads, IsPlace, accepts}
+use Rattle.rsc_engine.specs.Runs.{IsPlace}
 use Rattle.rsc_engine.specs.DecidesLayout.{IsMore}
-use Rattle.rsc_engine.specs.PassesLayout.{IsNoFork, Looks, done, again, fork, single, stuck, over, matched}
+use Rattle.rsc_engine.specs.PassesLayout.{Looks, done, again, fork, single, stuck, over, matched}
 use Rattle.rsc_engine.specs.RowsLayout.{AddsOne}
-use Rattle.rsc_engine.specs.OrderedLayout.{IsWayOn, IsLooked, IsOfPattern, seen_by}
+use Rattle.rsc_engine.specs.OrderedLayout.{IsWayOn, IsLooked, seen_by}
 use Rattle.rsc_engine.specs.declared.dfa.ordered.Way.TheVariants.{Stuck, One, Over, Two, Match}
-use Rattle.rsc_engine.proofs.AvoidsLemmas.{same_place, not_true}
+use Rattle.rsc_engine.proofs.ForwardStepsLemmas.{same_place}
 
 more-marked : (marks : List Bool) (s : ℕ) → s < length marks → IsMore (seen_by marks) s (seen_by (set marks s true))
 more-marked marks s l = record {
@@ -151,7 +150,8 @@ stack-first e i list n marks taken stack next m t s none states = record {
   };
   states = λ k d l.
       let short : k < length list = omega (arith, l, ap length s, length-reverse list) in
-      subst (λ (m : ℕ). m < n) (sym (ap (λ (l : List ℕ). get_or l k d) s ∙ get_or-reverse list k d short)) (states (length list - 1 - k) d (omega (arith, short)));
+      subst (λ (m : ℕ). m < n) (sym (ap (λ (l : List ℕ). get_or l k d) s ∙ get_or-reverse list k d short))
+      (states (length list - 1 - k) d (omega (arith, short)));
   traced = subst (λ (l : List ℕ). IsTraced e i list marks stack l) (sym none)
       (traced-first e i list marks stack (ap reverse s ∙ reverse-reverse list) (λ x. ap (λ (l : List Bool). get_or l x false) m ∙ all_false x));
 }

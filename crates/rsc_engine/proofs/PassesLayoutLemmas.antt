@@ -1,15 +1,13 @@
 -- What a pass finds is the end of the leftmost-first match.
-use Rattle.std.proofs.Common.{◌≡◌, ℕ, zero, suc, ◌+◌, ◌-◌, ◌<◌, ◌≤◌, ◌⊎◌, inl, inr, ⊎_elim, Bool, true, false, List, [], ◌∷◌, ◌++◌, length, refl, sym, ap, subst, ◌∙◌, arith, Option, Some, None}
-use Rattle.std.specs.List.{Contains}
+use Rattle.std.proofs.Common.{◌≡◌, ℕ, ◌+◌, ◌-◌, ◌<◌, ◌≤◌, ◌⊎◌, inl, inr, Bool, false, List, [], ◌∷◌, refl, sym, ap, subst, arith, Option, Some, None}
 use Rattle.rsc_nfa.specs.Steps.{place}
 use Rattle.rsc_search.specs.declared.anchored.Anchored.TheVariants.{No}
 use Rattle.rsc_engine.specs.Searches.{Search}
-use Rattle.rsc_engine.specs.Runs.{Leads, IsPlace, accepts, HasNoMatch}
-use Rattle.rsc_engine.specs.Preferred.{HasNone, MayBegin}
-use Rattle.rsc_engine.specs.DecidesLayout.{IsHopeless, IsMore, unseen, Decides, IsLastPlace}
+use Rattle.rsc_engine.specs.Preferred.{MayBegin}
+use Rattle.rsc_engine.specs.DecidesLayout.{unseen, Decides, IsLastPlace}
 use Rattle.rsc_engine.specs.PassesLayout.{Looks, done, again, fork, single, stuck, over, matched, Status, Open, Closed, later, answer_of, Opens, IsFound, IsLeftOver, IsDue}
 use Rattle.rsc_engine.specs.RowsLayout.{AddsOne}
-use Rattle.rsc_engine.proofs.DecidesLayoutLemmas.{AreHopeless, decides-unseen, decides-append, decides-rest, decides-seen, decides-fork, decides-single, decides-none, decides-over, decides-match, hopeless-of, decides-start, none-more}
+use Rattle.rsc_engine.proofs.DecidesLayoutLemmas.{decides-unseen, decides-append, decides-rest, decides-seen, decides-fork, decides-single, decides-none, decides-over, decides-match, hopeless-of, decides-start}
 
 -- what is so after a look
 abbrev pub After : (ℕ × ℕ → Type 0) → Type 0 → Option (ℕ × ℕ) → Type 0

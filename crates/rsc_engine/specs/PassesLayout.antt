@@ -12,8 +12,9 @@ use Rattle.rsc_engine.specs.DecidesLayout.{IsMore, unseen, Decides, IsLastPlace}
 abbrev pub IsNoFork : Search → ℕ → Type 0
 IsNoFork e s = (a b : ℕ) → slice_get e.states s ≡ Some (Fork a b) → ⊥
 
--- the states of a list are looked at in order: one that was seen is passed, a fork puts its ways in its place, the preferred one first, and so does a state from
--- which one step leads on with no byte; where a step leads over the byte goes to the end of the next list; a match cuts off the rest, and is the place found
+-- the states of a list are looked at in order: one that was seen is passed, a fork puts its ways there instead, the preferred one first, and so does a state
+-- from which one step leads on with no byte; where a step leads over the byte goes to the end of the next list; a match cuts off the rest, and is the place
+-- that is found
 pub data Looks (e : Search) (i : ℕ) : (ℕ → Bool) → List ℕ → List ℕ → List ℕ → Option (ℕ × ℕ) → Type 0 where
   done : (seen : ℕ → Bool) (next : List ℕ) → Looks e i seen [] next next None
   again : (seen : ℕ → Bool) (s : ℕ) (list next out : List ℕ) (found : Option (ℕ × ℕ)) → seen s ≡ true → Looks e i seen list next out found

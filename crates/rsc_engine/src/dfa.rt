@@ -246,7 +246,7 @@ impl<'p, W: WordClass + AsciiWordClass> Dfa<'p, W> {
         ensures program { self.new ≡ self.old }
         ensures some { IfOk result (λ found. found ≡ true → ¬ (HasNone (search_in W.word_chars self.old input.now))) }
         ensures none { IfOk result (λ found. found ≡ false → HasNone (search_in W.word_chars self.old input.now)) }
-        ensures memory { IfErr result (λ e. e ≡ OutOfMemory) }
+        ensures refused { IfErr result (λ e. e ≡ OutOfMemory) }
     {
         if self.begins_near(input) {
             return Ok(true);
@@ -286,7 +286,13 @@ impl<'p, W: WordClass + AsciiWordClass> Dfa<'p, W> {
             return Ok(None);
         };
         // In the part of the span that ends where the match does, so that the walk takes no more memory than that needs.
-        find_from(self.alloc, self.plan.program, &part_of(input, from, end), captures, from)
+        find_from(
+            self.alloc,
+            self.plan.program,
+            &part_of(input, from, end),
+            captures,
+            from,
+        )
     }
 
     // A position of the span before which no match begins; `None` if no match begins where one may.
@@ -337,7 +343,7 @@ impl<'p, W: WordClass + AsciiWordClass> Dfa<'p, W> {
         ensures program { self.new ≡ self.old }
         ensures found { IfOk result (λ found. IfSome found (IsLeftmostEnd (search_in W.word_chars self.old input.now))) }
         ensures none { IfOk result (λ found. IfNone found (HasNone (search_in W.word_chars self.old input.now))) }
-        ensures memory { IfErr result (λ e. e ≡ OutOfMemory) }
+        ensures refused { IfErr result (λ e. e ≡ OutOfMemory) }
     {
         if self.lacks_needed(input) {
             return Ok(None);

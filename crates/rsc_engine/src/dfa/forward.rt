@@ -93,7 +93,9 @@ pub(crate) fn part_of<'h>(input: &Input<'h>, start: usize, end: usize) -> Input<
 {
     // For the prover: the end is in the haystack.
     let _end = input.end();
-    Input::new(input.haystack()).span(Span { start, end }).anchored(input.get_anchored())
+    Input::new(input.haystack())
+        .span(Span { start, end })
+        .anchored(input.get_anchored())
 }
 
 // A list of one state.

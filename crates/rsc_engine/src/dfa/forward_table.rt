@@ -129,7 +129,8 @@ impl ForwardTable {
         requires exact { IsForwardTable (machine W.word_chars plan.now.program.now) plan.now.classes plan.now.width plan.now.most_rows
             self.now.rows.items self.now.leads.items }
         requires row { row < length self.now.rows.items }
-        ensures { IfSome result (IsForwardTo (machine W.word_chars plan.now.program.now) plan.now.classes self.now.rows.items self.now.rows.items row (Some byte)) }
+        ensures { IfSome result (IsForwardTo (machine W.word_chars plan.now.program.now) plan.now.classes self.now.rows.items self.now.rows.items row
+            (Some byte)) }
     {
         let entry = entry_index(plan, row, Some(byte), self.rows.len(), self.leads.len());
         match self.leads[entry] {
@@ -180,7 +181,15 @@ impl ForwardTable {
         ensures grows { IfOk result (λ made. made.1 ≡ true → IsForwardGrown self.old.rows.items self.new.rows.items) }
         ensures memory { IfErr result (λ e. e ≡ OutOfMemory) }
     {
-        let key = forward_key(self.alloc, &plan.classes, mode, begins, found, before, list.as_slice())?;
+        let key = forward_key(
+            self.alloc,
+            &plan.classes,
+            mode,
+            begins,
+            found,
+            before,
+            list.as_slice(),
+        )?;
         if let Some(row) = self.known.get(&key).copied() {
             if self.is_row(plan, row, mode, begins, found, before, list.as_slice()) {
                 return Ok((row, true));

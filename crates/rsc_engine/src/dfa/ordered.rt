@@ -48,7 +48,11 @@ pub(crate) fn way_of<W: WordClass>(
     let end = input.end();
     let haystack = input.haystack();
     match program.state(sid) {
-        State::ByteRange { start, end: last, next } => {
+        State::ByteRange {
+            start,
+            end: last,
+            next,
+        } => {
             if at < end && start <= haystack[at] && haystack[at] <= last {
                 Way::Over(next)
             } else {
@@ -194,10 +198,7 @@ pub(crate) fn advance_beside<W: WordClass>(
 }
 
 // The list with the start state last, unless it is there.
-fn with_start<W: WordClass>(
-    program: &Program<W>,
-    list: Vec<StateID>,
-) -> Result<Vec<StateID>, Error>
+fn with_start<W: WordClass>(program: &Program<W>, list: Vec<StateID>) -> Result<Vec<StateID>, Error>
     requires { AreStates (length program.now.automaton.states) list.items }
     ensures adds { IfOk result (λ next. AddsOne list.items program.now.start next.items) }
     ensures states { IfOk result (λ next. AreStates (length program.now.automaton.states) next.items) }

@@ -47,7 +47,11 @@ pub(crate) fn successor<W: WordClass>(
 }
 
 /// The small haystack of the bytes on both sides.
-pub(crate) fn near_of(alloc: Global, before: Option<u8>, after: Option<u8>) -> Result<Vec<u8>, Error>
+pub(crate) fn near_of(
+    alloc: Global,
+    before: Option<u8>,
+    after: Option<u8>,
+) -> Result<Vec<u8>, Error>
     ensures near { IfOk result (λ near. near.items ≡ around before after) }
     ensures memory { IfErr result (λ e. e ≡ OutOfMemory) }
 {

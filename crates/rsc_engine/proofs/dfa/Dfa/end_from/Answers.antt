@@ -2,7 +2,7 @@ use Rattle.std.proofs.Common.{◌≡◌}
 use Rattle.rsc_engine.specs.Searches.{Search, search_in}
 use Rattle.rsc_engine.specs.Preferred.{HasNone}
 use Rattle.rsc_engine.specs.OrderedLayout.{IsEndOf}
-use Rattle.rsc_engine.proofs.SpanPartsLemmas.{end-of-rest, none-of-rest}
+use Rattle.rsc_engine.proofs.DfaLemmas.{end-of-rest, none-of-rest}
 use Rattle.rsc_engine.proofs.dfa.Dfa.end_from.Goals.{in-None, in-Some}
 use Rattle.rsc_engine.proofs.dfa.Dfa.end_from.Goals as goal
 

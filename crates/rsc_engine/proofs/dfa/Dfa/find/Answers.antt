@@ -5,7 +5,7 @@ use Rattle.rsc_engine.specs.OrderedLayout.{EndsAt}
 use Rattle.rsc_engine.specs.ForwardLayout.{StartsFrom}
 use Rattle.rsc_engine.proofs.TablesLayoutLemmas.{map_some}
 use Rattle.rsc_engine.proofs.ForwardLayoutLemmas.{map_ok}
-use Rattle.rsc_engine.proofs.SpanPartsLemmas.{map_none, map_err, found-in-part, some-in-part, end-in-span, fails-in-part}
+use Rattle.rsc_engine.proofs.DfaLemmas.{map_none, map_err, found-in-part, some-in-part, end-in-span, fails-in-part}
 use Rattle.rsc_engine.proofs.dfa.Dfa.find.Goals as goal
 
 pub returns-in_default-2-clause-none : goal.returns-in_default-2-clause-none

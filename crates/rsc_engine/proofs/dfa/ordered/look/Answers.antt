@@ -50,23 +50,35 @@ returns-in-Match-clause-looked g c =
     c.in-Match.pattern c.in-Match.ensures.way
 
 pub returns-clause-looked : goal.returns-clause-looked
-returns-clause-looked g c = stack-last _ _ _ _ _ _ _ _ c.stack.invariant (let e = (rw c.in_default.is at c.pop.ensures.cases).0 in omega (arith, e, c.stack.stack.ok))
+returns-clause-looked g c =
+    stack-last _ _ _ _ _ _ _ _ c.stack.invariant (let e = (rw c.in_default.is at c.pop.ensures.cases).0 in omega (arith, e, c.stack.stack.ok))
 
 pub stack-smaller-in-Continue-branch-4 : goal.stack-smaller-in-Continue-branch-4
 stack-smaller-in-Continue-branch-4 g c =
     let less = fewer _ _ _ _ _ _ _ _ _ _ c.stack.invariant c.in-Some.ensures.items
     (read _ _ _ _ _ _ _ _ _ _ c.stack.invariant c.in-Some.ensures.items _ _ false c.as_usize.ensures.value c.index.ensures c.if-index.false) in
     rw (c.as_usize-in-Some.ensures.value, c.in_ok-push-in-One.ensures.items)
-    (omega (arith, less, ap length c.in-Some.ensures.items, length-append c.pop.new.self.items (c.in-Some.sid ∷ []),
-    length-append c.pop.new.self.items (c.in-One.to ∷ [])))
+    (omega (
+      arith,
+      less,
+      ap length c.in-Some.ensures.items,
+      length-append c.pop.new.self.items (c.in-Some.sid ∷ []),
+      length-append c.pop.new.self.items (c.in-One.to ∷ []),
+    ))
 
 pub stack-smaller : goal.stack-smaller
 stack-smaller g c =
     let less = fewer _ _ _ _ _ _ _ _ _ _ c.stack.invariant c.in-Some.ensures.items
     (read _ _ _ _ _ _ _ _ _ _ c.stack.invariant c.in-Some.ensures.items _ _ false c.as_usize.ensures.value c.index.ensures c.if-index.false) in
     rw (c.as_usize-in-Some.ensures.value, c.in_ok-push-in-Two-2.ensures.items, c.in_ok-push-in-Two.ensures.items)
-    (omega (arith, less, ap length c.in-Some.ensures.items, length-append c.pop.new.self.items (c.in-Some.sid ∷ []),
-    length-append c.pop.new.self.items (c.in-Two.b ∷ []), length-append (c.pop.new.self.items ++ c.in-Two.b ∷ []) (c.in-Two.a ∷ [])))
+    (omega (
+      arith,
+      less,
+      ap length c.in-Some.ensures.items,
+      length-append c.pop.new.self.items (c.in-Some.sid ∷ []),
+      length-append c.pop.new.self.items (c.in-Two.b ∷ []),
+      length-append (c.pop.new.self.items ++ c.in-Two.b ∷ []) (c.in-Two.a ∷ []),
+    ))
 
 pub returns-in-Match-clause-states : goal.returns-in-Match-clause-states
 returns-in-Match-clause-states g c = stack-states _ _ _ _ _ _ _ _ c.stack.invariant

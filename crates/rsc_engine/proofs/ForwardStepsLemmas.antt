@@ -2,7 +2,6 @@
 use Rattle.std.proofs.Common.{◌≡◌, ◌≢◌, ℕ, zero, suc, ◌+◌, ◌-◌, ◌<◌, ◌≤◌, ◌⊎◌, inl, inr, ⊎_elim, Bool, true, false, true≢false, List, [], ◌∷◌, length, drop, get_or, refl, sym, ap, subst, ◌∙◌, arith, length-drop, slice_get, Option, Some, None, MatchOption}
 use Rattle.std.proofs.lemmas.Bool.{cases_lt, cases_eq}
 use Rattle.std.proofs.lemmas.List.{get_or-drop}
-use Rattle.std.proofs.lemmas.Option.{slice_get_within}
 use Rattle.rsc_nfa.specs.declared.state.State.{State}
 use Rattle.rsc_nfa.specs.declared.state.State.TheVariants.{ByteRange, Assert, Fork, Capture, Accept}
 use Rattle.rsc_nfa.specs.Steps.{place, IsRun, StepsTo}
@@ -175,7 +174,8 @@ best-less e i seen after s t run g none b = record {
 -- the best run from where a step leads, with the place before it, is the best from there, if what a fork prefers is barred
 pub best-step : (e : Search) (i : ℕ) (seen : ℕ → Bool) (s j : ℕ) (after : ℕ → Bool) (t : ℕ) (run : List (ℕ × ℕ))
     → IsOpenMatch e i seen s ((s, i) ∷ run) → IsOnce ((s, i) ∷ run)
-    → ((other : List (ℕ × ℕ)) → IsOpenMatch e i seen s other → IsOnce other → 1 < length other → place other 1 ≡ (t, j) → IsOpenMatch e j after t (drop 1 other))
+    → ((other : List (ℕ × ℕ)) → IsOpenMatch e i seen s other → IsOnce other → 1 < length other → place other 1 ≡ (t, j)
+    → IsOpenMatch e j after t (drop 1 other))
     → ((other : List (ℕ × ℕ)) (a b : ℕ) → IsOpenMatch e i seen s other → IsOnce other → 1 < length other → slice_get e.states s ≡ Some (Fork a b)
     → (place other 1).0 ≡ a → ¬ (t ≡ a) → ⊥)
     → IsBest e j after t run → IsBest e i seen s ((s, i) ∷ run)

@@ -1,16 +1,14 @@
 -- A look at a list beside a small haystack is one at each position for which the small haystack stands.
-use Rattle.std.proofs.Common.{◌≡◌, ℕ, ◌+◌, ◌-◌, ◌<◌, ◌≤◌, ◌⊎◌, inl, inr, ⊎_elim, Bool, true, false, List, [], ◌∷◌, ◌++◌, length, refl, sym, ap, subst, ◌∙◌, arith, slice_get, Option, Some, None, MatchOption}
+use Rattle.std.proofs.Common.{◌≡◌, ℕ, ◌+◌, ◌-◌, ◌<◌, ◌≤◌, ◌⊎◌, inl, inr, ⊎_elim, Bool, List, [], ◌∷◌, refl, ap, subst, arith, slice_get, Option, Some, None, MatchOption}
 use Rattle.rsc_nfa.specs.declared.state.State.{State}
 use Rattle.rsc_nfa.specs.declared.state.State.TheVariants.{ByteRange, Assert, Fork, Capture, Accept}
 use Rattle.rsc_nfa.specs.Steps.{StepsTo}
 use Rattle.rsc_engine.specs.Searches.{Search}
-use Rattle.rsc_engine.specs.Runs.{Leads, IsPlace, accepts}
+use Rattle.rsc_engine.specs.Runs.{Leads}
 use Rattle.rsc_engine.specs.RowsLayout.{machine_of, IsNear}
 use Rattle.rsc_engine.specs.ForwardLayout.{beside}
-use Rattle.rsc_engine.specs.DecidesLayout.{IsMore}
-use Rattle.rsc_engine.specs.PassesLayout.{IsNoFork, Looks, done, again, fork, single, stuck, over, matched, placed}
-use Rattle.rsc_engine.specs.RowsLayout.{AddsOne}
-use Rattle.rsc_engine.proofs.AvoidsLemmas.{same_place}
+use Rattle.rsc_engine.specs.PassesLayout.{Looks, done, again, fork, single, stuck, over, matched, placed}
+use Rattle.rsc_engine.proofs.ForwardStepsLemmas.{same_place}
 
 step_goes : (e : Search) (q r : ℕ × ℕ) → Leads e q r → (r.1 ≡ q.1) ⊎ ((r.1 ≡ q.1 + 1) × (q.1 < e.end))
 step_goes e q r l = go (slice_get e.states q.0) l
@@ -85,8 +83,7 @@ module _ (e : Search) (i : ℕ) (near : List ℕ) (at : ℕ) (n : IsNear e i nea
         let rest = looks-end after (a ∷ b ∷ more) next out found l next2 in
         (rest.0, fork seen after s a b more next2 rest.0 (placed i found) g fresh (there.0, low, omega (arith, at_end)) is rest.1)
     looks-end seen list next out found (single _ after s t more _ _ _ g fresh there rejected no_fork leads only l) next2 =
-        let rest = looks-end after (t ∷ more) next out found l next2 in
-        (
+        let rest = looks-end after (t ∷ more) next out found l next2 in (
           rest.0,
           single seen after s t more next2 rest.0 (placed i found) g fresh (there.0, low, omega (arith, at_end)) rejected no_fork ((n.follows s t).1 leads)
               (λ q step. same_place q (t, i) (ap (λ (r : ℕ × ℕ). r.0) (only (q.0, at) (led_end s q step).1)) (led_end s q step).0)
@@ -96,8 +93,7 @@ module _ (e : Search) (i : ℕ) (near : List ℕ) (at : ℕ) (n : IsNear e i nea
         let rest = looks-end after more next out found l next2 in
         (rest.0, stuck seen after s more next2 rest.0 (placed i found) g rejected (λ q step. none (q.0, at) (led_end s q step).1) rest.1)
     looks-end seen list next out found (over _ after s t more _ new _ _ g fresh there rejected no_fork leads only is l) next2 =
-        let rest = looks-end after more new out found l next2 in
-        (
+        let rest = looks-end after more new out found l next2 in (
           rest.0,
           stuck seen after s more next2 rest.0 (placed i found) g rejected
               (λ q step. absurd (omega (arith, ap (λ (r : ℕ × ℕ). r.1) (only (q.0, at) (led_end s q step).1)))) rest.1,

@@ -1,5 +1,5 @@
 -- The leftmost-first match in a part of a span that has it.
-use Rattle.std.proofs.Common.{◌≡◌, ℕ, ◌+◌, ◌-◌, ◌*◌, ◌^◌, ◌<◌, ◌≤◌, ◌⊎◌, inl, inr, ⊎_elim, List, length, refl, sym, ap, subst, arith, slice_get, Option, Some, None, MatchOption, Result, Ok, Err, IfNone, IfErr}
+use Rattle.std.proofs.Common.{◌≡◌, ℕ, ◌+◌, ◌-◌, ◌<◌, ◌≤◌, ◌⊎◌, inl, inr, ⊎_elim, List, length, sym, ap, subst, arith, slice_get, Option, Some, None, MatchOption, Result, Ok, Err, IfNone, IfErr}
 use Rattle.std.proofs.lemmas.Bool.{cases_lt}
 use Rattle.std.proofs.Math.Nat.{mul-le-mul_right}
 use Rattle.rsc_nfa.specs.declared.state.State.{State}
@@ -10,8 +10,8 @@ use Rattle.rsc_search.specs.Matches.{Matched}
 use Rattle.rsc_search.specs.declared.anchored.Anchored.TheVariants.{No}
 use Rattle.rsc_engine.specs.declared.error.Error.{Error}
 use Rattle.rsc_engine.specs.Searches.{Search, FailsFor}
-use Rattle.rsc_engine.specs.Runs.{Leads, IsMatchRun, HasNoMatch}
-use Rattle.rsc_engine.specs.Preferred.{MayBegin, HasNone, IsPreferredTo, IsPreferred, IsLeftmostFirst, IsFirstMatch}
+use Rattle.rsc_engine.specs.Runs.{Leads, IsMatchRun}
+use Rattle.rsc_engine.specs.Preferred.{HasNone, IsPreferredTo, IsPreferred, IsLeftmostFirst, IsFirstMatch}
 use Rattle.rsc_engine.specs.OrderedLayout.{IsEndOf}
 use Rattle.rsc_engine.specs.ForwardLayout.{StartsFrom}
 use Rattle.rsc_engine.proofs.RunsLemmas.{step-wider}
@@ -136,16 +136,26 @@ module _ (e : Search) (from n : ℕ) where
   pub end-in-span : (p : ℕ) → StartsFrom e from → IsEndOf e p n → (from ≤ n) × (n ≤ e.end)
   end-in-span p s x =
       let m : IsMatchRun e (e.start_state, (place x.run 0).1) x.run = x.is_first.preferred.is_match in (
-        omega (arith, x.end, begins-from x.run s x.is_first,
-            run-rises e x.run 0 (length x.run - 1) m.is_run (omega arith) (omega (arith, m.some))),
+        omega (
+          arith,
+          x.end,
+          begins-from x.run s x.is_first,
+          run-rises e x.run 0 (length x.run - 1) m.is_run (omega arith) (omega (arith, m.some)),
+        ),
         omega (arith, x.end, (m.is_run.places (length x.run - 1) (omega (arith, m.some))).2),
       )
 
   -- a part with fewer positions fails for what the span does
   pub fails-in-part : (error : Error) → e.start ≤ from → n ≤ e.end → FailsFor part error → FailsFor e error
   fails-in-part error low high (inl h) = inl h
-  fails-in-part error low high (inr h) = inr (h.0, omega (arith, h.1,
-      mul-le-mul_right {m = n + 1 - from} {n = e.end + 1 - e.start} (length e.states) (omega (arith, low, high))))
+  fails-in-part error low high (inr h) = inr (
+    h.0,
+    omega (
+      arith,
+      h.1,
+      mul-le-mul_right {m = n + 1 - from} {n = e.end + 1 - e.start} (length e.states) (omega (arith, low, high)),
+    ),
+  )
 
 module _ (e : Search) (from : ℕ) (s : StartsFrom e from) where
   abbrev pub rest : Search
