@@ -234,12 +234,12 @@ def faults(crate, names):
 
 def ready_beside(path):
     """Returns what says which tasks may begin beside `rt ci`, by what it writes to a file, in which `ended` is the last line: those over libraries that it
-    has proved. A test that fails by its time begins after it."""
+    has proved, or that it keeps from an earlier run. A test that fails by its time begins after it."""
     def ready():
         said = pathlib.Path(path).read_text(encoding="utf-8", errors="replace")
         if said.endswith("\nended\n"):
             return None
-        proved = {*re.findall(r"^rt: (\w+) proved$", said, flags=re.M)}
+        proved = {*re.findall(r"^rt: (\w+) (?:proved$|is kept:)", said, flags=re.M)}
         return lambda key: key[0] == "wrong-bodies" or key[0] == "library" and key[1] in proved and is_of_ci(key[1])
 
     return ready
