@@ -1,5 +1,5 @@
 -- The steps of the iterators of a class map, and what they give.
-use Rattle.std.proofs.Common.{◌≡◌, ℕ, ◌+◌, ◌-◌, ◌<◌, ◌≤◌, Bool, true, false, not, List, [], ◌∷◌, ◌++◌, map, filter, refl, sym, ap, ap₂, ◌∙◌, arith, nat_eq, slice_index, Some, None, ◌^◌, length, append-nil, nat_le, ⊎_elim, set, below_more, get_or-set_same, get_or-set_other, zero, suc, ◌||◌, ◌&&◌, slice_get, length-append, pow_mono, nat_cmp, get_or, nat_lt, IsSome, All, ◌⊎◌, inl, inr, ◌==◌, Contains}
+use Rattle.std.proofs.Common.{◌≡◌, ℕ, ◌+◌, ◌*◌, ◌-◌, ◌<◌, ◌≤◌, Bool, true, false, not, List, [], ◌∷◌, ◌++◌, map, filter, refl, sym, ap, ap₂, ◌∙◌, arith, nat_eq, slice_index, Some, None, ◌^◌, length, append-nil, nat_le, ⊎_elim, set, below_more, get_or-set_same, get_or-set_other, zero, suc, ◌||◌, ◌&&◌, slice_get, length-append, pow_mono, nat_cmp, get_or, nat_lt, IsSome, All, ◌⊎◌, inl, inr, ◌==◌, Contains}
 use Rattle.std.proofs.lemmas.Bool.{eq-eqb, ne_eqb, cases_lt, le-leb, lt-leb, eqb-true}
 use Rattle.rsc_alphabet.proofs.Prelude.{from_to, bytes, from_to_none, from_to_first, length-from_to, get_or-from_to, filter_same, filter_first, filter_none, filter_parts, Symbol, byte, end_of_input, byte_of, end_of, symbols, elements_of, representing, end_if_unbounded, representatives_of, has_bit, Numbers, members, symbols_left, elements_left, class_of, number_of, class_at, class_of_none, class_of_more, class_of-between}
 use Rattle.std.proofs.lemmas.Option.{slice_get-get_or}
@@ -12,6 +12,9 @@ use Rattle.std.specs.declared.ops.Bound.TheVariants.{Included, Excluded, Unbound
 use Rattle.std.proofs.lemmas.Bool.Decides.{nat_tests}
 use Rattle.std.proofs.lemmas.List.Sums.{length-filter, count_by-le-length}
 use Rattle.std.proofs.lemmas.List.Elements.{All-nil, All-cons, All-append, All-map, All-filter, All-weaker, All-from_get_or, filter_passes, All-contains, Contains-append_left, Contains-push}
+use Rattle.std.proofs.Math.Nat.{mul-le-mul_right}
+use Rattle.rsc_alphabet.specs.Partitions.{LastClassIsGreatest}
+use Rattle.rsc_alphabet.specs.Iterators.{symbol_count}
 use Rattle.rsc_alphabet.proofs.ByteSetsLemmas.{Contains-filter, all_bytes}
 
 -- ---- the classes
@@ -334,3 +337,24 @@ end_comes_last classes =
     let n : ℕ = slice_index classes 255 + 1 in
     slice_get-get_or (symbols classes) n (end_of classes) (omega (arith, length_symbols classes))
     ∙ ap Some (get_or_push (map (λ c. byte c) (from_to 0 n)) (end_of classes) (end_of classes) n (rw length-map (omega (arith, length-from_to 0 n))))
+
+-- ---- the entries of a table with a column for each class
+
+pub class_is_column : (classes : List ℕ) (width b : ℕ) → LastClassIsGreatest classes → symbol_count classes ≤ width → b < 256 → slice_index classes b < width
+class_is_column classes width b bounded enough l = omega (arith, bounded.within b l, enough)
+
+-- an entry of a row is before the rows after it
+pub entry_below : (width rows row column : ℕ) → row < rows → column < width → row * width + column < rows * width
+entry_below width rows row column l h = let k : (row + 1) * width ≤ rows * width = mul-le-mul_right width (omega arith) in omega (arith, k)
+
+-- entries at one index are of one row and one column
+pub same_entry : (width row column row2 column2 : ℕ) → column < width → column2 < width → row * width + column ≡ row2 * width + column2
+    → (row ≡ row2) × (column ≡ column2)
+same_entry width row column row2 column2 l l2 same =
+    ⊎_elim
+    (λ (h : row < row2). absurd (omega (arith, same, entry_below width row2 row column h l)))
+    (λ (h : row2 ≤ row). ⊎_elim
+    (λ (g : row2 < row). absurd (omega (arith, same, entry_below width row row2 column2 g l2)))
+    (λ (g : row ≤ row2). let e : row ≡ row2 = omega arith in (e, omega (arith, same, ap (λ n. n * width) e)))
+    (cases_lt row2 row))
+    (cases_lt row row2)

@@ -1,5 +1,5 @@
 -- Bytes that a list of ranges treats alike have one class.
-use Rattle.std.proofs.Common.{◌≡◌, ℕ, zero, suc, ◌+◌, ◌-◌, ◌<◌, ◌≤◌, Bool, true, false, not, ◌&&◌, ◌||◌, List, [], ◌∷◌, length, get_or, min, max, refl, sym, ap, ap₂, ◌∙◌, arith, nat_eq, take, ⊎_elim, slice_index, subst, true≢false, Contains}
+use Rattle.std.proofs.Common.{◌≡◌, ℕ, zero, suc, ◌+◌, ◌-◌, ◌<◌, ◌≤◌, Bool, true, false, not, ◌&&◌, ◌||◌, List, [], ◌∷◌, length, get_or, min, max, ◌==◌, refl, sym, ap, ap₂, ◌∙◌, arith, nat_eq, take, ⊎_elim, slice_index, subst, true≢false, Contains}
 use Rattle.std.specs.List.{list_any, list_all}
 use Rattle.std.specs.FinSet as sets
 use Rattle.std.proofs.lemmas.Bool.{cases_lt, eq-eqb, eqb-true, or_cases, and_from, false_from_ne_true}
@@ -9,8 +9,9 @@ use Rattle.rsc_alphabet.specs.BytesLaws.{any_from_to, length-from_to, get_or-fro
 use Rattle.std.proofs.lemmas.Bool.Decides.{nat_tests}
 use Rattle.std.proofs.lemmas.List.{take_more}
 use Rattle.std.proofs.lemmas.List.Folds.{list_all-append, list_any-append}
+use Rattle.std.proofs.lemmas.Map.Views.{Contains-from_any}
 use Rattle.std.proofs.Math.Bool.{and-true, or-false}
-use Rattle.rsc_alphabet.proofs.Prelude.{from_to, from_to_none, from_to_last, class_of, class_map, boundaries_of_range, holds, treats_alike, are_alike, has_boundary, class_of_more, class_of-rises, contains-boundaries_of_range, slice_index-class_map}
+use Rattle.rsc_alphabet.proofs.Prelude.{from_to, from_to_none, from_to_last, class_of, class_map, boundaries_of_range, holds, treats_alike, are_alike, are_among, has_boundary, class_of_more, class_of-rises, contains-boundaries_of_range, slice_index-class_map}
 
 all_last : (h : ℕ → Bool) (low high : ℕ) → low ≤ high → list_all h (from_to low (high + 1)) ≡ (list_all h (from_to low high) && h high)
 all_last h low high l = ap (list_all h) (from_to_last low high l) ∙ list_all-append h (from_to low high) (high ∷ [])
@@ -141,10 +142,19 @@ same_any [] b c each = refl
 same_any (r ∷ rest) b c each =
     ap₂ (λ x y. x || y) (each r (0, omega arith, refl)) (same_any rest b c (λ q in_rest. each q (Contains-append_right (r ∷ []) rest q in_rest)))
 
+same_range : (r q : ℕ × ℕ) → (r.0 == q.0 && r.1 == q.1) ≡ true → r ≡ q
+same_range r q t = ap₂ (λ x y. (x, y)) (grind (arith, nat_tests)) (grind (arith, nat_tests))
+
+abbrev is_among : List (ℕ × ℕ) → ℕ × ℕ → Bool
+is_among ranges r = list_any (λ q. r.0 == q.0 && r.1 == q.1) ranges
+
 -- and so does a list of some of the ranges
-pub alike_some : (ranges part : List (ℕ × ℕ)) (b c : ℕ) → are_alike ranges b c ≡ true → ((r : ℕ × ℕ) → Contains part r → Contains ranges r)
+pub alike_some : (ranges part : List (ℕ × ℕ)) (b c : ℕ) → are_alike ranges b c ≡ true → are_among part ranges ≡ true
     → list_any (λ r. holds r b) part ≡ list_any (λ r. holds r c) part
-alike_some ranges part b c t among = same_any part b c (λ r in_part. alike_each ranges b c t r (among r in_part))
+alike_some ranges part b c t among = same_any part b c (λ r in_part. alike_each ranges b c t r (Contains-from_any same_range r ranges (found r in_part)))
+  where
+    found : (r : ℕ × ℕ) → Contains part r → is_among ranges r ≡ true
+    found r (k, l, e) = subst (λ x. is_among ranges x ≡ true) e (AllPass-from_list_all (is_among ranges) part among k r l)
 
 -- neighbours that each range holds or leaves out are alike
 pub alike_neighbours : (ranges : List (ℕ × ℕ)) (b : ℕ) → ((r : ℕ × ℕ) → Contains ranges r → holds r b ≡ holds r (b + 1))

@@ -1,5 +1,5 @@
 -- Lists of byte ranges, each by its first and its last byte, and the partition that such a list makes.
-use Rattle.std.specs.Prelude.{ℕ, ◌+◌, ◌&&◌, ◌||◌, Bool, not, min, max, nat_le, List}
+use Rattle.std.specs.Prelude.{ℕ, ◌+◌, ◌==◌, ◌&&◌, ◌||◌, Bool, not, min, max, nat_le, List}
 use Rattle.std.specs.List.{list_any, list_all}
 use Rattle.rsc_alphabet.specs.Bytes.{from_to}
 
@@ -15,6 +15,10 @@ treats_alike r b c =
 -- two bytes are alike for a list of ranges if each range treats them alike
 abbrev pub are_alike : List (ℕ × ℕ) → ℕ → ℕ → Bool
 are_alike ranges b c = list_all (λ r. treats_alike r b c) ranges
+
+-- each range of the one list is in the other
+abbrev pub are_among : List (ℕ × ℕ) → List (ℕ × ℕ) → Bool
+are_among part ranges = list_all (λ r. list_any (λ q. r.0 == q.0 && r.1 == q.1) ranges) part
 
 -- the partition of a list of ranges has a boundary where two neighbours aren't alike
 abbrev pub has_boundary : List (ℕ × ℕ) → ℕ → Bool

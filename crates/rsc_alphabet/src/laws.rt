@@ -1,5 +1,5 @@
 //! Laws of sets, partitions, class maps and trait impls that a caller can cite: functions whose contracts are the laws.
-ghost use Rattle.std.specs.Prelude.{true, ◌≡◌, ◌↔◌, ◌⊎◌, ◌+◌, ◌<◌, ◌≤◌, ◌∷◌, ℕ, Bool, List, length, slice_index, slice_get, Some, All, IsTrue, ◌==◌, ◌&&◌, ◌||◌, nat_lt};
+ghost use Rattle.std.specs.Prelude.{true, ◌≡◌, ◌↔◌, ◌⊎◌, ◌+◌, ◌*◌, ◌<◌, ◌≤◌, ◌∷◌, ℕ, Bool, List, length, slice_index, slice_get, Some, All, IsTrue, ◌==◌, ◌&&◌, ◌||◌, nat_lt};
 ghost use Rattle.std.specs.List.{Contains, AllAdjacentBelow, list_any};
 ghost use Rattle.std.specs.List.Sorted.{IsStrictlyIncreasing};
 ghost use Rattle.std.specs.FinSet as sets;
@@ -9,7 +9,7 @@ ghost use Rattle.std.specs.Range.Bound.{start_index, end_index};
 ghost use Rattle.rsc_alphabet.specs.Bytes.{bytes};
 ghost use Rattle.rsc_alphabet.specs.ByteSets.{Numbers, members, runs, IsMaximalRun};
 ghost use Rattle.rsc_alphabet.specs.Partitions.{LastClassIsGreatest, HasBoundariesOf, Together, class_map, boundaries_of_range, boundaries_of_ranges, is_boundary_of_set};
-ghost use Rattle.rsc_alphabet.specs.Ranges.{holds, are_alike};
+ghost use Rattle.rsc_alphabet.specs.Ranges.{holds, are_alike, are_among};
 ghost use Rattle.rsc_alphabet.specs.Symbols.{Symbol, byte, symbol_cmp};
 ghost use Rattle.rsc_alphabet.specs.Iterators.{end_of, symbols, symbol_count, representatives_of};
 
@@ -43,6 +43,17 @@ pub fn each_class_comes_once()
     ensures within { (p : ℕ → Bool) (b : ℕ) → b < 256 → slice_index (class_map p) b ≤ slice_index (class_map p) 255 }
     ensures reached { (p : ℕ → Bool) (c : ℕ) → c ≤ slice_index (class_map p) 255 →
         (b : ℕ) × ((b < 256) × (slice_index (class_map p) b ≡ c)) }
+{}
+
+/// In a table whose rows have `width` entries, a column for each class, the entry of a row and a column is at `row * width + column`: the
+/// entries of different rows or columns are at different indices, and those of the rows before `rows` below `rows * width`. The class of a
+/// byte is such a column if the rows are as long as there are symbols, as those of `1 << stride2` entries by [`crate::ByteClasses::stride2`].
+pub fn entries_of_a_table_are_apart()
+    ensures column { (classes : List ℕ) (width b : ℕ) → LastClassIsGreatest classes → symbol_count classes ≤ width → b < 256 →
+        slice_index classes b < width }
+    ensures below { (width rows row column : ℕ) → row < rows → column < width → row * width + column < rows * width }
+    ensures apart { (width row column row2 column2 : ℕ) → column < width → column2 < width →
+        row * width + column ≡ row2 * width + column2 → (row ≡ row2) × (column ≡ column2) }
 {}
 
 /// The first byte of a range that isn't empty is always a representative, and comes first.
@@ -100,11 +111,12 @@ pub fn together_is_alike()
 {}
 
 /// Bytes that are alike for a list of ranges are in the same of them: each range holds both or neither, and so does each list of some of the
-/// ranges. For neighbours the converse holds too. [`crate::classes_of_ranges`] gives bytes one class exactly if they are alike.
+/// ranges, which `are_among` tests, by `refl` for literals. For neighbours the converse holds too. [`crate::classes_of_ranges`] gives bytes
+/// one class exactly if they are alike.
 #[tactic(auto, using(crate::proofs::RangesLemmas::alike_each, crate::proofs::RangesLemmas::alike_some, crate::proofs::RangesLemmas::alike_neighbours))]
 pub fn alike_bytes_share_their_ranges()
     ensures each { (ranges : List (ℕ × ℕ)) (b c : ℕ) → IsTrue (are_alike ranges b c) → (r : ℕ × ℕ) → Contains ranges r → holds r b ≡ holds r c }
-    ensures some { (ranges part : List (ℕ × ℕ)) (b c : ℕ) → IsTrue (are_alike ranges b c) → ((r : ℕ × ℕ) → Contains part r → Contains ranges r) →
+    ensures some { (ranges part : List (ℕ × ℕ)) (b c : ℕ) → IsTrue (are_alike ranges b c) → IsTrue (are_among part ranges) →
         list_any (λ r. holds r b) part ≡ list_any (λ r. holds r c) part }
     ensures neighbours { (ranges : List (ℕ × ℕ)) (b : ℕ) → ((r : ℕ × ℕ) → Contains ranges r → holds r b ≡ holds r (b + 1)) →
         IsTrue (are_alike ranges b (b + 1)) }

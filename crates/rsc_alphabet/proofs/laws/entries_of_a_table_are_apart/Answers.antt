@@ -1,0 +1,5 @@
+use Rattle.rsc_alphabet.proofs.IteratorsLemmas.{class_is_column, entry_below, same_entry}
+use Rattle.rsc_alphabet.proofs.laws.entries_of_a_table_are_apart.Goals as goal
+
+pub returns : goal.returns
+returns c = record { column = class_is_column; below = entry_below; apart = same_entry }
