@@ -1,11 +1,11 @@
 -- The runs of a program that was built: from the state at which a pattern begins its matches are found, and no others.
-use Rattle.std.proofs.Common.{drop, ◌||◌, map, get_or, option_map, ◌≡◌, ℕ, zero, suc, ◌+◌, ◌-◌, ◌*◌, ◌<◌, ◌≤◌, ◌⊎◌, inl, inr, ⊎_elim, List, [], ◌∷◌, length, slice_get, refl, sym, ap, ◌∙◌, subst, arith, Option, Some, MatchOption, Bool}
+use Rattle.std.proofs.Common.{drop, ◌||◌, map, get_or, option_map, ◌≡◌, ℕ, zero, suc, ◌+◌, ◌-◌, ◌*◌, ◌<◌, ◌≤◌, ◌⊎◌, inl, inr, ⊎_elim, true≢false, List, [], ◌∷◌, length, slice_get, refl, sym, ap, ◌∙◌, subst, arith, Option, Some, MatchOption, Bool}
 use Rattle.std.proofs.lemmas.Bool.{cases_lt, cases_eq}
 use Rattle.std.proofs.lemmas.Option.{slice_get_within, slice_get_read, slice_get-map}
 use Rattle.rsc_nfa.specs.declared.state.State.{State}
 use Rattle.rsc_nfa.specs.declared.state.State.TheVariants.{Fork, Capture, Accept}
 use Rattle.rsc_nfa.specs.Steps.{StepsTo, place, IsRun}
-use Rattle.rsc_engine.specs.Patterns.{Pattern, Goes, subject_of, IsMatchIn, HasRunOf, Recognizes}
+use Rattle.rsc_engine.specs.Patterns.{Pattern, Group, Goes, subject_of, IsMatchIn, HasRunOf, Recognizes}
 use Rattle.rsc_engine.specs.declared.builder.part.Part.{Part}
 use Rattle.rsc_engine.specs.Parts.{pattern_of}
 use Rattle.rsc_engine.specs.EnclosesLayout.{Encloses}
@@ -18,11 +18,16 @@ use Rattle.rsc_engine.proofs.NamesLayoutLemmas.{Names-alike, AreSound-pattern, A
 use Rattle.rsc_engine.specs.BeginsLayout.{Begins, IsOfOne, IsOfSome}
 use Rattle.rsc_engine.specs.FirstsLayout.{OrdersOne, OrdersSome}
 use Rattle.rsc_engine.proofs.FirstsLayoutLemmas.{OrdersOne-is, OrdersSome-last, OrdersSome-more}
-use Rattle.rsc_engine.specs.OrderLayout.{Orders}
+use Rattle.rsc_engine.specs.ByWaysLayout.{ByWays}
 use Rattle.rsc_engine.specs.TakesLayout.{TakesCourse}
 use Rattle.rsc_engine.specs.GroupNumbers.{numbered}
-use Rattle.rsc_engine.proofs.GroupNumbersLemmas.{numbered-goes, numbered-loops, numbered-features}
-use Rattle.rsc_engine.proofs.LinksLayoutLemmas.{Realizes-is, Realizes-between, Realizes-capture, choice_to, choice_first, choice_next}
+use Rattle.rsc_engine.proofs.GroupNumbersLemmas.{numbered-goes, numbered-features}
+use Rattle.rsc_engine.proofs.LinksLayoutLemmas.{Realizes-is, Realizes-between, Realizes-capture, may_accept, choice_first, choice_next}
+use Rattle.rsc_engine.proofs.ByWaysLayoutLemmas.{ByWays-group}
+use Rattle.rsc_engine.proofs.StepsLayoutLemmas.{step_of}
+use Rattle.rsc_engine.proofs.WaysLayoutLemmas.{aim_at, way_of, steps_from, finish_last}
+use Rattle.rsc_engine.proofs.WaysLemmas.{with-goes}
+use Rattle.rsc_engine.specs.StepsLayout.{last_place}
 use Rattle.rsc_engine.proofs.CompileLemmas.{Adds-one, Adds-both, Adds-is, grown}
 use Rattle.rsc_engine.specs.BeginsLayout.{IsWhole}
 use Rattle.rsc_search.specs.Matches.{Matched}
@@ -45,9 +50,10 @@ at_accept states a (suc n) s i q is e =
     absurd (subst (λ (o : Option State). MatchOption o ⊥ (λ (x : State).
     StepsTo x a.text.terminator a.text.word_chars a.text.haystack a.end i (e.1, e.2))) is e.3)
 
-Begins-one : (states : List State) (number low high accept after body first : ℕ) (p : Pattern)
-    → IsWhole states number low high accept after body first → Realizes states body after p → Begins states first (IsOfOne number p)
-Begins-one states number low high accept after body first p w r = record {
+Begins-one : (states : List State) (slot_of : ℕ → ℕ) (number low high accept after body first : ℕ) (p : Pattern)
+    → IsWhole states number low high accept after body first → Realizes states body after p → ByWays states body after (numbered slot_of 1 p)
+    → Begins states first (IsOfOne number p)
+Begins-one states slot_of number low high accept after body first p w r o = record {
   sound = sound;
   complete = λ a i s within.
       whole.complete a i a.position s.1
@@ -59,11 +65,23 @@ Begins-one states number low high accept after body first p w r = record {
     whole = Realizes-between states first body after accept p (Realizes-capture states after (2 * number + 1) accept w.ending) r
         (Realizes-capture states first (2 * number) body w.starting)
 
+    order : ByWays states first accept (Group (2 * number) (numbered slot_of 1 p))
+    order = ByWays-group states first body after accept (2 * number) (numbered slot_of 1 p) w.starting w.ending o
+
     sound : (a : Aim) (n i : ℕ) → Ends states a n first i → IsOfOne number p a i
     sound a n i e =
-        let g = whole.sound a n i e in
-        let end = at_accept states a g.left accept g.to number w.accepting g.ends in
-        (end.0, subst (λ (k : ℕ). Goes a.text p i k) end.1 g.goes)
+        let way = steps_from states a n first i e in
+        let g = order.through a.text a.end a.pattern (i, []) way.rest way.way in
+        let end = at_accept states (aim_at a.text a.end a.pattern (last_place (accept, g.to.0) g.rest)) (length g.rest) accept g.to.0 number w.accepting
+        (way_of states a.text a.end a.pattern (accept, g.to.0) g.rest g.way.within g.way.steps g.way.accepts) in
+        let there : g.to.0 ≡ a.position =
+        end.1 ∙ (ap (λ (q : ℕ × ℕ). q.1) (sym (finish_last states (accept, g.to.0) g.rest g.to.1)) ∙ (ap (λ (l : (ℕ × ℕ) × List (ℕ × ℕ)). l.0.1) g.ends
+        ∙ (ap (λ (q : ℕ × ℕ). q.1) (finish_last states (first, i) way.rest []) ∙ way.ends))) in (
+          end.0,
+          subst (λ (R : ℕ → ℕ → Type 0). R i a.position) (numbered-goes a.text slot_of 1 p)
+              (subst (λ (k : ℕ). Goes a.text (numbered slot_of 1 p) i k) there
+              (with-goes a.text (Group (2 * number) (numbered slot_of 1 p)) (i, []) g.to g.goes)),
+        )
 
 -- a pattern, with its number, begins at a state; and if its number is one of these groups' patterns, its states name what is there
 abbrev OneBegins : GroupLists → List State → List State → ℕ → ℕ → Pattern → List State → Type 0
@@ -89,7 +107,8 @@ Adds-pattern groups old middle later last new accept number after start end body
     (Adds-one last new (Capture start body) first c)
     (λ states y z. (
       subst (λ (q : ℕ). Begins states first (IsOfOne q p)) same
-          (Begins-one states number (length later) (length last) accept after body first p (whole states y z) (plain states y)),
+          (Begins-one states (slot_number groups index) number (length later) (length last) accept after body first p (whole states y z) (plain states y)
+          y.1.3),
       λ l. AreSound-pattern (2 * all_groups groups) (length groups) (has_feature p) (length old) (length later) (length last) (length new) accept number
           after start end body first end states (omega (arith, l, same)) starts ends sw ew a.last (omega (arith, b.last, one)) (omega (arith, two, one))
           x.longer c.last (grown last new (Capture start body) first c) y.0.0 y.0.1 y.1.1
@@ -98,7 +117,7 @@ Adds-pattern groups old middle later last new accept number after start end body
           z,
       subst (λ (q : ℕ). OrdersOne states (slot_number groups index) (length new) first q p) same
           (OrdersOne-is states (slot_number groups index) number (length later) (length last) (length new) accept after body first p
-          (whole states y z) (plain states y)
+          (whole states y z)
           y.1.3 y.1.4 (omega (arith, grown last new (Capture start body) first c))),
     ))
   where
@@ -109,7 +128,7 @@ Adds-pattern groups old middle later last new accept number after start end body
     IsPart from to low high states =
         Realizes states low high (numbered (slot_number groups index) 1 p) × Encloses end (length from) (length to) low high states
         × Names (2 * all_groups groups) (has_feature (numbered (slot_number groups index) 1 p)) (length from) (length to) states
-        × Orders states low high (numbered (slot_number groups index) 1 p)
+        × ByWays states low high (numbered (slot_number groups index) 1 p)
         × TakesCourse (length from) (length to) low high (numbered (slot_number groups index) 1 p) states
 
     Three : List State → Type 0
@@ -117,9 +136,7 @@ Adds-pattern groups old middle later last new accept number after start end body
 
     plain : (states : List State) → Three states → Realizes states body after p
     plain states y = Realizes-is states body after (numbered (slot_number groups index) 1 p) p
-        (λ t i j g. subst (λ (R : ℕ → ℕ → Type 0). R i j) (numbered-goes t (slot_number groups index) 1 p) g)
         (λ t i j g. subst (λ (R : ℕ → ℕ → Type 0). R i j) (sym (numbered-goes t (slot_number groups index) 1 p)) g)
-        (λ h. numbered-loops (slot_number groups index) 1 p ∙ h)
         y.1.0
 
     whole : (states : List State) → Three states → slice_get states first ≡ Some (Capture start body)
@@ -147,13 +164,27 @@ Begins-is states first P Q to back b = record {
   prefers = b.prefers;
 }
 
+-- where a fork leads
+fork_to : (states : List State) (a : Aim) (n s i one other : ℕ) → slice_get states s ≡ Some (Fork one other) → Ends states a n s i
+    → (m : ℕ) × (Ends states a m one i ⊎ Ends states a m other i)
+fork_to states a zero s i one other is e = absurd (true≢false (sym (ap may_accept e.0) ∙ ap may_accept is))
+fork_to states a (suc n) s i one other is e =
+    let step = step_of states a.text a.end s (s, i) (e.1, e.2) (Fork one other) refl is e.3 in
+    let here = subst (λ (k : ℕ). Ends states a n e.1 k) step.1 e.4 in (
+      n,
+      ⊎_elim
+          (λ (h : e.1 ≡ one). inl (subst (λ (t : ℕ). Ends states a n t i) h here))
+          (λ (h : e.1 ≡ other). inr (subst (λ (t : ℕ). Ends states a n t i) h here))
+          step.0,
+    )
+
 Begins-either : (states : List State) (s one other : ℕ) (P Q : Aim → ℕ → Type 0) → slice_get states s ≡ Some (Fork one other)
     → Begins states one P → Begins states other Q → ((a b : Aim) (i j : ℕ) → P a i → Q b j → a.pattern < b.pattern)
     → Begins states s (λ (a : Aim) (i : ℕ). P a i ⊎ Q a i)
 Begins-either states s one other P Q is b c apart = record {
   sound = λ a n i e.
-      let w = choice_to states a n s i one other (inl is) e in
-      ⊎_elim (λ (x : Ends states a w.0 one i). inl (b.sound a w.0 i x)) (λ (x : Ends states a w.0 other i). inr (c.sound a w.0 i x)) w.3;
+      let w = fork_to states a n s i one other is e in
+      ⊎_elim (λ (x : Ends states a w.0 one i). inl (b.sound a w.0 i x)) (λ (x : Ends states a w.0 other i). inr (c.sound a w.0 i x)) w.1;
   complete = λ a i h within. ⊎_elim
       (λ (x : P a i). choice_first states a s i one other (inl is) (b.complete a i x within))
       (λ (x : Q a i). choice_next states a s i one other (inl is) (c.complete a i x within))

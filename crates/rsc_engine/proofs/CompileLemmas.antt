@@ -16,15 +16,14 @@ use Rattle.rsc_engine.specs.GroupNumbers.{count_groups, numbered}
 use Rattle.rsc_engine.specs.LinksLayout.{Adds, Builds, BuildsPart, IsAdded, Realizes}
 use Rattle.rsc_engine.proofs.LinksLayoutLemmas.{Realizes-never, Realizes-range, Realizes-assert, Realizes-capture, Realizes-empty, Realizes-is, Realizes-then, Realizes-between, Realizes-either}
 use Rattle.rsc_engine.proofs.EnclosesLayoutLemmas.{Encloses-one, Encloses-then, Encloses-either}
-use Rattle.rsc_engine.proofs.PatternsLemmas.{class-is, class-back, literal-is, literal-back}
-use Rattle.rsc_engine.specs.FirstEnds.{loops_take_bytes}
-use Rattle.rsc_engine.specs.OrderLayout.{Orders}
+use Rattle.rsc_engine.proofs.PatternsLemmas.{class-back, literal-back}
+use Rattle.rsc_engine.specs.ByWaysLayout.{ByWays}
 use Rattle.rsc_engine.specs.Courses.{Course}
 use Rattle.rsc_engine.specs.PreferredWays.{IsCourseOf}
 use Rattle.rsc_engine.specs.TakesLayout.{TakesCourse}
 use Rattle.rsc_engine.proofs.TakesLayoutLemmas.{Takes-empty, Takes-never, Takes-range, Takes-assert, Takes-is, Takes-then, Takes-either, Takes-group, Takes-wider, class-course, byte-course}
-use Rattle.rsc_engine.proofs.FirstWaysLemmas.{IsWithin, class-within, literal-within, literal_none-within, never-within}
-use Rattle.rsc_engine.proofs.OrderLayoutLemmas.{Orders-empty, Orders-is, Orders-never, Orders-range, Orders-assert, Orders-group, Orders-then, Orders-either}
+use Rattle.rsc_engine.proofs.FirstWaysLemmas.{HasWays, class-ways, literal-ways, literal_none-ways}
+use Rattle.rsc_engine.proofs.ByWaysLayoutLemmas.{ByWays-empty, ByWays-is, ByWays-never, ByWays-range, ByWays-assert, ByWays-group, ByWays-then, ByWays-either}
 
 -- ---- what a list has at an index
 
@@ -103,7 +102,7 @@ Adds-written old middle new state written id P a p = record {
 -- the states from low to high are a part's
 abbrev pub IsPart : ℕ × ℕ → ℕ → ℕ → ℕ → ℕ → Pattern → List State → Type 0
 IsPart slots low high first next p all =
-    Realizes all first next p × Encloses slots.0 low high first next all × Names slots.1 (has_feature p) low high all × Orders all first next p
+    Realizes all first next p × Encloses slots.0 low high first next all × Names slots.1 (has_feature p) low high all × ByWays all first next p
     × TakesCourse low high first next p all
 
 -- all but the order and the course
@@ -124,7 +123,7 @@ part-then : (slots : ℕ × ℕ) (low middle high first between next : ℕ) (p q
     → IsPart slots low middle between next q all → IsPart slots middle high first between p all → IsPart slots low high first next (Then p q) all
 part-then slots low middle high first between next p q all l h a b =
     let s = shape-then slots low middle high first between next p q all l h (a.0, a.1, a.2) (b.0, b.1, b.2) in
-    (s.0, s.1, s.2, Orders-then all first between next p q a.0 a.3 b.3, Takes-then low middle high first between next p q all l h a.4 b.4)
+    (s.0, s.1, s.2, ByWays-then all first between next p q a.3 b.3, Takes-then low middle high first between next p q all l h a.4 b.4)
 
 pub Builds-then : (slots : ℕ × ℕ) (old middle new : List State) (first between next : ℕ) (p q : Pattern) → Builds slots old middle between next q
     → Builds slots middle new first between p → Builds slots old new first next (Then p q)
@@ -134,17 +133,17 @@ Builds-then slots old middle new first between next p q x y =
     (λ all a b. part-then slots (length old) (length middle) (length new) first between next p q all x.longer y.longer a b)
 
 -- a part is what goes where it goes
-pub Builds-is : (slots : ℕ × ℕ) (old new : List State) (first next : ℕ) (p q : Pattern) → ((x : Subject) (i j : ℕ) → Goes x p i j → Goes x q i j)
-    → ((x : Subject) (i j : ℕ) → Goes x q i j → Goes x p i j) → IsWithin p q → (loops_take_bytes q ≡ true → loops_take_bytes p ≡ true)
+pub Builds-is : (slots : ℕ × ℕ) (old new : List State) (first next : ℕ) (p q : Pattern) → ((x : Subject) (i j : ℕ) → Goes x q i j → Goes x p i j)
+    → HasWays p q
     → ((f : Feature) → has_feature p f ≡ has_feature q f) → ((c : Course) → IsCourseOf p c → IsCourseOf q c) → Builds slots old new first next p
     → Builds slots old new first next q
-Builds-is slots old new first next p q to back first-is loops same courses x =
+Builds-is slots old new first next p q back ways same courses x =
     Adds-is old new (IsPart slots (length old) (length new) first next p) (IsPart slots (length old) (length new) first next q)
     (λ all r. (
-      Realizes-is all first next p q to back loops r.0,
+      Realizes-is all first next p q back r.0,
       r.1,
       Names-alike slots.1 (has_feature p) (has_feature q) (length old) (length new) all same r.2,
-      Orders-is all first next p q first-is loops r.3,
+      ByWays-is all first next p q ways r.3,
       Takes-is (length old) (length new) first next p q all courses r.4,
     )) x
 
@@ -157,14 +156,14 @@ Builds-empty slots states next = record {
     Realizes-empty all next,
     record { begins = inr refl; stays = λ k state l h. absurd (omega (arith, l, h)) },
     Names-none slots.1 (length states) (length states) all (omega arith),
-    Orders-empty all next,
+    ByWays-empty all next,
     Takes-empty (length states) (length states) next all,
   );
 }
 
 pub Builds-no_byte : (slots : ℕ × ℕ) (states : List State) (next : ℕ) → Builds slots states states next next (Literal [])
 Builds-no_byte slots states next =
-    Builds-is slots states states next next Empty (Literal []) (λ x i j g. g) (λ x i j g. g) literal_none-within (λ e. e) (λ f. refl) (λ c h. h)
+    Builds-is slots states states next next Empty (Literal []) (λ x i j g. g) literal_none-ways (λ f. refl) (λ c h. h)
     (Builds-empty slots states next)
 
 -- ---- single states
@@ -176,7 +175,7 @@ Builds-state : (slots : ℕ × ℕ) (old new : List State) (state : State) (id n
     → StaysOnWay (λ (s : ℕ). IsOnWay (length old) (length new) next s) slots.0 state
     → RecordsBelow slots.1 state → ((f : Feature) → has_feature p f ≡ false → Lacks f state)
     → ((f : Feature) → has_feature p f ≡ true → Lacks f state → ⊥) → ((all : List State) → slice_get all id ≡ Some state
-    → Realizes all id next p × Orders all id next p × TakesCourse (length old) (length new) id next p all)
+    → Realizes all id next p × ByWays all id next p × TakesCourse (length old) (length new) id next p all)
     → Builds slots old new id next p
 Builds-state slots old new state id next p a stays below lacks shows realizes =
     Adds-is old new (λ (all : List State). slice_get all id ≡ Some state) (IsPart slots (length old) (length new) id next p)
@@ -197,19 +196,19 @@ Builds-never slots old new this id next e a =
     Builds-state slots old new (Fork this this) id next Never a (here, here) tt (λ f e. fork-lacks this this f) (λ f e. absurd (true≢false (sym e)))
     (λ all is.
     let loop = is ∙ ap (λ (n : ℕ). Some (Fork n n)) same in
-    (Realizes-never all id next loop, Orders-never all id next loop, Takes-never (length old) (length new) id next all loop))
+    (Realizes-never all id next loop, ByWays-never all id next loop, Takes-never (length old) (length new) id next all loop))
 
 pub Builds-range : (slots : ℕ × ℕ) (old new : List State) (x y id next : ℕ) → IsAdded old new (ByteRange x y next) id
     → Builds slots old new id next (Class ((x, y) ∷ []))
 Builds-range slots old new x y id next a =
     Builds-state slots old new (ByteRange x y next) id next (Class ((x, y) ∷ [])) a (inr refl) tt (range-lacks x y next) (range-shows x y next)
-    (λ all is. (Realizes-range all id x y next is, Orders-range all id x y next is, Takes-range (length old) (length new) id x y next all is))
+    (λ all is. (Realizes-range all id x y next is, ByWays-range all id x y next is, Takes-range (length old) (length new) id x y next all is))
 
 pub Builds-assert : (slots : ℕ × ℕ) (old new : List State) (look : Look) (id next : ℕ) → IsAdded old new (Assert look next) id
     → Builds slots old new id next (Assertion look)
 Builds-assert slots old new look id next a =
     Builds-state slots old new (Assert look next) id next (Assertion look) a (inr refl) tt (assert-lacks look next) (assert-shows look next)
-    (λ all is. (Realizes-assert all id next look is, Orders-assert all id next look is, Takes-assert (length old) (length new) id next look all is))
+    (λ all is. (Realizes-assert all id next look is, ByWays-assert all id next look is, Takes-assert (length old) (length new) id next look all is))
 
 shape-capture : (slots : ℕ × ℕ) (low high c id next : ℕ) (all : List State) → id ≡ low → high ≡ low + 1 → slice_get all id ≡ Some (Capture c next)
     → slots.0 < c → c < slots.1 → IsShape slots low high id next Empty all
@@ -237,7 +236,7 @@ Builds-either slots old middle last new one other id next p q x y a =
           (omega (arith, x.longer, y.longer)) a.last (grown last new (Fork one other) id a) is
           (Names-joined slots.1 (has_feature (Either p q)) (has_feature q) (has_feature p) (length old) (length middle) (length last) all
           (either_back (has_feature q) (has_feature p)) x.longer y.longer b.0.2 b.1.2),
-      Orders-either all id one other next p q is b.1.0 b.1.3 b.0.3,
+      ByWays-either all id one other next p q is b.1.3 b.0.3,
       Takes-either (length old) (length middle) (length last) (length new) one other id next p q all x.longer y.longer a.last
           (grown last new (Fork one other) id a) is b.0.4 b.1.4,
     ))
@@ -250,16 +249,16 @@ pub Builds-class : (slots : ℕ × ℕ) (old middle last new : List State) (x y 
     → 0 < length rest → Builds slots old middle other next (Class rest)
     → IsAdded middle last (ByteRange x y next) one → IsAdded last new (Fork one other) id → Builds slots old new id next (Class ((x, y) ∷ rest))
 Builds-class slots old middle last new x y one other id next rest some r a b =
-    Builds-is slots old new id next (Either (Class ((x, y) ∷ [])) (Class rest)) (Class ((x, y) ∷ rest)) (class-is x y rest) (class-back x y rest)
-    (class-within x y rest) (λ e. e) (class-same x y rest) (class-course x y rest some)
+    Builds-is slots old new id next (Either (Class ((x, y) ∷ [])) (Class rest)) (Class ((x, y) ∷ rest)) (class-back x y rest)
+    (class-ways x y rest) (class-same x y rest) (class-course x y rest some)
     (Builds-either slots old middle last new one other id next (Class ((x, y) ∷ [])) (Class rest) r (Builds-range slots middle last x y one next a) b)
 
 -- a byte before others
 pub Builds-byte : (slots : ℕ × ℕ) (old middle new : List State) (b first id next : ℕ) (rest : List ℕ) → Builds slots old middle first next (Literal rest)
     → IsAdded middle new (ByteRange b b first) id → Builds slots old new id next (Literal (b ∷ rest))
 Builds-byte slots old middle new b first id next rest r a =
-    Builds-is slots old new id next (Then (Class ((b, b) ∷ [])) (Literal rest)) (Literal (b ∷ rest)) (literal-is b rest) (literal-back b rest)
-    (literal-within b rest) (λ e. e) (literal-same b rest) (byte-course b rest)
+    Builds-is slots old new id next (Then (Class ((b, b) ∷ [])) (Literal rest)) (Literal (b ∷ rest)) (literal-back b rest)
+    (literal-ways b rest) (literal-same b rest) (byte-course b rest)
     (Builds-then slots old middle new id first next (Class ((b, b) ∷ [])) (Literal rest) r (Builds-range slots middle new b b id first a))
 
 -- a part between two records, which are in the slots of a pair; the one of its end is written last
@@ -278,11 +277,11 @@ Builds-group slots old middle last new state start end body after id next p l se
     (shape-capture slots (length old) (length middle) end after next all a.last one y.0 (omega (arith, l, second)) m)
     (y.1.0, y.1.1, y.1.2))
     (shape-capture slots (length last) (length new) start id body all (b.last ∙ same) two is l (omega (arith, m, second))) in (
-      Realizes-is all id next p (Group start p) (λ t i j g. g) (λ t i j g. g) (λ e. e)
+      Realizes-is all id next p (Group start p) (λ t i j g. g)
           (Realizes-between all id body after next p (Realizes-capture all after end next y.0) y.1.0 (Realizes-capture all id start body is)),
       s.1,
       Names-alike slots.1 (has_feature (Then Empty (Then p Empty))) (has_feature (Group start p)) (length old) (length new) all (between-same p) s.2,
-      Orders-group all id body after next start p is (y.0 ∙ ap (λ (c : ℕ). Some (Capture c next)) second) y.1.3,
+      ByWays-group all id body after next start p is (y.0 ∙ ap (λ (c : ℕ). Some (Capture c next)) second) y.1.3,
       Takes-wider (length middle) (length last) (length old) (length new) id next (Group start p) all (omega (arith, one)) (omega (arith, two))
           (Takes-group (length middle) (length last) id body after next start p all is (y.0 ∙ ap (λ (c : ℕ). Some (Capture c next)) second) y.1.4),
     ))
@@ -313,8 +312,8 @@ drop-one {A = A} xs d some = drop-last xs (length xs) d some (omega arith) ∙ a
 pub Builds-none : (slots : ℕ × ℕ) (old new : List State) (first next : ℕ) (ranges : List (ℕ × ℕ)) → length ranges ≡ 0 → Builds slots old new first next Never
     → Builds slots old new first next (Class ranges)
 Builds-none slots old new first next [] none x =
-    Builds-is slots old new first next Never (Class []) (λ t i j g. absurd g) (λ t i j g. absurd (true≢false (sym g.0)))
-    never-within (λ e. e) none-same (λ c h. h) x
+    Builds-is slots old new first next Never (Class []) (λ t i j g. absurd (true≢false (sym g.0)))
+    (λ t m n f. absurd f) none-same (λ c h. h) x
 Builds-none slots old new first next (r ∷ rest) none x = absurd (omega (arith, none))
 
 -- ---- parts with the slots of their groups

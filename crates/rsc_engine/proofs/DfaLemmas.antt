@@ -1,5 +1,5 @@
 -- The leftmost-first match in a part of a span that has it.
-use Rattle.std.proofs.Common.{◌≡◌, ℕ, ◌+◌, ◌-◌, ◌<◌, ◌≤◌, ◌⊎◌, inl, inr, ⊎_elim, List, length, sym, ap, subst, arith, slice_get, Option, Some, None, MatchOption, Result, Ok, Err, IfNone, IfErr}
+use Rattle.std.proofs.Common.{◌≡◌, ℕ, ◌+◌, ◌-◌, ◌<◌, ◌≤◌, inl, inr, ⊎_elim, List, length, sym, subst, arith, slice_get, Option, Some, None, MatchOption, Result, Ok, Err, IfNone, IfErr}
 use Rattle.std.proofs.lemmas.Bool.{cases_lt}
 use Rattle.std.proofs.Math.Nat.{mul-le-mul_right}
 use Rattle.rsc_nfa.specs.declared.state.State.{State}
@@ -7,11 +7,10 @@ use Rattle.rsc_nfa.specs.declared.state.State.TheVariants.{ByteRange, Assert, Fo
 use Rattle.rsc_nfa.specs.Steps.{place, IsStep, StepsTo}
 use Rattle.rsc_captures.specs.Captured.{Captured}
 use Rattle.rsc_search.specs.Matches.{Matched}
-use Rattle.rsc_search.specs.declared.anchored.Anchored.TheVariants.{No}
 use Rattle.rsc_engine.specs.declared.error.Error.{Error}
 use Rattle.rsc_engine.specs.Searches.{Search, FailsFor}
 use Rattle.rsc_engine.specs.Runs.{Leads, IsMatchRun}
-use Rattle.rsc_engine.specs.Preferred.{HasNone, IsPreferredTo, IsPreferred, IsLeftmostFirst, IsFirstMatch}
+use Rattle.rsc_engine.specs.Preferred.{HasNone, IsPreferredTo, IsLeftmostFirst, IsFirstMatch}
 use Rattle.rsc_engine.specs.OrderedLayout.{IsEndOf}
 use Rattle.rsc_engine.specs.ForwardLayout.{StartsFrom}
 use Rattle.rsc_engine.proofs.RunsLemmas.{step-wider}
@@ -36,7 +35,7 @@ module _ (e : Search) (from n : ℕ) where
   part = record e { start = from; end = n }
 
   -- a run in the part is one in the span
-  match-wider : (p : ℕ × ℕ) (run : List (ℕ × ℕ)) → e.start ≤ from → n ≤ e.end → IsMatchRun part p run → IsMatchRun e p run
+  pub match-wider : (p : ℕ × ℕ) (run : List (ℕ × ℕ)) → e.start ≤ from → n ≤ e.end → IsMatchRun part p run → IsMatchRun e p run
   match-wider p run low high m = record {
     is_run = record {
       places = λ k l. let w = m.is_run.places k l in (w.0, omega (arith, w.1, low), omega (arith, w.2, high));
@@ -156,62 +155,6 @@ module _ (e : Search) (from n : ℕ) where
       mul-le-mul_right {m = n + 1 - from} {n = e.end + 1 - e.start} (length e.states) (omega (arith, low, high)),
     ),
   )
-
-module _ (e : Search) (from : ℕ) (s : StartsFrom e from) where
-  abbrev pub rest : Search
-  rest = record e { start = from; end = e.end }
-
-  -- the leftmost-first match of what is left of the span is the span's
-  pub first-of-rest : (run : List (ℕ × ℕ)) → IsLeftmostFirst rest run → IsLeftmostFirst e run
-  first-of-rest run f = record {
-    begins = record {
-      start = omega (arith, f.begins.start, s.start);
-      end = f.begins.end;
-      anchored = λ mode. omega (arith, f.begins.anchored mode, s.anchored mode);
-    };
-    preferred = record {
-      is_match = match-wider e from e.end (e.start_state, (place run 0).1) run s.start (omega arith) m;
-      once = f.preferred.once;
-      first = λ other o once b. f.preferred.first other
-          (match-narrower e from e.end (e.start_state, (place run 0).1) other
-          (omega (arith, f.begins.start, ap (λ (q : ℕ × ℕ). q.1) o.begins)) (last-within other o) o) once (narrower other run b);
-    };
-    leftmost = λ at low l. ⊎_elim
-        (λ (h : at < from). s.none at low h)
-        (λ (h : from ≤ at). λ other o. f.leftmost at h l other
-        (match-narrower e from e.end (e.start_state, at) other (omega (arith, h, ap (λ (q : ℕ × ℕ). q.1) o.begins)) (last-within other o) o))
-        (cases_lt at from);
-  }
-    where
-      m : IsMatchRun rest (e.start_state, (place run 0).1) run
-      m = f.preferred.is_match
-
-      last-within : {p : ℕ × ℕ} → (other : List (ℕ × ℕ)) → IsMatchRun e p other → (place other (length other - 1)).1 ≤ e.end
-      last-within other o = (o.is_run.places (length other - 1) (omega (arith, o.some))).2
-
-      narrower : (one other : List (ℕ × ℕ)) → IsPreferredTo e one other → IsPreferredTo rest one other
-      narrower one other b = record {
-        at = b.at;
-        a = b.a;
-        b = b.b;
-        within = b.within;
-        other_within = b.other_within;
-        together = b.together;
-        fork = b.fork;
-        first = b.first;
-        apart = b.apart;
-      }
-
-  pub end-of-rest : (p n : ℕ) → IsEndOf rest p n → IsEndOf e p n
-  end-of-rest p n x = record { run = x.run; is_first = first-of-rest x.run x.is_first; pattern = x.pattern; end = x.end }
-
-  pub none-of-rest : HasNone rest → HasNone e
-  none-of-rest none at may = ⊎_elim
-      (λ (h : at < from). s.none at may.start h)
-      (λ (h : from ≤ at). λ run m. none at record { start = h; end = may.end; anchored = λ mode. omega (arith, may.anchored mode, s.anchored mode) } run
-      (match-narrower e from e.end (e.start_state, at) run (omega (arith, h, ap (λ (q : ℕ × ℕ). q.1) m.begins))
-      ((m.is_run.places (length run - 1) (omega (arith, m.some))).2) m))
-      (cases_lt at from)
 
 -- ---- what is so of a result
 

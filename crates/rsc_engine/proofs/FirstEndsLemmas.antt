@@ -131,7 +131,7 @@ first-one x (Group slot a) Wanted i j k f g = first-one x a Wanted i j k f g
 
 -- ---- loops of patterns made of patterns
 
-both : (a b : Bool) → a ≡ true → b ≡ true → (a && b) ≡ true
+pub both : (a b : Bool) → a ≡ true → b ≡ true → (a && b) ≡ true
 both true b x y = y
 both false b x y = absurd (true≢false (sym x))
 
@@ -139,16 +139,9 @@ pub both_are : (a b : Bool) → (a && b) ≡ true → (a ≡ true) × (b ≡ tru
 both_are true b h = (refl, h)
 both_are false b h = absurd (true≢false (sym h))
 
-pub between-loops : (p : Pattern) → loops_take_bytes p ≡ true → loops_take_bytes (Then Empty (Then p Empty)) ≡ true
-between-loops p e = both (loops_take_bytes p) true e refl
-
-pub optional-loops : (often : Bool) (p : Pattern) → loops_take_bytes p ≡ true → loops_take_bytes (optional often p) ≡ true
+optional-loops : (often : Bool) (p : Pattern) → loops_take_bytes p ≡ true → loops_take_bytes (optional often p) ≡ true
 optional-loops true p e = both (loops_take_bytes p) true e refl
 optional-loops false p e = e
-
-pub star-loops : (often : Bool) (p : Pattern) → loops_take_bytes (Repeat 0 None often p) ≡ true
-    → loops_take_bytes (optional often (Repeat 1 None often p)) ≡ true
-star-loops often p e = optional-loops often (Repeat 1 None often p) e
 
 copies-loops : (n : ℕ) (p : Pattern) → loops_take_bytes p ≡ true → loops_take_bytes (copies n p) ≡ true
 copies-loops zero p e = refl
@@ -169,10 +162,6 @@ loop-takes min often p e = not_true (may_be_empty p) ((both_are (not (may_be_emp
     not_true : (b : Bool) → not b ≡ true → b ≡ false
     not_true true h = absurd (true≢false (sym h))
     not_true false h = refl
-
-pub plus-loops : (often : Bool) (p : Pattern) → loops_take_bytes (Repeat 1 None often p) ≡ true
-    → loops_take_bytes (Then p (Repeat 0 None often p)) ≡ true
-plus-loops often p e = both (loops_take_bytes p) (loops_take_bytes (Repeat 0 None often p)) (part-loops 1 None often p e) e
 
 pub counted-loops : (n m : ℕ) (max : Option ℕ) (often : Bool) (p : Pattern) → loops_take_bytes (Repeat (n + m) max often p) ≡ true
     → loops_take_bytes (Then (copies n p) (Repeat m (limit_less max n) often p)) ≡ true

@@ -155,33 +155,6 @@ literal-way b rest x Wanted m n f = (literal-is b rest x m.0 n.0 (f.0.0, f.1.0, 
 pub literal_none-way : HasFirstWay Empty (Literal [])
 literal_none-way x Wanted m n f = (ap (λ (k : Mark). k.0) f.0, ap (λ (k : Mark). k.1) f.0, f.1)
 
--- once or more, or not at all
-pub star-way : (often : Bool) (p : Pattern) → HasFirstWay (optional often (Repeat 1 None often p)) (Repeat 0 None often p)
-star-way true p x Wanted m n f = ⊎_elim
-    (λ (g : IsFirstWay x (Repeat 1 None true p) Wanted m n). go g.0 g.1)
-    (λ (g : (HasEndIn Wanted (Goes x (Repeat 1 None true p)) m.0 → ⊥) × ((m ≡ n) × Wanted n.0)).
-    (0, (refl, g.1.0, g.1.1, λ e c. g.0 (c.1.2.0, (suc c.1.2.1.0, omega arith, tt, (c.1.0, c.1.1, c.1.2.1.3)), c.1.2.2))))
-    f
-  where
-    go : (times : ℕ) → AreFirstRounds (λ Such k l. IsFirstWay x p Such k l) (Goes x p) true times 1 None Wanted m n
-        → IsFirstWay x (Repeat 0 None true p) Wanted m n
-    go zero g = absurd (omega (arith, g.0))
-    go (suc times) g = (suc times, (tt, λ e. absurd (true≢false e), g.2, g.3, g.4))
-star-way false p x Wanted m n f = ⊎_elim
-    (λ (g : (m ≡ n) × Wanted n.0). (0, (refl, g.0, g.1, λ e. absurd (true≢false (sym e)))))
-    (λ (g : (HasEndIn Wanted (Goes x Empty) m.0 → ⊥) × IsFirstWay x (Repeat 1 None false p) Wanted m n). go g.0 g.1.0 g.1.1)
-    f
-  where
-    go : (HasEndIn Wanted (Goes x Empty) m.0 → ⊥) → (times : ℕ)
-        → AreFirstRounds (λ Such k l. IsFirstWay x p Such k l) (Goes x p) false times 1 None Wanted m n
-        → IsFirstWay x (Repeat 0 None false p) Wanted m n
-    go not_here zero g = absurd (omega (arith, g.0))
-    go not_here (suc times) g = (suc times, (tt, λ e none w. not_here (m.0, refl, w), g.2, g.3, g.4))
-
--- the part, and then any number of times
-pub plus-way : (often : Bool) (p : Pattern) → HasFirstWay (Then p (Repeat 0 None often p)) (Repeat 1 None often p)
-plus-way often p x Wanted m n f = (suc f.2.0, (tt, λ e none. absurd (omega (arith, none)), f.0, f.1, f.2.1))
-
 -- the part once more
 more : (most : ℕ) (often : Bool) (p : Pattern) (x : Subject) (Wanted : ℕ → Type 0) (m n : Mark) → (often ≡ false → Wanted m.0 → ⊥)
     → HasFirstWay (up_to often most p) (Repeat 0 (Some most) often p) → IsFirstWay x (Then p (up_to often most p)) Wanted m n
@@ -287,59 +260,37 @@ up_to-times_with x often p (suc most) m n g = ⊎_elim
     (optional-with often (Then p (up_to often most p)) x m n g)
 
 -- a way of the one is one of the other
-abbrev HasWays : Pattern → Pattern → Type 0
+abbrev pub HasWays : Pattern → Pattern → Type 0
 HasWays p q = (x : Subject) (m n : Mark) → GoesWith x p m n → GoesWith x q m n
 
--- of the one each way, and the first, is one of the other
-abbrev pub IsWithin : Pattern → Pattern → Type 1
-IsWithin p q = HasFirstWay p q × HasWays p q
+pub class-ways : (a b : ℕ) (rest : List (ℕ × ℕ)) → HasWays (Either (Class ((a, b) ∷ [])) (Class rest)) (Class ((a, b) ∷ rest))
+class-ways a b rest x m n f = ⊎_elim
+    (λ (g : GoesWith x (Class ((a, b) ∷ [])) m n). (class-is a b rest x m.0 n.0 (inl g.0), g.1))
+    (λ (g : GoesWith x (Class rest) m n). (class-is a b rest x m.0 n.0 (inr g.0), g.1))
+    f
 
-pub class-within : (a b : ℕ) (rest : List (ℕ × ℕ)) → IsWithin (Either (Class ((a, b) ∷ [])) (Class rest)) (Class ((a, b) ∷ rest))
-class-within a b rest = (
-  class-way a b rest,
-  λ x m n f. ⊎_elim
-      (λ (g : GoesWith x (Class ((a, b) ∷ [])) m n). (class-is a b rest x m.0 n.0 (inl g.0), g.1))
-      (λ (g : GoesWith x (Class rest) m n). (class-is a b rest x m.0 n.0 (inr g.0), g.1))
-      f,
-)
+pub literal-ways : (b : ℕ) (rest : List ℕ) → HasWays (Then (Class ((b, b) ∷ [])) (Literal rest)) (Literal (b ∷ rest))
+literal-ways b rest x m n f = (literal-is b rest x m.0 n.0 (f.0.0, f.1.0, f.2.0), f.1.1 ∙ f.2.1)
 
-pub literal-within : (b : ℕ) (rest : List ℕ) → IsWithin (Then (Class ((b, b) ∷ [])) (Literal rest)) (Literal (b ∷ rest))
-literal-within b rest = (
-  literal-way b rest,
-  λ x m n f. (literal-is b rest x m.0 n.0 (f.0.0, f.1.0, f.2.0), f.1.1 ∙ f.2.1),
-)
+pub literal_none-ways : HasWays Empty (Literal [])
+literal_none-ways x m n e = (ap (λ (k : Mark). k.0) e, ap (λ (k : Mark). k.1) e)
 
-pub literal_none-within : IsWithin Empty (Literal [])
-literal_none-within = (literal_none-way, λ x m n e. (ap (λ (k : Mark). k.0) e, ap (λ (k : Mark). k.1) e))
+pub star-ways : (often : Bool) (p : Pattern) → HasWays (optional often (Repeat 1 None often p)) (Repeat 0 None often p)
+star-ways often p x m n g = ⊎_elim
+    (λ (h : GoesWith x (Repeat 1 None often p) m n). (h.0, omega arith, tt, h.3))
+    (λ (h : m ≡ n). (0, omega arith, tt, h))
+    (optional-with often (Repeat 1 None often p) x m n g)
 
-pub never-within : IsWithin Never (Class [])
-never-within = (λ x Wanted m n f. absurd f, λ x m n f. absurd f)
+pub plus-ways : (often : Bool) (p : Pattern) → HasWays (Then p (Repeat 0 None often p)) (Repeat 1 None often p)
+plus-ways often p x m n g = (suc g.2.0, omega arith, tt, (g.0, g.1, g.2.3))
 
-pub star-within : (often : Bool) (p : Pattern) → IsWithin (optional often (Repeat 1 None often p)) (Repeat 0 None often p)
-star-within often p = (
-  star-way often p,
-  λ x m n g. ⊎_elim
-      (λ (h : GoesWith x (Repeat 1 None often p) m n). (h.0, omega arith, tt, h.3))
-      (λ (h : m ≡ n). (0, omega arith, tt, h))
-      (optional-with often (Repeat 1 None often p) x m n g),
-)
+pub up_to-ways : (often : Bool) (most : ℕ) (p : Pattern) → HasWays (up_to often most p) (Repeat 0 (Some most) often p)
+up_to-ways often most p x m n g = let r = up_to-times_with x often p most m n g in (r.0, omega arith, inl r.1, r.2)
 
-pub plus-within : (often : Bool) (p : Pattern) → IsWithin (Then p (Repeat 0 None often p)) (Repeat 1 None often p)
-plus-within often p = (plus-way often p, λ x m n g. (suc g.2.0, omega arith, tt, (g.0, g.1, g.2.3)))
-
-pub up_to-within : (often : Bool) (most : ℕ) (p : Pattern) → IsWithin (up_to often most p) (Repeat 0 (Some most) often p)
-up_to-within often most p = (
-  up_to-way often most p,
-  λ x m n g. let r = up_to-times_with x often p most m n g in (r.0, omega arith, inl r.1, r.2),
-)
-
-pub counted-within : (k l : ℕ) (max : Option ℕ) (often : Bool) (p : Pattern)
-    → IsWithin (Then (copies k p) (Repeat l (limit_less max k) often p)) (Repeat (k + l) max often p)
-counted-within k l max often p = (
-  counted-way k l max often p,
-  λ x m n g.
-      (k + g.2.0, omega (arith, g.2.1), most max g.2.0 g.2.2, TimesWith-add (GoesWith x p) k g.2.0 m g.0 n (copies-times_with x p k m g.0 g.1) g.2.3),
-)
+pub counted-ways : (k l : ℕ) (max : Option ℕ) (often : Bool) (p : Pattern)
+    → HasWays (Then (copies k p) (Repeat l (limit_less max k) often p)) (Repeat (k + l) max often p)
+counted-ways k l max often p x m n g =
+    (k + g.2.0, omega (arith, g.2.1), most max g.2.0 g.2.2, TimesWith-add (GoesWith x p) k g.2.0 m g.0 n (copies-times_with x p k m g.0 g.1) g.2.3)
   where
     most : (max : Option ℕ) (r : ℕ) → IsAtMost l (limit_less max k) r → IsAtMost (k + l) max (k + r)
     most None r h = tt

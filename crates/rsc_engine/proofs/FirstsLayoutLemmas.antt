@@ -1,25 +1,21 @@
--- The first way to a pattern's match is the pattern's first way.
-use Rattle.std.proofs.Common.{◌≡◌, ℕ, zero, suc, ◌+◌, ◌*◌, ◌<◌, ◌≤◌, inl, ⊎_elim, List, [], ◌∷◌, length, slice_get, slice_index_or, refl, sym, ap, ◌∙◌, subst, arith, Option, Some, MatchOption}
+-- Steps to a pattern's match go by its ways, and the first path by the first way of a course of it.
+use Rattle.std.proofs.Common.{◌≡◌, ℕ, ◌+◌, ◌*◌, ◌<◌, ◌≤◌, ⊎_elim, List, [], ◌∷◌, length, slice_get, slice_index_or, refl, sym, ap, ◌∙◌, subst, arith, Option, Some, MatchOption}
 use Rattle.std.proofs.lemmas.Bool.{cases_lt, cases_eq}
 use Rattle.std.proofs.lemmas.Option.{slice_get_within}
 use Rattle.rsc_nfa.specs.declared.state.State.{State}
 use Rattle.rsc_nfa.specs.declared.state.State.TheVariants.{Fork, Accept}
 use Rattle.rsc_nfa.specs.Steps.{StepsTo}
-use Rattle.rsc_engine.specs.Patterns.{Pattern, Empty, Group, Subject}
-use Rattle.rsc_engine.specs.LinksLayout.{Aim, Ends, Realizes}
+use Rattle.rsc_engine.specs.Patterns.{Pattern, Group, Subject}
+use Rattle.rsc_engine.specs.LinksLayout.{Aim, Ends}
 use Rattle.rsc_engine.specs.BeginsLayout.{Begins, IsOfOne, IsOfSome}
 use Rattle.rsc_engine.specs.FirstsLayout.{OrdersOne, OrdersSome, TakesFirst, mark_of}
 use Rattle.rsc_engine.specs.Ways.{Mark, GoesWith}
-use Rattle.rsc_engine.specs.FirstWays.{IsFirstWay}
 use Rattle.rsc_engine.specs.GroupNumbers.{numbered}
 use Rattle.rsc_engine.specs.StepsLayout.{AreSteps, last_place}
-use Rattle.rsc_engine.specs.WaysLayout.{HasWay, finish}
-use Rattle.rsc_engine.specs.OrderLayout.{Orders}
-use Rattle.rsc_engine.proofs.FirstWaysLemmas.{way-alike}
-use Rattle.rsc_engine.proofs.GroupNumbersLemmas.{numbered-loops}
-use Rattle.rsc_engine.proofs.WaysLayoutLemmas.{Way, Rest, from_fork, either_way, aim_at, way_of}
-use Rattle.rsc_engine.proofs.OrderLayoutLemmas.{Orders-group}
-use Rattle.rsc_engine.proofs.LinksLayoutLemmas.{Realizes-between, Realizes-capture, choice_to}
+use Rattle.rsc_engine.specs.WaysLayout.{finish}
+use Rattle.rsc_engine.specs.ByWaysLayout.{ByWays}
+use Rattle.rsc_engine.proofs.WaysLayoutLemmas.{Rest, either_way, aim_at, way_of}
+use Rattle.rsc_engine.proofs.ByWaysLayoutLemmas.{ByWays-group}
 use Rattle.rsc_engine.specs.BeginsLayout.{IsWhole}
 use Rattle.rsc_engine.specs.Courses.{Course, Within, Stand, chosen}
 use Rattle.rsc_engine.specs.PreferredWays.{choices}
@@ -34,13 +30,6 @@ use Rattle.rsc_engine.proofs.PathsLayoutLemmas.{path_ends}
 
 -- ---- one pattern
 
--- where a pattern is accepted no step is left
-none_left : (states : List State) (a : Aim) (n s i q : ℕ) → slice_get states s ≡ Some (Accept q) → Ends states a n s i → n ≡ 0
-none_left states a zero s i q is e = refl
-none_left states a (suc n) s i q is e =
-    absurd (subst (λ (o : Option State). MatchOption o ⊥ (λ (x : State).
-    StepsTo x a.text.terminator a.text.word_chars a.text.haystack a.end i (e.1, e.2))) is e.3)
-
 stays_there : (states : List State) (x : Subject) (end s i q : ℕ) (rest earlier : List (ℕ × ℕ)) → slice_get states s ≡ Some (Accept q)
     → AreSteps states x end (s, i) rest → finish states (s, i) rest earlier ≡ ((s, i), earlier)
 stays_there states x end s i q [] earlier is steps = refl
@@ -54,24 +43,13 @@ path_stays states x end m f q s [] is p = refl
 path_stays states x end m f q s (g ∷ rest) is p = absurd (subst (λ (o : Option State). Leads o x end f s g) is p.0)
 
 pub OrdersOne-is : (states : List State) (slot_of : ℕ → ℕ) (number low high top accept after body first : ℕ) (p : Pattern)
-    → IsWhole states number low high accept after body first → Realizes states body after p → Orders states body after (numbered slot_of 1 p)
+    → IsWhole states number low high accept after body first → ByWays states body after (numbered slot_of 1 p)
     → TakesCourse low high body after (numbered slot_of 1 p) states → high ≤ top → OrdersOne states slot_of top first number p
-OrdersOne-is states slot_of number low high top accept after body first p w r o t l = record {
+OrdersOne-is states slot_of number low high top accept after body first p w o t l = record {
   through = λ x end from rest v.
       let g = order.through x end number from rest v in
       let there = sym (stays_there states x end accept g.to.0 number g.rest g.to.1 w.accepting g.way.steps) ∙ g.ends in
       subst (λ (k : Mark). GoesWith x (Group (2 * number) (numbered slot_of 1 p)) from k) (ap mark_of there) g.goes;
-  cost = whole.cost;
-  few = λ h a n i e way.
-      let g = whole.sound a n i way in
-      let none = none_left states a g.left accept g.to number w.accepting g.ends in
-      omega (arith, none, g.few h);
-  goes = λ h x end from rest l.
-      let g = order.goes (numbered-loops slot_of 1 p ∙ h) x end number from rest l in
-      let there = sym (stays_there states x end accept g.to.0 number g.rest g.to.1 w.accepting g.least.way.steps) ∙ g.ends in
-      subst (λ (k : Mark). IsFirstWay x (Group (2 * number) (numbered slot_of 1 p)) (λ j. j ≤ end) from k) (ap mark_of there)
-      (way-alike x (Group (2 * number) (numbered slot_of 1 p)) (HasWay states x end number accept) (λ j. j ≤ end) from g.to (λ j v. v.1.within)
-      (λ j within. ([], record { within = within; steps = tt; accepts = w.accepting })) g.first);
   course = record { course = course; is = (t.course, refl, t.is); apart = t.numbers.apart };
   below = λ k d m. let its = t.numbers.within k d m in omega (arith, its.1, l);
   takes = λ x end s rest least.
@@ -92,17 +70,8 @@ OrdersOne-is states slot_of number low high top accept after body first p w r o 
     follows : Follows states first accept course
     follows = Follows-within states first body after accept (2 * number) t.course w.starting w.ending t.follows
 
-    ending : Realizes states after accept Empty
-    ending = Realizes-capture states after (2 * number + 1) accept w.ending
-
-    starting : Realizes states first body Empty
-    starting = Realizes-capture states first (2 * number) body w.starting
-
-    whole : Realizes states first accept p
-    whole = Realizes-between states first body after accept p ending r starting
-
-    order : Orders states first accept (Group (2 * number) (numbered slot_of 1 p))
-    order = Orders-group states first body after accept (2 * number) (numbered slot_of 1 p) w.starting w.ending o
+    order : ByWays states first accept (Group (2 * number) (numbered slot_of 1 p))
+    order = ByWays-group states first body after accept (2 * number) (numbered slot_of 1 p) w.starting w.ending o
 
 -- ---- several patterns
 
@@ -145,21 +114,6 @@ OrdersOne-first states slot_of high top s one other m p is above l o none = reco
       absurd (none (aim_at x end m (last_place (other, from.0) v.rest)) (length v.rest) from.0 refl
       (way_of states x end m (other, from.0) v.rest v.way.within v.way.steps v.way.accepts)))
       (either_way states x end m s one other from rest is w);
-  cost = λ end. o.cost end + 1;
-  few = λ h a n i e way.
-      let w = choice_to states a n s i one other (inl is) way in
-      ⊎_elim
-      (λ (x : Ends states a w.0 one i). let few = o.few h a w.0 i e x in omega (arith, few, w.2))
-      (λ (x : Ends states a w.0 other i). absurd (none a w.0 i e x))
-      w.3;
-  goes = λ h x end from rest l. ⊎_elim
-      (λ (w : Way states x end m one from (finish states (s, from.0) rest from.1)).
-      subst (λ (k : (ℕ × ℕ) × List (ℕ × ℕ)). IsFirstWay x (Group (2 * m) (numbered slot_of 1 p)) (λ j. j ≤ end) from (mark_of k)) w.ends
-      (o.goes h x end from w.rest w.least))
-      (λ (w : (HasWay states x end m one from.0 → ⊥) × Way states x end m other from (finish states (s, from.0) rest from.1)).
-      absurd (none (aim_at x end m (last_place (other, from.0) w.1.rest)) (length w.1.rest) from.0 refl
-      (way_of states x end m (other, from.0) w.1.rest w.1.least.way.within w.1.least.way.steps w.1.least.way.accepts)))
-      (from_fork states x end m s one other from rest is l);
   course = o.course;
   below = λ k d b. let its = o.below k d b in omega (arith, its, l);
   takes = λ x end st rest least. ⊎_elim
@@ -183,21 +137,6 @@ OrdersOne-next states slot_of high top s one other m p is above l o none = recor
       (λ (v : Rest states x end m other from (length rest) (finish states (s, from.0) rest from.1)).
       subst (λ (k : (ℕ × ℕ) × List (ℕ × ℕ)). GoesWith x (Group (2 * m) (numbered slot_of 1 p)) from (mark_of k)) v.ends (o.through x end from v.rest v.way))
       (either_way states x end m s one other from rest is w);
-  cost = λ end. o.cost end + 1;
-  few = λ h a n i e way.
-      let w = choice_to states a n s i one other (inl is) way in
-      ⊎_elim
-      (λ (x : Ends states a w.0 one i). absurd (none a w.0 i e x))
-      (λ (x : Ends states a w.0 other i). let few = o.few h a w.0 i e x in omega (arith, few, w.2))
-      w.3;
-  goes = λ h x end from rest l. ⊎_elim
-      (λ (w : Way states x end m one from (finish states (s, from.0) rest from.1)).
-      absurd (none (aim_at x end m (last_place (one, from.0) w.rest)) (length w.rest) from.0 refl
-      (way_of states x end m (one, from.0) w.rest w.least.way.within w.least.way.steps w.least.way.accepts)))
-      (λ (w : (HasWay states x end m one from.0 → ⊥) × Way states x end m other from (finish states (s, from.0) rest from.1)).
-      subst (λ (k : (ℕ × ℕ) × List (ℕ × ℕ)). IsFirstWay x (Group (2 * m) (numbered slot_of 1 p)) (λ j. j ≤ end) from (mark_of k)) w.1.ends
-      (o.goes h x end from w.1.rest w.1.least))
-      (from_fork states x end m s one other from rest is l);
   course = o.course;
   below = λ k d b. let its = o.below k d b in omega (arith, its, l);
   takes = λ x end st rest least. ⊎_elim

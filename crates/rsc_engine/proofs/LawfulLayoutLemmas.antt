@@ -1,5 +1,5 @@
 -- What follows from the laws of steps: the bytes on both sides, or others of their classes, stand for a position.
-use Rattle.std.proofs.Common.{⊎_elim, ◌≡◌, ◌↔◌, ℕ, zero, suc, ◌+◌, ◌<◌, ◌≤◌, Bool, true, false, true≢false, List, [], ◌∷◌, length, slice_index, refl, sym, ap, ◌∙◌, subst, arith, slice_get, Option, Some, None, MatchOption, MatchBool, IsTrue, IfSome}
+use Rattle.std.proofs.Common.{⊎_elim, ◌≡◌, ◌↔◌, ℕ, zero, suc, ◌+◌, ◌-◌, ◌<◌, ◌≤◌, Bool, true, false, true≢false, List, [], ◌∷◌, length, slice_index, refl, sym, ap, ◌∙◌, subst, arith, slice_get, Option, Some, None, MatchOption, MatchBool, IsTrue, IfSome}
 use Rattle.std.proofs.lemmas.List.Elements.{All-nil, All-cons}
 use Rattle.std.proofs.lemmas.Bool.{cases_lt}
 use Rattle.rsc_alphabet.specs.Partitions.{class_map}
@@ -34,7 +34,7 @@ around-room : (p : Option ℕ) (n : ℕ) → middle p < length (around p (Some n
 around-room None n = omega arith
 around-room (Some p) n = omega arith
 
-around-least : (p n : Option ℕ) → middle p ≤ length (around p n)
+pub around-least : (p n : Option ℕ) → middle p ≤ length (around p n)
 around-least None None = omega arith
 around-least None (Some n) = omega arith
 around-least (Some p) None = omega arith
@@ -278,6 +278,68 @@ IsNear-from w classes e width unicode i q o plan within low a b pp pn pq po = re
           (around-after p n) (λ _. l)
           (moves_alike w classes m width unicode plan q p o n s u (Alike-sym classes p q a) (Alike-sym classes n o b) pq pp po pn x),
     )
+
+-- ---- a byte goes by its class alone
+
+around-first : (q : ℕ) (o : Option ℕ) → byte_after (around (Some q) o) 0 ≡ Some q
+around-first q None = refl
+around-first q (Some n) = refl
+
+around-some : (q : ℕ) (o : Option ℕ) → 0 < length (around (Some q) o)
+around-some q None = omega arith
+around-some q (Some n) = omega arith
+
+-- where a byte is there is one of its class
+some_at : (classes h : List ℕ) (i : ℕ) → i < length h → ¬ (Alike classes (byte_after h i) None)
+some_at classes [] i l a = omega (arith, l)
+some_at classes (x ∷ h) zero l a = a
+some_at classes (x ∷ h) (suc i) l a = some_at classes h i (omega (arith, l)) a
+
+moves_kept : Lawful → (classes : List ℕ) (m : Machine) (width : ℕ) (unicode : Bool) → IsPlan m classes width unicode → (h k : List ℕ) (x y s u : ℕ)
+    → x < length h → y < length k → Alike classes (byte_after h x) (byte_after k y) → IsPlainUnit m (byte_after h x) → IsPlainUnit m (byte_after k y)
+    → Moves m h x s u → Moves m k y s u
+moves_kept w classes m width unicode plan h k x y s u in_h in_k a pn po step =
+    w.advances m.states m.terminator m.word_chars (around None (byte_after k y)) k (length (around None (byte_after k y))) (length k) 0 y s u
+    (around-after None (byte_after k y)) (λ _. in_k)
+    (moves_alike w classes m width unicode plan None None (byte_after h x) (byte_after k y) s u tt a (λ _. tt) (λ _. tt) pn po
+    (w.advances m.states m.terminator m.word_chars h (around None (byte_after h x)) (length h) (length (around None (byte_after h x))) x 0 s u
+    (sym (around-after None (byte_after h x))) (λ _. room_after h x None in_h) step))
+
+-- the byte before a position of a small haystack stands for that before another position
+pub record SameBefore (e : Search) (i : ℕ) (near : List ℕ) (at : ℕ) : Type 0 where
+  pub some : (0 < i) ↔ (0 < at)
+  pub moves : (s u : ℕ) → 0 < i → Moves (machine_of e) e.haystack (i - 1) s u ↔ Moves (machine_of e) near (at - 1) s u
+
+pub SameBefore-from : Lawful → (classes : List ℕ) (e : Search) (width : ℕ) (unicode : Bool) (i : ℕ) (q o : Option ℕ)
+    → IsPlan (machine_of e) classes width unicode → e.end ≤ length e.haystack → i ≤ e.end → Alike classes (byte_before e.haystack i) q
+    → IsPlainUnit (machine_of e) (byte_before e.haystack i) → IsPlainUnit (machine_of e) q → SameBefore e i (around q o) (middle q)
+SameBefore-from w classes e width unicode zero None o plan within low a pp pq = record {
+  some = (λ l. absurd (omega (arith, l)), λ l. absurd (omega (arith, l)));
+  moves = λ s u l. absurd (omega (arith, l));
+}
+SameBefore-from w classes e width unicode zero (Some q) o plan within low a pp pq = absurd a
+SameBefore-from w classes e width unicode (suc i) None o plan within low a pp pq =
+    absurd (some_at classes e.haystack i (omega (arith, low, within)) a)
+SameBefore-from w classes e width unicode (suc i) (Some q) o plan within low a pp pq = record {
+  some = (λ l. omega arith, λ l. omega arith);
+  moves = λ s u l. subst (λ (k : ℕ). Moves (machine_of e) e.haystack k s u ↔ Moves (machine_of e) (around (Some q) o) 0 s u) same (
+    λ x. moves_kept w classes (machine_of e) width unicode plan e.haystack (around (Some q) o) i 0 s u below (around-some q o) there pp first x,
+    λ x. moves_kept w classes (machine_of e) width unicode plan (around (Some q) o) e.haystack 0 i s u (around-some q o) below
+        (Alike-sym classes (byte_after e.haystack i) (byte_after (around (Some q) o) 0) there) first pp x,
+  );
+}
+  where
+    same : i ≡ suc i - 1
+    same = omega arith
+
+    below : i < length e.haystack
+    below = omega (arith, low, within)
+
+    there : Alike classes (byte_after e.haystack i) (byte_after (around (Some q) o) 0)
+    there = subst (λ (b : Option ℕ). Alike classes (byte_after e.haystack i) b) (sym (around-first q o)) a
+
+    first : IsPlainUnit (machine_of e) (byte_after (around (Some q) o) 0)
+    first = subst (IsPlainUnit (machine_of e)) (sym (around-first q o)) pq
 
 -- ---- the classes of a plan
 

@@ -12,15 +12,14 @@ use Rattle.rsc_engine.proofs.GroupNumbersLemmas.{numbered-empty}
 use Rattle.rsc_engine.specs.LinksLayout.{Adds, Builds, BuildsPart, BuildsCopies, IsAdded, Realizes, choice_of, copies, optional, up_to}
 use Rattle.rsc_engine.proofs.LinksLayoutLemmas.{Realizes-choice, Realizes-star, Realizes-plus, is_choice}
 use Rattle.rsc_engine.proofs.EnclosesLayoutLemmas.{Encloses-choice, Encloses-loop}
-use Rattle.rsc_engine.proofs.PatternsLemmas.{star-is, star-back, up_to-is, up_to-back, limit_less, counted-is, counted-back}
-use Rattle.rsc_engine.specs.OrderLayout.{Orders}
+use Rattle.rsc_engine.proofs.PatternsLemmas.{star-back, up_to-back, limit_less, counted-back}
+use Rattle.rsc_engine.specs.ByWaysLayout.{ByWays}
 use Rattle.rsc_engine.specs.Courses.{Course}
 use Rattle.rsc_engine.specs.PreferredWays.{IsCourseOf}
 use Rattle.rsc_engine.specs.TakesLayout.{TakesCourse}
 use Rattle.rsc_engine.proofs.TakesLayoutLemmas.{Takes-choice, Takes-turn, Takes-again, Takes-wider, star-course, up_to-course, limited-course, unlimited-course}
-use Rattle.rsc_engine.proofs.FirstEndsLemmas.{star-loops, up_to-loops, counted-loops}
-use Rattle.rsc_engine.proofs.FirstWaysLemmas.{star-within, up_to-within, counted-within}
-use Rattle.rsc_engine.proofs.OrderLayoutLemmas.{Orders-choice, Orders-star, Orders-plus}
+use Rattle.rsc_engine.proofs.FirstWaysLemmas.{star-ways, up_to-ways, counted-ways}
+use Rattle.rsc_engine.proofs.ByWaysLayoutLemmas.{ByWays-choice, ByWays-star, ByWays-plus}
 use Rattle.rsc_engine.proofs.SizesLemmas.{optional-size, entered-size, loop-size, unlimited-size, limited-size, up_to_only-size}
 use Rattle.rsc_engine.proofs.CompileLemmas.{Adds-one, Adds-both, Adds-is, Adds-written, IsPart, grown, Builds-empty, Builds-then, Builds-is}
 
@@ -37,7 +36,7 @@ Builds-optional slots old last new one id next often p x a =
       Names-alike slots.1 (has_feature p) (has_feature (optional often p)) (length old) (length new) all (optional-back often p)
           (Names-choice slots.1 (has_feature p) (length old) (length last) (length new) id one next all x.longer a.last
           (grown last new (choice_of often one next) id a) (is_choice all id one next often is) r.2),
-      Orders-choice all id one next often p is r.0 r.3,
+      ByWays-choice all id one next often p is r.3,
       Takes-choice (length old) (length last) (length new) one id next often p all x.longer a.last
           (grown last new (choice_of often one next) id a) is r.4,
     ))
@@ -46,8 +45,8 @@ pub Builds-star : (slots : ℕ × ℕ) (old last new : List State) (one id next 
     → may_be_empty p ≡ true → Builds slots old last one next (Repeat 1 None often p) → IsAdded last new (choice_of often one next) id
     → Builds slots old new id next (Repeat 0 None often p)
 Builds-star slots old last new one id next often p empty x a =
-    Builds-is slots old new id next (optional often (Repeat 1 None often p)) (Repeat 0 None often p) (star-is often p) (star-back often p) (star-within often p)
-    (star-loops often p) (optional-same often (Repeat 1 None often p)) (star-course often p empty)
+    Builds-is slots old new id next (optional often (Repeat 1 None often p)) (Repeat 0 None often p) (star-back often p) (star-ways often p)
+    (optional-same often (Repeat 1 None often p)) (star-course often p empty)
     (Builds-optional slots old last new one id next often (Repeat 1 None often p) x a)
 
 -- a loop: its fork, its part, and the fork overwritten
@@ -56,7 +55,7 @@ record LoopsOver (slots : ℕ × ℕ) (low high first again next : ℕ) (often :
   part : Realizes all first again p
   encloses : Encloses slots.0 low high again next all × Encloses slots.0 low high first next all
   names : Names slots.1 (has_feature p) low high all
-  orders : Orders all first again p
+  orders : ByWays all first again p
   takes : TakesCourse (low + 1) high first again p all
 
 Adds-loop : (slots : ℕ × ℕ) (old middle last : List State) (state : State) (first again next : ℕ) (often : Bool) (p : Pattern) → IsAdded old middle state again
@@ -99,7 +98,7 @@ Builds-again slots old middle last state first again next often p taking a x =
       Realizes-star all again first next often p (is_choice all again first next often b.choice) b.part,
       b.encloses.0,
       b.names,
-      Orders-star all again first next often p b.choice b.part b.orders,
+      ByWays-star all again first next often p b.choice b.orders,
       Takes-turn (length old) (length new) first again next often p all taking a.last
           (longer old middle last state again (choice_of often first next) a x.longer) b.choice b.takes,
     ))
@@ -116,7 +115,7 @@ Builds-plus slots old middle last state first again next often p a x =
       Realizes-plus all again first next often p (is_choice all again first next often b.choice) b.part,
       b.encloses.1,
       b.names,
-      Orders-plus all again first next often p b.choice b.part b.orders,
+      ByWays-plus all again first next often p b.choice b.orders,
       Takes-again (length old) (length new) first again next often p all a.last (longer old middle last state again (choice_of often first next) a x.longer)
           b.choice b.takes,
     ))
@@ -126,8 +125,8 @@ Builds-plus slots old middle last state first again next often p a x =
 Builds-up_to : (slots : ℕ × ℕ) (old new : List State) (first next n : ℕ) (often : Bool) (p : Pattern) → Builds slots old new first next (up_to often n p)
     → Builds slots old new first next (Repeat 0 (Some n) often p)
 Builds-up_to slots old new first next n often p x =
-    Builds-is slots old new first next (up_to often n p) (Repeat 0 (Some n) often p) (up_to-is often n p) (up_to-back often n p) (up_to-within often n p)
-    (up_to-loops often n p) (up_to-same often n p) (up_to-course often n p) x
+    Builds-is slots old new first next (up_to often n p) (Repeat 0 (Some n) often p) (up_to-back often n p) (up_to-ways often n p)
+    (up_to-same often n p) (up_to-course often n p) x
 
 -- a number of times, and then at least another
 Builds-counted : (slots : ℕ × ℕ) (old middle new : List State) (n m rest first next : ℕ) (max : Option ℕ) (often : Bool) (p : Pattern)
@@ -135,8 +134,8 @@ Builds-counted : (slots : ℕ × ℕ) (old middle new : List State) (n m rest fi
     → Builds slots old middle rest next (Repeat m (limit_less max n) often p) → Builds slots middle new first rest (copies n p)
     → Builds slots old new first next (Repeat (n + m) max often p)
 Builds-counted slots old middle new n m rest first next max often p courses x y =
-    Builds-is slots old new first next (Then (copies n p) (Repeat m (limit_less max n) often p)) (Repeat (n + m) max often p) (counted-is n m max often p)
-    (counted-back n m max often p) (counted-within n m max often p) (counted-loops n m max often p) (counted-same n m max often p) courses
+    Builds-is slots old new first next (Then (copies n p) (Repeat m (limit_less max n) often p)) (Repeat (n + m) max often p)
+    (counted-back n m max often p) (counted-ways n m max often p) (counted-same n m max often p) courses
     (Builds-then slots old middle new first rest next (copies n p) (Repeat m (limit_less max n) often p) x y)
 
 pub Builds-limited : (slots : ℕ × ℕ) (old middle new : List State) (min max rest first next : ℕ) (often : Bool) (p : Pattern)

@@ -1,5 +1,6 @@
 -- Which match is next, as the search's start moves on.
-use Rattle.std.proofs.Common.{◌≡◌, true, ℕ, ◌+◌, ◌<◌, ◌≤◌, ◌⊎◌, inl, inr, ⊎_elim, Bool, List, refl, sym, subst, ap, ◌∙◌, arith, Option, Some}
+use Rattle.std.proofs.Common.{◌≡◌, true, ℕ, ◌+◌, ◌-◌, ◌<◌, ◌≤◌, ◌⊎◌, inl, inr, ⊎_elim, Bool, List, refl, sym, subst, ap, ◌∙◌, arith, Option, Some, None}
+use Rattle.std.specs.Option.{ForSome}
 use Rattle.std.proofs.lemmas.Bool.{cases_lt, cases_eq, cases_order}
 use Rattle.rsc_nfa.specs.Steps.{place}
 use Rattle.rsc_captures.specs.Captured.{Captured}
@@ -10,7 +11,7 @@ use Rattle.rsc_search.specs.declared.anchored.Anchored.TheVariants.{No}
 use Rattle.rsc_engine.specs.Searches.{Search, Compiled, search_in}
 use Rattle.rsc_engine.specs.Runs.{IsMatchOf}
 use Rattle.rsc_engine.specs.Preferred.{IsPreferred, IsLeftmostFirst, HasNone, IsOf}
-use Rattle.rsc_engine.specs.NextMatches.{IsRepeat, IsSplit, IsRepeated, IsPassed, IsOpen, IsNext, IsOver, from_start}
+use Rattle.rsc_engine.specs.NextMatches.{IsRepeat, IsSplit, IsRepeated, IsPassed, IsOpen, IsNext, IsOver, from_start, steps_left}
 use Rattle.rsc_engine.proofs.PreferredLemmas.{is_no, one_preferred, preferred_shift, none_shift}
 
 -- ---- the positions before a search's start
@@ -284,3 +285,9 @@ one_first e one other x y = ⊎_elim
     (λ (l : (place other 0).1 < (place one 0).1). absurd (x.leftmost (place other 0).1 y.begins.start l other y.preferred.is_match))
     h)
     (cases_order (place one 0).1 (place other 0).1)
+
+-- ---- how often it goes on
+
+pub fewer-left : (end m : ℕ) (last : Option ℕ) → ForSome last (λ e. e < m) → m ≤ end → steps_left end (Some m) < steps_left end last
+fewer-left end m None later within = omega (arith, within)
+fewer-left end m (Some e) later within = omega (arith, within, later e refl)

@@ -1,5 +1,5 @@
 -- The first and the next match of a program are those of its patterns, and there is one of each.
-use Rattle.std.proofs.Common.{◌≡◌, ◌∙◌, ℕ, suc, ◌+◌, ◌-◌, ◌<◌, ◌≤◌, ◌⊎◌, inl, inr, ⊎_elim, ◌↔◌, Bool, List, [], ◌∷◌, length, slice_get, slice_index_or, option_and_then, refl, sym, ap, subst, arith, Option, Some, None}
+use Rattle.std.proofs.Common.{◌≡◌, ◌∙◌, ℕ, suc, ◌+◌, ◌-◌, ◌<◌, ◌≤◌, inl, inr, ⊎_elim, ◌↔◌, Bool, List, [], ◌∷◌, length, slice_get, slice_index_or, option_and_then, refl, sym, ap, subst, arith, Option, Some, None}
 use Rattle.std.specs.Option.{option_map}
 use Rattle.std.proofs.lemmas.Bool.{cases_lt}
 use Rattle.std.proofs.lemmas.Option.{same_Some}
@@ -11,7 +11,6 @@ use Rattle.rsc_captures.specs.Captured.{Captured, group_span}
 use Rattle.rsc_search.specs.Inputs.{InputParts}
 use Rattle.rsc_search.specs.Matches.{Matched}
 use Rattle.rsc_search.specs.Modes.{pattern_of_mode}
-use Rattle.rsc_search.specs.declared.anchored.Anchored.TheVariants.{No}
 use Rattle.rsc_engine.specs.Searches.{Search, Compiled, search_in}
 use Rattle.rsc_engine.specs.Runs.{IsMatchRun, HasNoMatch, IsMatchOf}
 use Rattle.rsc_engine.specs.Preferred.{IsPreferred, IsOf, IsFirstMatch, MayBegin, HasNone}

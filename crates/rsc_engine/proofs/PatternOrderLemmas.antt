@@ -10,23 +10,22 @@ use Rattle.rsc_engine.specs.Searches.{Search, Compiled, search_in}
 use Rattle.rsc_engine.specs.Runs.{accepts, IsMatchRun, IsMatchOf}
 use Rattle.rsc_engine.specs.Preferred.{IsOnce, IsPreferredTo, IsPreferred}
 use Rattle.rsc_engine.specs.Patterns.{Pattern, Subject, subject_of, HasRunOf}
-use Rattle.rsc_engine.specs.PatternOrder.{PrefersLesser, PrefersFirstEnds, RecordsFirstWays, RecordsWays}
+use Rattle.rsc_engine.specs.PatternOrder.{PrefersLesser, PrefersFirstEnds, RecordsFirstWays, RecordsWays, RecordsPreferredWays}
 use Rattle.rsc_engine.specs.LinksLayout.{Aim, Ends}
 use Rattle.rsc_engine.specs.StepsLayout.{AreSteps, last_place}
-use Rattle.rsc_engine.specs.WaysLayout.{IsBefore, IsLeast, finish, recorded_by}
+use Rattle.rsc_engine.specs.WaysLayout.{IsBefore, finish, recorded_by}
 use Rattle.rsc_engine.specs.BeginsLayout.{PrefersFrom, Begins, IsOfOne}
-use Rattle.rsc_engine.specs.FirstsLayout.{OrdersSome, mark_of}
-use Rattle.rsc_engine.specs.FirstEnds.{loops_take_bytes}
+use Rattle.rsc_engine.specs.FirstsLayout.{OrdersSome}
 use Rattle.rsc_engine.specs.Ways.{GoesWith, last_in}
-use Rattle.rsc_engine.specs.FirstWays.{IsFirstWay}
 use Rattle.rsc_engine.specs.GroupNumbers.{as_whole}
 use Rattle.rsc_engine.proofs.FirstWaysLemmas.{way-end}
-use Rattle.rsc_engine.proofs.GroupNumbersLemmas.{numbered-end}
+use Rattle.rsc_engine.proofs.WrittenLayoutLemmas.{preferred-first}
+use Rattle.rsc_engine.proofs.GroupNumbersLemmas.{numbered-end, numbered-loops}
 use Rattle.rsc_captures.specs.Groups.{GroupLists, slot_number}
-use Rattle.rsc_engine.proofs.WaysLayoutLemmas.{aim_at, way_of}
+use Rattle.rsc_engine.proofs.WaysLayoutLemmas.{aim_at, way_of, finish_last}
 use Rattle.rsc_engine.proofs.StepsLayoutLemmas.{step_of, steps_of, last_is}
 use Rattle.rsc_engine.proofs.PreferredLemmas.{same_place}
-use Rattle.rsc_engine.proofs.StepsLayoutLemmas.{Short, shorten, once_of, is_run_of, HasMore, once_or_more, AreDistinct}
+use Rattle.rsc_engine.proofs.StepsLayoutLemmas.{Short, shorten, once_of, is_run_of}
 
 -- ---- from steps to a way to a match, where the state is known
 
@@ -217,46 +216,12 @@ is_least e run found other prefers first f h same = ⊎_elim
     (λ (le : found.pattern ≤ other.pattern). le)
     (cases_lt other.pattern found.pattern)
 
--- ---- the first end
+-- ---- what a run records
 
 -- a place whose state accepts the same pattern accepts too
 pub same_accepts : (e : Search) (p q : ℕ × ℕ) (m : ℕ) → slice_get e.states p.0 ≡ Some (Accept m) → slice_get e.states q.0 ≡ Some (Accept m) → accepts e p ≡ true
     → accepts e q ≡ true
 same_accepts e p q m here there a = rw there (rw here at a)
-
--- the steps of a preferred run are the first to its pattern, if there are few
-is_first : (e : Search) (m i most : ℕ) (rest : List (ℕ × ℕ)) → IsPreferred e (e.start_state, i) ((e.start_state, i) ∷ rest)
-    → slice_get e.states (last_place (e.start_state, i) rest).0 ≡ Some (Accept m)
-    → ((a : Aim) (n j : ℕ) → a.end ≡ e.end → a.pattern ≡ m → Ends e.states a n e.start_state j → n ≤ most)
-    → IsLeast e.states (subject_of e) e.end m (e.start_state, i) rest
-is_first e m i most rest preferred accepted few = record {
-  way = record {
-    within = (preferred.is_match.is_run.places 0 preferred.is_match.some).2;
-    steps = steps_of e (e.start_state, i) rest preferred.is_match.is_run;
-    accepts = accepted;
-  };
-  least = λ other w b. ⊎_elim
-      (λ (d : AreDistinct ((e.start_state, i) ∷ other)).
-      preferred.first ((e.start_state, i) ∷ other)
-      (record {
-        is_run = is_run_of e (e.start_state, i) other (slice_get_within e.states (last_place (e.start_state, i) other).0 (Accept m) w.accepts)
-            ((preferred.is_match.is_run.places 0 preferred.is_match.some).1) w.within w.steps;
-        some = omega arith;
-        begins = refl;
-        ends = subst (λ (z : ℕ × ℕ). accepts e z ≡ true) (sym (last_is (e.start_state, i) other))
-            (same_accepts e (last_place (e.start_state, i) rest) (last_place (e.start_state, i) other) m accepted w.accepts
-            (subst (λ (z : ℕ × ℕ). accepts e z ≡ true) (last_is (e.start_state, i) rest) preferred.is_match.ends));
-      })
-      (λ j k l h same. once_of ((e.start_state, i) ∷ other) d j k l h same)
-      (before_is e (e.start_state, i) other rest b))
-      (λ (h : HasMore e.states (subject_of e) e.end most (e.start_state, i) (last_place (e.start_state, i) other)).
-      let a : Aim = aim_at (subject_of e) e.end m (last_place (e.start_state, i) h.rest) in
-      let less = few a (length h.rest) i refl refl (way_of e.states (subject_of e) e.end m (e.start_state, i) h.rest w.within h.steps
-      (subst (λ (z : ℕ × ℕ). slice_get e.states z.0 ≡ Some (Accept m)) (sym h.ends) w.accepts)) in
-      let many = h.many in
-      absurd (omega (arith, less, many)))
-      (once_or_more e.states (subject_of e) e.end most (e.start_state, i) other w.steps);
-}
 
 -- what steps record, after what was recorded before
 recorded_more : (a b c : Option ℕ) → or_earlier (or_earlier a b) c ≡ or_earlier a (or_earlier b c)
@@ -288,65 +253,29 @@ pub or_none : (o : Option ℕ) → or_earlier o None ≡ o
 or_none None = refl
 or_none (Some i) = refl
 
-finish_last : (states : List State) (p : ℕ × ℕ) (rest earlier : List (ℕ × ℕ)) → (finish states p rest earlier).0 ≡ last_place p rest
-finish_last states p [] earlier = refl
-finish_last states p (q ∷ rest) earlier = finish_last states q rest (recorded_by (slice_get states p.0) p.1 earlier)
+-- ---- if loops take bytes
 
--- the first way, and what a run records
-abbrev GoesFirstWay : Search → GroupLists → List (ℕ × ℕ) → Matched → Pattern → Type 0
-GoesFirstWay e lists run found p =
-    (records : List (ℕ × ℕ)) × IsFirstWay (subject_of e) (as_whole lists found.pattern p) (λ j. j ≤ e.end) (found.span.start, []) (found.span.end, records)
-    × ((slot : ℕ) → recorded e.states run slot ≡ last_in records slot)
-
-first_way : (e : Search) (lists : GroupLists) (patterns : List Pattern) (run : List (ℕ × ℕ)) (found : Matched) (p : Pattern)
-    → OrdersSome e.states (slot_number lists) (length e.states) e.start_state 0 patterns
-    → IsPreferred e (e.start_state, (place run 0).1) run → IsMatchOf e run found → slice_get patterns found.pattern ≡ Some p → loops_take_bytes p ≡ true
-    → GoesFirstWay e lists run found p
-first_way e lists patterns [] found p all preferred makes its loops = let none = preferred.is_match.some in absurd (omega (arith, none))
-first_way e lists patterns (q ∷ rest) found p all preferred makes its loops =
-    let o = all found.pattern p (omega arith) its in
-    let here : q ≡ (e.start_state, q.1) = preferred.is_match.begins in
-    let its_run : IsPreferred e (e.start_state, q.1) ((e.start_state, q.1) ∷ rest) =
-    subst (λ (z : ℕ × ℕ). IsPreferred e (e.start_state, q.1) (z ∷ rest)) here preferred in
-    let accepted : slice_get e.states (last_place q rest).0 ≡ Some (Accept found.pattern) =
-    ap (λ (z : ℕ × ℕ). slice_get e.states z.0) (sym (last_is q rest)) ∙ makes.pattern in
-    let least = is_first e found.pattern q.1 (o.cost e.end) rest its_run
-    (subst (λ (z : ℕ × ℕ). slice_get e.states (last_place z rest).0 ≡ Some (Accept found.pattern)) here accepted)
-    (λ a n j end number way. subst (λ (k : ℕ). n ≤ o.cost k) end (o.few loops a n j number way)) in
-    let first : IsFirstWay (subject_of e) whole (λ j. j ≤ e.end) (q.1, []) (mark_of (finish e.states (e.start_state, q.1) rest [])) =
-    o.goes loops (subject_of e) e.end (q.1, []) rest least in
-    let end : (finish e.states (e.start_state, q.1) rest []).0.1 ≡ found.span.end =
-    ap (λ (z : ℕ × ℕ). z.1) (finish_last e.states (e.start_state, q.1) rest [])
-    ∙ (ap (λ (z : ℕ × ℕ). (last_place z rest).1) (sym here) ∙ (ap (λ (z : ℕ × ℕ). z.1) (sym (last_is q rest)) ∙ sym makes.end)) in (
-      (finish e.states (e.start_state, q.1) rest []).1,
-      subst (λ (j : ℕ). IsFirstWay (subject_of e) whole (λ k. k ≤ e.end) (found.span.start, []) (j, (finish e.states (e.start_state, q.1) rest []).1)) end
-          (subst (λ (i : ℕ). IsFirstWay (subject_of e) whole (λ k. k ≤ e.end) (i, []) (mark_of (finish e.states (e.start_state, q.1) rest [])))
-          (sym makes.start) first),
-      λ slot. ap (λ (z : ℕ × ℕ). recorded e.states (z ∷ rest) slot) here
-          ∙ (sym (or_none (recorded e.states ((e.start_state, q.1) ∷ rest) slot)) ∙ recorded_all e.states (e.start_state, q.1) rest [] slot),
-    )
-  where
-    whole : Pattern
-    whole = as_whole lists found.pattern p
+pub RecordsFirstWays-built : {W : Type 0} (chars : W → ℕ → Bool) (program : Compiled W) (patterns : List Pattern)
+    → RecordsPreferredWays chars program patterns → RecordsFirstWays chars program patterns
+RecordsFirstWays-built chars program patterns preferred = record {
+  first = λ input run found p is makes its loops.
+      let g = preferred.preferred input run found p is makes its in (
+        g.0,
+        preferred-first (subject_of (search_in chars program input)) (as_whole program.automaton.groups found.pattern p) (λ j. j ≤ input.span.end)
+            found.span.start found.span.end g.0 (numbered-loops (slot_number program.automaton.groups found.pattern) 1 p ∙ loops) g.1,
+        g.2,
+      );
+}
 
 pub PrefersFirstEnds-built : {W : Type 0} (chars : W → ℕ → Bool) (program : Compiled W) (patterns : List Pattern)
-    → OrdersSome program.automaton.states (slot_number program.automaton.groups) (length program.automaton.states) program.start 0 patterns
-    → PrefersFirstEnds chars program patterns
-PrefersFirstEnds-built chars program patterns all = record {
-  first = λ input run found p preferred makes its loops.
-      let g = first_way (search_in chars program input) program.automaton.groups patterns run found p all preferred makes its loops in
+    → RecordsFirstWays chars program patterns → PrefersFirstEnds chars program patterns
+PrefersFirstEnds-built chars program patterns ways = record {
+  first = λ input run found p is makes its loops.
+      let g = ways.first input run found p is makes its loops in
       let end = way-end (subject_of (search_in chars program input)) (as_whole program.automaton.groups found.pattern p) (λ j. j ≤ input.span.end)
       (found.span.start, []) (found.span.end, g.0) g.1 in
       subst (λ (F : (ℕ → Type 0) → ℕ → ℕ → Type 0). F (λ j. j ≤ input.span.end) found.span.start found.span.end)
       (numbered-end (subject_of (search_in chars program input)) (slot_number program.automaton.groups found.pattern) 1 p) end;
-}
-
-pub RecordsFirstWays-built : {W : Type 0} (chars : W → ℕ → Bool) (program : Compiled W) (patterns : List Pattern)
-    → OrdersSome program.automaton.states (slot_number program.automaton.groups) (length program.automaton.states) program.start 0 patterns
-    → RecordsFirstWays chars program patterns
-RecordsFirstWays-built chars program patterns all = record {
-  first = λ input run found p preferred makes its loops.
-      first_way (search_in chars program input) program.automaton.groups patterns run found p all preferred makes its loops;
 }
 
 -- ---- any way

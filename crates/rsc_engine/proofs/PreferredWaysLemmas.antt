@@ -22,7 +22,7 @@ turns-goes First R w often on (suc n) Wanted s t f =
     let rest = turns-goes First R w often on n Wanted f.2 t f.4 in
     ((f.0, f.2, one.0, rest.0), rest.1)
 
-new-goes : (x : Subject) (c : Course) → LeadsOn (λ Such k l. IsFirstNew x c Such k l) (GoesNew x c)
+pub new-goes : (x : Subject) (c : Course) → LeadsOn (λ Such k l. IsFirstNew x c Such k l) (GoesNew x c)
 new-goes x Skip Wanted s t f = f
 new-goes x Dead Wanted s t f = absurd f
 new-goes x (Byte a b) Wanted s t f = f

@@ -1,5 +1,5 @@
 -- Where steps lead. Steps that come to no place twice; if steps come to a place twice, there are steps of any number.
-use Rattle.std.proofs.Common.{◌≡◌, ℕ, zero, suc, ◌+◌, ◌-◌, ◌<◌, ◌≤◌, ◌⊎◌, inl, inr, ⊎_elim, List, [], ◌∷◌, ◌++◌, length, length-append, slice_get, refl, sym, ap, ◌∙◌, subst, arith, Option, Some, None, MatchOption}
+use Rattle.std.proofs.Common.{◌≡◌, ℕ, zero, suc, ◌+◌, ◌-◌, ◌<◌, ◌≤◌, ◌⊎◌, inl, inr, ⊎_elim, List, [], ◌∷◌, length, slice_get, refl, sym, ap, ◌∙◌, subst, arith, Option, Some, None, MatchOption}
 use Rattle.std.proofs.lemmas.Bool.{cases_eq}
 use Rattle.rsc_nfa.specs.declared.state.State.{State}
 use Rattle.rsc_nfa.specs.declared.state.State.TheVariants.{ByteRange, Assert, Fork, Capture, Accept}
@@ -132,80 +132,3 @@ is_run_of e p [] there low high steps = run-before e p [] (there, low, high) (λ
     (record { places = λ k l. absurd (omega (arith, l)); steps = λ k l. absurd (omega (arith, l)) })
 is_run_of e p (q ∷ rest) there low high steps = run-before e p (q ∷ rest) (step-within e p q steps.0, low, high) (λ l. steps.0)
     (is_run_of e q rest there (omega (arith, low, leads-rises e p q steps.0)) (leads_end e.states (subject_of e) e.end p q steps.0 high) steps.1)
-
--- ---- steps that come to a place twice
-
--- there are more than n such steps from the one place to the other
-pub record HasMore (states : List State) (x : Subject) (end n : ℕ) (p last : ℕ × ℕ) : Type 0 where
-  pub rest : List (ℕ × ℕ)
-  pub steps : AreSteps states x end p rest
-  pub ends : last_place p rest ≡ last
-  pub many : n < length rest
-
-join : (states : List State) (x : Subject) (end : ℕ) (p : ℕ × ℕ) (one other : List (ℕ × ℕ)) → AreSteps states x end p one
-    → AreSteps states x end (last_place p one) other → AreSteps states x end p (one ++ other)
-join states x end p [] other a b = b
-join states x end p (q ∷ one) other a b = (a.0, join states x end q one other a.1 b)
-
-join-last : (p : ℕ × ℕ) (one other : List (ℕ × ℕ)) → last_place p (one ++ other) ≡ last_place (last_place p one) other
-join-last p [] other = refl
-join-last p (q ∷ one) other = join-last q one other
-
--- round and round
-round : (states : List State) (x : Subject) (end n : ℕ) (p : ℕ × ℕ) (loop rest : List (ℕ × ℕ)) → AreSteps states x end p loop → last_place p loop ≡ p
-    → 0 < length loop → AreSteps states x end p rest → HasMore states x end n p (last_place p rest)
-round states x end zero p loop rest a back some b = record {
-  rest = loop ++ rest;
-  steps = join states x end p loop rest a (rw back b);
-  ends = join-last p loop rest ∙ ap (λ (q : ℕ × ℕ). last_place q rest) back;
-  many = omega (arith, some, length-append loop rest);
-}
-round states x end (suc n) p loop rest a back some b =
-    let m = round states x end n p loop rest a back some b in
-    record {
-      rest = loop ++ m.rest;
-      steps = join states x end p loop m.rest a (rw back m.steps);
-      ends = join-last p loop m.rest ∙ (ap (λ (q : ℕ × ℕ). last_place q m.rest) back ∙ m.ends);
-      many = omega (arith, some, m.many, length-append loop m.rest);
-    }
-
--- steps to a place, and on
-record Splits (states : List State) (x : Subject) (end : ℕ) (p at last : ℕ × ℕ) : Type 0 where
-  one : List (ℕ × ℕ)
-  other : List (ℕ × ℕ)
-  some : 0 < length one
-  to : AreSteps states x end p one
-  there : last_place p one ≡ at
-  on : AreSteps states x end at other
-  ends : last_place at other ≡ last
-
-split : (states : List State) (x : Subject) (end : ℕ) (p at : ℕ × ℕ) (rest : List (ℕ × ℕ)) → AreSteps states x end p rest → IsAmong at rest
-    → Splits states x end p at (last_place p rest)
-split states x end p at [] steps h = absurd h
-split states x end p at (q ∷ rest) steps (inl e) = record {
-  one = q ∷ [];
-  other = rest;
-  some = omega arith;
-  to = (steps.0, tt);
-  there = sym e;
-  on = subst (λ (z : ℕ × ℕ). AreSteps states x end z rest) (sym e) steps.1;
-  ends = ap (λ (z : ℕ × ℕ). last_place z rest) e;
-}
-split states x end p at (q ∷ rest) steps (inr h) =
-    let s = split states x end q at rest steps.1 h in
-    record { one = q ∷ s.one; other = s.other; some = omega arith; to = (steps.0, s.to); there = s.there; on = s.on; ends = s.ends }
-
--- steps come to no place twice, or there are any number of them
-pub once_or_more : (states : List State) (x : Subject) (end n : ℕ) (p : ℕ × ℕ) (rest : List (ℕ × ℕ)) → AreSteps states x end p rest
-    → AreDistinct (p ∷ rest) ⊎ HasMore states x end n p (last_place p rest)
-once_or_more states x end n p [] steps = inl ((λ h. h), tt)
-once_or_more states x end n p (q ∷ rest) steps = ⊎_elim
-    (λ (h : IsAmong p (q ∷ rest)).
-    let s = split states x end p p (q ∷ rest) steps h in
-    inr (subst (λ (z : ℕ × ℕ). HasMore states x end n p z) s.ends (round states x end n p s.one s.other s.to s.there s.some s.on)))
-    (λ (apart : IsAmong p (q ∷ rest) → ⊥). ⊎_elim
-    (λ (d : AreDistinct (q ∷ rest)). inl (apart, d))
-    (λ (m : HasMore states x end n q (last_place q rest)).
-    inr (record { rest = q ∷ m.rest; steps = (steps.0, m.steps); ends = m.ends; many = let more = m.many in omega (arith, more) }))
-    (once_or_more states x end n q rest steps.1))
-    (among_or_not p (q ∷ rest))

@@ -21,7 +21,7 @@ times-goes : (R : Mark → Mark → Type 0) (S : ℕ → ℕ → Type 0) → ((m
 times-goes R S goes zero m n g = ap (λ (k : Mark). k.0) g
 times-goes R S goes (suc t) m n g = (g.0.0, goes m g.0 g.1, times-goes R S goes t g.0 n g.2)
 
-with-goes : (x : Subject) (p : Pattern) (m n : Mark) → GoesWith x p m n → Goes x p m.0 n.0
+pub with-goes : (x : Subject) (p : Pattern) (m n : Mark) → GoesWith x p m n → Goes x p m.0 n.0
 with-goes x Empty m n g = ap (λ (k : Mark). k.0) g
 with-goes x Never m n g = absurd g
 with-goes x (Class ranges) m n g = g.0

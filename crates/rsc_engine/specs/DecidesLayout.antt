@@ -1,5 +1,5 @@
 -- What an ordered list of states decides: the first of them from which a match is reached.
-use Rattle.std.specs.Prelude.{◌≡◌, ℕ, ◌+◌, ◌-◌, ◌<◌, ◌≤◌, ◌⊎◌, Bool, true, false, List, [], ◌∷◌, length}
+use Rattle.std.specs.Prelude.{◌≡◌, ℕ, ◌-◌, ◌<◌, ◌⊎◌, Bool, true, false, List, [], ◌∷◌, length}
 use Rattle.rsc_nfa.specs.Steps.{place}
 use Rattle.rsc_engine.specs.Searches.{Search}
 use Rattle.rsc_engine.specs.Runs.{IsMatchRun}
@@ -13,7 +13,7 @@ last_of run = place run (length run - 1)
 abbrev pub Avoids : ℕ → (ℕ → Bool) → List (ℕ × ℕ) → Type 0
 Avoids i seen run = (k : ℕ) → k < length run → (place run k).1 ≡ i → seen (place run k).0 ≡ false
 
--- a run to a match from the state at the position, which avoids those that were seen there
+-- a run to a match from the state at the position, which avoids the states seen there
 pub record IsOpenMatch (e : Search) (i : ℕ) (seen : ℕ → Bool) (s : ℕ) (run : List (ℕ × ℕ)) : Type 0 where
   pub is_match : IsMatchRun e (s, i) run
   pub avoids : Avoids i seen run
@@ -22,7 +22,7 @@ pub record IsOpenMatch (e : Search) (i : ℕ) (seen : ℕ → Bool) (s : ℕ) (r
 abbrev pub IsHopeless : Search → ℕ → (ℕ → Bool) → ℕ → Type 0
 IsHopeless e i seen s = (run : List (ℕ × ℕ)) → ¬ (IsOpenMatch e i seen s run)
 
--- no other is preferred to it, among those that come to no place twice
+-- no other is preferred to it, among such runs which come to no place twice
 pub record IsBest (e : Search) (i : ℕ) (seen : ℕ → Bool) (s : ℕ) (run : List (ℕ × ℕ)) : Type 0 where
   pub is_open : IsOpenMatch e i seen s run
   pub once : IsOnce run

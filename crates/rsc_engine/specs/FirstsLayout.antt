@@ -1,13 +1,10 @@
--- How many ways lead to a pattern's match at most, and which of them is the first.
-use Rattle.std.specs.Prelude.{◌≡◌, ℕ, ◌*◌, ◌<◌, ◌≤◌, true, List, length, slice_get, slice_index_or, Some}
+-- By which ways of a pattern steps lead to its match, and by which the first path does.
+use Rattle.std.specs.Prelude.{◌≡◌, ℕ, ◌*◌, ◌<◌, ◌≤◌, List, length, slice_get, slice_index_or, Some}
 use Rattle.rsc_nfa.specs.declared.state.State.{State}
 use Rattle.rsc_engine.specs.Patterns.{Pattern, Group, Subject}
-use Rattle.rsc_engine.specs.FirstEnds.{loops_take_bytes}
 use Rattle.rsc_engine.specs.Ways.{Mark, GoesWith}
-use Rattle.rsc_engine.specs.FirstWays.{IsFirstWay}
 use Rattle.rsc_engine.specs.GroupNumbers.{numbered}
-use Rattle.rsc_engine.specs.WaysLayout.{IsWay, IsLeast, finish}
-use Rattle.rsc_engine.specs.LinksLayout.{Aim, Ends}
+use Rattle.rsc_engine.specs.WaysLayout.{IsWay, finish}
 use Rattle.rsc_engine.specs.Courses.{Course, Stand, IsFirstNew}
 use Rattle.rsc_engine.specs.PreferredWays.{HasCourse, choices}
 use Rattle.rsc_engine.specs.PathsLayout.{Least, arrive}
@@ -20,16 +17,11 @@ mark_of last = (last.0.1, last.1)
 abbrev pub TakesFirst : Subject → Course → ℕ → Stand → Stand → Type 0
 TakesFirst x c end s last = (t : Stand) × IsFirstNew x c (λ k. k.at ≤ end) s t × (t.at ≡ last.at) × (t.records ≡ last.records)
 
--- p is the pattern with the number m, and its groups have these slots: then steps from the state `first` to its match go by the pattern. If its loops take
--- bytes, `cost` bounds such steps, and the first of them go its first way. Whatever its loops repeat, the first path goes the first way of a course of it,
--- whose choices are forks below `high`
+-- p is the pattern with the number m, and its groups have these slots: then steps from the state `first` to its match go by the pattern, and the first path
+-- goes the first way of a course of it, whose choices are forks below `high`
 pub record OrdersOne (states : List State) (slot_of : ℕ → ℕ) (high first m : ℕ) (p : Pattern) : Type 0 where
   pub through : (x : Subject) (end : ℕ) (from : Mark) (rest : List (ℕ × ℕ)) → IsWay states x end m (first, from.0) rest →
       GoesWith x (Group (2 * m) (numbered slot_of 1 p)) from (mark_of (finish states (first, from.0) rest from.1))
-  pub cost : ℕ → ℕ
-  pub few : loops_take_bytes p ≡ true → (a : Aim) (n i : ℕ) → a.pattern ≡ m → Ends states a n first i → n ≤ cost a.end
-  pub goes : loops_take_bytes p ≡ true → (x : Subject) (end : ℕ) (from : Mark) (rest : List (ℕ × ℕ)) → IsLeast states x end m (first, from.0) rest →
-      IsFirstWay x (Group (2 * m) (numbered slot_of 1 p)) (λ j. j ≤ end) from (mark_of (finish states (first, from.0) rest from.1))
   pub course : HasCourse (Group (2 * m) (numbered slot_of 1 p))
   pub below : (k d : ℕ) → k < length (choices course.course) → slice_index_or (choices course.course) k d < high
   pub takes : (x : Subject) (end : ℕ) (s : Stand) (rest : List ℕ) → Least states x end m first s rest →

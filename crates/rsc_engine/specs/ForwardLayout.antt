@@ -1,17 +1,13 @@
--- The forward pass, and the table of its rows. These serve the proof of `dfa`, whose public contracts cite `Ends`, `Preferred` and `Searches` alone.
-use Rattle.std.specs.Prelude.{◌≡◌, ℕ, ◌+◌, ◌*◌, ◌<◌, ◌≤◌, ◌⊎◌, Bool, true, false, List, [], ◌∷◌, length, slice_get, slice_index_or, Option, Some, None, IfSome}
-use Rattle.std.specs.List.{All}
+-- The forward pass. These serve the proof of `dfa`, whose public contracts cite `Ends`, `Preferred` and `Searches` alone.
+use Rattle.std.specs.Prelude.{◌≡◌, ℕ, ◌+◌, ◌<◌, ◌≤◌, Bool, true, false, List, length, slice_get, Option, Some, None}
 use Rattle.rsc_search.specs.declared.anchored.Anchored.{Anchored}
 use Rattle.rsc_search.specs.declared.anchored.Anchored.TheVariants.{No}
-use Rattle.rsc_look.specs.Holds.{byte_before, byte_after}
+use Rattle.rsc_look.specs.Holds.{byte_before}
 use Rattle.rsc_nfa.specs.declared.state.State.TheVariants.{Accept}
-use Rattle.rsc_engine.specs.declared.dfa.forward_table.ForwardRow.{ForwardRow}
-use Rattle.rsc_engine.specs.declared.dfa.entries.Lead.{Lead}
-use Rattle.rsc_engine.specs.declared.dfa.entries.Lead.TheVariants.{Unknown, Match, To, Last}
+use Rattle.rsc_engine.specs.declared.dfa.pass_table.PassRow.{PassRow}
 use Rattle.rsc_engine.specs.Searches.{Search}
 use Rattle.rsc_engine.specs.Runs.{HasNoMatch}
-use Rattle.rsc_engine.specs.RowsLayout.{Machine, Alike, AreStates, IsPlainUnit, AddsOne, around, middle}
-use Rattle.rsc_engine.specs.TablesLayout.{column}
+use Rattle.rsc_engine.specs.RowsLayout.{Machine, Alike, AddsOne}
 use Rattle.rsc_engine.specs.PassesLayout.{Status, Open, Closed, answer_of, IsFound, IsDue}
 use Rattle.rsc_engine.specs.OrderedLayout.{IsLooked}
 
@@ -64,77 +60,22 @@ pub record IsGoing (e : Search) (k : ℕ) (begins : Bool) (last : Option (ℕ ×
 
 -- ---- rows
 
--- the row to which an entry leads
-abbrev pub row_of : Lead → Option ℕ
-row_of Unknown = None
-row_of Match = None
-row_of (To row) = Some row
-row_of (Last row) = Some row
-
 -- the pattern of the match that a row knows of
-abbrev pub pattern_in : Option ForwardRow → Option ℕ
+abbrev pub pattern_in : Option PassRow → Option ℕ
 pattern_in None = None
 pattern_in (Some row) = row.found
 
--- the row is there, with that list and status, of a byte of the class
-pub record IsForwardRow (classes : List ℕ) (rows : List ForwardRow) (k : ℕ) (mode : Anchored) (begins : Bool) (found : Option ℕ) (before : Option ℕ)
-    (list : List ℕ) : Type 0 where
-  pub to : ForwardRow
-  pub there : slice_get rows k ≡ Some to
-  pub same_mode : to.mode ≡ mode
-  pub same_begins : to.begins ≡ begins
-  pub same_found : to.found ≡ found
-  pub alike : Alike classes before to.before
-  pub is_list : to.list.items ≡ list
-
--- a look beside two bytes leads from the one row to the other
-pub record IsForward (m : Machine) (classes : List ℕ) (rows : List ForwardRow) (from : ForwardRow) (unit : Option ℕ) (next : ℕ) : Type 0 where
-  pub found : Option ℕ
-  pub after : Bool
-  pub list : List ℕ
-  pub is_row : IsForwardRow classes rows next from.mode after found unit list
-  pub advanced : IsAdvanced (beside m from.mode (around from.before unit)) (middle from.before) from.begins from.list.items found after list
-
--- what an entry says of the units of a class: no assertion looks at a byte above 7F there
-pub record IsForwardTo (m : Machine) (classes : List ℕ) (old new : List ForwardRow) (row : ℕ) (unit : Option ℕ) (next : ℕ) : Type 0 where
-  pub from : ForwardRow
-  pub there : slice_get old row ≡ Some from
-  pub other : Option ℕ
-  pub alike : Alike classes unit other
-  pub plain_before : IsPlainUnit m from.before
-  pub plain : IsPlainUnit m other
-  pub leads : IsForward m classes new from other next
-
--- the row's list is of states
-pub record IsSoundForwardRow (m : Machine) (row : ForwardRow) : Type 0 where
-  pub states : AreStates (length m.states) row.list.items
-
--- there are at most that many, or one
-abbrev pub AreFew : ℕ → ℕ → Type 0
-AreFew most n = (n ≤ most) ⊎ (n ≤ 1)
-
--- the rows are few, each is of states, and each entry says what holds
-pub record IsForwardTable (m : Machine) (classes : List ℕ) (width most : ℕ) (rows : List ForwardRow) (leads : List Lead) : Type 0 where
-  pub few : AreFew most (length rows)
-  pub sound : All (IsSoundForwardRow m) rows
-  pub room : length rows * width ≤ length leads
-  pub each : (k : ℕ) (unit : Option ℕ) → IfSome unit (λ b. b < 256)
-      → IfSome (row_of (slice_index_or leads (k * width + column classes unit) Unknown)) (IsForwardTo m classes rows rows k unit)
-
--- each row is where it was
-pub record IsForwardGrown (old new : List ForwardRow) : Type 0 where
-  pub kept : (k : ℕ) (row : ForwardRow) → slice_get old k ≡ Some row → slice_get new k ≡ Some row
-
 -- the row is that of the position, if this is the last match found before it
-pub record StandsForward (e : Search) (classes : List ℕ) (rows : List ForwardRow) (k i : ℕ) (last : Option (ℕ × ℕ)) : Type 0 where
-  pub row : ForwardRow
+pub record StandsForward (e : Search) (classes : List ℕ) (rows : List PassRow) (k i : ℕ) (last : Option (ℕ × ℕ)) : Type 0 where
+  pub row : PassRow
   pub there : slice_get rows k ≡ Some row
+  pub forward : row.backward ≡ false
   pub same_mode : row.mode ≡ e.mode
-  pub alike : Alike classes (byte_before e.haystack i) row.before
+  pub alike : Alike classes (byte_before e.haystack i) row.read
   pub going : IsGoing e i row.begins last row.list.items
 
 -- from where a pass stands at the position, the row that is next is that of the next one
-abbrev pub GoesForward : Search → List ℕ → List ForwardRow → List ForwardRow → ℕ → ℕ → ℕ → Type 0
+abbrev pub GoesForward : Search → List ℕ → List PassRow → List PassRow → ℕ → ℕ → ℕ → Type 0
 GoesForward e classes old new k i next = (last : Option (ℕ × ℕ)) → StandsForward e classes old k i last
     → StandsForward e classes new next (i + 1) (last_with (pattern_in (slice_get new next)) i last)
 

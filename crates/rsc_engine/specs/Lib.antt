@@ -1,4 +1,7 @@
+pub mod ArrivalsLayout  -- from where a match is reached that ends in a pattern and at a position
+pub mod BackwardLayout  -- the backward pass: from the end of the leftmost-first match back to where it begins
 pub mod BeginsLayout  -- at which state the matches of a pattern, or of several, begin
+pub mod ByWaysLayout  -- by which ways of a pattern steps lead to a match
 pub mod Courses  -- courses: patterns with their copies written out, and how they go without making a choice twice at one position
 pub mod CoursesLayout  -- how paths of states take a course: a choice's number is that of its fork
 pub mod DecidesLayout  -- what an ordered list of states decides: the first of them from which a match is reached
@@ -7,22 +10,25 @@ pub mod Ends  -- where matches end, and what a DFA answers
 pub mod Features  -- what stands in a pattern, in parts that may be there
 pub mod FirstEnds  -- which end of a pattern is preferred
 pub mod FirstWays  -- which way of a pattern is preferred
-pub mod FirstsLayout  -- how many ways lead to a pattern's match at most, and which of them is the first
+pub mod FirstsLayout  -- by which ways of a pattern steps lead to its match, and by which the first path does
 pub mod FlagsLayout  -- how the code holds flags: 64 to a block
-pub mod ForwardLayout  -- the forward pass, and the table of its rows
+pub mod ForwardLayout  -- the forward pass
 pub mod GroupEnds  -- the group of the whole match: what runs record in its slots
 pub mod GroupNumbers  -- how the groups of a pattern are numbered, and which slots they have
 pub mod GroupOrder  -- where groups begin and end
 pub mod GroupsLayout  -- slots without a match
+pub mod HeadsLayout  -- the choices of a course, and which of them it may make before its first byte
 pub mod LawfulLayout  -- the laws of steps and runs that the proof of `dfa` rests on, as one record: each is a law of a library below
+pub mod Lines  -- the lines of a haystack in which a program matches, one after the other
+pub mod LinesLayout  -- where the next line with a match may be
 pub mod LinksLayout  -- how the states of a part lead on
 pub mod MovesLayout  -- what a state does at a position
 pub mod NamesLayout  -- what the states of a part or of patterns name, and which features of patterns they have
 pub mod NeededLayout  -- two bytes that stand side by side in every match
 pub mod NextMatches  -- which match is next; `last` is where the last one ended, if there was one
-pub mod OrderLayout  -- by which ways of a pattern steps lead to a match, and by which the first do
 pub mod OrderedLayout  -- what a state does at a position, and what a look at an ordered list of states finds
 pub mod Parts  -- which pattern a part is, and which groups it has; and what a builder has of them
+pub mod PassTableLayout  -- the table of the rows of both passes
 pub mod PassesLayout  -- a look at an ordered list of states, and what a pass of such looks knows
 pub mod PathsLayout  -- paths of states to a match: lists of states alone, along which the position, the records and the choices are carried
 pub mod PatternMatches  -- which match of patterns is first, and which is next, by the patterns alone; `last` is where the last one ended, if there was one
@@ -46,3 +52,4 @@ pub mod TurnsLayout  -- the flags of a loop's turns, and what turns do
 pub mod WalksLayout  -- what a backtracker has on hand
 pub mod Ways  -- the ways of a pattern, and what they record in the slots of groups
 pub mod WaysLayout  -- steps that lead to a match: their order, where they end, and what they record
+pub mod WrittenLayout  -- courses as patterns

@@ -7,9 +7,8 @@ use Rattle.rsc_engine.specs.Patterns.{Pattern, Empty, Then, Either, Subject, Goe
 use Rattle.rsc_engine.specs.EnclosesLayout.{Encloses}
 use Rattle.rsc_engine.specs.NamesLayout.{Names}
 use Rattle.rsc_engine.specs.Features.{has_feature}
-use Rattle.rsc_engine.specs.FirstEnds.{loops_take_bytes}
 use Rattle.rsc_engine.specs.GroupNumbers.{count_groups, numbered}
-use Rattle.rsc_engine.specs.OrderLayout.{Orders}
+use Rattle.rsc_engine.specs.ByWaysLayout.{ByWays}
 use Rattle.rsc_engine.specs.TakesLayout.{TakesCourse}
 use Rattle.rsc_engine.specs.Sizes.{size_of}
 use Rattle.rsc_captures.specs.Groups.{GroupLists, all_groups}
@@ -27,25 +26,13 @@ Ends states a zero s i = (slice_get states s ≡ Some (Accept a.pattern)) × (i 
 Ends states a (suc n) s i =
     (i ≤ a.end) × (t : ℕ) × (k : ℕ) × IsStep states a.text.terminator a.text.word_chars a.text.haystack a.end (s, i) (t, k) × Ends states a n t k
 
--- of the n steps to the match, `left` begin at the state `next`, at the position to which the pattern goes; if its loops take bytes, at most `cost` steps
--- come before them
-pub record GoesOn (states : List State) (a : Aim) (next : ℕ) (p : Pattern) (cost n i : ℕ) : Type 0 where
-  pub to : ℕ
-  pub left : ℕ
-  pub fewer : left ≤ n
-  pub few : loops_take_bytes p ≡ true → n ≤ left + cost
-  pub goes : Goes a.text p i to
-  pub ends : Ends states a left next to
-
 -- steps lead from the state s at i to the match
 pub record HasEnd (states : List State) (a : Aim) (s i : ℕ) : Type 0 where
   pub steps : ℕ
   pub ends : Ends states a steps s i
 
--- matches from the state `first` are those of the pattern and then from the state `next`; `cost` bounds the steps of the pattern, for the end of a text
+-- from the state `first` steps lead to each match to which the pattern goes and then steps from the state `next` lead
 pub record Realizes (states : List State) (first next : ℕ) (p : Pattern) : Type 0 where
-  pub cost : ℕ → ℕ
-  pub sound : (a : Aim) (n i : ℕ) → Ends states a n first i → GoesOn states a next p (cost a.end) n i
   pub complete : (a : Aim) (i k : ℕ) → Goes a.text p i k → HasEnd states a next k → HasEnd states a first i
 
 -- the states from n on are in the other list too
@@ -62,7 +49,7 @@ pub record Adds (old new : List State) (Holds : List State → Type 0) : Type 0 
 abbrev pub Builds : ℕ × ℕ → List State → List State → ℕ → ℕ → Pattern → Type 0
 Builds slots old new first next p =
     Adds old new (λ states. Realizes states first next p × Encloses slots.0 (length old) (length new) first next states
-    × Names slots.1 (has_feature p) (length old) (length new) states × Orders states first next p
+    × Names slots.1 (has_feature p) (length old) (length new) states × ByWays states first next p
     × TakesCourse (length old) (length new) first next p states)
 
 -- between which slots the parts of a pattern record: after the end of its whole match, below the limit of all slots

@@ -1,5 +1,5 @@
 -- Which match is next; `last` is where the last one ended, if there was one.
-use Rattle.std.specs.Prelude.{◌≡◌, ℕ, ◌-◌, ◌<◌, ◌≤◌, ◌⊎◌, Bool, true, List, [], ◌∷◌, length, Option, Some}
+use Rattle.std.specs.Prelude.{◌≡◌, ℕ, ◌+◌, ◌-◌, ◌<◌, ◌≤◌, ◌⊎◌, Bool, true, List, [], ◌∷◌, length, Option, Some, None}
 use Rattle.rsc_nfa.specs.Steps.{place}
 use Rattle.rsc_primitives.specs.Decoding.{IsCharBoundary}
 use Rattle.rsc_search.specs.declared.anchored.Anchored.TheVariants.{No}
@@ -78,6 +78,11 @@ from_start input at = record input { span = record { start = at; end = input.spa
 -- what is left after a match
 abbrev pub after : {W : Type 0} → Left W → Matched → Left W
 after left found = record { program = left.program; input = from_start left.input found.span.end; last = Some found.span.end }
+
+-- how many calls of `next` may find a match yet, at most, by the span's end and where the last match ended: each match ends later than the one before it
+abbrev pub steps_left : ℕ → Option ℕ → ℕ
+steps_left end None = end + 2
+steps_left end (Some last) = end + 1 - last
 
 -- the match is the next one of what is left, in some captures
 abbrev pub IsNextOf : {W : Type 0} → (W → ℕ → Bool) → Left W → Matched → Type 0

@@ -1,5 +1,5 @@
 -- What a state does at a position, and what a look at an ordered list of states finds.
-use Rattle.std.specs.Prelude.{◌≡◌, ℕ, ◌+◌, ◌<◌, ◌≤◌, ◌⊎◌, Bool, true, false, List, [], length, slice_get, slice_index_or, Option, Some, None}
+use Rattle.std.specs.Prelude.{◌≡◌, ℕ, ◌+◌, ◌<◌, Bool, true, false, List, [], slice_get, slice_index_or, Option, Some, None}
 use Rattle.rsc_nfa.specs.declared.state.State.TheVariants.{Fork, Accept}
 use Rattle.rsc_engine.specs.Searches.{Search}
 use Rattle.rsc_engine.specs.Runs.{Leads, accepts}
@@ -51,7 +51,3 @@ pub record IsEndOf (e : Search) (p i : ℕ) : Type 0 where
   pub is_first : IsLeftmostFirst e run
   pub pattern : slice_get e.states (last_of run).0 ≡ Some (Accept p)
   pub end : (last_of run).1 ≡ i
-
--- the leftmost-first match, of some pattern, ends at the position
-abbrev pub EndsAt : Search → ℕ → Type 0
-EndsAt e i = (p : ℕ) × IsEndOf e p i

@@ -3,7 +3,7 @@ use Rattle.std.specs.Prelude.{ℕ, zero, suc, ◌+◌, ◌-◌, ◌*◌, Bool, L
 use Rattle.rsc_primitives.specs.Indices.{max_index}
 use Rattle.rsc_engine.specs.Patterns.{Pattern, Empty, Never, Class, Literal, Assertion, Then, Either, Repeat, Group, may_be_empty}
 
--- of a part that is repeated without a limit, if it has so many; a loop over what may be empty is entered by a choice of its own
+-- how many states a part that is repeated without a limit has, if the part itself has `size`; a loop over what may be empty is entered by a choice of its own
 abbrev pub size_of_loop : ℕ → Bool → ℕ → ℕ
 size_of_loop zero is_empty size = size + (if is_empty then 2 else 1)
 size_of_loop (suc min) is_empty size = suc min * size + 1

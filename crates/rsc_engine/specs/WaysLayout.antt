@@ -18,15 +18,6 @@ pub record IsWay (states : List State) (x : Subject) (end m : ℕ) (p : ℕ × �
   pub steps : AreSteps states x end p rest
   pub accepts : slice_get states (last_place p rest).0 ≡ Some (Accept m)
 
--- some steps lead there from the state s at a position
-abbrev pub HasWay : List State → Subject → ℕ → ℕ → ℕ → ℕ → Type 0
-HasWay states x end m s i = (rest : List (ℕ × ℕ)) × IsWay states x end m (s, i) rest
-
--- these steps lead there, and no others that do are before them
-pub record IsLeast (states : List State) (x : Subject) (end m : ℕ) (p : ℕ × ℕ) (rest : List (ℕ × ℕ)) : Type 0 where
-  pub way : IsWay states x end m p rest
-  pub least : (other : List (ℕ × ℕ)) → IsWay states x end m p other → ¬ (IsBefore states p other rest)
-
 -- what a state records, after what was recorded before
 abbrev pub recorded_by : Option State → ℕ → List (ℕ × ℕ) → List (ℕ × ℕ)
 recorded_by (Some (Capture slot next)) i earlier = (slot, i) ∷ earlier

@@ -1,8 +1,9 @@
 //! A lazy DFA: two tables of rows that searches fill as they go.
 //!
-//! In the one a row is a set of states ([`successor`] makes it, from the one before and a byte): it says where the first match to end ends ([`earliest`]). In
-//! the other it is an ordered list ([`ordered`] looks at it): it says where the leftmost-first match ends ([`forward`]). The [`plan`] has what stays the same.
-//! [`needed`] finds bytes that each match has, without which no row is looked at.
+//! In the one a row is a set of states ([`successor`] makes it, from the one before and a byte): it says where the first match to end ends ([`earliest`]). The
+//! other serves two passes: forward a row is an ordered list ([`ordered`] looks at it), and says where the leftmost-first match ends ([`forward`]); backward it
+//! has the states from which a run leads to that end ([`retreat`] goes a step back), and says where the match begins ([`backward`]). The [`plan`] has what
+//! stays the same. [`needed`] finds bytes that each match has, without which no row is looked at.
 ghost use Rattle.std.specs.Prelude.{◌≡◌, ◌+◌, ◌-◌, ◌<◌, ◌≤◌, IfOk, IfErr, IfSome, IfNone, OnErr, true, false, length};
 ghost use Rattle.rsc_search.specs.declared.anchored.Anchored.TheVariants.{No};
 ghost use Rattle.rsc_engine.specs.declared.error.Error.TheVariants.{OutOfMemory};
@@ -11,32 +12,37 @@ ghost use Rattle.rsc_engine.specs.Preferred.{HasNone, IsFirstMatch, IsCleared, I
 ghost use Rattle.rsc_engine.specs.Ends.{IsAnswer, IsLeftmostEnd, BeginsFrom};
 ghost use Rattle.rsc_engine.specs.RowsLayout.{machine, IsPlan, IsNeverEntered};
 ghost use Rattle.rsc_engine.specs.TablesLayout.{IsExact};
-ghost use Rattle.rsc_engine.specs.ForwardLayout.{IsForwardTable, StartsFrom};
-ghost use Rattle.rsc_engine.specs.OrderedLayout.{EndsAt};
+ghost use Rattle.rsc_engine.specs.PassTableLayout.{IsPassTable};
+ghost use Rattle.rsc_engine.specs.ForwardLayout.{StartsFrom};
+ghost use Rattle.rsc_engine.specs.OrderedLayout.{IsEndOf};
 
+mod backward;
+mod backward_steps;
 mod earliest;
 mod entries;
 mod forward;
-mod forward_entries;
 mod forward_steps;
-mod forward_table;
 mod lawful;
 mod needed;
 mod ordered;
+mod pass_entries;
+mod pass_table;
 mod plan;
+mod retreat;
 mod successor;
 mod table;
 
 use crate::first::{find_from, is_match_by_walk};
 use crate::{AsciiWordClass, Error, Program};
+use backward::first_start;
 use earliest::search;
 use forward::{first_end, has_match, part_of};
-use forward_table::ForwardTable;
 use needed::Needed;
+use pass_table::PassTable;
 use plan::Plan;
 use rsc_captures::Captures;
 use rsc_look::WordClass;
-use rsc_primitives::StateID;
+use rsc_primitives::{PatternID, StateID};
 use rsc_search::{Input, Match, Span};
 use std::alloc::Global;
 use std::marker::Model;
@@ -47,6 +53,9 @@ const LONG: usize = 4096;
 
 // How many bytes of a first long span are walked over before a row is made.
 const NEAR: usize = 256;
+
+// That many states have numbers.
+const MOST_NUMBERED: usize = 2147483646;
 
 /// How many rows a search keeps at most, unless its caller says.
 pub(crate) const MOST_ROWS: usize = 1000;
@@ -98,7 +107,7 @@ pub struct Dfa<'p, W: WordClass> {
     alloc: Global,
     plan: Plan<'p, W>,
     table: Table,
-    forward: ForwardTable,
+    passes: PassTable,
     // What each match has, if that is known, and whether it was looked for.
     needed: Option<Needed>,
     is_sought: bool,
@@ -111,7 +120,7 @@ impl<W: WordClass> Drop for Dfa<'_, W> {
             alloc: _,
             plan: _,
             table: _,
-            forward: _,
+            passes: _,
             needed: _,
             is_sought: _,
         } = self;
@@ -124,7 +133,7 @@ impl<'p, W: WordClass> Model for Dfa<'p, W> {
     ghost use Rattle.rsc_engine.specs.NeededLayout.{NeedsPair};
     ghost use Rattle.rsc_engine.specs.RowsLayout.{machine, IsPlan, IsNeverEntered};
     ghost use Rattle.rsc_engine.specs.TablesLayout.{IsExact};
-    ghost use Rattle.rsc_engine.specs.ForwardLayout.{IsForwardTable};
+    ghost use Rattle.rsc_engine.specs.PassTableLayout.{IsPassTable};
 
     ghost Value = { Compiled W };
 
@@ -133,7 +142,7 @@ impl<'p, W: WordClass> Model for Dfa<'p, W> {
     ghost invariant = { λ d. IsPlan (machine W.word_chars d.plan.program.now) d.plan.classes d.plan.width d.plan.unicode
         × (d.plan.is_start_never_entered ≡ true → IsNeverEntered (machine W.word_chars d.plan.program.now))
         × IsExact (machine W.word_chars d.plan.program.now) d.plan.classes d.plan.width d.table.rows.items d.table.leads.items
-        × IsForwardTable (machine W.word_chars d.plan.program.now) d.plan.classes d.plan.width d.plan.most_rows d.forward.rows.items d.forward.leads.items
+        × IsPassTable (machine W.word_chars d.plan.program.now) d.plan.classes d.plan.width d.plan.most_rows d.passes.rows.items d.passes.leads.items
         × IfSome d.needed (λ n. NeedsPair (machine W.word_chars d.plan.program.now) n.first n.second) };
 }
 
@@ -147,7 +156,7 @@ impl<'p, W: WordClass + AsciiWordClass> Dfa<'p, W> {
             alloc,
             plan: Plan::new(program, most_rows),
             table: Table::new(alloc),
-            forward: ForwardTable::new(alloc),
+            passes: PassTable::new(alloc),
             needed: None,
             is_sought: false,
         }
@@ -254,11 +263,11 @@ impl<'p, W: WordClass + AsciiWordClass> Dfa<'p, W> {
         match self.earliest_end(input)? {
             Answer::End(_) => Ok(true),
             Answer::NoMatch => Ok(false),
-            Answer::Quit(_) => has_match(self.alloc, &self.plan, &mut self.forward, input),
+            Answer::Quit(_) => has_match(self.alloc, &self.plan, &mut self.passes, input),
         }
     }
 
-    /// The leftmost-first match in an input's span, as [`find`](crate::find) answers it. The rows say whether there is one, and where it ends.
+    /// The leftmost-first match in an input's span, as [`find`](crate::find) answers it. The rows say whether there is one, and where it begins and ends.
     ///
     /// # Errors
     ///
@@ -279,59 +288,57 @@ impl<'p, W: WordClass + AsciiWordClass> Dfa<'p, W> {
         ensures refused { IfErr result (FailsFor (search_in W.word_chars self.old input.now)) }
     {
         captures.clear();
-        let Some(from) = self.first_from(input)? else {
+        let Some(last) = self.end_of(input)? else {
             return Ok(None);
         };
-        let Some(end) = self.end_from(input, from)? else {
-            return Ok(None);
-        };
-        // In the part of the span that ends where the match does, so that the walk takes no more memory than that needs.
+        let start = self.start_of(input, last.0, last.1)?;
+        // In the match alone, so that the walk takes no more memory than that needs.
         find_from(
             self.alloc,
             self.plan.program,
-            &part_of(input, from, end),
+            &part_of(input, start, last.1),
             captures,
-            from,
+            start,
         )
     }
 
-    // A position of the span before which no match begins; `None` if no match begins where one may.
-    fn first_from(&mut self, input: &Input<'_>) -> Result<Option<usize>, Error>
+    // The pattern of the leftmost-first match, and where it ends; `None` if no match begins where one may.
+    fn end_of(&mut self, input: &Input<'_>) -> Result<Option<(PatternID, usize)>, Error>
         ensures program { self.new ≡ self.old }
+        ensures some { IfOk result (λ found. IfSome found (λ f. IsEndOf (search_in W.word_chars self.old input.now) f.0 f.1)) }
         ensures none { IfOk result (λ found. IfNone found (HasNone (search_in W.word_chars self.old input.now))) }
-        ensures some { IfOk result (λ found. IfSome found (StartsFrom (search_in W.word_chars self.old input.now))) }
         ensures memory { IfErr result (λ e. e ≡ OutOfMemory) }
     {
-        let start = input.start();
-        let end = input.end();
-        if start > end {
+        if self.lacks_needed(input) {
             return Ok(None);
         }
-        if input.get_anchored().is_anchored() {
-            return Ok(Some(start));
-        }
-        let Some(from) = self.begin(input)? else {
-            return Ok(None);
-        };
-        if from > end {
-            return Ok(None);
-        }
-        Ok(Some(from))
+        first_end(self.alloc, &self.plan, &mut self.passes, input)
     }
 
-    // Where the leftmost-first match ends, if no match begins before a position.
-    fn end_from(&mut self, input: &Input<'_>, from: usize) -> Result<Option<usize>, Error>
-        requires { StartsFrom (search_in W.word_chars self.old input.now) from }
+    // Where the leftmost-first match begins, which is of a pattern and ends at a position; for a program of too many states a position before it.
+    fn start_of(
+        &mut self,
+        input: &Input<'_>,
+        pattern: PatternID,
+        end: usize,
+    ) -> Result<usize, Error>
+        requires { IsEndOf (search_in W.word_chars self.old input.now) pattern end }
         ensures program { self.new ≡ self.old }
-        ensures some { IfOk result (λ found. IfSome found (EndsAt (search_in W.word_chars self.old input.now))) }
-        ensures none { IfOk result (λ found. IfNone found (HasNone (search_in W.word_chars self.old input.now))) }
+        ensures start { IfOk result (StartsFrom (search_in W.word_chars self.old input.now)) }
         ensures memory { IfErr result (λ e. e ≡ OutOfMemory) }
     {
-        let rest = part_of(input, from, input.end());
-        match first_end(self.alloc, &self.plan, &mut self.forward, &rest)? {
-            None => Ok(None),
-            Some(last) => Ok(Some(last.1)),
+        // An anchored match begins at the span's start; and only states that have numbers are gone through.
+        if input.get_anchored().is_anchored() || self.plan.program.len() > MOST_NUMBERED {
+            return Ok(input.start());
         }
+        first_start(
+            self.alloc,
+            &self.plan,
+            &mut self.passes,
+            input,
+            pattern,
+            end,
+        )
     }
 
     /// The position at which the leftmost-first match in an input's span ends; `None` if no match begins where one may.
@@ -345,10 +352,7 @@ impl<'p, W: WordClass + AsciiWordClass> Dfa<'p, W> {
         ensures none { IfOk result (λ found. IfNone found (HasNone (search_in W.word_chars self.old input.now))) }
         ensures refused { IfErr result (λ e. e ≡ OutOfMemory) }
     {
-        if self.lacks_needed(input) {
-            return Ok(None);
-        }
-        match first_end(self.alloc, &self.plan, &mut self.forward, input)? {
+        match self.end_of(input)? {
             None => Ok(None),
             Some(last) => Ok(Some(last.1)),
         }

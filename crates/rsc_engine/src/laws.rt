@@ -1,6 +1,7 @@
 //! Laws of matches that a caller can cite: functions whose contracts are the laws.
 ghost use Rattle.std.specs.Prelude.{true, false, ◌↔◌, ◌≡◌, ◌+◌, ◌*◌, ◌<◌, ◌≤◌, ◌⊎◌, ℕ, List, [], length, Option, Some, None, slice_get, slice_index_or};
 ghost use Rattle.std.specs.List.{list_any};
+ghost use Rattle.std.specs.Option.{ForSome};
 ghost use Rattle.rsc_captures.specs.Groups.{GroupLists, group_count, slot_number};
 ghost use Rattle.rsc_captures.specs.Captured.{Captured, group_span};
 ghost use Rattle.rsc_search.specs.Inputs.{InputParts};
@@ -11,7 +12,7 @@ ghost use Rattle.rsc_engine.specs.Searches.{Search, Compiled, search_in};
 ghost use Rattle.rsc_engine.specs.Patterns.{Pattern, Group, Subject, Goes, may_be_empty, subject_of, IsMatchIn, Recognizes};
 ghost use Rattle.rsc_engine.specs.Runs.{IsMatchRun};
 ghost use Rattle.rsc_engine.specs.Preferred.{IsOnce, IsOnceAtForks, IsPreferred, IsLeftmostFirst, IsFirstMatch, MayBegin, HasNone};
-ghost use Rattle.rsc_engine.specs.NextMatches.{IsNext, IsOver, IsNextMatch, IsOpen, IsRepeated, IsSplitAt, Left, AreAll};
+ghost use Rattle.rsc_engine.specs.NextMatches.{IsNext, IsOver, IsNextMatch, IsOpen, IsRepeated, IsSplitAt, Left, AreAll, steps_left};
 ghost use Rattle.rsc_engine.specs.Ends.{IsEarliestEnd, IsLeftmostEnd};
 ghost use Rattle.rsc_engine.specs.GroupEnds.{RecordsEnds};
 ghost use Rattle.rsc_engine.specs.GroupOrder.{ClosesGroups};
@@ -60,6 +61,11 @@ pub fn there_is_one_match_with_captures()
         one.groups ≡ other.groups → length one.offsets ≡ length other.offsets → (m ≡ n) × (one ≡ other) }
     ensures next { (e : Search) (last : Option ℕ) (one other : Captured) (m n : Matched) → IsNextMatch e last one m → IsNextMatch e last other n →
         one.groups ≡ other.groups → length one.offsets ≡ length other.offsets → (m ≡ n) × (one ≡ other) }
+{}
+
+/// After a match fewer calls of `next` may find another: the measure of a loop over them. `later` and `within` of `Matches::next` are its premises.
+pub fn an_iteration_ends()
+    ensures { (end m : ℕ) (last : Option ℕ) → ForSome last (λ e. e < m) → m ≤ end → steps_left end (Some m) < steps_left end last }
 {}
 
 /// There is at most one list of all matches of what is left.
@@ -263,6 +269,18 @@ pub fn captures_are_of_the_first_way<W: WordClass>()
         (found.span.start, []) (found.span.end, records)
         × ((slot : ℕ) → slot < length captures.offsets → slice_index_or captures.offsets slot None ≡ last_in records slot) }
     ensures one { (x : Subject) (p : Pattern) (end : ℕ) (m n k : Mark) → IsFirstWay x p (λ l. l ≤ end) m n → IsFirstWay x p (λ l. l ≤ end) m k → n ≡ k }
+{}
+
+/// If each part that is repeated without a limit takes a byte, a preferred way is the first way. So is that of the whole of a program's pattern, which ends at
+/// the pattern's first end.
+pub fn a_preferred_way_is_the_first_way()
+    ensures way { (x : Subject) (p : Pattern) (most i j : ℕ) (records : List (ℕ × ℕ)) → IsPreferredWay x p (λ k. k ≤ most) i j records →
+        loops_take_bytes p ≡ true → IsFirstWay x p (λ k. k ≤ most) (i, []) (j, records) }
+    ensures whole { (x : Subject) (lists : GroupLists) (p : Pattern) (number most i j : ℕ) (records : List (ℕ × ℕ)) →
+        IsPreferredWay x (as_whole lists number p) (λ k. k ≤ most) i j records → loops_take_bytes p ≡ true →
+        IsFirstWay x (as_whole lists number p) (λ k. k ≤ most) (i, []) (j, records) }
+    ensures end { (x : Subject) (lists : GroupLists) (p : Pattern) (number most i j : ℕ) (records : List (ℕ × ℕ)) →
+        IsPreferredWay x (as_whole lists number p) (λ k. k ≤ most) i j records → loops_take_bytes p ≡ true → IsFirstEnd x p (λ k. k ≤ most) i j }
 {}
 
 /// If a match sets the first slot of a group, it sets the second too, and the group's part goes from the one position to the other. Group 0 is the whole

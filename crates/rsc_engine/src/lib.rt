@@ -1,6 +1,6 @@
 //! A regex engine over the contracts of the libraries: a builder of automata, and searches in them for the leftmost-first match, whose every answer is proved.
 //!
-//! [`find`] returns the leftmost-first match of a [`Program`] in an input, and [`Matches`] all of them, one after the other.
+//! [`find`] returns the leftmost-first match of a [`Program`] in an input, and [`Matches`] all of them, one after the other; [`Lines`] the lines that have one.
 //!
 //! `builder` makes parts and compiles them to the automaton of a `program`. `first`, `iterate` and `cache` have the searches: `starts` and `dfa` tell where no
 //! match begins, `backtrack` follows runs by the `moves` of states and the `turns` of loops, over the `flags` of places and a `trail`, and `groups` writes the
@@ -19,6 +19,7 @@ mod groups;
 mod iterate;
 /// Laws that a caller can cite.
 pub mod laws;
+mod lines;
 mod moves;
 mod numbers;
 mod program;
@@ -33,5 +34,6 @@ pub use dfa::{Answer, Dfa};
 pub use error::Error;
 pub use first::find;
 pub use iterate::Matches;
+pub use lines::Lines;
 pub use program::Program;
 pub use word_class::AsciiWordClass;

@@ -1,7 +1,9 @@
+mod backward;
 mod cache;
 mod dfa;
 mod first_matches;
 mod forward;
+mod lines;
 mod matches;
 mod model;
 mod programs;

@@ -7,12 +7,12 @@ ghost use Rattle.std.specs.Prelude.{◌≡◌, ◌∷◌, ◌+◌, ◌<◌, ◌�
 ghost use Rattle.rsc_engine.specs.Searches.{search_in};
 ghost use Rattle.rsc_engine.specs.Preferred.{HasNone};
 ghost use Rattle.rsc_engine.specs.RowsLayout.{machine, IsPlan};
-ghost use Rattle.rsc_engine.specs.ForwardLayout.{IsForwardTable};
+ghost use Rattle.rsc_engine.specs.PassTableLayout.{IsPassTable};
 ghost use Rattle.rsc_engine.specs.OrderedLayout.{IsEndOf};
 ghost use Rattle.rsc_engine.specs.declared.error.Error.TheVariants.{OutOfMemory};
 
-use super::forward_table::ForwardTable;
 use super::lawful::steps_are_lawful;
+use super::pass_table::{PassRow, PassTable};
 use super::plan::{Plan, before_of};
 use crate::Error;
 use rsc_look::WordClass;
@@ -24,13 +24,13 @@ use std::alloc::Global;
 pub(crate) fn first_end<W: WordClass>(
     alloc: Global,
     plan: &Plan<'_, W>,
-    table: &mut ForwardTable,
+    table: &mut PassTable,
     input: &Input<'_>,
 ) -> Result<Option<(PatternID, usize)>, Error>
     requires plan { IsPlan (machine W.word_chars plan.now.program.now) plan.now.classes plan.now.width plan.now.unicode }
-    requires exact { IsForwardTable (machine W.word_chars plan.now.program.now) plan.now.classes plan.now.width plan.now.most_rows
+    requires exact { IsPassTable (machine W.word_chars plan.now.program.now) plan.now.classes plan.now.width plan.now.most_rows
         table.old.rows.items table.old.leads.items }
-    ensures exact { IsForwardTable (machine W.word_chars plan.now.program.now) plan.now.classes plan.now.width plan.now.most_rows
+    ensures exact { IsPassTable (machine W.word_chars plan.now.program.now) plan.now.classes plan.now.width plan.now.most_rows
         table.new.rows.items table.new.leads.items }
     ensures found { IfOk result (λ found. IfSome found (λ f. IsEndOf (search_in W.word_chars plan.now.program.now input.now) f.0 f.1)) }
     ensures none { IfOk result (λ found. IfNone found (HasNone (search_in W.word_chars plan.now.program.now input.now))) }
@@ -45,7 +45,15 @@ pub(crate) fn first_end<W: WordClass>(
     let begins = !mode.is_anchored();
     let before = before_of(input.haystack(), start);
     let list = one(alloc, plan.program.start())?;
-    let mut row = table.row_of(plan, &mode, begins, &None, before, list)?.0;
+    let first_row = PassRow {
+        backward: false,
+        mode,
+        begins,
+        found: None,
+        read: before,
+        list,
+    };
+    let mut row = table.row_of(plan, first_row)?.0;
     let mut at = start;
     let mut last = None;
     'rows: loop {
@@ -67,13 +75,13 @@ pub(crate) fn first_end<W: WordClass>(
 pub(crate) fn has_match<W: WordClass>(
     alloc: Global,
     plan: &Plan<'_, W>,
-    table: &mut ForwardTable,
+    table: &mut PassTable,
     input: &Input<'_>,
 ) -> Result<bool, Error>
     requires plan { IsPlan (machine W.word_chars plan.now.program.now) plan.now.classes plan.now.width plan.now.unicode }
-    requires exact { IsForwardTable (machine W.word_chars plan.now.program.now) plan.now.classes plan.now.width plan.now.most_rows
+    requires exact { IsPassTable (machine W.word_chars plan.now.program.now) plan.now.classes plan.now.width plan.now.most_rows
         table.old.rows.items table.old.leads.items }
-    ensures exact { IsForwardTable (machine W.word_chars plan.now.program.now) plan.now.classes plan.now.width plan.now.most_rows
+    ensures exact { IsPassTable (machine W.word_chars plan.now.program.now) plan.now.classes plan.now.width plan.now.most_rows
         table.new.rows.items table.new.leads.items }
     ensures some { IfOk result (λ found. found ≡ true → ¬ (HasNone (search_in W.word_chars plan.now.program.now input.now))) }
     ensures none { IfOk result (λ found. found ≡ false → HasNone (search_in W.word_chars plan.now.program.now input.now)) }

@@ -135,7 +135,7 @@ fn reversed(alloc: Global, list: &[StateID]) -> Result<Vec<StateID>, Error>
     Ok(list.iter().rev().copied().collect(alloc)?)
 }
 
-// AddsOne a state to a list, unless it is there.
+// Adds a state to a list, unless it is there.
 fn add(sid: StateID, seen: &mut Vec<bool>, list: &mut Vec<StateID>) -> Result<(), Error>
     requires sid { sid < length seen.old.items }
     requires gathers { Gathers seen.old.items list.old.items }

@@ -148,8 +148,8 @@ fn targets<W: WordClass>(
     }
 }
 
-// The state to which a state leads over the byte at a position.
-fn moved<W: WordClass>(
+/// The state to which a state leads over the byte at a position.
+pub(crate) fn moved<W: WordClass>(
     program: &Program<W>,
     near: &[u8],
     at: usize,

@@ -10,12 +10,12 @@ use std::alloc::Global;
 use std::test::Fail;
 
 // Texts of up to three bytes.
-const TEXTS: usize = 1 + 6 + 36 + 216;
+pub(super) const TEXTS: usize = 1 + 6 + 36 + 216;
 
 const BYTES: [u8; 6] = [b'a', b'b', b'\n', b' ', 0xC3, 0xA9];
 
 // The bytes of a text, and how many of them it has.
-fn text_of(number: usize) -> ([u8; 4], usize) {
+pub(super) fn text_of(number: usize) -> ([u8; 4], usize) {
     let (first, len) = match number {
         0 => (0, 0),
         1..=6 => (1, 1),

@@ -1,4 +1,4 @@
-use Rattle.std.proofs.Common.{◌≡◌, ◌<◌, ◌≤◌, ◌+◌, ℕ, [], ◌∷◌, not, ap, ◌∙◌, arith}
+use Rattle.std.proofs.Common.{◌≡◌, ◌≤◌, ℕ, [], ◌∷◌, not, ap, ◌∙◌, arith}
 use Rattle.rsc_look.specs.Holds.{byte_before}
 use Rattle.rsc_engine.specs.Searches.{search_in}
 use Rattle.rsc_engine.proofs.ForwardLemmas.{going-first, free_if, anchored_if}

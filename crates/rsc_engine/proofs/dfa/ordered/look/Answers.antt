@@ -1,7 +1,5 @@
-use Rattle.std.proofs.Common.{◌≡◌, ◌+◌, ◌*◌, ◌<◌, ◌≤◌, ◌++◌, ◌∷◌, [], ℕ, false, true, not, count_by, length, replicate, refl, sym, subst, ap, ◌∙◌, arith, rules, List, Bool, get_or, length-append}
-use Rattle.std.proofs.lemmas.Grind.{common_steps}
-use Rattle.rsc_engine.specs.Searches.{search_in}
-use Rattle.rsc_engine.proofs.OrderedLemmas.{IsStack, stack-first, stack-again, stack-stuck, stack-one, stack-two, stack-over, stack-match, stack-last, stack-states, fewer, read, popped-there}
+use Rattle.std.proofs.Common.{◌++◌, ◌∷◌, [], ℕ, false, true, length, replicate, refl, ap, ◌∙◌, arith, length-append}
+use Rattle.rsc_engine.proofs.OrderedLemmas.{stack-first, stack-again, stack-stuck, stack-one, stack-two, stack-over, stack-match, stack-last, stack-states, fewer, read}
 use Rattle.rsc_engine.proofs.dfa.ordered.look.Goals as goal
 
 pub stack-init : goal.stack-init

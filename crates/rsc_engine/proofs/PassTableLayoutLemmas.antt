@@ -1,0 +1,180 @@
+-- The table of both passes: what it says is so, and stays so as it grows.
+use Rattle.std.proofs.Common.{◌≡◌, ℕ, ◌+◌, ◌*◌, ◌<◌, ◌≤◌, ◌⊎◌, ⊎_elim, inr, Bool, List, [], ◌∷◌, ◌++◌, length, get_or, set, slice_index_or, refl, sym, ◌∙◌, subst, arith, length-append, slice_get, Option, Some, None, IfSome}
+use Rattle.std.proofs.lemmas.Bool.{cases_eq}
+use Rattle.std.proofs.lemmas.Grind.{get_or-set_at}
+use Rattle.std.proofs.lemmas.List.{get_or-set_other, length-set}
+use Rattle.std.proofs.lemmas.List.Elements.{All-nil, All-push}
+use Rattle.std.proofs.lemmas.Option.{slice_get_within, get_or_from_slice_get}
+use Rattle.std.specs.List.{All}
+use Rattle.rsc_alphabet.specs.Partitions.{LastClassIsGreatest}
+use Rattle.rsc_alphabet.specs.Iterators.{symbol_count}
+use Rattle.rsc_engine.specs.declared.dfa.pass_table.PassRow.{PassRow}
+use Rattle.rsc_engine.specs.declared.dfa.entries.Lead.{Lead}
+use Rattle.rsc_engine.specs.declared.dfa.entries.Lead.TheVariants.{Unknown}
+use Rattle.rsc_engine.specs.RowsLayout.{Machine, Alike, IsPlainUnit}
+use Rattle.rsc_engine.specs.TablesLayout.{column}
+use Rattle.rsc_engine.specs.PassTableLayout.{row_of, IsPassRow, IsPassStep, IsPassLed, IsPassTo, IsSoundPassRow, AreFew, IsPassTable, IsPassGrown}
+use Rattle.rsc_engine.proofs.LawfulLayoutLemmas.{Alike-self, Alike-trans}
+use Rattle.rsc_engine.proofs.TablesLayoutLemmas.{get_before, get_last, column_below, column_alike, one_entry, map_some, written_so}
+
+-- ---- rows stay where they are
+
+pub IsPassGrown-push : (rows : List PassRow) (row : PassRow) → IsPassGrown rows (rows ++ row ∷ [])
+IsPassGrown-push rows row = record { kept = λ k y e. get_before rows row y k e }
+
+pub IsPassRow-last : (classes : List ℕ) (rows : List PassRow) (row : PassRow) (k : ℕ) → k ≡ length rows → IfSome row.read (λ b. b < 256)
+    → IsPassRow classes (rows ++ row ∷ []) k row.backward row.mode row.begins row.found row.read row.list.items
+IsPassRow-last classes rows row k at byte = record {
+  to = row;
+  there = subst (λ (i : ℕ). slice_get (rows ++ row ∷ []) i ≡ Some row) (sym at) (get_last rows row);
+  same_pass = refl;
+  same_mode = refl;
+  same_begins = refl;
+  same_found = refl;
+  alike = Alike-self classes row.read row.read refl byte;
+  is_list = refl;
+}
+
+IsPassLed-grown : (m : Machine) (classes : List ℕ) (old new : List PassRow) (from : PassRow) (unit : Option ℕ) (next : ℕ) → IsPassGrown old new
+    → IsPassLed m classes old from unit next → IsPassLed m classes new from unit next
+IsPassLed-grown m classes old new from unit next g x = record {
+  found = x.found;
+  after = x.after;
+  list = x.list;
+  is_row = record {
+    to = x.is_row.to;
+    there = g.kept next x.is_row.to x.is_row.there;
+    same_pass = x.is_row.same_pass;
+    same_mode = x.is_row.same_mode;
+    same_begins = x.is_row.same_begins;
+    same_found = x.is_row.same_found;
+    alike = x.is_row.alike;
+    is_list = x.is_row.is_list;
+  };
+  step = x.step;
+}
+
+-- from rows that grew to the same rows
+pub IsPassTo-kept : (m : Machine) (classes : List ℕ) (old new : List PassRow) (row : ℕ) (unit : Option ℕ) (next : ℕ) → IsPassGrown old new
+    → IsPassTo m classes old new row unit next → IsPassTo m classes new new row unit next
+IsPassTo-kept m classes old new row unit next g x = record {
+  from = x.from;
+  there = g.kept row x.from x.there;
+  other = x.other;
+  alike = x.alike;
+  plain_read = x.plain_read;
+  plain = x.plain;
+  leads = x.leads;
+}
+
+IsPassTo-grown : (m : Machine) (classes : List ℕ) (old new : List PassRow) (row : ℕ) (unit : Option ℕ) (next : ℕ) → IsPassGrown old new
+    → IsPassTo m classes old old row unit next → IsPassTo m classes new new row unit next
+IsPassTo-grown m classes old new row unit next g x = IsPassTo-kept m classes old new row unit next g (record {
+  from = x.from;
+  there = x.there;
+  other = x.other;
+  alike = x.alike;
+  plain_read = x.plain_read;
+  plain = x.plain;
+  leads = IsPassLed-grown m classes old new x.from x.other next g x.leads;
+})
+
+IsPassTo-alike : (m : Machine) (classes : List ℕ) (old new : List PassRow) (row : ℕ) (unit other : Option ℕ) (next : ℕ) → Alike classes unit other
+    → IsPassTo m classes old new row other next → IsPassTo m classes old new row unit next
+IsPassTo-alike m classes old new row unit other next a x = record {
+  from = x.from;
+  there = x.there;
+  other = x.other;
+  alike = Alike-trans classes unit other x.other a x.alike;
+  plain_read = x.plain_read;
+  plain = x.plain;
+  leads = x.leads;
+}
+
+-- ---- entries
+
+pub few-pushed : (most : ℕ) (rows : List PassRow) (row : PassRow) → AreFew most (length rows + 1) → AreFew most (length (rows ++ row ∷ []))
+few-pushed most rows row f = rw (length-append rows (row ∷ [])) f
+
+pub empty-table : (m : Machine) (classes : List ℕ) (width most : ℕ) (rows : List PassRow) (leads : List Lead) → rows ≡ [] → leads ≡ []
+    → IsPassTable m classes width most rows leads
+empty-table m classes width most rows leads none nothing = rw (none, nothing) (record {
+  few = inr (omega arith);
+  sound = All-nil (IsSoundPassRow m);
+  room = omega arith;
+  each = λ k unit b. tt;
+})
+
+pub IsPassTable-wider : (m : Machine) (classes : List ℕ) (width most : ℕ) (rows : List PassRow) (leads wider : List Lead)
+    → IsPassTable m classes width most rows leads → ((i : ℕ) → slice_index_or wider i Unknown ≡ slice_index_or leads i Unknown)
+    → length leads ≤ length wider → IsPassTable m classes width most rows wider
+IsPassTable-wider m classes width most rows leads wider x same longer = record {
+  few = x.few;
+  sound = x.sound;
+  room = omega (arith, x.room, longer);
+  each = λ k unit b. rw (same (k * width + column classes unit)) (x.each k unit b);
+}
+
+pub IsPassTable-push : (m : Machine) (classes : List ℕ) (width most : ℕ) (rows : List PassRow) (leads : List Lead) (row : PassRow)
+    → IsPassTable m classes width most rows leads → AreFew most (length rows + 1) → IsSoundPassRow m row
+    → length rows * width + width ≤ length leads → IsPassTable m classes width most (rows ++ row ∷ []) leads
+IsPassTable-push m classes width most rows leads row x few sound room = record {
+  few = few-pushed most rows row few;
+  sound = All-push (IsSoundPassRow m) rows row x.sound sound;
+  room = rw (length-append rows (row ∷ [])) (omega (arith, room));
+  each = λ k unit b. map_some (row_of (slice_index_or leads (k * width + column classes unit) Unknown)) (IsPassTo m classes rows rows k unit)
+      (IsPassTo m classes (rows ++ row ∷ []) (rows ++ row ∷ []) k unit)
+      (λ next s. IsPassTo-grown m classes rows (rows ++ row ∷ []) k unit next (IsPassGrown-push rows row) s) (x.each k unit b);
+}
+
+pub IsPassTable-set : (m : Machine) (classes : List ℕ) (width most : ℕ) (rows : List PassRow) (leads : List Lead) (row entry : ℕ) (unit : Option ℕ)
+    (next : ℕ) (lead : Lead) → IsPassTable m classes width most rows leads → width ≡ symbol_count classes → LastClassIsGreatest classes
+    → IfSome unit (λ b. b < 256) → IsPassTo m classes rows rows row unit next → (row_of lead ≡ None) ⊎ (row_of lead ≡ Some next)
+    → entry ≡ row * width + column classes unit → entry < length leads → IsPassTable m classes width most rows (set leads entry lead)
+IsPassTable-set m classes width most rows leads row entry unit next lead x columns bounded byte s says at below = record {
+  few = x.few;
+  sound = x.sound;
+  room = rw (length-set leads entry lead) x.room;
+  each = each;
+}
+  where
+    each : (k : ℕ) (u : Option ℕ) → IfSome u (λ b. b < 256)
+        → IfSome (row_of (get_or (set leads entry lead) (k * width + column classes u) Unknown)) (IsPassTo m classes rows rows k u)
+    each k u b = ⊎_elim
+        (λ (same : k * width + column classes u ≡ entry).
+        let one = one_entry width k row (column classes u) (column classes unit) (column_below classes width u columns bounded b)
+        (column_below classes width unit columns bounded byte) (same ∙ at) in
+        rw (get_or-set_at leads entry (k * width + column classes u) lead Unknown same below)
+        (written_so (row_of lead) next (IsPassTo m classes rows rows k u) says
+        (IsPassTo-alike m classes rows rows k u unit next (column_alike classes u unit bounded b byte one.1)
+        (subst (λ (r : ℕ). IsPassTo m classes rows rows r unit next) (sym one.0) s))))
+        (λ (apart : (k * width + column classes u ≡ entry) → ⊥).
+        rw (get_or-set_other leads entry (k * width + column classes u) lead Unknown apart) (x.each k u b))
+        (cases_eq (k * width + column classes u) entry)
+
+-- ---- what is made
+
+pub pass_made : (m : Machine) (classes : List ℕ) (old new : List PassRow) (row next : ℕ) (from : PassRow) (unit : Option ℕ) (found : Option ℕ)
+    (after : Bool) (list : List ℕ) → slice_get old row ≡ Some from → IfSome unit (λ b. b < 256) → IsPlainUnit m from.read → IsPlainUnit m unit
+    → IsPassRow classes new next from.backward from.mode after found unit list
+    → IsPassStep m from.mode from.backward from.read from.begins from.list.items unit found after list
+    → IsPassTo m classes old new row unit next
+pass_made m classes old new row next from unit found after list there byte plain_read plain r x = record {
+  from = from;
+  there = there;
+  other = unit;
+  alike = Alike-self classes unit unit refl byte;
+  plain_read = plain_read;
+  plain = plain;
+  leads = record { found = found; after = after; list = list; is_row = r; step = x };
+}
+
+pub sound_at : (m : Machine) (rows : List PassRow) (k : ℕ) (row : PassRow) → All (IsSoundPassRow m) rows → slice_get rows k ≡ Some row
+    → IsSoundPassRow m row
+sound_at m rows k row all there =
+    subst (IsSoundPassRow m) (get_or_from_slice_get rows k row row there) (all k row (slice_get_within rows k row there))
+
+-- the row to which an entry leads is there
+pub led-there : (m : Machine) (classes : List ℕ) (old new : List PassRow) (row : ℕ) (unit : Option ℕ) (next : ℕ) → IsPassTo m classes old new row unit next
+    → next < length new
+led-there m classes old new row unit next x = slice_get_within new next x.leads.is_row.to x.leads.is_row.there

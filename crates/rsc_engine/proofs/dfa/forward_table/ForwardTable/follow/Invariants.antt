@@ -1,7 +1,0 @@
-use Rattle.rsc_engine.specs.Searches.{search_in}
-use Rattle.rsc_engine.specs.ForwardLayout.{StandsForward}
-use Rattle.rsc_engine.proofs.dfa.forward_table.ForwardTable.follow.Given as goal
-
-abbrev pub invariant-bytes : goal.invariant-bytes
-invariant-bytes g l =
-    StandsForward (search_in g.W.WordClass.word_chars l.plan.program.now l.input) l.plan.classes l.self.rows.items l.here l.position l.found

@@ -1,9 +1,0 @@
-use Rattle.std.proofs.Common.{◌<◌, length, rules}
-use Rattle.rsc_engine.proofs.ForwardLayoutLemmas.{IsForwardTable-set}
-use Rattle.rsc_engine.proofs.dfa.forward_table.ForwardTable.record.Goals as goal
-
-pub returns-clause-exact : goal.returns-clause-exact
-returns-clause-exact g c =
-    let below : c.entry_index-entry.result < length c.args.self.now.leads.items = search rules in
-    IsForwardTable-set _ _ _ _ _ _ _ _ _ _ _ c.requires.exact c.requires.plan.columns c.requires.plan.bounded c.is_byte.ensures c.requires.step
-    c.lead_to.ensures c.entry_index-entry.ensures.value below

@@ -1,0 +1,42 @@
+use Rattle.std.proofs.Common.{◌≡◌, ◌<◌, length}
+use Rattle.rsc_look.specs.Holds.{byte_before}
+use Rattle.rsc_engine.specs.Searches.{search_in}
+use Rattle.rsc_engine.specs.RowsLayout.{machine}
+use Rattle.rsc_engine.specs.PassTableLayout.{IsPassTo}
+use Rattle.rsc_engine.specs.BackwardLayout.{GoesBackward}
+use Rattle.rsc_engine.proofs.ForwardLayoutLemmas.{map_ok}
+use Rattle.rsc_engine.proofs.PassTableLayoutLemmas.{led-there}
+use Rattle.rsc_engine.proofs.BackwardLayoutLemmas.{goes-backward}
+use Rattle.rsc_engine.proofs.dfa.pass_table.PassTable.row_before.Goals as goal
+
+pub returns-in-Some-clause-row : goal.returns-in-Some-clause-row
+returns-in-Some-clause-row g c = led-there _ _ _ _ _ _ _ c.in-Some.ensures
+
+pub returns-in-Some-clause-goes : goal.returns-in-Some-clause-goes
+returns-in-Some-clause-goes g c =
+    let unit : c.before_of-unit.result ≡ byte_before c.args.input.now.haystack c.args.at = rw c.haystack.ensures.bytes at c.before_of-unit.ensures.before in
+    goes-backward (search_in g.W.WordClass.word_chars c.args.plan.now.program.now c.args.input.now) c.args.plan.now.classes
+    c.args.plan.now.width c.args.plan.now.unicode
+    record { laws = c.steps_are_lawful.ensures; plan = c.requires.plan; within = c.haystack.ensures.within }
+    c.args.self.now.rows.items c.args.self.now.rows.items c.args.row c.args.at c.in-Some.next c.requires.start c.requires.end (rw unit at c.in-Some.ensures)
+
+pub returns-in-None-clause-row : goal.returns-in-None-clause-row
+returns-in-None-clause-row g c =
+    map_ok c.make.result
+    (IsPassTo (machine g.W.WordClass.word_chars c.args.plan.now.program.now) c.args.plan.now.classes c.args.self.now.rows.items c.make.new.self.rows.items
+    c.args.row c.before_of-unit.result)
+    (λ next. next < length c.make.new.self.rows.items) (λ next made. led-there _ _ _ _ _ _ next made) c.make.ensures.step
+
+pub returns-in-None-clause-goes : goal.returns-in-None-clause-goes
+returns-in-None-clause-goes g c =
+    let unit : c.before_of-unit.result ≡ byte_before c.args.input.now.haystack c.args.at = rw c.haystack.ensures.bytes at c.before_of-unit.ensures.before in
+    let e = search_in g.W.WordClass.word_chars c.args.plan.now.program.now c.args.input.now in
+    let old = c.args.self.now.rows.items in
+    let new = c.make.new.self.rows.items in
+    map_ok c.make.result
+    (IsPassTo (machine g.W.WordClass.word_chars c.args.plan.now.program.now) c.args.plan.now.classes old new c.args.row
+    (byte_before c.args.input.now.haystack c.args.at))
+    (GoesBackward e c.args.plan.now.classes old new c.args.row c.args.at)
+    (λ next made. goes-backward e c.args.plan.now.classes c.args.plan.now.width c.args.plan.now.unicode
+    record { laws = c.steps_are_lawful.ensures; plan = c.requires.plan; within = c.haystack.ensures.within }
+    old new c.args.row c.args.at next c.requires.start c.requires.end made) (rw unit at c.make.ensures.step)

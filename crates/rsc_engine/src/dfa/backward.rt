@@ -1,0 +1,70 @@
+//! The backward pass: it finds where the leftmost-first match begins, from its end and its pattern.
+//!
+//! At each position it has the states from which a run leads to that end at once: those of the end are the states that accept the pattern, and the others come
+//! from the position after them. A state that leads with no byte to one of these arrives too. So does the start state wherever such a match begins, and the
+//! least of these positions is where the leftmost-first match does.
+ghost use Rattle.std.specs.Prelude.{◌≡◌, ◌≤◌, IfOk, IfErr, length};
+ghost use Rattle.rsc_primitives.specs.Indices.{max_index};
+ghost use Rattle.rsc_engine.specs.Searches.{search_in};
+ghost use Rattle.rsc_engine.specs.RowsLayout.{machine, IsPlan};
+ghost use Rattle.rsc_engine.specs.PassTableLayout.{IsPassTable};
+ghost use Rattle.rsc_engine.specs.OrderedLayout.{IsEndOf};
+ghost use Rattle.rsc_engine.specs.BackwardLayout.{IsStartOf};
+ghost use Rattle.rsc_engine.specs.declared.error.Error.TheVariants.{OutOfMemory};
+
+use super::pass_table::{PassRow, PassTable};
+use super::plan::{Plan, after_of};
+use super::retreat::accepting;
+use crate::Error;
+use rsc_look::WordClass;
+use rsc_primitives::PatternID;
+use rsc_search::{Anchored, Input};
+use std::alloc::Global;
+
+/// Where the leftmost-first match in an input's span begins, which is of a pattern and ends at a position.
+pub(crate) fn first_start<W: WordClass>(
+    alloc: Global,
+    plan: &Plan<'_, W>,
+    table: &mut PassTable,
+    input: &Input<'_>,
+    pattern: PatternID,
+    end: usize,
+) -> Result<usize, Error>
+    requires plan { IsPlan (machine W.word_chars plan.now.program.now) plan.now.classes plan.now.width plan.now.unicode }
+    requires numbered { length plan.now.program.now.automaton.states ≤ max_index }
+    requires exact { IsPassTable (machine W.word_chars plan.now.program.now) plan.now.classes plan.now.width plan.now.most_rows
+        table.old.rows.items table.old.leads.items }
+    requires end { IsEndOf (search_in W.word_chars plan.now.program.now input.now) pattern end }
+    ensures exact { IsPassTable (machine W.word_chars plan.now.program.now) plan.now.classes plan.now.width plan.now.most_rows
+        table.new.rows.items table.new.leads.items }
+    ensures start { IfOk result (IsStartOf (search_in W.word_chars plan.now.program.now input.now) pattern end) }
+    ensures memory { IfErr result (λ e. e ≡ OutOfMemory) }
+{
+    let start = input.start();
+    let after = after_of(input.haystack(), end);
+    let list = accepting(alloc, plan.program, pattern)?;
+    let first_row = PassRow {
+        backward: true,
+        mode: Anchored::No,
+        begins: false,
+        found: None,
+        read: after,
+        list,
+    };
+    let mut row = table.row_of(plan, first_row)?.0;
+    let mut at = end;
+    let mut least = end;
+    'rows: loop {
+        let (here, position, found) = table.follow_back(plan, input, row, at, least);
+        let (next, now) = table.step_back(plan, input, here, position, found)?;
+        if position == start {
+            return Ok(now);
+        }
+        if table.is_empty(next) {
+            return Ok(now);
+        }
+        row = next;
+        at = position - 1;
+        least = now;
+    }
+}

@@ -1,0 +1,185 @@
+//! The steps of the backward pass along the rows of the table: the known ones, and the others, which are made and kept where they serve other
+//! positions.
+ghost use Rattle.std.specs.Prelude.{◌≡◌, ◌+◌, ◌<◌, ◌≤◌, ℕ, [], IfOk, IfErr, Some, true, length, slice_get};
+ghost use Rattle.rsc_primitives.specs.Indices.{max_index};
+ghost use Rattle.rsc_engine.specs.declared.error.Error.TheVariants.{OutOfMemory};
+ghost use Rattle.rsc_engine.specs.Searches.{search_in};
+ghost use Rattle.rsc_engine.specs.RowsLayout.{machine, IsPlan};
+ghost use Rattle.rsc_engine.specs.PassTableLayout.{IsPassTable};
+ghost use Rattle.rsc_engine.specs.BackwardLayout.{StandsBackward, GoesBackward, begins_in, least_with};
+ghost use Rattle.rsc_engine.specs.declared.dfa.pass_table.PassRow.{PassRow};
+
+use super::lawful::steps_are_lawful;
+use super::pass_table::{PassRow, PassTable};
+use super::plan::{Plan, before_of, byte_at};
+use super::retreat::retreat;
+use crate::Error;
+use rsc_look::WordClass;
+use rsc_search::Input;
+
+impl PassTable {
+    /// Follows the entries back from a row as far as they are known, at most to the span's start: the row there, its position, and the least position so far at
+    /// which the match may begin.
+    // Not inlined, so that the loop over known entries has registers of its own.
+    #[inline(never)]
+    pub(crate) fn follow_back<W: WordClass>(
+        &self,
+        plan: &Plan<'_, W>,
+        input: &Input<'_>,
+        row: usize,
+        at: usize,
+        least: usize,
+    ) -> (usize, usize, usize)
+        requires plan { IsPlan (machine W.word_chars plan.now.program.now) plan.now.classes plan.now.width plan.now.unicode }
+        requires exact { IsPassTable (machine W.word_chars plan.now.program.now) plan.now.classes plan.now.width plan.now.most_rows
+            self.now.rows.items self.now.leads.items }
+        requires row { row < length self.now.rows.items }
+        requires start { input.now.span.start ≤ at }
+        requires end { at ≤ input.now.span.end }
+        ensures on { (p j : ℕ) → StandsBackward (search_in W.word_chars plan.now.program.now input.now) p j plan.now.classes self.now.rows.items
+            row (at + 1) least → StandsBackward (search_in W.word_chars plan.now.program.now input.now) p j plan.now.classes self.now.rows.items
+            result.0 (result.1 + 1) result.2 }
+        ensures row { result.0 < length self.now.rows.items }
+        ensures further { result.1 ≤ at }
+        ensures start { input.now.span.start ≤ result.1 }
+    {
+        steps_are_lawful();
+        let haystack = input.haystack();
+        let start = input.start();
+        let mut here = row;
+        let mut position = at;
+        let mut found = least;
+        'bytes: while position > start {
+            match self.known_row(plan, here, byte_at(haystack, position - 1)) {
+                Some(next) => {
+                    here = next;
+                    found = self.least_with(next, position, found);
+                    position -= 1;
+                }
+                None => return (here, position, found),
+            }
+        }
+        (here, position, found)
+    }
+
+    // The least position at which the match may begin, after a step at a position that leads to the row.
+    #[inline(always)]
+    fn least_with(&self, row: usize, at: usize, least: usize) -> usize
+        ensures { result ≡ least_with (begins_in (slice_get self.now.rows.items row)) at least }
+    {
+        if row >= self.rows.len() {
+            return least;
+        }
+        if self.rows[row].begins { at } else { least }
+    }
+
+    /// Whether the row has no state.
+    pub(crate) fn is_empty(&self, row: usize) -> bool
+        ensures { result ≡ true → (found : PassRow) → slice_get self.now.rows.items row ≡ Some found → found.list.items ≡ [] }
+    {
+        if row < self.rows.len() {
+            self.rows[row].list.is_empty()
+        } else {
+            false
+        }
+    }
+
+    /// The row to which the byte before a position leads from the position's row, and the least position then at which the match may begin.
+    pub(crate) fn step_back<W: WordClass>(
+        &mut self,
+        plan: &Plan<'_, W>,
+        input: &Input<'_>,
+        row: usize,
+        at: usize,
+        least: usize,
+    ) -> Result<(usize, usize), Error>
+        requires plan { IsPlan (machine W.word_chars plan.now.program.now) plan.now.classes plan.now.width plan.now.unicode }
+        requires numbered { length plan.now.program.now.automaton.states ≤ max_index }
+        requires exact { IsPassTable (machine W.word_chars plan.now.program.now) plan.now.classes plan.now.width plan.now.most_rows
+            self.old.rows.items self.old.leads.items }
+        requires row { row < length self.old.rows.items }
+        requires start { input.now.span.start ≤ at }
+        requires end { at ≤ input.now.span.end }
+        ensures exact { IsPassTable (machine W.word_chars plan.now.program.now) plan.now.classes plan.now.width plan.now.most_rows
+            self.new.rows.items self.new.leads.items }
+        ensures row { IfOk result (λ r. r.0 < length self.new.rows.items) }
+        ensures on { IfOk result (λ r. (p j : ℕ) → StandsBackward (search_in W.word_chars plan.now.program.now input.now) p j plan.now.classes
+            self.old.rows.items row (at + 1) least
+            → StandsBackward (search_in W.word_chars plan.now.program.now input.now) p j plan.now.classes self.new.rows.items r.0 at r.1) }
+        ensures memory { IfErr result (λ e. e ≡ OutOfMemory) }
+    {
+        let next = self.row_before(plan, input, row, at)?;
+        Ok((next, self.least_with(next, at, least)))
+    }
+
+    // The row to which the byte before a position leads from the position's row.
+    fn row_before<W: WordClass>(
+        &mut self,
+        plan: &Plan<'_, W>,
+        input: &Input<'_>,
+        row: usize,
+        at: usize,
+    ) -> Result<usize, Error>
+        requires plan { IsPlan (machine W.word_chars plan.now.program.now) plan.now.classes plan.now.width plan.now.unicode }
+        requires numbered { length plan.now.program.now.automaton.states ≤ max_index }
+        requires exact { IsPassTable (machine W.word_chars plan.now.program.now) plan.now.classes plan.now.width plan.now.most_rows
+            self.old.rows.items self.old.leads.items }
+        requires row { row < length self.old.rows.items }
+        requires start { input.now.span.start ≤ at }
+        requires end { at ≤ input.now.span.end }
+        ensures exact { IsPassTable (machine W.word_chars plan.now.program.now) plan.now.classes plan.now.width plan.now.most_rows
+            self.new.rows.items self.new.leads.items }
+        ensures row { IfOk result (λ next. next < length self.new.rows.items) }
+        ensures goes { IfOk result (GoesBackward (search_in W.word_chars plan.now.program.now input.now) plan.now.classes
+            self.old.rows.items self.new.rows.items row at) }
+        ensures memory { IfErr result (λ e. e ≡ OutOfMemory) }
+    {
+        steps_are_lawful();
+        let unit = before_of(input.haystack(), at);
+        if plan.quits_at(unit) || plan.quits_at(self.rows[row].read) {
+            return self.make_back(plan, input, row, at);
+        }
+        match self.look_up(plan, row, unit) {
+            Some(next) => Ok(next),
+            None => self.make(plan, row, unit),
+        }
+    }
+
+    // The same, made from the haystack itself, where an assertion may look at a byte above 7F: it serves this position alone, so it isn't kept.
+    fn make_back<W: WordClass>(
+        &mut self,
+        plan: &Plan<'_, W>,
+        input: &Input<'_>,
+        row: usize,
+        at: usize,
+    ) -> Result<usize, Error>
+        requires plan { IsPlan (machine W.word_chars plan.now.program.now) plan.now.classes plan.now.width plan.now.unicode }
+        requires numbered { length plan.now.program.now.automaton.states ≤ max_index }
+        requires exact { IsPassTable (machine W.word_chars plan.now.program.now) plan.now.classes plan.now.width plan.now.most_rows
+            self.old.rows.items self.old.leads.items }
+        requires row { row < length self.old.rows.items }
+        requires start { input.now.span.start ≤ at }
+        requires end { at ≤ input.now.span.end }
+        ensures exact { IsPassTable (machine W.word_chars plan.now.program.now) plan.now.classes plan.now.width plan.now.most_rows
+            self.new.rows.items self.new.leads.items }
+        ensures row { IfOk result (λ next. next < length self.new.rows.items) }
+        ensures goes { IfOk result (GoesBackward (search_in W.word_chars plan.now.program.now input.now) plan.now.classes
+            self.old.rows.items self.new.rows.items row at) }
+        ensures memory { IfErr result (λ e. e ≡ OutOfMemory) }
+    {
+        steps_are_lawful();
+        let unit = before_of(input.haystack(), at);
+        let from = &self.rows[row];
+        let mode = from.mode;
+        let (begins, list) = retreat(self.alloc, plan.program, input, at, from.list.as_slice())?;
+        let next_row = PassRow {
+            backward: true,
+            mode,
+            begins,
+            found: None,
+            read: unit,
+            list,
+        };
+        Ok(self.row_of(plan, next_row)?.0)
+    }
+}

@@ -1,0 +1,288 @@
+//! The table of both passes: a row for a list of states and what is known beside it, with an entry for each class and the end of the input.
+ghost use Rattle.std.specs.Prelude.{◌≡◌, ◌+◌, ◌*◌, ◌<◌, ◌≤◌, ℕ, [], IfOk, IfErr, IfSome, true, length, slice_get, Some};
+ghost use Rattle.rsc_engine.specs.declared.error.Error.TheVariants.{OutOfMemory};
+ghost use Rattle.rsc_engine.specs.RowsLayout.{machine, AreStates, IsPlan, IsPlainUnit};
+ghost use Rattle.rsc_engine.specs.PassTableLayout.{IsPassTable, IsPassRow, IsPassStep, IsPassTo, IsSoundPassRow, IsPassGrown, AreFew};
+ghost use Rattle.rsc_engine.specs.declared.dfa.pass_table.PassRow.{PassRow};
+
+use super::entries::{Lead, are_alike, are_same, entry_index, is_byte, widen};
+use super::ordered::advance_beside;
+use super::pass_entries::{is_same_pattern, lead_to, led_to, pass_key};
+use super::plan::Plan;
+use super::retreat::retreat_beside;
+use crate::{Error, Program};
+use rsc_look::WordClass;
+use rsc_primitives::{PatternID, StateID};
+use rsc_search::Anchored;
+use std::alloc::Global;
+use std::collections::BTreeMap;
+
+/// What a pass knows at a position.
+#[derive(Drop)]
+pub(crate) struct PassRow {
+    /// Whether it's a row of the backward pass.
+    pub(crate) backward: bool,
+    /// The search's mode.
+    pub(crate) mode: Anchored,
+    /// Forward: whether matches may begin later. Backward: whether the match that is sought may begin at the position looked at last.
+    pub(crate) begins: bool,
+    /// Forward: the pattern of a match that ends before the byte read last. Backward there is none.
+    pub(crate) found: Option<PatternID>,
+    /// A byte of the class of the byte that was read last: forward the one before the position, backward the one after it.
+    pub(crate) read: Option<u8>,
+    /// Forward: the states before any step with no byte, the preferred ones first. Backward: those which arrive at once.
+    pub(crate) list: Vec<StateID>,
+}
+
+/// The rows so far, and what is known of them.
+#[derive(Drop)]
+pub(crate) struct PassTable {
+    pub(crate) alloc: Global,
+    pub(crate) rows: Vec<PassRow>,
+    // For each row and column where it leads.
+    pub(crate) leads: Vec<Lead>,
+    // For each row's key the row. No clause speaks of it, since the row that is found is compared.
+    known: BTreeMap<Vec<u32>, usize>,
+}
+
+impl PassTable {
+    /// The table with no rows.
+    pub(crate) fn new(alloc: Global) -> PassTable
+        ensures rows { result.rows.items ≡ [] }
+        ensures leads { result.leads.items ≡ [] }
+    {
+        PassTable {
+            alloc,
+            rows: Vec::new(alloc),
+            leads: Vec::new(alloc),
+            known: BTreeMap::new(alloc),
+        }
+    }
+
+    /// The row to which a byte leads from a row, if it is known and doesn't end a search.
+    #[inline(always)]
+    pub(crate) fn known_row<W: WordClass>(
+        &self,
+        plan: &Plan<'_, W>,
+        row: usize,
+        byte: u8,
+    ) -> Option<usize>
+        requires plan { IsPlan (machine W.word_chars plan.now.program.now) plan.now.classes plan.now.width plan.now.unicode }
+        requires exact { IsPassTable (machine W.word_chars plan.now.program.now) plan.now.classes plan.now.width plan.now.most_rows
+            self.now.rows.items self.now.leads.items }
+        requires row { row < length self.now.rows.items }
+        ensures { IfSome result (IsPassTo (machine W.word_chars plan.now.program.now) plan.now.classes self.now.rows.items self.now.rows.items row
+            (Some byte)) }
+    {
+        let entry = entry_index(plan, row, Some(byte), self.rows.len(), self.leads.len());
+        match self.leads[entry] {
+            Lead::To(next) => Some(next as usize),
+            Lead::Unknown | Lead::Match | Lead::Last(_) => None,
+        }
+    }
+
+    /// What is known of a row and a unit.
+    pub(crate) fn look_up<W: WordClass>(
+        &self,
+        plan: &Plan<'_, W>,
+        row: usize,
+        unit: Option<u8>,
+    ) -> Option<usize>
+        requires plan { IsPlan (machine W.word_chars plan.now.program.now) plan.now.classes plan.now.width plan.now.unicode }
+        requires exact { IsPassTable (machine W.word_chars plan.now.program.now) plan.now.classes plan.now.width plan.now.most_rows
+            self.now.rows.items self.now.leads.items }
+        requires row { row < length self.now.rows.items }
+        ensures { IfSome result (IsPassTo (machine W.word_chars plan.now.program.now) plan.now.classes self.now.rows.items self.now.rows.items row unit) }
+    {
+        is_byte(unit);
+        let entry = entry_index(plan, row, unit, self.rows.len(), self.leads.len());
+        led_to(self.leads[entry])
+    }
+
+    /// Where a unit leads from a row, made from the row's list and the two bytes, and kept.
+    pub(crate) fn make<W: WordClass>(
+        &mut self,
+        plan: &Plan<'_, W>,
+        row: usize,
+        unit: Option<u8>,
+    ) -> Result<usize, Error>
+        requires plan { IsPlan (machine W.word_chars plan.now.program.now) plan.now.classes plan.now.width plan.now.unicode }
+        requires exact { IsPassTable (machine W.word_chars plan.now.program.now) plan.now.classes plan.now.width plan.now.most_rows
+            self.old.rows.items self.old.leads.items }
+        requires row { row < length self.old.rows.items }
+        requires read { (from : PassRow) → slice_get self.old.rows.items row ≡ Some from → IsPlainUnit (machine W.word_chars plan.now.program.now) from.read }
+        requires plain { IsPlainUnit (machine W.word_chars plan.now.program.now) unit }
+        ensures exact { IsPassTable (machine W.word_chars plan.now.program.now) plan.now.classes plan.now.width plan.now.most_rows
+            self.new.rows.items self.new.leads.items }
+        ensures step { IfOk result (IsPassTo (machine W.word_chars plan.now.program.now) plan.now.classes
+            self.old.rows.items self.new.rows.items row unit) }
+        ensures memory { IfErr result (λ e. e ≡ OutOfMemory) }
+    {
+        is_byte(unit);
+        let from = &self.rows[row];
+        let backward = from.backward;
+        let mode = from.mode;
+        let (found, begins, list) = step_beside(self.alloc, plan.program, from, unit)?;
+        let is_last = list.is_empty() && (backward || !begins);
+        let next_row = PassRow {
+            backward,
+            mode,
+            begins,
+            found,
+            read: unit,
+            list,
+        };
+        let made = self.row_of(plan, next_row)?;
+        let next = made.0;
+        if made.1 {
+            self.record(plan, row, unit, next, is_last);
+        }
+        Ok(next)
+    }
+
+    // Records where a unit leads. A row that is `is_last` ends a search.
+    fn record<W: WordClass>(
+        &mut self,
+        plan: &Plan<'_, W>,
+        row: usize,
+        unit: Option<u8>,
+        next: usize,
+        is_last: bool,
+    )
+        requires plan { IsPlan (machine W.word_chars plan.now.program.now) plan.now.classes plan.now.width plan.now.unicode }
+        requires exact { IsPassTable (machine W.word_chars plan.now.program.now) plan.now.classes plan.now.width plan.now.most_rows
+            self.old.rows.items self.old.leads.items }
+        requires row { row < length self.old.rows.items }
+        requires step { IsPassTo (machine W.word_chars plan.now.program.now) plan.now.classes self.old.rows.items self.old.rows.items row unit next }
+        ensures exact { IsPassTable (machine W.word_chars plan.now.program.now) plan.now.classes plan.now.width plan.now.most_rows
+            self.new.rows.items self.new.leads.items }
+        ensures rows { self.new.rows.items ≡ self.old.rows.items }
+    {
+        is_byte(unit);
+        let entry = entry_index(plan, row, unit, self.rows.len(), self.leads.len());
+        self.leads[entry] = lead_to(next, is_last);
+    }
+
+    /// Where a row is: one that is there, or this new one. The second part is false if the table was cleared.
+    pub(crate) fn row_of<W: WordClass>(
+        &mut self,
+        plan: &Plan<'_, W>,
+        row: PassRow,
+    ) -> Result<(usize, bool), Error>
+        requires exact { IsPassTable (machine W.word_chars plan.now.program.now) plan.now.classes plan.now.width plan.now.most_rows
+            self.old.rows.items self.old.leads.items }
+        requires sound { IsSoundPassRow (machine W.word_chars plan.now.program.now) row }
+        ensures exact { IsPassTable (machine W.word_chars plan.now.program.now) plan.now.classes plan.now.width plan.now.most_rows
+            self.new.rows.items self.new.leads.items }
+        ensures row { IfOk result (λ made. IsPassRow plan.now.classes self.new.rows.items made.0 row.backward row.mode row.begins
+            row.found row.read row.list.items) }
+        ensures grows { IfOk result (λ made. made.1 ≡ true → IsPassGrown self.old.rows.items self.new.rows.items) }
+        ensures memory { IfErr result (λ e. e ≡ OutOfMemory) }
+    {
+        let key = pass_key(self.alloc, &plan.classes, &row)?;
+        if let Some(index) = self.known.get(&key).copied() {
+            if self.is_row(plan, index, &row) {
+                return Ok((index, true));
+            }
+        }
+        let kept = self.rows.len() < plan.most_rows;
+        if !kept {
+            self.clear();
+        }
+        let index = self.add_row(plan, key, row)?;
+        Ok((index, kept))
+    }
+
+    // Whether the row there is this one.
+    fn is_row<W: WordClass>(&self, plan: &Plan<'_, W>, index: usize, row: &PassRow) -> bool
+        ensures { result ≡ true → IsPassRow plan.now.classes self.now.rows.items index row.now.backward row.now.mode row.now.begins row.now.found
+            row.now.read row.now.list.items }
+    {
+        if index >= self.rows.len() {
+            return false;
+        }
+        let there = &self.rows[index];
+        if there.backward != row.backward {
+            return false;
+        }
+        if there.mode != row.mode {
+            return false;
+        }
+        if there.begins != row.begins {
+            return false;
+        }
+        if !is_same_pattern(&there.found, &row.found) {
+            return false;
+        }
+        if !are_alike(&plan.classes, row.read, there.read) {
+            return false;
+        }
+        are_same(there.list.as_slice(), row.list.as_slice())
+    }
+
+    // Takes all rows out.
+    fn clear(&mut self)
+        ensures rows { self.new.rows.items ≡ [] }
+        ensures leads { self.new.leads.items ≡ [] }
+    {
+        self.rows.clear();
+        self.leads.clear();
+        self.known.clear();
+    }
+
+    // Adds a row.
+    fn add_row<W: WordClass>(
+        &mut self,
+        plan: &Plan<'_, W>,
+        key: Vec<u32>,
+        row: PassRow,
+    ) -> Result<usize, Error>
+        requires exact { IsPassTable (machine W.word_chars plan.now.program.now) plan.now.classes plan.now.width plan.now.most_rows
+            self.old.rows.items self.old.leads.items }
+        requires room { AreFew plan.now.most_rows (length self.old.rows.items + 1) }
+        requires sound { IsSoundPassRow (machine W.word_chars plan.now.program.now) row }
+        ensures exact { IsPassTable (machine W.word_chars plan.now.program.now) plan.now.classes plan.now.width plan.now.most_rows
+            self.new.rows.items self.new.leads.items }
+        ensures row { IfOk result (λ index. IsPassRow plan.now.classes self.new.rows.items index row.backward row.mode row.begins
+            row.found row.read row.list.items) }
+        ensures grows { IsPassGrown self.old.rows.items self.new.rows.items }
+        ensures memory { IfErr result (λ e. e ≡ OutOfMemory) }
+    {
+        is_byte(row.read);
+        let index = self.rows.len();
+        self.known.insert(key, index)?;
+        widen(&mut self.leads, index * plan.width + plan.width)?;
+        self.rows.push(row)?;
+        Ok(index)
+    }
+}
+
+// What a unit makes of a row, beside the byte read last: forward the pattern of a match before the unit, whether matches may begin later, and the next list;
+// backward whether the match may begin there, and the next list.
+fn step_beside<W: WordClass>(
+    alloc: Global,
+    program: &Program<W>,
+    from: &PassRow,
+    unit: Option<u8>,
+) -> Result<(Option<PatternID>, bool, Vec<StateID>), Error>
+    requires { IsSoundPassRow (machine W.word_chars program.now) from.now }
+    ensures step { IfOk result (λ r. IsPassStep (machine W.word_chars program.now) from.now.mode from.now.backward from.now.read from.now.begins
+        from.now.list.items unit r.0 r.1 r.2.items) }
+    ensures states { IfOk result (λ r. AreStates (length program.now.automaton.states) r.2.items) }
+    ensures memory { IfErr result (λ e. e ≡ OutOfMemory) }
+{
+    let list = from.list.as_slice();
+    if from.backward {
+        let (begins, next) = retreat_beside(alloc, program, &from.mode, unit, from.read, list)?;
+        return Ok((None, begins, next));
+    }
+    advance_beside(
+        alloc,
+        program,
+        &from.mode,
+        from.read,
+        unit,
+        from.begins,
+        list,
+    )
+}

@@ -1,0 +1,238 @@
+//! What the backward pass makes of a position's states: from which states they are led to with no byte, and over the byte before.
+ghost use Rattle.std.specs.Prelude.{◌≡◌, ◌+◌, ◌-◌, ◌<◌, ◌≤◌, ℕ, List, true, false, not, IfOk, IfErr, length, slice_get, slice_index_or, count_by, Some};
+ghost use Rattle.rsc_primitives.specs.Indices.{max_index};
+ghost use Rattle.rsc_nfa.specs.declared.state.State.TheVariants.{Accept};
+ghost use Rattle.rsc_engine.specs.declared.error.Error.TheVariants.{OutOfMemory};
+ghost use Rattle.rsc_engine.specs.Searches.{search_in};
+ghost use Rattle.rsc_engine.specs.Runs.{Leads};
+ghost use Rattle.rsc_engine.specs.StartsLayout.{IsMarked};
+ghost use Rattle.rsc_engine.specs.RowsLayout.{machine, around, middle, Gathers, AreStates};
+ghost use Rattle.rsc_engine.specs.ForwardLayout.{beside};
+ghost use Rattle.rsc_engine.specs.BackwardLayout.{Lists, AreLedBack, IsShut, IsClosedBack, LeadsToMarked, IsSource, IsRetreated};
+
+use super::ordered::{Way, way_of};
+use super::successor::{moved, near_of};
+use crate::{Error, Program};
+use rsc_look::WordClass;
+use rsc_nfa::State;
+use rsc_primitives::{PatternID, StateID};
+use rsc_search::{Anchored, Input};
+use std::alloc::Global;
+
+/// Of the states from which steps with no byte lead to those of a list: whether the start state is one, and from which states the byte before leads to one.
+pub(crate) fn retreat<W: WordClass>(
+    alloc: Global,
+    program: &Program<W>,
+    input: &Input<'_>,
+    at: usize,
+    list: &[StateID],
+) -> Result<(bool, Vec<StateID>), Error>
+    requires numbered { length program.now.automaton.states ≤ max_index }
+    requires start { input.now.span.start ≤ at }
+    requires at { at ≤ input.now.span.end }
+    requires list { AreStates (length program.now.automaton.states) list.now }
+    ensures retreated { IfOk result (λ r. IsRetreated (search_in W.word_chars program.now input.now) at list.now r.0 r.1.items) }
+    ensures states { IfOk result (λ r. AreStates (length program.now.automaton.states) r.1.items) }
+    ensures memory { IfErr result (λ e. e ≡ OutOfMemory) }
+{
+    let mut marks = marked(alloc, program.len(), list)?;
+    close(program, input, at, &mut marks);
+    let begins = is_marked(&marks, program.start());
+    let next = sources(alloc, program, input, at, &marks)?;
+    Ok((begins, next))
+}
+
+/// The same beside two bytes, or fewer, which stand for each position between such bytes.
+pub(crate) fn retreat_beside<W: WordClass>(
+    alloc: Global,
+    program: &Program<W>,
+    mode: &Anchored,
+    before: Option<u8>,
+    after: Option<u8>,
+    list: &[StateID],
+) -> Result<(bool, Vec<StateID>), Error>
+    requires numbered { length program.now.automaton.states ≤ max_index }
+    requires list { AreStates (length program.now.automaton.states) list.now }
+    ensures retreated { IfOk result (λ r. IsRetreated (beside (machine W.word_chars program.now) mode.now (around before after)) (middle before)
+        list.now r.0 r.1.items) }
+    ensures states { IfOk result (λ r. AreStates (length program.now.automaton.states) r.1.items) }
+    ensures memory { IfErr result (λ e. e ≡ OutOfMemory) }
+{
+    let near = near_of(alloc, before, after)?;
+    let input = Input::new(near.as_slice()).anchored(*mode);
+    let at = usize::from(before.is_some());
+    retreat(alloc, program, &input, at, list)
+}
+
+/// The states that accept a pattern.
+pub(crate) fn accepting<W: WordClass>(
+    alloc: Global,
+    program: &Program<W>,
+    pattern: PatternID,
+) -> Result<Vec<StateID>, Error>
+    requires numbered { length program.now.automaton.states ≤ max_index }
+    ensures accepting { IfOk result (λ list. Lists (λ s. slice_get program.now.automaton.states s ≡ Some (Accept pattern)) list.items) }
+    ensures states { IfOk result (λ list. AreStates (length program.now.automaton.states) list.items) }
+    ensures memory { IfErr result (λ e. e ≡ OutOfMemory) }
+{
+    let mut list = Vec::new(alloc);
+    'states: for index in 0..program.len() {
+        let sid = StateID::must(index);
+        if is_end_of(program.state(sid), pattern) {
+            list.push(sid)?;
+        }
+    }
+    Ok(list)
+}
+
+// Whether the state accepts the pattern.
+fn is_end_of(state: State, pattern: PatternID) -> bool
+    ensures yes { result ≡ true → state ≡ Accept pattern }
+    ensures no { result ≡ false → ¬ (state ≡ Accept pattern) }
+{
+    match state {
+        State::Accept { pattern: one } => one == pattern,
+        State::ByteRange { .. }
+        | State::Assert { .. }
+        | State::Fork { .. }
+        | State::Capture { .. } => false,
+    }
+}
+
+// Marks for the states of a list.
+fn marked(alloc: Global, count: usize, list: &[StateID]) -> Result<Vec<bool>, Error>
+    requires { AreStates count list.now }
+    ensures len { IfOk result (λ marks. length marks.items ≡ count) }
+    ensures gathers { IfOk result (λ marks. Gathers marks.items list.now) }
+    ensures memory { IfErr result (λ e. e ≡ OutOfMemory) }
+{
+    let mut marks = vec![in alloc; false; count]?;
+    'list: for sid in list {
+        marks[sid.as_usize()] = true;
+    }
+    Ok(marks)
+}
+
+// Whether the state is marked.
+fn is_marked(marks: &Vec<bool>, sid: StateID) -> bool
+    ensures { result ≡ slice_index_or marks.now.items sid false }
+{
+    let index = sid.as_usize();
+    index < marks.len() && marks[index]
+}
+
+// Marks the states from which steps with no byte lead to marked ones.
+fn close<W: WordClass>(program: &Program<W>, input: &Input<'_>, at: usize, marks: &mut Vec<bool>)
+    requires numbered { length program.now.automaton.states ≤ max_index }
+    requires start { input.now.span.start ≤ at }
+    requires end { at ≤ input.now.span.end }
+    requires len { length marks.old.items ≡ length program.now.automaton.states }
+    ensures len { length marks.new.items ≡ length program.now.automaton.states }
+    ensures closed { (list : List ℕ) → Gathers marks.old.items list
+        → IsClosedBack (search_in W.word_chars program.now input.now) at list marks.new.items }
+{
+    'passes: loop {
+        if !grow(program, input, at, marks) {
+            return;
+        }
+    }
+}
+
+// Marks the states from which one step with no byte leads to a marked one, in one pass over all of them. Whether it marked any.
+fn grow<W: WordClass>(
+    program: &Program<W>,
+    input: &Input<'_>,
+    at: usize,
+    marks: &mut Vec<bool>,
+) -> bool
+    requires numbered { length program.now.automaton.states ≤ max_index }
+    requires start { input.now.span.start ≤ at }
+    requires end { at ≤ input.now.span.end }
+    requires len { length marks.old.items ≡ length program.now.automaton.states }
+    ensures len { length marks.new.items ≡ length program.now.automaton.states }
+    ensures led { (list : List ℕ) → AreLedBack (search_in W.word_chars program.now input.now) at list marks.old.items
+        → AreLedBack (search_in W.word_chars program.now input.now) at list marks.new.items }
+    ensures kept { (s : ℕ) → IsMarked marks.old.items s → IsMarked marks.new.items s }
+    ensures shut { result ≡ false → IsShut (search_in W.word_chars program.now input.now) at marks.new.items }
+    ensures less { result ≡ true → count_by not marks.new.items + 1 ≤ count_by not marks.old.items }
+{
+    let mut grew = false;
+    // The builder's states lead to ones before them.
+    'states: for index in 0..program.len() {
+        if leads_to_marked(program, input, at, marks, StateID::must(index)) {
+            marks[index] = true;
+            grew = true;
+        }
+    }
+    grew
+}
+
+// Whether the state isn't marked, and a step with no byte leads from it to a marked one.
+fn leads_to_marked<W: WordClass>(
+    program: &Program<W>,
+    input: &Input<'_>,
+    at: usize,
+    marks: &Vec<bool>,
+    sid: StateID,
+) -> bool
+    requires at { at ≤ input.now.span.end }
+    requires sid { sid < length program.now.automaton.states }
+    ensures fresh { result ≡ true → slice_index_or marks.now.items sid false ≡ false }
+    ensures yes { result ≡ true → LeadsToMarked (search_in W.word_chars program.now input.now) at marks.now.items sid }
+    ensures no { result ≡ false → (t : ℕ) → Leads (search_in W.word_chars program.now input.now) (sid, at) (t, at) → IsMarked marks.now.items t
+        → IsMarked marks.now.items sid }
+{
+    if is_marked(marks, sid) {
+        return false;
+    }
+    match way_of(program, input, at, sid) {
+        Way::One(to) => is_marked(marks, to),
+        Way::Two(a, b) => is_marked(marks, a) || is_marked(marks, b),
+        Way::Stuck | Way::Over(_) | Way::Match(_) => false,
+    }
+}
+
+// The states which the byte before a position leads to marked ones.
+fn sources<W: WordClass>(
+    alloc: Global,
+    program: &Program<W>,
+    input: &Input<'_>,
+    at: usize,
+    marks: &Vec<bool>,
+) -> Result<Vec<StateID>, Error>
+    requires numbered { length program.now.automaton.states ≤ max_index }
+    ensures sources { IfOk result (λ list. Lists
+        (λ s. (0 < at) × IsSource (machine W.word_chars program.now) input.now.haystack (at - 1) marks.now.items s) list.items) }
+    ensures states { IfOk result (λ list. AreStates (length program.now.automaton.states) list.items) }
+    ensures memory { IfErr result (λ e. e ≡ OutOfMemory) }
+{
+    let mut list = Vec::new(alloc);
+    if at == 0 {
+        return Ok(list);
+    }
+    'states: for index in 0..program.len() {
+        let sid = StateID::must(index);
+        if is_source(program, input.haystack(), at - 1, marks, sid) {
+            list.push(sid)?;
+        }
+    }
+    Ok(list)
+}
+
+// Whether the byte at the position leads from the state to a marked one.
+fn is_source<W: WordClass>(
+    program: &Program<W>,
+    haystack: &[u8],
+    at: usize,
+    marks: &Vec<bool>,
+    sid: StateID,
+) -> bool
+    requires sid { sid < length program.now.automaton.states }
+    ensures yes { result ≡ true → IsSource (machine W.word_chars program.now) haystack.now at marks.now.items sid }
+    ensures no { result ≡ false → ¬ (IsSource (machine W.word_chars program.now) haystack.now at marks.now.items sid) }
+{
+    match moved(program, haystack, at, sid) {
+        Some(to) => is_marked(marks, to),
+        None => false,
+    }
+}
