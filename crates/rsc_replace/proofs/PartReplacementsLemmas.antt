@@ -20,7 +20,8 @@ use Rattle.rsc_engine.specs.PatternOrder.{RecordsPreferredWays}
 use Rattle.rsc_engine.specs.PreferredWays.{IsPreferredWay}
 use Rattle.rsc_engine.specs.GroupNumbers.{as_whole}
 use Rattle.rsc_engine.specs.Ways.{last_in}
-use Rattle.rsc_replace.specs.Replacements.{HasRoomFor, MatchWith, AreAllWith, with_matches_filled}
+use Rattle.rsc_engine.specs.PatternMatches.{HasSlotsOf}
+use Rattle.rsc_replace.specs.Replacements.{MatchWith, AreAllWith, with_matches_filled}
 use Rattle.rsc_replace.specs.PartReplacements.{Way, captures_of, match_of_way, IsBestWay, IsLeftOut, HasNoneAt, IsNextWay, AreAllWays, IsPartReplaced}
 use Rattle.rsc_replace.proofs.ReplacementsLemmas.{same_list, same_captures}
 
@@ -132,7 +133,7 @@ module _ {W : Type 0} (chars : W → ℕ → Bool) (program : Compiled W) (group
             (record { utf8 = its.text; empty = empty; within = subst (λ (i : ℕ). ¬ (IsCharBoundary text i)) makes.start apart })
       ]
 
-  pub next_way : (from : ℕ) (last : Option ℕ) (captures : Captured) (found : Matched) → IsNextMatch (e from) last captures found → HasRoomFor program captures
+  pub next_way : (from : ℕ) (last : Option ℕ) (captures : Captured) (found : Matched) → IsNextMatch (e from) last captures found → HasSlotsOf program captures
       → (w : Way) × (w.end ≡ found.span.end) × IsNextWay x groups p last from w × (record { found = found; captures = captures } ≡ match_of_way groups w)
   next_way from last captures found next room =
       let makes = next.is_of.ends in
@@ -143,8 +144,8 @@ module _ {W : Type 0} (chars : W → ℕ → Bool) (program : Compiled W) (group
       let way = best_way from run found preferred makes in
       let w : Way = record { start = found.span.start; end = found.span.end; records = way.0 } in
       let count = 2 * all_groups (groups ∷ []) in
-      let slots : length captures.offsets ≡ count = room.slots ∙ ap (λ (lists : GroupLists). 2 * all_groups lists) its.lists in
-      let lists : captures.groups ≡ groups ∷ [] = room.groups ∙ its.lists in
+      let slots : length captures.offsets ≡ count = room.1 ∙ ap (λ (lists : GroupLists). 2 * all_groups lists) its.lists in
+      let lists : captures.groups ≡ groups ∷ [] = room.0 ∙ its.lists in
       let offsets : captures.offsets ≡ map (last_in way.0) (range_with_len 0 count) =
       same_list None captures.offsets (map (last_in way.0) (range_with_len 0 count)) (slots ∙ sym (length-map-range_with_len (last_in way.0) 0 count))
       (λ k h. next.is_of.records k h ∙ (way.2 k ∙ sym (get_or-map-range_with_len (last_in way.0) 0 count k k None (omega (arith, h, slots)) (omega arith)))) in

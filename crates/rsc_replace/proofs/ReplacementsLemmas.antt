@@ -6,10 +6,10 @@ use Rattle.rsc_search.specs.Matches.{Matched}
 use Rattle.rsc_captures.specs.Captured.{Captured}
 use Rattle.rsc_captures.specs.Groups.{GroupLists}
 use Rattle.rsc_engine.specs.Searches.{Search, search_in}
-use Rattle.rsc_engine.specs.Preferred.{IsOf}
+use Rattle.rsc_engine.specs.PatternMatches.{HasSlotsOf}
 use Rattle.rsc_engine.specs.NextMatches.{Left, IsNext, IsNextMatch, IsOver, after}
 use Rattle.rsc_replace.specs.Templates.{filled}
-use Rattle.rsc_replace.specs.Replacements.{HasRoomFor, MatchWith, AreAllWith, with_matches_filled, IsReplaced}
+use Rattle.rsc_replace.specs.Replacements.{MatchWith, AreAllWith, with_matches_filled, IsReplaced}
 
 -- the text so far: with what is left replaced after it, all of the first is replaced
 pub record IsBegun {W : Type 0} (chars : W → ℕ → Bool) (template : List ℕ) (first now : Left W) (out : List ℕ) : Type 0 where
@@ -19,7 +19,7 @@ pub begun_none : {W : Type 0} (chars : W → ℕ → Bool) (template : List ℕ)
 begun_none chars template first = record { goes_on = λ rest h. h }
 
 pub begun_more : {W : Type 0} (chars : W → ℕ → Bool) (template : List ℕ) (first now : Left W) (out : List ℕ) (found : Matched) (captures : Captured)
-    → IsBegun chars template first now out → IsNextMatch (search_in chars now.program now.input) now.last captures found → HasRoomFor now.program captures
+    → IsBegun chars template first now out → IsNextMatch (search_in chars now.program now.input) now.last captures found → HasSlotsOf now.program captures
     → IsBegun chars template first (after now found)
     ((out ++ slice_range now.input.haystack now.input.span.start found.span.start) ++ filled now.input.haystack captures template)
 begun_more {W = W} chars template first now out found captures begun next room = record {
@@ -41,16 +41,6 @@ begun_all chars template first now out begun over = begun.goes_on (drop now.inpu
 pub rest_taken : (s : List ℕ) (from : ℕ) → take (length s - from) (drop from s) ≡ drop from s
 rest_taken s from = ap (λ (n : ℕ). take n (drop from s)) (sym (length-drop from s)) ∙ take-length (drop from s)
 
--- how often the search can go on, by where the last match ended
-pub steps_left : ℕ → Option ℕ → ℕ
-steps_left end None = end + 2
-steps_left end (Some last) = end + 1 - last
-
-pub fewer_left : (end : ℕ) (last : Option ℕ) (m : ℕ) → ForSome last (λ e. e < m) → m ≤ end → steps_left end (Some m) < steps_left end last
-unfolding steps_left
-fewer_left end None m later within = omega (arith, within)
-fewer_left end (Some e) m later within = omega (arith, within, later e refl)
-
 pub same_list : {X : Type 0} (d : X) (xs ys : List X) → length xs ≡ length ys
     → ((k : ℕ) → k < length xs → slice_index_or xs k d ≡ slice_index_or ys k d) → xs ≡ ys
 same_list d [] [] same each = refl
@@ -61,13 +51,6 @@ same_list d (x ∷ xs) (y ∷ ys) same each =
     let tail : xs ≡ ys = same_list d xs ys (omega (arith, same)) (λ k h. each (suc k) (omega (arith, h))) in
     cc
 
-same_match : (m n : Matched) → m.pattern ≡ n.pattern → m.span.start ≡ n.span.start → m.span.end ≡ n.span.end → m ≡ n
-same_match m n p s t =
-    let f : ℕ → Matched = λ x. record { pattern = x; span = m.span } in
-    let g : ℕ → Matched = λ x. record { pattern = n.pattern; span = record { start = x; end = m.span.end } } in
-    let h : ℕ → Matched = λ x. record { pattern = n.pattern; span = record { start = n.span.start; end = x } } in
-    ap f p ∙ (ap g s ∙ ap h t)
-
 pub same_captures : (c d : Captured) → c.groups ≡ d.groups → c.pattern ≡ d.pattern → c.offsets ≡ d.offsets → c ≡ d
 same_captures c d g p o =
     let f : GroupLists → Captured = λ x. record { groups = x; pattern = c.pattern; offsets = c.offsets } in
@@ -75,28 +58,11 @@ same_captures c d g p o =
     let k : List (Option ℕ) → Captured = λ x. record { groups = d.groups; pattern = d.pattern; offsets = x } in
     ap f g ∙ (ap h p ∙ ap k o)
 
--- a run determines its match, and the captures with it
-pub of_one_run : (e : Search) (run : List (ℕ × ℕ)) (c d : Captured) (m n : Matched) → IsOf e run m c → IsOf e run n d → c.groups ≡ d.groups
-    → length c.offsets ≡ length d.offsets → (m ≡ n) × (c ≡ d)
-of_one_run e run c d m n one other groups slots =
-    let p = one.ends.pattern in
-    let q = other.ends.pattern in
-    let pattern : m.pattern ≡ n.pattern = cc (p, q) in (
-      same_match m n pattern (one.ends.start ∙ sym other.ends.start) (one.ends.end ∙ sym other.ends.end),
-      same_captures c d groups (one.pattern ∙ (ap (λ (x : ℕ). Some x) pattern ∙ sym other.pattern))
-          (same_list None c.offsets d.offsets slots (λ k h. one.records k h ∙ sym (other.records k (omega (arith, slots, h))))),
-    )
-
--- there is one next match, and none if the iteration is over
+-- there is one next match, in captures over the same groups with as many slots, and none if the iteration is over
 pub record OneNext : Type 0 where
-  pub next : (e : Search) (last : Option ℕ) (one other : List (ℕ × ℕ)) → IsNext e last one → IsNext e last other → one ≡ other
+  pub next : (e : Search) (last : Option ℕ) (one other : Captured) (m n : Matched) → IsNextMatch e last one m → IsNextMatch e last other n
+      → one.groups ≡ other.groups → length one.offsets ≡ length other.offsets → (m ≡ n) × (one ≡ other)
   pub over : (e : Search) (last : Option ℕ) (run : List (ℕ × ℕ)) → IsOver e last → IsNext e last run → ⊥
-
-pub same_next : OneNext → (e : Search) (last : Option ℕ) (c d : Captured) (m n : Matched) → IsNextMatch e last c m → IsNextMatch e last d n
-    → c.groups ≡ d.groups → length c.offsets ≡ length d.offsets → (m ≡ n) × (c ≡ d)
-same_next laws e last c d m n one other groups slots =
-    let run = laws.next e last one.run other.run one.is_next other.is_next in
-    of_one_run e other.run c d m n (subst (λ (x : List (ℕ × ℕ)). IsOf e x m c) run one.is_of) other.is_of groups slots
 
 pub same_all : {W : Type 0} (chars : W → ℕ → Bool) → OneNext → (left : Left W) (one other : List MatchWith) → AreAllWith chars left one
     → AreAllWith chars left other → one ≡ other
@@ -104,8 +70,8 @@ same_all chars laws left [] [] a b = refl
 same_all chars laws left [] (n ∷ others) over b = absurd (laws.over (search_in chars left.program left.input) left.last b.0.run over b.0.is_next)
 same_all chars laws left (m ∷ rest) [] a over = absurd (laws.over (search_in chars left.program left.input) left.last a.0.run over a.0.is_next)
 same_all chars laws left (m ∷ rest) (n ∷ others) a b =
-    let same = same_next laws (search_in chars left.program left.input) left.last m.captures n.captures m.found n.found a.0 b.0
-    (a.1.groups ∙ sym b.1.groups) (a.1.slots ∙ sym b.1.slots) in
+    let same = laws.next (search_in chars left.program left.input) left.last m.captures n.captures m.found n.found a.0 b.0
+    (a.1.0 ∙ sym b.1.0) (a.1.1 ∙ sym b.1.1) in
     let found : m.found ≡ n.found = same.0 in
     let head : m ≡ n = ap (λ (f : Matched). record { found = f; captures = m.captures }) found
     ∙ ap (λ (c : Captured). record { found = n.found; captures = c }) same.1 in

@@ -1,28 +1,23 @@
 -- A text with all matches of a program replaced.
-use Rattle.std.specs.Prelude.{◌≡◌, ℕ, ◌*◌, Bool, List, [], ◌∷◌, ◌++◌, drop, length, slice_range}
+use Rattle.std.specs.Prelude.{◌≡◌, ℕ, Bool, List, [], ◌∷◌, ◌++◌, drop, slice_range}
 use Rattle.rsc_search.specs.Matches.{Matched}
 use Rattle.rsc_captures.specs.Captured.{Captured}
-use Rattle.rsc_captures.specs.Groups.{all_groups}
-use Rattle.rsc_engine.specs.Searches.{Compiled, search_in}
+use Rattle.rsc_engine.specs.Searches.{search_in}
+use Rattle.rsc_engine.specs.PatternMatches.{HasSlotsOf}
 use Rattle.rsc_engine.specs.NextMatches.{Left, IsNextMatch, IsOver, after}
 use Rattle.rsc_replace.specs.Templates.{filled}
-
--- the captures are over the program's groups, with slots for all of them
-pub record HasRoomFor {W : Type 0} (program : Compiled W) (captures : Captured) : Type 0 where
-  pub groups : captures.groups ≡ program.automaton.groups
-  pub slots : length captures.offsets ≡ 2 * all_groups program.automaton.groups
 
 -- a match with its captures
 pub record MatchWith : Type 0 where
   pub found : Matched
   pub captures : Captured
 
--- these are all matches of what is left, in order, each with its captures, which have room for all groups
+-- these are all matches of what is left, in order, each with its captures, which have a slot for each group
 abbrev pub AreAllWith : {W : Type 0} → (W → ℕ → Bool) → Left W → List MatchWith → Type 0
 AreAllWith chars left [] = IsOver (search_in chars left.program left.input) left.last
 AreAllWith chars left (m ∷ rest) =
     IsNextMatch (search_in chars left.program left.input) left.last m.captures m.found
-    × HasRoomFor left.program m.captures
+    × HasSlotsOf left.program m.captures
     × AreAllWith chars (after left m.found) rest
 
 -- the text from a position on, with each match replaced by what the template stands for; between matches are the text's own bytes

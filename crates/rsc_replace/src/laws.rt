@@ -1,11 +1,9 @@
 //! Laws of replacements that a caller can cite: functions whose contracts are the laws.
-ghost use Rattle.std.specs.Prelude.{◌≡◌, ◌==◌, ℕ, List, Option, false, length};
+ghost use Rattle.std.specs.Prelude.{◌≡◌, ◌==◌, ℕ, List, Option, false};
 ghost use Rattle.std.specs.List.{list_any};
-ghost use Rattle.rsc_search.specs.Matches.{Matched};
 ghost use Rattle.rsc_captures.specs.Captured.{Captured};
 ghost use Rattle.rsc_captures.specs.Groups.{Groups};
-ghost use Rattle.rsc_engine.specs.Searches.{Search};
-ghost use Rattle.rsc_engine.specs.NextMatches.{IsNextMatch, Left};
+ghost use Rattle.rsc_engine.specs.NextMatches.{Left};
 ghost use Rattle.rsc_engine.specs.Patterns.{Pattern, Subject};
 ghost use Rattle.rsc_replace.specs.Replacements.{AreAllWith, IsReplaced, MatchWith};
 ghost use Rattle.rsc_replace.specs.Templates.{filled};
@@ -20,14 +18,6 @@ pub fn a_template_without_dollars_is_itself()
         filled text captures template ≡ template }
 {}
 
-/// There is at most one next match, and in captures over the same groups with as many slots it leaves the same.
-pub fn a_next_match_has_one_outcome()
-    ensures { (e : Search) (last : Option ℕ) (one other : Captured) (m n : Matched) → IsNextMatch e last one m → IsNextMatch e last other n →
-        one.groups ≡ other.groups → length one.offsets ≡ length other.offsets → (m ≡ n) × (one ≡ other) }
-{
-    laws::there_is_one_next_match();
-}
-
 /// There is at most one list of all matches that are left with their captures, and so one text in which they are replaced.
 pub fn there_is_one_replaced_text<W: WordClass>()
     ensures all { (left : Left W) (one other : List MatchWith) → AreAllWith W.word_chars left one → AreAllWith W.word_chars left other → one ≡ other }
@@ -35,6 +25,7 @@ pub fn there_is_one_replaced_text<W: WordClass>()
         IsReplaced W.word_chars template left other → one ≡ other }
 {
     laws::there_is_one_next_match();
+    laws::there_is_one_match_with_captures();
 }
 
 /// There is at most one list of all matches of a pattern in a text, and so one text in which they are replaced.

@@ -46,6 +46,7 @@ pub fn replace_all<W: WordClass + AsciiWordClass>(
     ensures refused { IfErr result (FailsFor (search_in W.word_chars program.now (whole text.now))) }
 {
     let mut captures = program.captures(alloc)?;
+    laws::an_iteration_ends();
     let mut matches = Matches::new(alloc, program, Input::new(text))?;
     let mut out = Vec::new(alloc);
     let mut from = 0;

@@ -11,7 +11,7 @@ fn all_matches_are_replaced(rt: HostRuntime) -> Result<(), Fail> {
         // The original's examples of replacements: two words in the other order, and named groups.
         "W+G ,W+K,\t$2 $1\tab cd\tcd ab",
         "W+G ,W+K,\t${key}_$1\tab cd, e f\tcd_ab, f_e",
-        // No match, the whole text, both ends, and nothing in place of a match.
+        // No match, the whole text, both ends, and a match replaced by nothing.
         "a\t-\tbcb\tbcb",
         "W+\t<$0>\tabc\t<abc>",
         "a\t-\tabba\t-bb-",

@@ -3,8 +3,8 @@ use Rattle.rsc_replace.proofs.laws.there_is_one_replaced_text.Goals as goal
 
 pub returns-clause-all : goal.returns-clause-all
 returns-clause-all g c =
-    same_all g.W.WordClass.word_chars (record { next = c.there_is_one_next_match.ensures.next; over = c.there_is_one_next_match.ensures.over })
+    same_all g.W.WordClass.word_chars (record { next = c.there_is_one_match_with_captures.ensures.next; over = c.there_is_one_next_match.ensures.over })
 
 pub returns-clause-text : goal.returns-clause-text
 returns-clause-text g c =
-    same_text g.W.WordClass.word_chars (record { next = c.there_is_one_next_match.ensures.next; over = c.there_is_one_next_match.ensures.over })
+    same_text g.W.WordClass.word_chars (record { next = c.there_is_one_match_with_captures.ensures.next; over = c.there_is_one_next_match.ensures.over })

@@ -1,9 +1,8 @@
 use Rattle.std.proofs.Common.{◌≡◌, ◌∙◌, ◌++◌, List, ℕ, None, drop, slice_range, refl, sym, ap, arith}
-use Rattle.std.proofs.lemmas.List.{length-replicate}
 use Rattle.rsc_search.specs.Inputs.{whole}
+use Rattle.rsc_engine.specs.PatternMatches.{HasSlotsOf}
 use Rattle.rsc_replace.specs.Templates.{filled}
-use Rattle.rsc_replace.specs.Replacements.{HasRoomFor}
-use Rattle.rsc_replace.proofs.ReplacementsLemmas.{begun_none, begun_more, begun_all, rest_taken, fewer_left}
+use Rattle.rsc_replace.proofs.ReplacementsLemmas.{begun_none, begun_more, begun_all, rest_taken}
 use Rattle.rsc_replace.proofs.replace.replace_all.Goals as goal
 
 pub returns-in-None-clause-replaced : goal.returns-in-None-clause-replaced
@@ -23,8 +22,7 @@ matches-init g c = record {
   haystack = rw (c.in_ok-matches.ensures.made, c.new.ensures) refl;
   end = rw (c.in_ok-matches.ensures.made, c.new.ensures) refl;
   from = rw (c.in_ok-matches.ensures.made, c.new.ensures) refl;
-  room = rw (c.in_ok-matches.ensures.made, c.in_ok-captures.ensures.made)
-      (record { groups = refl; slots = length-replicate _ _ });
+  slots = rw c.in_ok-matches.ensures.made c.in_ok-captures.ensures.slots;
   within = omega arith;
 }
 
@@ -44,16 +42,16 @@ matches-preserved g c =
     ≡ (c.matches.out.items ++ slice_range c.matches.matches.input.haystack c.matches.matches.input.span.start c.in-Some.found.span.start) ++ text =
     expanded ∙ (ap (λ (x : List ℕ). c.extend_from_slice-in-Some.new.self.items ++ x) same ∙ ap (λ (x : List ℕ). x ++ text)
     (c.in_ok-extend_from_slice-in-Some.ensures.items ∙ ap (λ (x : List ℕ). c.matches.out.items ++ x) between)) in
-    let room : HasRoomFor c.matches.matches.program c.next.new.captures =
-    record { groups = c.in_ok-next.ensures.groups ∙ c.matches.invariant.room.groups; slots = c.in_ok-next.ensures.slots ∙ c.matches.invariant.room.slots } in
+    let slots : HasSlotsOf c.matches.matches.program c.next.new.captures =
+    (c.in_ok-next.ensures.groups ∙ c.matches.invariant.slots.0, c.in_ok-next.ensures.slots ∙ c.matches.invariant.slots.1) in
     let begun = begun_more g.W.WordClass.word_chars c.args.template.now (record { program = c.args.program.now; input = whole c.args.text.now; last = None })
-    c.matches.matches c.matches.out.items c.in-Some.found c.next.new.captures c.matches.invariant.begun next room in
+    c.matches.matches c.matches.out.items c.in-Some.found c.next.new.captures c.matches.invariant.begun next slots in
     record {
       begun = rw (on, items) begun;
       haystack = ap (λ x. x.input.haystack) on ∙ c.matches.invariant.haystack;
       end = ap (λ x. x.input.span.end) on ∙ c.matches.invariant.end;
       from = ap (λ x. x.input.span.start) on ∙ sym c.end-from.ensures.end;
-      room = rw on room;
+      slots = rw on slots;
       within = omega (arith, within.2, c.end-from.ensures.end, c.matches.invariant.end);
     }
 
@@ -62,4 +60,4 @@ matches-smaller g c =
     let on = rw c.in-Some.is at c.in_ok-next.ensures.on in
     let later = rw c.in-Some.is at c.in_ok-next.ensures.later in
     let within = rw c.in-Some.is at c.in_ok-next.ensures.within in
-    rw on (fewer_left c.matches.matches.input.span.end c.matches.matches.last c.in-Some.found.span.end later within.2)
+    rw on (c.an_iteration_ends.ensures c.matches.matches.input.span.end c.in-Some.found.span.end c.matches.matches.last later within.2)

@@ -1,7 +1,8 @@
 use Rattle.std.proofs.Common.{◌≡◌, ◌≤◌, None, length}
 use Rattle.rsc_search.specs.Inputs.{whole}
-use Rattle.rsc_replace.specs.Replacements.{HasRoomFor}
-use Rattle.rsc_replace.proofs.ReplacementsLemmas.{IsBegun, steps_left}
+use Rattle.rsc_engine.specs.NextMatches.{steps_left}
+use Rattle.rsc_engine.specs.PatternMatches.{HasSlotsOf}
+use Rattle.rsc_replace.proofs.ReplacementsLemmas.{IsBegun}
 use Rattle.rsc_replace.proofs.replace.replace_all.Given as goal
 
 abbrev pub invariant-matches : goal.invariant-matches
@@ -10,7 +11,7 @@ invariant-matches g l = record {
   haystack : l.matches.input.haystack ≡ l.text;
   end : l.matches.input.span.end ≡ length l.text;
   from : l.matches.input.span.start ≡ l.from;
-  room : HasRoomFor l.matches.program l.captures;
+  slots : HasSlotsOf l.matches.program l.captures;
   within : l.from ≤ length l.text;
 }
 
