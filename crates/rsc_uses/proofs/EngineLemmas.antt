@@ -1,40 +1,38 @@
--- All matches of a program, one after the other.
+-- All matches of a program, or all lines, one after the other.
 use Rattle.std.specs.Option.{ForSome}
 use Rattle.std.proofs.Common.{◌≡◌, ℕ, ◌+◌, ◌-◌, ◌<◌, ◌≤◌, Option, None, Some, Bool, List, [], ◌∷◌, ◌++◌, refl, sym, ap, subst, arith}
 use Rattle.rsc_search.specs.Matches.{Matched}
 use Rattle.rsc_engine.specs.Searches.{search_in}
+use Rattle.rsc_search.specs.declared.span.Span.{Span}
+use Rattle.rsc_engine.specs.Lines.{LinesLeft, IsNextLine, HasNoLine, AreLines, after_line}
 use Rattle.rsc_engine.specs.NextMatches.{Left, IsNextOf, IsOver, AreAll, after}
 
--- these are the first of what is left, each with its match, and then the other is left
-unfoldable pub AreFirst : {W X : Type 0} → (Left W → X → Type 0) → (X → Matched) → Left W → List X → Left W → Type 0
-AreFirst Next its left [] end = left ≡ end
-AreFirst Next its left (one ∷ rest) end = Next left one × AreFirst Next its (after left (its one)) rest end
+-- these are the first of what is left, after each is left what `go` says, and then the other is left
+unfoldable pub AreFirst : {S X : Type 0} → (S → X → Type 0) → (S → X → S) → S → List X → S → Type 0
+AreFirst Next go left [] end = left ≡ end
+AreFirst Next go left (one ∷ rest) end = Next left one × AreFirst Next go (go left one) rest end
 
-pub first_none : {W X : Type 0} (Next : Left W → X → Type 0) (its : X → Matched) (left : Left W) → AreFirst Next its left [] left
+pub first_none : {S X : Type 0} (Next : S → X → Type 0) (go : S → X → S) (left : S) → AreFirst Next go left [] left
 unfolding AreFirst
-first_none Next its left = refl
+first_none Next go left = refl
 
 -- one more
-pub first_more : {W X : Type 0} (Next : Left W → X → Type 0) (its : X → Matched) (left : Left W) (all : List X) (end : Left W) (one : X)
-    → AreFirst Next its left all end → Next end one → AreFirst Next its left (all ++ one ∷ []) (after end (its one))
+pub first_more : {S X : Type 0} (Next : S → X → Type 0) (go : S → X → S) (left : S) (all : List X) (end : S) (one : X)
+    → AreFirst Next go left all end → Next end one → AreFirst Next go left (all ++ one ∷ []) (go end one)
 unfolding AreFirst
-first_more {W = W} Next its left [] end one same next =
-    (subst (λ (x : Left W). Next x one) (sym same) next, ap (λ (x : Left W). after x (its one)) same)
-first_more Next its left (other ∷ rest) end one first next = (first.0, first_more Next its (after left (its other)) rest end one first.1 next)
+first_more {S = S} Next go left [] end one same next = (subst (λ (x : S). Next x one) (sym same) next, ap (λ (x : S). go x one) same)
+first_more Next go left (other ∷ rest) end one first next = (first.0, first_more Next go (go left other) rest end one first.1 next)
 
 -- and none after the last
-pub first_all : {W : Type 0} (chars : W → ℕ → Bool) (left : Left W) (all : List Matched) (end : Left W) → AreFirst (IsNextOf chars) (λ m. m) left all end
+pub first_all : {W : Type 0} (chars : W → ℕ → Bool) (left : Left W) (all : List Matched) (end : Left W) → AreFirst (IsNextOf chars) after left all end
     → IsOver (search_in chars end.program end.input) end.last → AreAll chars left all
 unfolding AreFirst
 first_all {W = W} chars left [] end same over = subst (λ (x : Left W). IsOver (search_in chars x.program x.input) x.last) (sym same) over
 first_all chars left (one ∷ rest) end first over = (first.0, first_all chars (after left one) rest end first.1 over)
 
--- how often the search can go on, by where the last match ended
-pub steps_left : ℕ → Option ℕ → ℕ
-steps_left end None = end + 2
-steps_left end (Some last) = end + 1 - last
-
-pub fewer_left : (end : ℕ) (last : Option ℕ) (m : ℕ) → ForSome last (λ e. e < m) → m ≤ end → steps_left end (Some m) < steps_left end last
-unfolding steps_left
-fewer_left end None m later within = omega (arith, within)
-fewer_left end (Some e) m later within = omega (arith, within, later e refl)
+-- and no line after the last
+pub lines_all : {W : Type 0} (chars : W → ℕ → Bool) (left : LinesLeft W) (all : List Span) (end : LinesLeft W)
+    → AreFirst (IsNextLine chars) after_line left all end → HasNoLine chars end → AreLines chars left all
+unfolding AreFirst
+lines_all {W = W} chars left [] end same none = subst (λ (x : LinesLeft W). HasNoLine chars x) (sym same) none
+lines_all chars left (line ∷ rest) end first none = (first.0, lines_all chars (after_line left line) rest end first.1 none)

@@ -9,7 +9,7 @@ use Rattle.rsc_search.specs.declared.span.Span.{Span}
 use Rattle.rsc_captures.specs.Captured.{Captured, group_span}
 use Rattle.rsc_captures.specs.Groups.{GroupLists, group_count, slot_number, slot_of, all_groups}
 use Rattle.rsc_engine.specs.Searches.{Compiled, search_in}
-use Rattle.rsc_engine.specs.NextMatches.{Left, IsNextMatch, IsOver, AreAll}
+use Rattle.rsc_engine.specs.NextMatches.{Left, IsNextMatch, IsOver, AreAll, after}
 use Rattle.rsc_engine.specs.Patterns.{Pattern, Subject, Goes, subject_of, IsMatchIn}
 use Rattle.rsc_engine.specs.FirstEnds.{loops_take_bytes, IsFirstEnd}
 use Rattle.rsc_engine.specs.GroupNumbers.{as_whole}
@@ -129,7 +129,7 @@ Spans = (lists : GroupLists) (captures : Captured) (m : Matched) (records : List
 
 pub lexed_with : {W : Type 0} (chars : W → ℕ → Bool) (program : Compiled W) (patterns : List Pattern) (text : List ℕ) (group at : ℕ) (last : Option ℕ)
     (all : List (Matched × Option Span)) (end : Left W) → Laws chars program patterns → Spans
-    → AreFirst (IsNextWith chars group) (λ both. both.0) (record { program = program; input = rest_of text at; last = last }) all end
+    → AreFirst (IsNextWith chars group) (λ left both. after left both.0) (record { program = program; input = rest_of text at; last = last }) all end
     → IsOver (search_in chars end.program end.input) end.last
     → AreLexedWith (read_by chars program.automaton.matcher text) patterns program.automaton.groups group at all
 unfolding AreFirst

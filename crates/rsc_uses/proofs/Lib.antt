@@ -1,7 +1,7 @@
 mod AlphabetLemmas  -- tables that are filled unit by unit
 mod CapturesLemmas  -- the slots that a group was written into give its span
 mod EndsLemmas  -- where what comes often ends, and what comes seldom
-mod EngineLemmas  -- all matches of a program, one after the other
+mod EngineLemmas  -- all matches of a program, or all lines, one after the other
 mod FoundLemmas  -- what a search has found so far
 mod LexedLemmas  -- matches that stand side by side are tokens
 mod ListedLemmas  -- how such a list is made, number by number

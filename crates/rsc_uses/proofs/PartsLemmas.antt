@@ -100,21 +100,6 @@ count_slots lists made_for made after its is_made same =
     same ∙ (ap (λ (c : Captured). length c.offsets) is_made ∙ (length-replicate {A = Option ℕ} (2 * all_groups made_for) None
     ∙ ap (λ (l : GroupLists). 2 * all_groups l) its))
 
--- and hold what the pattern's first way records, if those of its match do
-pub first_way_of : {W : Type 0} (chars : W → ℕ → Bool) (program : Compiled W) (word_class : W) (p : Pattern) (lists : GroupLists) (input : InputParts)
-    (after : Captured) (found : Matched) → program.automaton.matcher ≡ (10, word_class) → program.automaton.groups ≡ lists
-    → IsMatchIn (p ∷ []) (search_in chars program input) found
-    → (slice_get (p ∷ []) found.pattern ≡ Some p → HoldsFirstWay (subject_of (search_in chars program input))
-    (as_whole program.automaton.groups found.pattern p) input.span.end found.span after.offsets)
-    → HoldsFirstWay (text_of input.haystack (chars word_class)) (as_whole lists 0 p) input.span.end found.span after.offsets
-first_way_of {W = W} chars program word_class p lists input after found matcher its m way =
-    subst (λ (x : ℕ × W). HoldsFirstWay (record { haystack = input.haystack; terminator = x.0; word_chars = chars x.1 }) (as_whole lists 0 p) input.span.end
-    found.span after.offsets) matcher
-    (subst (λ (l : GroupLists). HoldsFirstWay (subject_of (search_in chars program input)) (as_whole l 0 p) input.span.end found.span after.offsets) its
-    (subst (λ (n : ℕ). HoldsFirstWay (subject_of (search_in chars program input)) (as_whole program.automaton.groups n p) input.span.end found.span
-    after.offsets) (number_of p (search_in chars program input) found m)
-    (way (m.its ∙ ap (λ (q : Pattern). Some q) (its_only p m.pattern found.pattern m.its)))))
-
 -- and its preferred way
 pub preferred_way_of : {W : Type 0} (chars : W → ℕ → Bool) (program : Compiled W) (word_class : W) (p : Pattern) (lists : GroupLists) (input : InputParts)
     (after : Captured) (found : Matched) → program.automaton.matcher ≡ (10, word_class) → program.automaton.groups ≡ lists

@@ -5,8 +5,7 @@ ghost use Rattle.rsc_alphabet.specs.ByteSets.{members, runs};
 ghost use Rattle.rsc_alphabet.specs.Partitions.{LastClassIsGreatest, Together, class_map, boundaries_of_ranges};
 ghost use Rattle.std.specs.declared.ops.Bound.TheVariants.{Unbounded};
 ghost use Rattle.rsc_alphabet.specs.Iterators.{stride2_of, symbol_count, symbols, elements_of, representatives_of};
-ghost use Rattle.std.specs.List.{Contains};
-ghost use Rattle.rsc_alphabet.specs.Ranges.{has_boundary};
+ghost use Rattle.rsc_alphabet.specs.Ranges.{are_among, has_boundary};
 ghost use Rattle.rsc_uses.specs.Leads.{lead_of, in_ranges, lead_in};
 
 use rsc_alphabet::{ByteClassSet, ByteClasses, ByteSet, Unit, classes_of_ranges, laws};
@@ -209,11 +208,11 @@ fn no_leads() -> [u32; 256]
     [0; 256]
 }
 
-// Where a byte leads that a range holds, or that none does.
-fn lead(is_held: bool) -> u32
-    ensures { result ≡ (if is_held then 1 else 0) }
+/// 1 if one of the ranges holds the byte, and else 0.
+pub fn lead_in(ranges: &[(u8, u8)], byte: u8) -> u32
+    ensures { result ≡ lead_in ranges.now byte }
 {
-    if is_held { 1 } else { 0 }
+    if in_ranges(ranges, byte) { 1 } else { 0 }
 }
 
 /// Where each byte leads: to 1 if one of the ranges holds it, and else to 0.
@@ -222,7 +221,7 @@ pub fn leads_of(ranges: &[(u8, u8)]) -> [u32; 256]
 {
     let mut leads = no_leads();
     for number in 0..256u16 {
-        leads[number as usize] = lead(in_ranges(ranges, number as u8));
+        leads[number as usize] = lead_in(ranges, number as u8);
     }
     leads
 }
@@ -231,7 +230,7 @@ pub fn leads_of(ranges: &[(u8, u8)]) -> [u32; 256]
 /// exactly if one of these ranges holds the byte.
 pub fn fill_from_ranges(all: &[(u8, u8)], part: &[(u8, u8)], row: &mut [u32]) -> ByteClasses
     requires order { All (λ r. r.0 ≤ r.1) all.now }
-    requires among { (r : ℕ × ℕ) → Contains part.now r → Contains all.now r }
+    requires among { IsTrue (are_among part.now all.now) }
     requires room { 257 ≤ length row.old }
     ensures classes { result ≡ class_map (has_boundary all.now) }
     ensures entries { (b : ℕ) → b < 256 → slice_index row.new (slice_index result b) ≡ lead_in part.now b }

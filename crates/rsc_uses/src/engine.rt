@@ -115,6 +115,7 @@ pub fn all_over<'p, 'h, W: WordClass + AsciiWordClass>(
     ensures cache { IfOk result (λ both. both.1 ≡ cache.entry) }
     ensures refused { IfErr result (FailsFor (search_in W.word_chars cache.entry input.entry)) }
 {
+    laws::an_iteration_ends();
     let mut matches = cache.matches(input)?;
     let mut all = Vec::new(alloc);
     'matches: loop {

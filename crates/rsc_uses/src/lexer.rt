@@ -58,6 +58,7 @@ pub fn tokens_with_group<'n, W: WordClass + AsciiWordClass>(
     laws::anchored_matches_are_side_by_side::<W>();
     laws::a_match_ends_at_its_first_end::<W>();
     laws::a_group_spans_what_its_way_records();
+    laws::an_iteration_ends();
     let program = builder.build(word_class, true, last)?;
     let mut captures = program.captures(alloc)?;
     let input = Input::new(text).anchored(Anchored::Yes);

@@ -1,7 +1,10 @@
 //! Searches for a part of a pattern: a program is built of it, and what an engine's answer says of the part itself.
+ghost use Rattle.std.specs.FinSet as sets;
 ghost use Rattle.std.specs.Prelude.{◌≡◌, ◌*◌, ◌<◌, ◌≤◌, ◌++◌, [], ◌∷◌, ℕ, Some, None, true, false, IfOk, IfErr, OnOk, IfSome, IfNone, length, slice_index, slice_index_or};
 ghost use Rattle.rsc_captures.specs.Captured.{group_span};
 ghost use Rattle.rsc_captures.specs.Groups.{all_groups};
+ghost use Rattle.rsc_look.specs.declared.assertion.Look.{Look};
+ghost use Rattle.rsc_engine.specs.Features.{asks};
 ghost use Rattle.rsc_engine.specs.declared.dfa.Answer.TheVariants.{End, NoMatch, Quit};
 ghost use Rattle.rsc_engine.specs.declared.error.Error.TheVariants.{OutOfMemory};
 ghost use Rattle.rsc_engine.specs.Patterns.{Goes, Then, Either, Literal, Group, may_be_empty};
@@ -13,9 +16,26 @@ ghost use Rattle.rsc_uses.specs.Texts.{text_of, GoesNowhere, GoesNowhereBefore, 
 
 use rsc_captures::Captures;
 use rsc_engine::{Answer, AsciiWordClass, Builder, Dfa, Error, Matches, Part, Program, find, laws};
-use rsc_look::WordClass;
+use rsc_look::{LookSet, WordClass};
 use rsc_search::{Input, Match, Span};
 use std::alloc::Global;
+
+/// The assertions that a search for a part asks: those which stand in it, in parts that may be there. So a search for `abc` asks none.
+///
+/// # Errors
+///
+/// As [`Builder::build`].
+pub fn looks_of<W: WordClass + AsciiWordClass>(
+    alloc: Global,
+    word_class: W,
+    part: Part<'_>,
+) -> Result<LookSet, Error>
+    ensures asked { IfOk result (λ set. (look : Look) → sets.contains set look ≡ asks look (pattern_of part.entry)) }
+    ensures refused { IfErr result (FailsToBuild (pattern_of part.entry ∷ []) (groups_of_pattern part.entry ∷ [])) }
+{
+    let program = Builder::new(alloc).build(word_class, true, part)?;
+    Ok(program.nfa().looks())
+}
 
 /// Where a part goes first in a haystack, whose line terminator is `\n`: from where to where, or `None` if it goes nowhere. It ends where the part's preferred
 /// way does; if its loops take bytes, that is the first end.
@@ -43,8 +63,8 @@ pub fn find_part<W: WordClass + AsciiWordClass>(
     ensures refused { IfErr result (FailsToBuild (pattern_of part.entry ∷ []) (groups_of_pattern part.entry ∷ [])) }
 {
     laws::a_first_match_is_of_a_pattern::<W>();
-    laws::a_match_ends_at_its_first_end::<W>();
     laws::captures_are_of_the_preferred_way::<W>();
+    laws::a_preferred_way_is_the_first_way();
     let program = Builder::new(alloc).build(word_class, true, part)?;
     let mut captures = program.captures(alloc)?;
     let input = Input::new(haystack);
@@ -76,8 +96,8 @@ pub fn find_with_slots<W: WordClass + AsciiWordClass>(
     ensures refused { IfErr result (FailsToBuild (pattern_of part.entry ∷ []) (groups_of_pattern part.entry ∷ [])) }
 {
     laws::a_first_match_is_of_a_pattern::<W>();
-    laws::captures_are_of_the_first_way::<W>();
     laws::captures_are_of_the_preferred_way::<W>();
+    laws::a_preferred_way_is_the_first_way();
     laws::the_first_group_is_the_match::<W>();
     let program = Builder::new(alloc).build(word_class, true, part)?;
     let mut captures = program.captures(alloc)?;

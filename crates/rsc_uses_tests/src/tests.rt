@@ -10,7 +10,7 @@ use rsc_look::{AsciiWord, Look, LookMatcher, LookSet, UnicodeWord};
 use rsc_nfa::{Nfa, State};
 use rsc_primitives::{NonMaxUsize, PatternID, StateID};
 use rsc_search::{Input, Match, MatchError, MatchKind, PatternSet, Span};
-use rsc_uses::{alphabet, captures, look, nfa, primitives, search, threads, tokens};
+use rsc_uses::{alphabet, captures, look, nfa, primitives, search, tables, threads, tokens};
 use std::test::Fail;
 
 fn are_positions(found: &[usize], want: &[usize]) -> bool {
@@ -111,6 +111,27 @@ fn entries_of_rows(rt: HostRuntime) -> Result<(), Fail> {
     assert!(rt; row[usize::from(map.get(b'q'))] == 1 && row[usize::from(map.get(b'-'))] == 0);
     let leads = alphabet::leads_of(&ranges);
     assert!(rt; leads[usize::from(b'5')] == 1 && !alphabet::in_ranges(&ranges, b'A'));
+    Ok(())
+}
+
+#[test]
+fn a_table_of_letters_and_digits(rt: HostRuntime) -> Result<(), Fail> {
+    let (map, table) = tables::letters_and_digits(rt.alloc())?;
+    let entries = [
+        (b'q', 1, 0),
+        (b'Z', 1, 0),
+        (b'7', 0, 1),
+        (b'_', 0, 0),
+        (0xFF, 0, 0),
+    ];
+    for (byte, letter, digit) in &entries {
+        assert_eq!(rt;
+            table.get(usize::from(map.get(*byte))).copied(),
+            Some(*letter)
+        );
+        let second = (1 << map.stride2()) + usize::from(map.get(*byte));
+        assert_eq!(rt; table.get(second).copied(), Some(*digit));
+    }
     Ok(())
 }
 

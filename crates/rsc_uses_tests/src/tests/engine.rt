@@ -1,6 +1,6 @@
 //! The callers of the engine, run on values.
 use rsc_engine::{Answer, Builder, Cache, Dfa, Error, Matches, Part, Program};
-use rsc_look::AsciiWord;
+use rsc_look::{AsciiWord, Look, LookSet};
 use rsc_primitives::PatternID;
 use rsc_search::{Input, Span};
 use rsc_uses::{ends, engine, lexer, parts};
@@ -36,6 +36,18 @@ fn the_first_group_of_a_match_is_set(rt: HostRuntime) -> Result<(), Fail> {
     assert!(rt; found.is_some_and(|both| both.1 == Some(both.0.span())));
     let digit = builder.range(b'0', b'9');
     assert!(rt; parts::find_with_group(rt.alloc(), AsciiWord, digit, &input)?.is_none());
+    Ok(())
+}
+
+#[test]
+fn a_search_asks_the_assertions_of_its_part(rt: HostRuntime) -> Result<(), Fail> {
+    let builder = Builder::new(rt.alloc());
+    assert!(rt; parts::looks_of(rt.alloc(), AsciiWord, builder.literal(b"abc")?)?.is_empty());
+    let line = builder.then(builder.look(Look::StartLF), builder.literal(b"a")?)?;
+    let never = builder.repeat(builder.look(Look::End), 0, Some(0))?;
+    let both = builder.then(line, never)?;
+    let looks = parts::looks_of(rt.alloc(), AsciiWord, both)?;
+    assert!(rt; looks == LookSet::singleton(Look::StartLF));
     Ok(())
 }
 

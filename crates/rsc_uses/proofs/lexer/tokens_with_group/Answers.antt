@@ -2,9 +2,10 @@ use Rattle.std.proofs.Common.{◌≡◌, ◌∙◌, ◌*◌, ◌++◌, [], ◌�
 use Rattle.rsc_captures.specs.Captured.{Captured}
 use Rattle.rsc_captures.specs.Groups.{all_groups}
 use Rattle.rsc_engine.specs.Parts.{pattern_of, patterns_of}
+use Rattle.rsc_engine.specs.NextMatches.{after}
 use Rattle.rsc_uses.specs.Lexed.{AreLexedWith}
 use Rattle.rsc_uses.specs.Texts.{text_of}
-use Rattle.rsc_uses.proofs.EngineLemmas.{first_none, first_more, fewer_left}
+use Rattle.rsc_uses.proofs.EngineLemmas.{first_none, first_more}
 use Rattle.rsc_uses.proofs.LexedLemmas.{read_by, IsNextWith, slot_within, lexed_with}
 use Rattle.rsc_uses.proofs.lexer.tokens_with_group.Goals as goal
 
@@ -12,7 +13,8 @@ pub matches-init : goal.matches-init
 matches-init g c =
     let program = ap (λ x. x.program) c.in_ok-matches.ensures.made in
     record {
-      first = rw c.new-all.ensures.items (first_none (IsNextWith g.W.WordClass.word_chars c.args.group) (λ both. both.0) c.in_ok-matches.matches);
+      first = rw c.new-all.ensures.items
+          (first_none (IsNextWith g.W.WordClass.word_chars c.args.group) (λ left both. after left both.0) c.in_ok-matches.matches);
       program = refl;
       groups = rw program (c.in_ok-captures.ensures.slots.0);
       slots = rw program (c.in_ok-captures.ensures.slots.1);
@@ -25,8 +27,8 @@ matches-preserved g c =
     let slots = c.next.ensures.slots ∙ c.matches.invariant.slots in
     record {
       first = rw (c.in_ok-push-in-Some.ensures.items, on)
-          (first_more (IsNextWith g.W.WordClass.word_chars c.args.group) (λ both. both.0) c.in_ok-matches.matches c.matches.all.items c.matches.matches
-          (c.in-Some.found, c.get_group.result) c.matches.invariant.first (
+          (first_more (IsNextWith g.W.WordClass.word_chars c.args.group) (λ left both. after left both.0) c.in_ok-matches.matches c.matches.all.items
+          c.matches.matches (c.in-Some.found, c.get_group.result) c.matches.invariant.first (
             _,
             rw c.in-Some.is at c.in_ok-next.ensures.found,
             (groups, slots),
@@ -44,7 +46,7 @@ matches-smaller g c =
     let on = rw c.in-Some.is at c.in_ok-next.ensures.on in
     let later = rw c.in-Some.is at c.in_ok-next.ensures.later in
     let within = rw c.in-Some.is at c.in_ok-next.ensures.within in
-    rw on (fewer_left c.matches.matches.input.span.end c.matches.matches.last c.in-Some.found.span.end later within.2)
+    rw on (c.an_iteration_ends.ensures c.matches.matches.input.span.end c.in-Some.found.span.end c.matches.matches.last later within.2)
 
 pub returns-in-None-clause-tokens : goal.returns-in-None-clause-tokens
 returns-in-None-clause-tokens g c =

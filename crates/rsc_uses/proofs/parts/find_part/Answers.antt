@@ -1,7 +1,7 @@
 use Rattle.std.proofs.Common.{◌≡◌, [], ◌∷◌, refl}
 use Rattle.rsc_search.specs.Inputs.{whole}
 use Rattle.rsc_engine.specs.Parts.{pattern_of, groups_of_pattern}
-use Rattle.rsc_uses.proofs.PartsLemmas.{goes_of, first_end_of, match_of, goes_nowhere, preferred_way_of}
+use Rattle.rsc_uses.proofs.PartsLemmas.{goes_of, match_of, goes_nowhere, preferred_way_of}
 use Rattle.rsc_uses.proofs.parts.find_part.Goals as goal
 
 pub returns-in-None-clause-none : goal.returns-in-None-clause-none
@@ -33,19 +33,6 @@ returns-clause-first g c = λ i j before within goes.
     (rw c.start.ensures.start at before)
     (match_of chars c.in_ok-program.program c.args.word_class p [] c.args.haystack.now i j c.in_ok-program.ensures.matcher within goes)
 
-pub returns-clause-first_end : goal.returns-clause-first_end
-returns-clause-first_end g c = λ loops.
-    let p = pattern_of c.args.part in
-    let chars = g.W.WordClass.word_chars in
-    let matches = rw c.new.ensures.patterns at c.in_ok-program.ensures.matches in
-    let ends = rw c.new.ensures.patterns at c.in_ok-program.ensures.first_ends in
-    let found = rw (c.in-Some.is, c.new-input.ensures) at c.in_ok-find.ensures.found in
-    rw (c.start.ensures.start, c.end.ensures.end)
-    (first_end_of chars c.in_ok-program.program c.args.word_class p c.args.haystack.now c.in-Some.found c.in_ok-program.ensures.matcher
-    (c.a_first_match_is_of_a_pattern.ensures.some c.in_ok-program.program (p ∷ []) (whole c.args.haystack.now) _ _ matches found)
-    (λ its.
-    c.a_match_ends_at_its_first_end.ensures.first c.in_ok-program.program (p ∷ []) (whole c.args.haystack.now) _ c.in-Some.found p ends found its loops))
-
 pub returns-clause-way : goal.returns-clause-way
 returns-clause-way g c =
     let p = pattern_of c.args.part in
@@ -59,3 +46,7 @@ returns-clause-way g c =
     (c.a_first_match_is_of_a_pattern.ensures.some program (p ∷ []) (whole c.args.haystack.now) _ _ matches found)
     (λ its. c.captures_are_of_the_preferred_way.ensures.first program (p ∷ []) (whole c.args.haystack.now) _ _ p ways found its) in
     rw (c.start.ensures.start, c.end.ensures.end) (way.0, way.1)
+
+pub returns-clause-first_end : goal.returns-clause-first_end
+returns-clause-first_end g c = λ loops.
+    c.a_preferred_way_is_the_first_way.ensures.end _ (groups_of_pattern c.args.part ∷ []) (pattern_of c.args.part) 0 _ _ _ _ (returns-clause-way g c).1 loops

@@ -1,6 +1,6 @@
 use Rattle.std.proofs.Common.{◌≡◌, [], ◌∷◌, arith}
 use Rattle.rsc_engine.specs.Parts.{pattern_of, groups_of_part, groups_of_pattern}
-use Rattle.rsc_uses.proofs.PartsLemmas.{has_room, first_group, goes_nowhere_in, count_slots, first_way_of, preferred_way_of}
+use Rattle.rsc_uses.proofs.PartsLemmas.{has_room, first_group, goes_nowhere_in, count_slots, preferred_way_of}
 use Rattle.rsc_uses.proofs.parts.find_with_slots.Goals as goal
 
 pub returns-clause-start : goal.returns-clause-start
@@ -48,18 +48,6 @@ returns-clause-slots g c =
     count_slots (groups_of_pattern c.args.part ∷ []) c.in_ok-program.program.automaton.groups c.in_ok-captures.captures c.find.new.captures lists
     c.in_ok-captures.ensures.made c.find.ensures.slots
 
-pub returns-clause-way : goal.returns-clause-way
-returns-clause-way g c = λ loops.
-    let p = pattern_of c.args.part in
-    let program = c.in_ok-program.program in
-    let matches = rw c.new.ensures.patterns at c.in_ok-program.ensures.matches in
-    let ways = rw c.new.ensures.patterns at c.in_ok-program.ensures.first_ways in
-    let lists : program.automaton.groups ≡ groups_of_pattern c.args.part ∷ [] = rw c.new.ensures.groups at c.in_ok-program.ensures.groups in
-    let found = rw c.in-Some.is at c.in_ok-find.ensures.found in
-    first_way_of g.W.WordClass.word_chars program c.args.word_class p (groups_of_pattern c.args.part ∷ []) c.args.input.now c.find.new.captures c.in-Some.found
-    c.in_ok-program.ensures.matcher lists (c.a_first_match_is_of_a_pattern.ensures.some program (p ∷ []) c.args.input.now _ _ matches found)
-    (λ its. c.captures_are_of_the_first_way.ensures.first program (p ∷ []) c.args.input.now _ _ p ways found its loops)
-
 pub returns-clause-preferred : goal.returns-clause-preferred
 returns-clause-preferred g c =
     let p = pattern_of c.args.part in
@@ -72,6 +60,14 @@ returns-clause-preferred g c =
     c.in-Some.found c.in_ok-program.ensures.matcher lists
     (c.a_first_match_is_of_a_pattern.ensures.some program (p ∷ []) c.args.input.now _ _ matches found)
     (λ its. c.captures_are_of_the_preferred_way.ensures.first program (p ∷ []) c.args.input.now _ _ p ways found its)
+
+pub returns-clause-way : goal.returns-clause-way
+returns-clause-way g c = λ loops.
+    let w = returns-clause-preferred g c in (
+      w.0,
+      c.a_preferred_way_is_the_first_way.ensures.whole _ (groups_of_pattern c.args.part ∷ []) (pattern_of c.args.part) 0 _ _ _ _ w.1 loops,
+      w.2,
+    )
 
 pub returns-in-None-clause-none : goal.returns-in-None-clause-none
 returns-in-None-clause-none g c =
