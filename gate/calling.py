@@ -98,6 +98,10 @@ def contracts(crate):
     return "\n".join(parts)
 
 
+# How many characters the fields of a record take at most where a table has them whole.
+MOST_OF_A_RECORD = 280
+
+
 def own_text(lines):
     """Returns what stands for a comment that a definition lacks: the lines below its first, which define it."""
     own = itertools.takewhile(str.strip, lines)
@@ -105,20 +109,26 @@ def own_text(lines):
 
 
 def meaning(comment, line, below):
-    """Returns what a definition says: its comment, with a record's fields or a short definition after it, or else how it is defined.
+    """Returns what a definition says: its comment, with a record's fields or a definition of one line after it, or else how it is defined.
 
     >>> meaning("two ends", "pub record Ends : Type 0 where", ["  pub start : ℕ", "  pub end : ℕ", ""])
-    'two ends (a record: `start`, `end`)'
-    >>> meaning("", "abbrev pub two : ℕ", ["two = 2", ""])
-    '`two = 2`'
+    'two ends (a record: `start : ℕ`, `end : ℕ`)'
+    >>> meaning("one more than one", "abbrev pub two : ℕ", ["two = 1 + 1", ""])
+    'one more than one: `two = 1 + 1`'
+    >>> meaning("two is even", "pub two-even : IsEven two", ["two-even = refl", ""])
+    'two is even'
     """
     own = own_text(below)
     if " record " in line:
-        fields = itertools.takewhile(lambda it: it.startswith("  "), below)
+        fields = [*itertools.takewhile(lambda it: it.startswith("  "), below)]
         names = [f"`{found[1]}`" for it in fields if (found := re.match(r"  pub (\S+) :", it))]
-        return f"{comment} (a record: {', '.join(names)})".strip()
-    # A comment above several definitions says of none what it is, so a short one is shown as well.
-    return f"{comment}: {own}" if comment and own.count("`") == 2 and len(own) < 70 else comment or own
+        whole = [f"`{it.strip().removeprefix('pub ')}`" for it in fields]
+        # What the fields say, too, if they are few.
+        is_short = len(whole) == len(names) and len("".join(whole)) <= MOST_OF_A_RECORD
+        return f"{comment} (a record: {', '.join(whole if is_short else names)})".strip()
+    # A lemma is what its comment says; its proof says nothing.
+    is_short = re.match(r"\s*(abbrev|unfoldable) ", line) and own.count("`") == 2
+    return f"{comment}: {own}" if comment and is_short else comment or own
 
 
 def names_of_specs(crate):
@@ -352,8 +362,8 @@ ALIKE = ((r"(PatternID|SmallIndex|StateID)::as_\w+", r"\1::as_.+"), (r"(?:Try)?F
          ("MatchError::kind", "MatchError::new"), ("HalfMatch::pattern", "HalfMatch::offset"), ("Match::pattern", "Match::span"),
          ("PatternSetInsertError::attempted", "PatternSetInsertError::capacity"), ("Captures::pattern", "Captures::is_match"),
          ("Captures::group_info", "Captures::group_len"), ("GroupInfoError::kind", "GroupInfoError::clone"), ("Nfa::(?:group_info|matcher)", "Nfa::states"),
-         ("From<.*> for Error", "ErrorFromBuildError::from"), ("Program::nfa", "Program::start"))
-EXEMPT = ("GroupInfo::all_names", "Dfa::new", "Matches::into_cache")
+         ("From<.*> for Error", "ErrorFromBuildError::from"), ("Matches::next", "Rest::next"), ("Program::nfa", "Program::start"))
+EXEMPT = ("GroupInfo::all_names", "Dfa::new", "Matches::into_cache", "Lines::into_dfa")
 
 
 def bodies_alike(call, bodies):

@@ -92,6 +92,7 @@ ENGINE = (("rsc_engine", "first.rt", ("find",)), ("rsc_engine", "iterate.rt", ("
           ("rsc_engine", "builder/part.rt", ("may_be_empty", "loops_take_bytes")),
           ("rsc_engine", "builder/repeat.rt", tuple(f"{it}{end}" for it in ("optional", "star", "plus", "repeat") for end in ("", "_lazy"))),
           ("rsc_engine", "dfa.rt", ("new", "earliest_end", "is_match", "find", "leftmost_end")), ("rsc_engine", "cache.rt", ("new", "find", "matches")),
+          ("rsc_engine", "lines.rt", ("new", "next", "into_dfa")),
           ("rsc_engine", "program.rt", ("new", "captures", "nfa", "start", "is_utf8", "len", "state")),
           ("rsc_captures", "captures.rt", ("empty", "is_match", "pattern", "slots", "get_match", "group_len", "get_group", "get_group_by_name", "iter")),
           ("rsc_search", "input.rt", ("new", "span", "range", "anchored", "earliest", "set_span", "set_range", "set_start", "set_end", "set_anchored", "set_earliest")),
@@ -99,7 +100,7 @@ ENGINE = (("rsc_engine", "first.rt", ("find",)), ("rsc_engine", "iterate.rt", ("
           ("rsc_engine", "laws.rt", ()))
 ENGINE_MEANT = (("rsc_look/src/word.rt", r"ghost word_chars = .*?;"), ("rsc_engine/src/iterate.rt", r"impl<[^{]*Model for Matches.*?^\}"))
 ENGINE_SEEN = (("rsc_engine", "program.rt", "Program"), ("rsc_engine", "dfa.rt", "Dfa"), ("rsc_engine", "cache.rt", "Cache"),
-               ("rsc_engine", "iterate.rt", "Matches"), ("rsc_nfa", "nfa.rt", "Nfa"), ("rsc_look", "matcher.rt", "LookMatcher"), ("rsc_search", "input.rt", "Input"), ("rsc_search", "matches.rt", "Match"),
+               ("rsc_engine", "iterate.rt", "Matches"), ("rsc_engine", "lines.rt", "Lines"), ("rsc_nfa", "nfa.rt", "Nfa"), ("rsc_look", "matcher.rt", "LookMatcher"), ("rsc_search", "input.rt", "Input"), ("rsc_search", "matches.rt", "Match"),
                ("rsc_captures", "captures.rt", "Captures"), ("rsc_captures", "group_info.rt", "GroupInfo"), ("rsc_captures", "layout.rt", "SharedLists"),
                *(("rsc_primitives", f"primitives/{it}.rt", name) for it, name in
                  (("small_index", "SmallIndex"), ("pattern_id", "PatternID"), ("state_id", "StateID"), ("non_max", "NonMaxUsize"))))

@@ -2,7 +2,8 @@
 # Makes a Rattle repository whose crate may call the libraries.
 #   own/new-repository.sh FOLDER CRATE [engine [uses]]
 # FOLDER must not be there yet. It gets the six libraries, docs, crates.txt, HANDLES, and the crate CRATE with a function that calls rsc_look and a test; with
-# 'engine' rsc_engine too, the search of README.md as src/pairs.rt, and a test of it; with 'uses' also rsc_uses, whose callers and lemmas CALLING.md quotes.
+# 'engine' rsc_engine too, the search of crates/rsc_example as src/pairs.rt, and a test of it; with 'uses' also rsc_uses, whose callers and lemmas CALLING.md quotes.
+# The line of CRATE in crates.txt has the libraries that its files name: a check of CRATE proves those alone.
 set -euo pipefail
 here=$(cd "$(dirname "${BASH_SOURCE[0]}")/.." && pwd)
 if [ $# -lt 2 ] || [ -e "$1" ] || [[ $2 == rsc_* ]] || [ "${3:-engine}" != engine ] || [ "${4:-uses}" != uses ]; then
@@ -19,7 +20,6 @@ for library in "${libraries[@]}"; do
     tar -C "$1/crates" -xf -
   grep "^$library:" "$here/crates.txt" >> "$1/crates.txt"
 done
-echo "$2: ${libraries[*]}" >> "$1/crates.txt"
 echo 'Handles allowed: none.' > "$1/HANDLES"
 echo 'out/' > "$1/.gitignore"
 cp "$here/LICENSE-MIT" "$here/NOTICE" "$1"
@@ -33,6 +33,13 @@ if [ -n "${3:-}" ]; then
   sed -i 's/^    use super::line_starts;$/    use super::line_starts;\n    use super::pairs::{named, pairs};\n    use rsc_engine::{Builder, find};/; s/^    use rsc_look::{AsciiWord, LookMatcher};$/&\n    use rsc_search::Input;/; $d' "$1/crates/$2/src/lib.rt"
   cat "$here/own/search.txt" >> "$1/crates/$2/src/lib.rt"
 fi
+used=$(for library in "${libraries[@]}"; do grep -rqw "$library" "$1/crates/$2/src" && echo -n " $library" || true; done)
+echo "$2:$used" >> "$1/crates.txt"
+# Only a test calls the threads of rsc_uses.
+if [ -n "${4:-}" ]; then
+  rm "$1/crates/rsc_uses/src/threads.rt"
+  sed -i '/^pub mod threads;$/d' "$1/crates/rsc_uses/src/lib.rt"
+fi
 # Links of pages to what isn't copied become their texts.
 python3 - "$1" << 'END'
 import pathlib, re, sys
@@ -41,5 +48,7 @@ for page in pathlib.Path(sys.argv[1]).rglob("*.md"):
         return link[0] if "://" in link[2] or (page.parent / link[2].partition("#")[0]).exists() else link[1]
     page.write_text(re.sub(r"\[([^\]]+)\]\(([^()\s]+)\)", kept, page.read_text(encoding="utf-8")), encoding="utf-8")
 END
-echo "In $1/crates/$2: 'rt try --test' runs its tests without a proof; 'rt check' proves the crate. The first check proves the libraries too, which takes some"
-echo "10 minutes on an idle machine, and 10 more with the engine: start it now and write meanwhile. docs/DEFINITIONS.md explains what contracts say."
+echo "In $1/crates/$2: 'rt try --test' runs its tests without a proof; 'rt check' proves the crate, and once the libraries of its line in crates.txt. A check"
+echo "holds what it proves until it ends, so prove the libraries one by one, and write meanwhile: some 10 minutes on an idle machine${3:+, 10 more for rsc_engine}${4:+, 10 more for rsc_uses}."
+echo "  (cd $1/crates && for library in ${libraries[*]}; do (cd \$library && rt check) || break; done)"
+echo "docs/DEFINITIONS.md explains what contracts say."
