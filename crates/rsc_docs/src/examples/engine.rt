@@ -1,5 +1,5 @@
 use rsc_captures::GroupInfo;
-use rsc_engine::{Answer, Builder, Cache, Dfa, Error, Matches, Program, find};
+use rsc_engine::{Answer, Builder, Cache, Dfa, Error, Lines, Matches, Program, find};
 use rsc_look::{AsciiWord, Look, LookMatcher, UnicodeWord};
 use rsc_nfa::{Nfa, State};
 use rsc_primitives::{PatternID, StateID};
@@ -194,6 +194,22 @@ fn answers(rt: HostRuntime) -> Result<(), Fail> {
     assert!(rt; dfa.earliest_end(&Input::new(b"- a"))? == Answer::End(2));
     assert!(rt; dfa.earliest_end(&Input::new(b"--"))? == Answer::NoMatch);
     assert!(rt; dfa.earliest_end(&Input::new("-é".as_bytes()))? == Answer::Quit(1));
+    Ok(())
+}
+
+#[test]
+fn lines(rt: HostRuntime) -> Result<(), Fail> {
+    // `Lines`
+    // b[a-z]
+    let builder = Builder::new(rt.alloc());
+    let letter = builder.literal(b"b")?;
+    let pair = builder.then(letter, builder.range(b'a', b'z'))?;
+    let program = builder.build(AsciiWord, true, pair)?;
+    let dfa = Dfa::new(rt.alloc(), &program, 1000);
+    let mut lines = Lines::new(dfa, b"ab\nabc\nbd");
+    assert!(rt; lines.next()? == Some(Span { start: 3, end: 6 }));
+    assert!(rt; lines.next()? == Some(Span { start: 7, end: 9 }));
+    assert!(rt; lines.next()? == None);
     Ok(())
 }
 
