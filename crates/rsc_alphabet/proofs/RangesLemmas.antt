@@ -142,16 +142,21 @@ same_any [] b c each = refl
 same_any (r ∷ rest) b c each =
     ap₂ (λ x y. x || y) (each r (0, omega arith, refl)) (same_any rest b c (λ q in_rest. each q (Contains-append_right (r ∷ []) rest q in_rest)))
 
+-- and so does a list of some of the ranges
+pub alike_some : (ranges part : List (ℕ × ℕ)) (b c : ℕ) → are_alike ranges b c ≡ true → ((r : ℕ × ℕ) → Contains part r → Contains ranges r)
+    → list_any (λ r. holds r b) part ≡ list_any (λ r. holds r c) part
+alike_some ranges part b c t among = same_any part b c (λ r in_part. alike_each ranges b c t r (among r in_part))
+
 same_range : (r q : ℕ × ℕ) → (r.0 == q.0 && r.1 == q.1) ≡ true → r ≡ q
 same_range r q t = ap₂ (λ x y. (x, y)) (grind (arith, nat_tests)) (grind (arith, nat_tests))
 
 abbrev is_among : List (ℕ × ℕ) → ℕ × ℕ → Bool
 is_among ranges r = list_any (λ q. r.0 == q.0 && r.1 == q.1) ranges
 
--- and so does a list of some of the ranges
-pub alike_some : (ranges part : List (ℕ × ℕ)) (b c : ℕ) → are_alike ranges b c ≡ true → are_among part ranges ≡ true
+-- which a test says of the list
+pub alike_among : (ranges part : List (ℕ × ℕ)) (b c : ℕ) → are_alike ranges b c ≡ true → are_among part ranges ≡ true
     → list_any (λ r. holds r b) part ≡ list_any (λ r. holds r c) part
-alike_some ranges part b c t among = same_any part b c (λ r in_part. alike_each ranges b c t r (Contains-from_any same_range r ranges (found r in_part)))
+alike_among ranges part b c t among = alike_some ranges part b c t (λ r in_part. Contains-from_any same_range r ranges (found r in_part))
   where
     found : (r : ℕ × ℕ) → Contains part r → is_among ranges r ≡ true
     found r (k, l, e) = subst (λ x. is_among ranges x ≡ true) e (AllPass-from_list_all (is_among ranges) part among k r l)

@@ -111,12 +111,14 @@ pub fn together_is_alike()
 {}
 
 /// Bytes that are alike for a list of ranges are in the same of them: each range holds both or neither, and so does each list of some of the
-/// ranges, which `are_among` tests, by `refl` for literals. For neighbours the converse holds too. [`crate::classes_of_ranges`] gives bytes
-/// one class exactly if they are alike.
-#[tactic(auto, using(crate::proofs::RangesLemmas::alike_each, crate::proofs::RangesLemmas::alike_some, crate::proofs::RangesLemmas::alike_neighbours))]
+/// ranges. `are_among` tests that they are some of them, and so answers by `refl` for literals. For neighbours the converse holds too.
+/// [`crate::classes_of_ranges`] gives bytes one class exactly if they are alike.
+#[tactic(auto, using(crate::proofs::RangesLemmas::alike_each, crate::proofs::RangesLemmas::alike_some, crate::proofs::RangesLemmas::alike_among, crate::proofs::RangesLemmas::alike_neighbours))]
 pub fn alike_bytes_share_their_ranges()
     ensures each { (ranges : List (ℕ × ℕ)) (b c : ℕ) → IsTrue (are_alike ranges b c) → (r : ℕ × ℕ) → Contains ranges r → holds r b ≡ holds r c }
-    ensures some { (ranges part : List (ℕ × ℕ)) (b c : ℕ) → IsTrue (are_alike ranges b c) → IsTrue (are_among part ranges) →
+    ensures some { (ranges part : List (ℕ × ℕ)) (b c : ℕ) → IsTrue (are_alike ranges b c) → ((r : ℕ × ℕ) → Contains part r → Contains ranges r) →
+        list_any (λ r. holds r b) part ≡ list_any (λ r. holds r c) part }
+    ensures among { (ranges part : List (ℕ × ℕ)) (b c : ℕ) → IsTrue (are_alike ranges b c) → IsTrue (are_among part ranges) →
         list_any (λ r. holds r b) part ≡ list_any (λ r. holds r c) part }
     ensures neighbours { (ranges : List (ℕ × ℕ)) (b : ℕ) → ((r : ℕ × ℕ) → Contains ranges r → holds r b ≡ holds r (b + 1)) →
         IsTrue (are_alike ranges b (b + 1)) }

@@ -5,7 +5,8 @@ ghost use Rattle.rsc_alphabet.specs.ByteSets.{members, runs};
 ghost use Rattle.rsc_alphabet.specs.Partitions.{LastClassIsGreatest, Together, class_map, boundaries_of_ranges};
 ghost use Rattle.std.specs.declared.ops.Bound.TheVariants.{Unbounded};
 ghost use Rattle.rsc_alphabet.specs.Iterators.{stride2_of, symbol_count, symbols, elements_of, representatives_of};
-ghost use Rattle.rsc_alphabet.specs.Ranges.{are_among, has_boundary};
+ghost use Rattle.std.specs.List.{Contains};
+ghost use Rattle.rsc_alphabet.specs.Ranges.{has_boundary};
 ghost use Rattle.rsc_uses.specs.Leads.{lead_of, in_ranges, lead_in};
 
 use rsc_alphabet::{ByteClassSet, ByteClasses, ByteSet, Unit, classes_of_ranges, laws};
@@ -230,7 +231,7 @@ pub fn leads_of(ranges: &[(u8, u8)]) -> [u32; 256]
 /// exactly if one of these ranges holds the byte.
 pub fn fill_from_ranges(all: &[(u8, u8)], part: &[(u8, u8)], row: &mut [u32]) -> ByteClasses
     requires order { All (λ r. r.0 ≤ r.1) all.now }
-    requires among { IsTrue (are_among part.now all.now) }
+    requires among { (r : ℕ × ℕ) → Contains part.now r → Contains all.now r }
     requires room { 257 ≤ length row.old }
     ensures classes { result ≡ class_map (has_boundary all.now) }
     ensures entries { (b : ℕ) → b < 256 → slice_index row.new (slice_index result b) ≡ lead_in part.now b }
