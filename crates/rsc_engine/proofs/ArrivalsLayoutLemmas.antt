@@ -25,7 +25,7 @@ step_goes e q r l = go (slice_get e.states q.0) l
     go (Some (Capture slot next)) x = inl x.1
     go (Some (Accept pattern)) x = absurd x
 
-arrives-before : (e : Search) (p j s i t k : ℕ) → IsPlace e (s, i) → Leads e (s, i) (t, k) → Arrives e p j t k → Arrives e p j s i
+abbrev pub arrives-before : (e : Search) (p j s i t k : ℕ) → IsPlace e (s, i) → Leads e (s, i) (t, k) → Arrives e p j t k → Arrives e p j s i
 arrives-before e p j s i t k there leads a = record {
   run = (s, i) ∷ a.run;
   is_match = match-before e (s, i) (t, k) a.run there leads a.is_match;
@@ -33,7 +33,7 @@ arrives-before e p j s i t k there leads a = record {
   end = subst (λ (q : ℕ × ℕ). q.1 ≡ j) (sym (last-before (s, i) a.run a.is_match.some)) a.end;
 }
 
-arrives-here : (e : Search) (p j s i : ℕ) → i ≡ j → IsPlace e (s, i) → accepts e (s, i) ≡ true → slice_get e.states s ≡ Some (Accept p) → Arrives e p j s i
+abbrev pub arrives-here : (e : Search) (p j s i : ℕ) → i ≡ j → IsPlace e (s, i) → accepts e (s, i) ≡ true → slice_get e.states s ≡ Some (Accept p) → Arrives e p j s i
 arrives-here e p j s i same there accepted is = record {
   run = (s, i) ∷ [];
   is_match = match-one e (s, i) there accepted;

@@ -13,7 +13,7 @@ use Rattle.rsc_engine.specs.LawfulLayout.{Lawful}
 use Rattle.rsc_engine.specs.OrderedLayout.{IsEndOf}
 use Rattle.rsc_engine.specs.StartsLayout.{IsMarked}
 use Rattle.rsc_engine.specs.RowsLayout.{machine_of, Moves, IsNear}
-use Rattle.rsc_engine.specs.ForwardLayout.{beside, StartsFrom}
+use Rattle.rsc_engine.specs.ForwardLayout.{beside}
 use Rattle.rsc_engine.specs.ArrivalsLayout.{Arrives, ArrivesAtOnce, here, over, LeadsBack, seed, back}
 use Rattle.rsc_engine.specs.BackwardLayout.{IsStartOf, Lists, IsClosedBack, IsSource, IsRetreated, least_with, IsGoingBack}
 use Rattle.rsc_engine.proofs.RunsLemmas.{step-within}
@@ -222,26 +222,30 @@ start-of e p j b least list x g none = record {
 pub start-at-first : (e : Search) (p j b least : ℕ) (list : List ℕ) → IsEndOf e p j → b ≡ e.start → IsGoingBack e p j b least list → IsStartOf e p j least
 start-at-first e p j b least list x at g = start-of e p j b least list x g (λ m low l. absurd (omega (arith, at, low, l)))
 
--- where no state is left
+-- where no state is left, no match that is sought begins earlier
+none-before-list : (e : Search) (p j b least : ℕ) (list : List ℕ) → b ≤ j → list ≡ [] → IsGoingBack e p j b least list
+    → (m : ℕ) → e.start ≤ m → m < b → ¬ (Arrives e p j e.start_state m)
+none-before-list e p j b least list below none g m low l a =
+    let before : b ≡ (b - 1) + 1 = omega (arith, l) in
+    let once = g.at_once (b - 1) before (omega (arith, l, low)) in
+    none-before e p j (b - 1) (omega (arith, below, l))
+    (λ t y. let has = once.all t y in omega (arith, has.1, ap length none))
+    (b - 1 - m) e.start_state m (omega (arith, l)) a
+
 pub start-at-none : (e : Search) (p j b least : ℕ) (list : List ℕ) → IsEndOf e p j → b ≤ j → list ≡ [] → IsGoingBack e p j b least list
     → IsStartOf e p j least
-start-at-none e p j b least list x below none g = start-of e p j b least list x g earlier
-  where
-    earlier : (m : ℕ) → e.start ≤ m → m < b → ¬ (Arrives e p j e.start_state m)
-    earlier m low l a =
-        let before : b ≡ (b - 1) + 1 = omega (arith, l) in
-        let once = g.at_once (b - 1) before (omega (arith, l, low)) in
-        none-before e p j (b - 1) (omega (arith, below, l))
-        (λ t y. let has = once.all t y in omega (arith, has.1, ap length none))
-        (b - 1 - m) e.start_state m (omega (arith, l)) a
+start-at-none e p j b least list x below none g = start-of e p j b least list x g (none-before-list e p j b least list below none g)
 
--- no match begins before the start of the leftmost-first one
-pub starts-from : (e : Search) (p j at : ℕ) → IsStartOf e p j at → StartsFrom e at
-starts-from e p j at x =
-    let same : (place x.run 0).1 ≡ at = ap (λ (q : ℕ × ℕ). q.1) x.begins in
-    record {
-      start = omega (arith, same, x.is_first.begins.start);
-      end = omega (arith, same, x.is_first.begins.end);
-      anchored = λ mode. omega (arith, same, x.is_first.begins.anchored mode);
-      none = λ k low l. x.is_first.leftmost k low (omega (arith, l, same));
-    }
+-- the start isn't before the position to which the pass has come
+pub start-after-none : (e : Search) (p j b least : ℕ) (list : List ℕ) → b ≤ j → list ≡ [] → IsGoingBack e p j b least list → IsStartOf e p j least
+    → b ≤ least
+start-after-none e p j b least list below none g x = ⊎_elim
+    (λ (l : least < b).
+    let same : (place x.run 0).1 ≡ least = ap (λ (q : ℕ × ℕ). q.1) x.begins in
+    absurd (none-before-list e p j b least list below none g least (omega (arith, same, x.is_first.begins.start)) l
+    (subst (λ (n : ℕ). Arrives e p j e.start_state n) same (first-arrives e p j x.run x.is_first x.pattern x.end))))
+    (λ (le : b ≤ least). le)
+    (cases_lt least b)
+
+pub start-after-first : (e : Search) (p j least : ℕ) → IsStartOf e p j least → e.start ≤ least
+start-after-first e p j least x = omega (arith, ap (λ (q : ℕ × ℕ). q.1) x.begins, x.is_first.begins.start)

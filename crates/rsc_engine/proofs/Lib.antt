@@ -1,3 +1,5 @@
+pub mod AlongLayoutLemmas  -- which way the leftmost-first run goes at a position, as the states on the stack are looked at
+pub mod AlongLemmas  -- the pass along the log, as it goes through a position, and from one to the next
 pub mod ArrivalsLayoutLemmas  -- from where a match is reached, position by position from its end back; and the least position at which it may begin
 pub mod BacktrackLemmas  -- what is known of the places that were seen, from visit to visit
 pub mod BackwardLayoutLemmas  -- the backward pass along the rows of a table
@@ -8,7 +10,6 @@ pub mod CompileLemmas  -- how lists of states grow, part by part
 pub mod CoursesLayoutLemmas  -- paths of states take the courses of parts, and the first path the first way
 pub mod CoursesLemmas  -- which way of a course is the first depends on what is wanted alone
 pub mod DecidesLayoutLemmas  -- what a list decides as its states are looked at, one after the other
-pub mod DfaLemmas  -- the leftmost-first match in a part of a span that has it
 pub mod EnclosesLayoutLemmas  -- where the states of parts lead that are made of parts
 pub mod EntriesLemmas  -- where no match that began earlier goes on from a row
 pub mod FirstEndsLemmas  -- the first end of a pattern is an end, and the only one
@@ -27,6 +28,7 @@ pub mod LawfulLayoutLemmas  -- what follows from the laws of steps: the bytes on
 pub mod LawsLemmas  -- what first and next matches and ends are, of a program that recognizes patterns
 pub mod LinesLemmas  -- which lines lie where, and in which no match is
 pub mod LinksLayoutLemmas  -- how single states lead on, and what follows for parts made of parts
+pub mod LogLayoutLemmas  -- the log of the backward pass, from row to row
 pub mod LoopsLemmas  -- how lists of states grow by repetitions
 pub mod NamesLayoutLemmas  -- what the states of parts name that are made of parts, and which features they have
 pub mod NeededLayoutLemmas  -- no match is where no byte of the one range is directly after one of the other

@@ -9,7 +9,7 @@ use Rattle.rsc_engine.specs.Preferred.{HasNone}
 use Rattle.rsc_engine.specs.Ends.{IsMatchEnd}
 use Rattle.rsc_engine.specs.Lines.{BeginsLine, IsLine, NoLine}
 use Rattle.rsc_engine.specs.LinesLayout.{IsCandidate, EndsFrom}
-use Rattle.rsc_engine.proofs.DfaLemmas.{match-wider}
+use Rattle.rsc_engine.proofs.RunsLemmas.{match-wider}
 
 -- ---- where lines lie
 

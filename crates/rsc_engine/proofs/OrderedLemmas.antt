@@ -118,7 +118,7 @@ states-init : (n : ℕ) (stack : List ℕ) (s : ℕ) → AreStates n (stack ++ s
 states-init n stack s states = λ k d l.
     subst (λ (m : ℕ). m < n) (get_or_append_left stack (s ∷ []) d k l) (states k d (omega (arith, l, length-append stack (s ∷ []))))
 
-states-push : (n : ℕ) (stack : List ℕ) (s : ℕ) → AreStates n stack → s < n → AreStates n (stack ++ s ∷ [])
+pub states-push : (n : ℕ) (stack : List ℕ) (s : ℕ) → AreStates n stack → s < n → AreStates n (stack ++ s ∷ [])
 states-push n stack s states there = λ k d l. ⊎_elim
     (λ (h : k < length stack). subst (λ (m : ℕ). m < n) (sym (get_or_append_left stack (s ∷ []) d k h)) (states k d h))
     (λ (h : length stack ≤ k).

@@ -65,6 +65,19 @@ step-wider e n p q le s = go (slice_get e.states p.0) s
     go (Some (Capture slot next)) x = x
     go (Some (Accept pattern)) x = x
 
+-- a run in a part of a span is one in the span
+pub match-wider : (e : Search) (from n : ℕ) (p : ℕ × ℕ) (run : List (ℕ × ℕ)) → e.start ≤ from → n ≤ e.end
+    → IsMatchRun (record e { start = from; end = n }) p run → IsMatchRun e p run
+match-wider e from n p run low high m = record {
+  is_run = record {
+    places = λ k l. let w = m.is_run.places k l in (w.0, omega (arith, w.1, low), omega (arith, w.2, high));
+    steps = λ k l. step-wider e n (place run k) (place run (k + 1)) high (m.is_run.steps k l);
+  };
+  some = m.some;
+  begins = m.begins;
+  ends = m.ends;
+}
+
 -- a span without a match has none in a part of it that begins where it does
 pub HasNone-part : (e : Search) (n : ℕ) → n ≤ e.end → HasNone e → HasNone (record e { end = n })
 HasNone-part e n le none at may run m = none at may_begin run is_match

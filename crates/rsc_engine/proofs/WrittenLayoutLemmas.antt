@@ -1,5 +1,5 @@
 -- A course of a pattern, as a pattern, goes where the pattern goes, and first where it goes first.
-use Rattle.std.proofs.Common.{◌≡◌, ℕ, zero, suc, ◌+◌, ◌-◌, ◌⊎◌, inl, inr, ⊎_elim, Bool, true, false, ◌||◌, ◌&&◌, not, true≢false, List, [], ◌∷◌, refl, sym, ap, ◌∙◌, subst, arith, Option, Some, None}
+use Rattle.std.proofs.Common.{◌≡◌, ℕ, zero, suc, ◌+◌, ◌-◌, inl, inr, ⊎_elim, Bool, true, false, ◌||◌, ◌&&◌, not, true≢false, List, [], ◌∷◌, refl, sym, ap, ◌∙◌, subst, arith, Option, Some, None}
 use Rattle.rsc_engine.specs.Patterns.{Pattern, Empty, Never, Class, Literal, Assertion, Then, Either, Repeat, Group, Subject, Times, SomeTimes, Goes, may_be_empty}
 use Rattle.rsc_engine.specs.FirstEnds.{loops_take_bytes, HasEndIn, limit_after}
 use Rattle.rsc_engine.specs.Ways.{Mark, with_record}

@@ -6,7 +6,6 @@ use Rattle.rsc_look.specs.Holds.{byte_before}
 use Rattle.rsc_nfa.specs.declared.state.State.TheVariants.{Accept}
 use Rattle.rsc_engine.specs.declared.dfa.pass_table.PassRow.{PassRow}
 use Rattle.rsc_engine.specs.Searches.{Search}
-use Rattle.rsc_engine.specs.Runs.{HasNoMatch}
 use Rattle.rsc_engine.specs.RowsLayout.{Machine, Alike, AddsOne}
 use Rattle.rsc_engine.specs.PassesLayout.{Status, Open, Closed, answer_of, IsFound, IsDue}
 use Rattle.rsc_engine.specs.OrderedLayout.{IsLooked}
@@ -78,12 +77,3 @@ pub record StandsForward (e : Search) (classes : List ℕ) (rows : List PassRow)
 abbrev pub GoesForward : Search → List ℕ → List PassRow → List PassRow → ℕ → ℕ → ℕ → Type 0
 GoesForward e classes old new k i next = (last : Option (ℕ × ℕ)) → StandsForward e classes old k i last
     → StandsForward e classes new next (i + 1) (last_with (pattern_in (slice_get new next)) i last)
-
--- ---- where a pass begins
-
--- the position is in the span, no match begins before it, and it's the span's start if the search is anchored
-pub record StartsFrom (e : Search) (from : ℕ) : Type 0 where
-  pub start : e.start ≤ from
-  pub end : from ≤ e.end
-  pub anchored : ¬ (e.mode ≡ No) → from ≡ e.start
-  pub none : (at : ℕ) → e.start ≤ at → at < from → HasNoMatch e at

@@ -1,3 +1,4 @@
+pub mod AlongLayout  -- the pass along the log of the backward pass
 pub mod ArrivalsLayout  -- from where a match is reached that ends in a pattern and at a position
 pub mod BackwardLayout  -- the backward pass: from the end of the leftmost-first match back to where it begins
 pub mod BeginsLayout  -- at which state the matches of a pattern, or of several, begin
@@ -22,6 +23,7 @@ pub mod LawfulLayout  -- the laws of steps and runs that the proof of `dfa` rest
 pub mod Lines  -- the lines of a haystack in which a program matches, one after the other
 pub mod LinesLayout  -- where the next line with a match may be
 pub mod LinksLayout  -- how the states of a part lead on
+pub mod LogLayout  -- the log of the backward pass
 pub mod MovesLayout  -- what a state does at a position
 pub mod NamesLayout  -- what the states of a part or of patterns name, and which features of patterns they have
 pub mod NeededLayout  -- two bytes that stand side by side in every match

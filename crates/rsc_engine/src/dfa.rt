@@ -2,8 +2,8 @@
 //!
 //! In the one a row is a set of states ([`successor`] makes it, from the one before and a byte): it says where the first match to end ends ([`earliest`]). The
 //! other serves two passes: forward a row is an ordered list ([`ordered`] looks at it), and says where the leftmost-first match ends ([`forward`]); backward it
-//! has the states from which a run leads to that end ([`retreat`] goes a step back), and says where the match begins ([`backward`]). The [`plan`] has what
-//! stays the same. [`needed`] finds bytes that each match has, without which no row is looked at.
+//! has the states from which a run leads to that end ([`retreat`] goes a step back), and says where the match begins ([`backward`]) and, by the rows that were
+//! come to, what it records ([`along`]). The [`plan`] has what stays the same. [`needed`] finds bytes that each match has, without which no row is looked at.
 ghost use Rattle.std.specs.Prelude.{◌≡◌, ◌+◌, ◌-◌, ◌<◌, ◌≤◌, IfOk, IfErr, IfSome, IfNone, OnErr, true, false, length};
 ghost use Rattle.rsc_search.specs.declared.anchored.Anchored.TheVariants.{No};
 ghost use Rattle.rsc_engine.specs.declared.error.Error.TheVariants.{OutOfMemory};
@@ -13,9 +13,9 @@ ghost use Rattle.rsc_engine.specs.Ends.{IsAnswer, IsLeftmostEnd, BeginsFrom};
 ghost use Rattle.rsc_engine.specs.RowsLayout.{machine, IsPlan, IsNeverEntered};
 ghost use Rattle.rsc_engine.specs.TablesLayout.{IsExact};
 ghost use Rattle.rsc_engine.specs.PassTableLayout.{IsPassTable};
-ghost use Rattle.rsc_engine.specs.ForwardLayout.{StartsFrom};
 ghost use Rattle.rsc_engine.specs.OrderedLayout.{IsEndOf};
 
+mod along;
 mod backward;
 mod backward_steps;
 mod earliest;
@@ -34,9 +34,9 @@ mod table;
 
 use crate::first::{find_from, is_match_by_walk};
 use crate::{AsciiWordClass, Error, Program};
-use backward::first_start;
+use along::match_along;
 use earliest::search;
-use forward::{first_end, has_match, part_of};
+use forward::{first_end, has_match};
 use needed::Needed;
 use pass_table::PassTable;
 use plan::Plan;
@@ -108,6 +108,8 @@ pub struct Dfa<'p, W: WordClass> {
     plan: Plan<'p, W>,
     table: Table,
     passes: PassTable,
+    // For each position of the last match the row of the backward pass there, from its end on.
+    log: Vec<u32>,
     // What each match has, if that is known, and whether it was looked for.
     needed: Option<Needed>,
     is_sought: bool,
@@ -121,6 +123,7 @@ impl<W: WordClass> Drop for Dfa<'_, W> {
             plan: _,
             table: _,
             passes: _,
+            log: _,
             needed: _,
             is_sought: _,
         } = self;
@@ -157,6 +160,7 @@ impl<'p, W: WordClass + AsciiWordClass> Dfa<'p, W> {
             plan: Plan::new(program, most_rows),
             table: Table::new(alloc),
             passes: PassTable::new(alloc),
+            log: Vec::new(alloc),
             needed: None,
             is_sought: false,
         }
@@ -267,11 +271,12 @@ impl<'p, W: WordClass + AsciiWordClass> Dfa<'p, W> {
         }
     }
 
-    /// The leftmost-first match in an input's span, as [`find`](crate::find) answers it. The rows say whether there is one, and where it begins and ends.
+    /// The leftmost-first match in an input's span, as [`find`](crate::find) answers it. The rows say whether there is one, where it begins and ends, and what
+    /// its groups are. Besides its rows a search takes 4 bytes for each byte that it reads back from the match's end.
     ///
     /// # Errors
     ///
-    /// Out of memory, or `TooLarge` where the span has too many positions for the number of states.
+    /// Out of memory. If the program has more states than there are numbers of states: `TooLarge` too, where the span has too many positions for them.
     pub fn find(
         &mut self,
         input: &Input<'_>,
@@ -291,15 +296,32 @@ impl<'p, W: WordClass + AsciiWordClass> Dfa<'p, W> {
         let Some(last) = self.end_of(input)? else {
             return Ok(None);
         };
-        let start = self.start_of(input, last.0, last.1)?;
-        // In the match alone, so that the walk takes no more memory than that needs.
-        find_from(
+        if self.plan.program.len() > MOST_NUMBERED {
+            // Only states that have numbers are gone back through.
+            return find_from(
+                self.alloc,
+                self.plan.program,
+                input,
+                captures,
+                input.start(),
+            );
+        }
+        let most_rows = self.plan.most_rows;
+        // No row is dropped that the log names.
+        self.plan.most_rows = usize::MAX;
+        let found = match_along(
             self.alloc,
-            self.plan.program,
-            &part_of(input, start, last.1),
+            &self.plan,
+            &mut self.passes,
+            &mut self.log,
+            input,
+            last.0,
+            last.1,
             captures,
-            start,
-        )
+        );
+        self.plan.most_rows = most_rows;
+        self.passes.keep_at_most(most_rows);
+        Ok(Some(found?))
     }
 
     // The pattern of the leftmost-first match, and where it ends; `None` if no match begins where one may.
@@ -313,32 +335,6 @@ impl<'p, W: WordClass + AsciiWordClass> Dfa<'p, W> {
             return Ok(None);
         }
         first_end(self.alloc, &self.plan, &mut self.passes, input)
-    }
-
-    // Where the leftmost-first match begins, which is of a pattern and ends at a position; for a program of too many states a position before it.
-    fn start_of(
-        &mut self,
-        input: &Input<'_>,
-        pattern: PatternID,
-        end: usize,
-    ) -> Result<usize, Error>
-        requires { IsEndOf (search_in W.word_chars self.old input.now) pattern end }
-        ensures program { self.new ≡ self.old }
-        ensures start { IfOk result (StartsFrom (search_in W.word_chars self.old input.now)) }
-        ensures memory { IfErr result (λ e. e ≡ OutOfMemory) }
-    {
-        // An anchored match begins at the span's start; and only states that have numbers are gone through.
-        if input.get_anchored().is_anchored() || self.plan.program.len() > MOST_NUMBERED {
-            return Ok(input.start());
-        }
-        first_start(
-            self.alloc,
-            &self.plan,
-            &mut self.passes,
-            input,
-            pattern,
-            end,
-        )
     }
 
     /// The position at which the leftmost-first match in an input's span ends; `None` if no match begins where one may.

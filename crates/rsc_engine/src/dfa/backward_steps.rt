@@ -5,10 +5,12 @@ ghost use Rattle.rsc_primitives.specs.Indices.{max_index};
 ghost use Rattle.rsc_engine.specs.declared.error.Error.TheVariants.{OutOfMemory};
 ghost use Rattle.rsc_engine.specs.Searches.{search_in};
 ghost use Rattle.rsc_engine.specs.RowsLayout.{machine, IsPlan};
-ghost use Rattle.rsc_engine.specs.PassTableLayout.{IsPassTable};
+ghost use Rattle.rsc_engine.specs.PassTableLayout.{IsPassTable, IsPassGrown};
+ghost use Rattle.rsc_engine.specs.LogLayout.{IsBackAt};
 ghost use Rattle.rsc_engine.specs.BackwardLayout.{StandsBackward, GoesBackward, begins_in, least_with};
 ghost use Rattle.rsc_engine.specs.declared.dfa.pass_table.PassRow.{PassRow};
 
+use super::backward::add_to_log;
 use super::lawful::steps_are_lawful;
 use super::pass_table::{PassRow, PassTable};
 use super::plan::{Plan, before_of, byte_at};
@@ -29,19 +31,21 @@ impl PassTable {
         row: usize,
         at: usize,
         least: usize,
-    ) -> (usize, usize, usize)
+        log: &mut Vec<u32>,
+    ) -> Result<(usize, usize, usize), Error>
         requires plan { IsPlan (machine W.word_chars plan.now.program.now) plan.now.classes plan.now.width plan.now.unicode }
         requires exact { IsPassTable (machine W.word_chars plan.now.program.now) plan.now.classes plan.now.width plan.now.most_rows
             self.now.rows.items self.now.leads.items }
         requires row { row < length self.now.rows.items }
         requires start { input.now.span.start ≤ at }
         requires end { at ≤ input.now.span.end }
-        ensures on { (p j : ℕ) → StandsBackward (search_in W.word_chars plan.now.program.now input.now) p j plan.now.classes self.now.rows.items
-            row (at + 1) least → StandsBackward (search_in W.word_chars plan.now.program.now input.now) p j plan.now.classes self.now.rows.items
-            result.0 (result.1 + 1) result.2 }
-        ensures row { result.0 < length self.now.rows.items }
-        ensures further { result.1 ≤ at }
-        ensures start { input.now.span.start ≤ result.1 }
+        ensures on { IfOk result (λ r. (p j : ℕ) → IsBackAt (search_in W.word_chars plan.now.program.now input.now) p j plan.now.classes
+            self.now.rows.items row at least log.old.items
+            → IsBackAt (search_in W.word_chars plan.now.program.now input.now) p j plan.now.classes self.now.rows.items r.0 r.1 r.2 log.new.items) }
+        ensures row { IfOk result (λ r. r.0 < length self.now.rows.items) }
+        ensures further { IfOk result (λ r. r.1 ≤ at) }
+        ensures start { IfOk result (λ r. input.now.span.start ≤ r.1) }
+        ensures memory { IfErr result (λ e. e ≡ OutOfMemory) }
     {
         steps_are_lawful();
         let haystack = input.haystack();
@@ -55,11 +59,12 @@ impl PassTable {
                     here = next;
                     found = self.least_with(next, position, found);
                     position -= 1;
+                    add_to_log(log, next)?;
                 }
-                None => return (here, position, found),
+                None => return Ok((here, position, found)),
             }
         }
-        (here, position, found)
+        Ok((here, position, found))
     }
 
     // The least position at which the match may begin, after a step at a position that leads to the row.
@@ -106,6 +111,7 @@ impl PassTable {
         ensures on { IfOk result (λ r. (p j : ℕ) → StandsBackward (search_in W.word_chars plan.now.program.now input.now) p j plan.now.classes
             self.old.rows.items row (at + 1) least
             → StandsBackward (search_in W.word_chars plan.now.program.now input.now) p j plan.now.classes self.new.rows.items r.0 at r.1) }
+        ensures kept { IfOk result (λ _. length self.old.rows.items < plan.now.most_rows → IsPassGrown self.old.rows.items self.new.rows.items) }
         ensures memory { IfErr result (λ e. e ≡ OutOfMemory) }
     {
         let next = self.row_before(plan, input, row, at)?;
@@ -132,6 +138,7 @@ impl PassTable {
         ensures row { IfOk result (λ next. next < length self.new.rows.items) }
         ensures goes { IfOk result (GoesBackward (search_in W.word_chars plan.now.program.now input.now) plan.now.classes
             self.old.rows.items self.new.rows.items row at) }
+        ensures kept { IfOk result (λ _. length self.old.rows.items < plan.now.most_rows → IsPassGrown self.old.rows.items self.new.rows.items) }
         ensures memory { IfErr result (λ e. e ≡ OutOfMemory) }
     {
         steps_are_lawful();
@@ -165,6 +172,7 @@ impl PassTable {
         ensures row { IfOk result (λ next. next < length self.new.rows.items) }
         ensures goes { IfOk result (GoesBackward (search_in W.word_chars plan.now.program.now input.now) plan.now.classes
             self.old.rows.items self.new.rows.items row at) }
+        ensures kept { IfOk result (λ _. length self.old.rows.items < plan.now.most_rows → IsPassGrown self.old.rows.items self.new.rows.items) }
         ensures memory { IfErr result (λ e. e ≡ OutOfMemory) }
     {
         steps_are_lawful();

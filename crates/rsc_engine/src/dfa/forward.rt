@@ -17,7 +17,7 @@ use super::plan::{Plan, before_of};
 use crate::Error;
 use rsc_look::WordClass;
 use rsc_primitives::{PatternID, StateID};
-use rsc_search::{Input, Span};
+use rsc_search::Input;
 use std::alloc::Global;
 
 /// The pattern of the leftmost-first match in an input's span, and where it ends; `None` if no match begins where one may.
@@ -91,19 +91,6 @@ pub(crate) fn has_match<W: WordClass>(
         return Ok(false);
     };
     Ok(true)
-}
-
-/// The input with a part of its span.
-pub(crate) fn part_of<'h>(input: &Input<'h>, start: usize, end: usize) -> Input<'h>
-    requires order { start ≤ end + 1 }
-    requires within { end ≤ input.now.span.end }
-    ensures { result ≡ record { haystack = input.now.haystack; span = record { start = start; end = end }; anchored = input.now.anchored; earliest = false } }
-{
-    // For the prover: the end is in the haystack.
-    let _end = input.end();
-    Input::new(input.haystack())
-        .span(Span { start, end })
-        .anchored(input.get_anchored())
 }
 
 // A list of one state.

@@ -1,7 +1,7 @@
 //! The table of both passes: a row for a list of states and what is known beside it, with an entry for each class and the end of the input.
-ghost use Rattle.std.specs.Prelude.{◌≡◌, ◌+◌, ◌*◌, ◌<◌, ◌≤◌, ℕ, [], IfOk, IfErr, IfSome, true, length, slice_get, Some};
+ghost use Rattle.std.specs.Prelude.{◌≡◌, ◌+◌, ◌*◌, ◌<◌, ◌≤◌, ℕ, List, [], IfOk, IfErr, IfSome, true, length, slice_get, Some};
 ghost use Rattle.rsc_engine.specs.declared.error.Error.TheVariants.{OutOfMemory};
-ghost use Rattle.rsc_engine.specs.RowsLayout.{machine, AreStates, IsPlan, IsPlainUnit};
+ghost use Rattle.rsc_engine.specs.RowsLayout.{Machine, machine, AreStates, IsPlan, IsPlainUnit};
 ghost use Rattle.rsc_engine.specs.PassTableLayout.{IsPassTable, IsPassRow, IsPassStep, IsPassTo, IsSoundPassRow, IsPassGrown, AreFew};
 ghost use Rattle.rsc_engine.specs.declared.dfa.pass_table.PassRow.{PassRow};
 
@@ -116,6 +116,7 @@ impl PassTable {
             self.new.rows.items self.new.leads.items }
         ensures step { IfOk result (IsPassTo (machine W.word_chars plan.now.program.now) plan.now.classes
             self.old.rows.items self.new.rows.items row unit) }
+        ensures kept { IfOk result (λ _. length self.old.rows.items < plan.now.most_rows → IsPassGrown self.old.rows.items self.new.rows.items) }
         ensures memory { IfErr result (λ e. e ≡ OutOfMemory) }
     {
         is_byte(unit);
@@ -177,6 +178,7 @@ impl PassTable {
         ensures row { IfOk result (λ made. IsPassRow plan.now.classes self.new.rows.items made.0 row.backward row.mode row.begins
             row.found row.read row.list.items) }
         ensures grows { IfOk result (λ made. made.1 ≡ true → IsPassGrown self.old.rows.items self.new.rows.items) }
+        ensures kept { IfOk result (λ made. length self.old.rows.items < plan.now.most_rows → made.1 ≡ true) }
         ensures memory { IfErr result (λ e. e ≡ OutOfMemory) }
     {
         let key = pass_key(self.alloc, &plan.classes, &row)?;
@@ -218,6 +220,16 @@ impl PassTable {
             return false;
         }
         are_same(there.list.as_slice(), row.list.as_slice())
+    }
+
+    /// Takes all rows out, if there are more than that many.
+    pub(crate) fn keep_at_most(&mut self, most_rows: usize)
+        ensures { (m : Machine) (classes : List ℕ) (width most : ℕ) → IsPassTable m classes width most self.old.rows.items self.old.leads.items
+            → IsPassTable m classes width most_rows self.new.rows.items self.new.leads.items }
+    {
+        if self.rows.len() > most_rows {
+            self.clear();
+        }
     }
 
     // Takes all rows out.

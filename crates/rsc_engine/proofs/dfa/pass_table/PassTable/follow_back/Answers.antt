@@ -1,10 +1,11 @@
-use Rattle.std.proofs.Common.{◌≡◌, ◌+◌, ◌-◌, ◌≤◌, ◌∙◌, Some, ℕ, Option, sym, subst, arith}
+use Rattle.std.proofs.Common.{◌≡◌, ◌≤◌, ◌∙◌, Some, ℕ, Option, sym, subst, arith}
 use Rattle.std.proofs.lemmas.Option.{slice_get_within}
 use Rattle.rsc_look.specs.Holds.{byte_before}
 use Rattle.rsc_engine.specs.Searches.{search_in}
 use Rattle.rsc_engine.specs.RowsLayout.{machine}
 use Rattle.rsc_engine.specs.PassTableLayout.{IsPassTo}
 use Rattle.rsc_engine.proofs.BackwardLayoutLemmas.{goes-backward, before-after}
+use Rattle.rsc_engine.proofs.LogLayoutLemmas.{back-more}
 use Rattle.rsc_engine.proofs.dfa.pass_table.PassTable.follow_back.Goals as goal
 
 pub bytes-preserved : goal.bytes-preserved
@@ -19,11 +20,15 @@ bytes-preserved g c =
     (byte_before c.args.input.now.haystack c.bytes.position) c.in-Some.next =
     subst (λ (u : Option ℕ). IsPassTo (machine g.W.WordClass.word_chars c.args.plan.now.program.now) c.args.plan.now.classes rows rows c.bytes.here u
     c.in-Some.next) (sym before) c.in-Some.ensures in
-    let on : c.bytes.position - 1 + 1 ≡ c.bytes.position = omega (arith, c.bytes-test.true) in
     record {
-      on = λ p j first. rw (c.least_with-found.ensures, on) (goes-backward e c.args.plan.now.classes c.args.plan.now.width c.args.plan.now.unicode
+      on = λ p j first.
+          let was = c.bytes.invariant.on p j first in
+          back-more e p j c.args.plan.now.classes rows c.bytes.here c.in-Some.next c.bytes.position c.bytes.found c.least_with-found.result c.bytes.log.items
+          c.add_to_log.new.log.items (omega (arith, c.bytes-test.true)) (omega (arith, c.bytes-test.true, c.start-start.ensures.start))
+          (c.least_with-found.ensures) c.in_ok-add_to_log-in-Some.ensures.adds
+          (goes-backward e c.args.plan.now.classes c.args.plan.now.width c.args.plan.now.unicode
           record { laws = c.steps_are_lawful.ensures; plan = c.requires.plan; within = c.haystack-haystack.ensures.within }
-          rows rows c.bytes.here c.bytes.position c.in-Some.next c.bytes.invariant.start high led p j c.bytes.found (c.bytes.invariant.on p j first));
+          rows rows c.bytes.here c.bytes.position c.in-Some.next c.bytes.invariant.start high led) was;
       row = slice_get_within rows c.in-Some.next led.leads.is_row.to led.leads.is_row.there;
       further = omega (arith, c.bytes.invariant.further);
       start = omega (arith, c.bytes-test.true, c.start-start.ensures.start);
