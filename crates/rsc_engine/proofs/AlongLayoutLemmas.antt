@@ -142,7 +142,8 @@ module _ (e : Search) (run : List (ℕ × ℕ)) (q : ℕ) (l : q < length run) (
 -- ---- the run that is sought
 
 -- what is left of it arrives
-abbrev tail-arrives : (e : Search) (p at j : ℕ) (run : List (ℕ × ℕ)) (k s i : ℕ) → IsSought e p at j run → k < length run → place run k ≡ (s, i) → Arrives e p j s i
+abbrev tail-arrives : (e : Search) (p at j : ℕ) (run : List (ℕ × ℕ)) (k s i : ℕ) → IsSought e p at j run → k < length run → place run k ≡ (s, i)
+    → Arrives e p j s i
 tail-arrives e p at j run k s i sought l is = record {
   run = drop k run;
   is_match = subst (λ (x : ℕ × ℕ). IsMatchRun e x (drop k run)) is (match-drop e (e.start_state, (place run 0).1) run k sought.is_first.preferred.is_match l);

@@ -115,7 +115,8 @@ below-set n seen s v l small below t = ⊎_elim
 -- ---- the loop
 
 -- what the loop keeps: of the run that is sought the stack has the states by which it may go, from the slots as they were
-pub record IsPassing (e : Search) (n i sid : ℕ) (list : List ℕ) (slots : List (Option ℕ)) (seen : List ℕ) (stack : List (ℕ × ℕ)) (trail : List ℕ) : Type 0 where
+pub record IsPassing (e : Search) (n i sid : ℕ) (list : List ℕ) (slots : List (Option ℕ)) (seen : List ℕ) (stack : List (ℕ × ℕ)) (trail : List ℕ)
+    : Type 0 where
   pub len : length seen ≡ n
   pub below : AreBelow (i + 2) seen
   pub there : All (λ (x : ℕ × ℕ). x.0 < n) stack
@@ -135,7 +136,8 @@ passing-first {e} {n} {i} {sid} {list} {slots} {seen} len below there = record {
     within = omega (arith, a.within);
     here = let same : a.index + 0 ≡ a.index = omega arith in ap (λ (k : ℕ). place run k) same ∙ a.here;
     passed = λ k l. absurd (omega (arith, l));
-    avoids = λ k low l is. ne_eqb (get_or seen (place run k).0 0) (i + 1) (λ (h : get_or seen (place run k).0 0 ≡ i + 1). omega (arith, h, below (place run k).0));
+    avoids = λ k low l is. ne_eqb (get_or seen (place run k).0 0) (i + 1)
+        (λ (h : get_or seen (place run k).0 0 ≡ i + 1). omega (arith, h, below (place run k).0));
   });
 }
   where
@@ -416,7 +418,8 @@ along-first e p from j run slots empty sought = record {
     none [] s = refl
     none (q ∷ run) s = refl
 
-pub along-high : (e : Search) (p from j : ℕ) (run : List (ℕ × ℕ)) (s i : ℕ) (slots : List (Option ℕ)) → IsSought e p from j run → IsAlong e run s i slots → i ≤ j
+pub along-high : (e : Search) (p from j : ℕ) (run : List (ℕ × ℕ)) (s i : ℕ) (slots : List (Option ℕ)) → IsSought e p from j run
+    → IsAlong e run s i slots → i ≤ j
 along-high e p from j run s i slots sought a = omega (
   arith,
   ap (λ (q : ℕ × ℕ). q.1) a.here,

@@ -33,7 +33,8 @@ arrives-before e p j s i t k there leads a = record {
   end = subst (λ (q : ℕ × ℕ). q.1 ≡ j) (sym (last-before (s, i) a.run a.is_match.some)) a.end;
 }
 
-abbrev pub arrives-here : (e : Search) (p j s i : ℕ) → i ≡ j → IsPlace e (s, i) → accepts e (s, i) ≡ true → slice_get e.states s ≡ Some (Accept p) → Arrives e p j s i
+abbrev pub arrives-here : (e : Search) (p j s i : ℕ) → i ≡ j → IsPlace e (s, i) → accepts e (s, i) ≡ true → slice_get e.states s ≡ Some (Accept p)
+    → Arrives e p j s i
 arrives-here e p j s i same there accepted is = record {
   run = (s, i) ∷ [];
   is_match = match-one e (s, i) there accepted;

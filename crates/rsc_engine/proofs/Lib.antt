@@ -34,6 +34,7 @@ pub mod NamesLayoutLemmas  -- what the states of parts name that are made of par
 pub mod NeededLayoutLemmas  -- no match is where no byte of the one range is directly after one of the other
 pub mod NextMatchesLemmas  -- which match is next, as the search's start moves on
 pub mod NumbersLemmas  -- the numbers of places: the flags that have them, and what they say where a search begins later
+pub mod OnePatternLemmas  -- the matches of a program of one pattern, by the pattern alone
 pub mod OrderedLayoutLemmas  -- a look at a list beside a small haystack is one at each position for which the small haystack stands
 pub mod OrderedLemmas  -- a look at a list, as its stack goes down
 pub mod PartsLemmas  -- what holds for parts in order, or for one of them, as the list grows

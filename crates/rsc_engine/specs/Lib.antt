@@ -28,6 +28,7 @@ pub mod MovesLayout  -- what a state does at a position
 pub mod NamesLayout  -- what the states of a part or of patterns name, and which features of patterns they have
 pub mod NeededLayout  -- two bytes that stand side by side in every match
 pub mod NextMatches  -- which match is next; `last` is where the last one ended, if there was one
+pub mod OnePattern  -- what a program of one pattern answers, by the pattern alone: where it goes first, where next, and that it goes nowhere
 pub mod OrderedLayout  -- what a state does at a position, and what a look at an ordered list of states finds
 pub mod Parts  -- which pattern a part is, and which groups it has; and what a builder has of them
 pub mod PassTableLayout  -- the table of the rows of both passes

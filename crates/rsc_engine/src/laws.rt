@@ -28,6 +28,8 @@ ghost use Rattle.rsc_engine.specs.PatternMatches.{HoldRecords, recorded_span, Is
 use crate::Answer;
 use rsc_look::WordClass;
 
+pub mod one_pattern;
+
 /// From a place there is at most one preferred run; in a search there is at most one leftmost-first run, and none if no match begins
 /// where one may.
 pub fn there_is_one_first_match()

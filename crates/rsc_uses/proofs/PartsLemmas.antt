@@ -65,33 +65,28 @@ its_of p e found m = m.its ∙ ap (λ (q : Pattern). Some q) (its_only p m.patte
 has_first : (lists : GroupLists) (groups : Groups) (p : ℕ) → lists ≡ (None ∷ groups) ∷ [] → p ≡ 0 → 0 < group_count lists p
 has_first lists groups p is zero_is = rw (is, zero_is) (omega arith)
 
--- the match of a program of one pattern is of pattern 0, and captures that are made for the program have room for its first group
-pub has_room : {W : Type 0} (chars : W → ℕ → Bool) (program : Compiled W) (p : Pattern) (groups : Groups) (input : InputParts) (made after : Captured)
-    (found : Matched) → program.automaton.groups ≡ (None ∷ groups) ∷ []
+-- captures that are made for a program of one pattern have room for its first group
+pub has_room : {W : Type 0} (program : Compiled W) (groups : Groups) (made after : Captured) → program.automaton.groups ≡ (None ∷ groups) ∷ []
     → made ≡ no_offsets program.automaton.groups (2 * all_groups program.automaton.groups) → length after.offsets ≡ length made.offsets
-    → IsMatchIn (p ∷ []) (search_in chars program input) found → (found.pattern ≡ 0) × (1 < length after.offsets)
-has_room chars program p groups input made after found lists is_made same m = (
-  number_of p (search_in chars program input) found m,
-  omega (
-    arith,
-    same,
-    ap (λ (c : Captured). length c.offsets) is_made,
-    length-replicate {A = Option ℕ} (2 * all_groups program.automaton.groups) None,
-    ap all_groups lists,
-  ),
+    → 1 < length after.offsets
+has_room program groups made after lists is_made same = omega (
+  arith,
+  same,
+  ap (λ (c : Captured). length c.offsets) is_made,
+  length-replicate {A = Option ℕ} (2 * all_groups program.automaton.groups) None,
+  ap all_groups lists,
 )
 
--- so its group 0 is its span, where group 0 of a match is
-pub first_group : {W : Type 0} (chars : W → ℕ → Bool) (program : Compiled W) (p : Pattern) (groups : Groups) (input : InputParts) (made after : Captured)
-    (found : Matched) → program.automaton.groups ≡ (None ∷ groups) ∷ []
+-- so its group 0 is its match's span, where group 0 of a match is
+pub first_group : {W : Type 0} (program : Compiled W) (groups : Groups) (made after : Captured) (found : Matched)
+    → program.automaton.groups ≡ (None ∷ groups) ∷ []
     → made ≡ no_offsets program.automaton.groups (2 * all_groups program.automaton.groups) → length after.offsets ≡ length made.offsets
-    → after.groups ≡ made.groups → IsMatchIn (p ∷ []) (search_in chars program input) found
+    → after.groups ≡ made.groups → found.pattern ≡ 0
     → (2 * found.pattern + 1 < length after.offsets → 0 < group_count after.groups found.pattern → group_span after 0 ≡ Some found.span)
     → group_span after 0 ≡ Some found.span
-first_group chars program p groups input made after found lists is_made same its m law =
-    let both = has_room chars program p groups input made after found lists is_made same m in
-    law (omega (arith, both.0, both.1))
-    (has_first after.groups groups found.pattern (its ∙ (ap (λ (c : Captured). c.groups) is_made ∙ lists)) both.0)
+first_group program groups made after found lists is_made same its zero_is law =
+    law (omega (arith, zero_is, has_room program groups made after lists is_made same))
+    (has_first after.groups groups found.pattern (its ∙ (ap (λ (c : Captured). c.groups) is_made ∙ lists)) zero_is)
 
 -- captures that are made for the program have two slots for each of its groups
 pub count_slots : (lists made_for : GroupLists) (made after : Captured) → made_for ≡ lists → made ≡ no_offsets made_for (2 * all_groups made_for)
@@ -99,21 +94,6 @@ pub count_slots : (lists made_for : GroupLists) (made after : Captured) → made
 count_slots lists made_for made after its is_made same =
     same ∙ (ap (λ (c : Captured). length c.offsets) is_made ∙ (length-replicate {A = Option ℕ} (2 * all_groups made_for) None
     ∙ ap (λ (l : GroupLists). 2 * all_groups l) its))
-
--- and its preferred way
-pub preferred_way_of : {W : Type 0} (chars : W → ℕ → Bool) (program : Compiled W) (word_class : W) (p : Pattern) (lists : GroupLists) (input : InputParts)
-    (after : Captured) (found : Matched) → program.automaton.matcher ≡ (10, word_class) → program.automaton.groups ≡ lists
-    → IsMatchIn (p ∷ []) (search_in chars program input) found
-    → (slice_get (p ∷ []) found.pattern ≡ Some p → HoldsPreferredWay (subject_of (search_in chars program input))
-    (as_whole program.automaton.groups found.pattern p) input.span.end found.span after.offsets)
-    → HoldsPreferredWay (text_of input.haystack (chars word_class)) (as_whole lists 0 p) input.span.end found.span after.offsets
-preferred_way_of {W = W} chars program word_class p lists input after found matcher its m way =
-    subst (λ (x : ℕ × W). HoldsPreferredWay (record { haystack = input.haystack; terminator = x.0; word_chars = chars x.1 }) (as_whole lists 0 p)
-    input.span.end found.span after.offsets) matcher
-    (subst (λ (l : GroupLists). HoldsPreferredWay (subject_of (search_in chars program input)) (as_whole l 0 p) input.span.end found.span after.offsets) its
-    (subst (λ (n : ℕ). HoldsPreferredWay (subject_of (search_in chars program input)) (as_whole program.automaton.groups n p) input.span.end found.span
-    after.offsets) (number_of p (search_in chars program input) found m)
-    (way (m.its ∙ ap (λ (q : Pattern). Some q) (its_only p m.pattern found.pattern m.its)))))
 
 -- the first group of a part before another: where the part goes, if it's where its part goes
 pub group_goes : {W : Type 0} (chars : W → ℕ → Bool) (program : Compiled W) (word_class : W) (p q : Pattern) (groups : Groups) (haystack : List ℕ)
@@ -242,12 +222,3 @@ pub goes_nowhere : {W : Type 0} (chars : W → ℕ → Bool) (program : Compiled
 goes_nowhere chars program word_class patterns n p haystack matcher its none = λ i j before within goes.
     none (record { pattern = n; span = record { start = i; end = j } }) (may_begin chars program haystack i before)
     (match_in chars program word_class patterns n p (whole haystack) i j matcher its refl (omega arith) within goes)
-
--- and the only one goes nowhere in an input
-pub goes_nowhere_in : {W : Type 0} (chars : W → ℕ → Bool) (program : Compiled W) (word_class : W) (p : Pattern) (input : InputParts)
-    → program.automaton.matcher ≡ (10, word_class)
-    → ((other : Matched) → MayBegin (search_in chars program input) other.span.start → ¬ (IsMatchIn (p ∷ []) (search_in chars program input) other))
-    → GoesNowhereIn input (chars word_class) p
-goes_nowhere_in chars program word_class p input matcher none = λ i j from before anchored wanted within goes.
-    none (record { pattern = 0; span = record { start = i; end = j } }) (record { start = from; end = before; anchored = anchored })
-    (match_in chars program word_class (p ∷ []) 0 p input i j matcher refl wanted from within goes)

@@ -62,8 +62,7 @@ pub fn find_part<W: WordClass + AsciiWordClass>(
         (length haystack.now) ends.0 ends.1)) }
     ensures refused { IfErr result (FailsToBuild (pattern_of part.entry ∷ []) (groups_of_pattern part.entry ∷ [])) }
 {
-    laws::a_first_match_is_of_a_pattern::<W>();
-    laws::captures_are_of_the_preferred_way::<W>();
+    laws::one_pattern::a_match_of_one_pattern::<W>();
     laws::a_preferred_way_is_the_first_way();
     let program = Builder::new(alloc).build(word_class, true, part)?;
     let mut captures = program.captures(alloc)?;
@@ -95,8 +94,7 @@ pub fn find_with_slots<W: WordClass + AsciiWordClass>(
     ensures none { IfOk result (λ found. IfNone found (GoesNowhereIn input.now (W.word_chars word_class) (pattern_of part.entry))) }
     ensures refused { IfErr result (FailsToBuild (pattern_of part.entry ∷ []) (groups_of_pattern part.entry ∷ [])) }
 {
-    laws::a_first_match_is_of_a_pattern::<W>();
-    laws::captures_are_of_the_preferred_way::<W>();
+    laws::one_pattern::a_match_of_one_pattern::<W>();
     laws::a_preferred_way_is_the_first_way();
     laws::the_first_group_is_the_match::<W>();
     let program = Builder::new(alloc).build(word_class, true, part)?;
@@ -223,6 +221,8 @@ pub fn first_in_text<W: WordClass + AsciiWordClass>(
     text: &[u8],
 ) -> Result<Option<Match>, Error>
     requires { may_be_empty (pattern_of part) ≡ false }
+    ensures goes { IfOk result (λ found. IfSome found (λ m.
+        Goes (text_of text.now (W.word_chars word_class)) (pattern_of part.entry) m.span.start m.span.end)) }
     ensures first { IfOk result (λ found. IfSome found (λ m.
         GoesNowhereBefore (text_of text.now (W.word_chars word_class)) (pattern_of part.entry) m.span.start)) }
     ensures none { IfOk result (λ found. IfNone found ((i j : ℕ) → j ≤ length text.now →
@@ -230,6 +230,7 @@ pub fn first_in_text<W: WordClass + AsciiWordClass>(
     ensures refused { IfErr result (FailsToBuild (pattern_of part.entry ∷ []) (groups_of_pattern part.entry ∷ [])) }
 {
     laws::no_match_is_left_out::<W>();
+    laws::one_pattern::a_match_of_one_pattern::<W>();
     let program = Builder::new(alloc).build(word_class, true, part)?;
     let mut captures = program.captures(alloc)?;
     let input = Input::new(text);

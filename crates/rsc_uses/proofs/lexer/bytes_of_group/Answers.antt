@@ -1,7 +1,8 @@
 use Rattle.std.proofs.Common.{◌≡◌, [], ◌∷◌, refl, sym, arith}
 use Rattle.rsc_search.specs.Inputs.{whole}
+use Rattle.rsc_engine.specs.Searches.{search_in}
 use Rattle.rsc_engine.specs.Parts.{pattern_of, groups_of_part, groups_of_pattern}
-use Rattle.rsc_uses.proofs.PartsLemmas.{goes_of, goes_nowhere, first_group}
+use Rattle.rsc_uses.proofs.PartsLemmas.{goes_of, goes_nowhere, first_group, number_of}
 use Rattle.rsc_uses.proofs.lexer.bytes_of_group.Goals as goal
 
 pub slice_bounds-result-count : goal.slice_bounds-result-count
@@ -66,9 +67,10 @@ returns-in-None-get_group-clause-none g c = λ first.
     let matches = rw c.new.ensures.patterns at c.in_ok-program.ensures.matches in
     let lists : program.automaton.groups ≡ groups_of_pattern c.args.part ∷ [] = rw c.new.ensures.groups at c.in_ok-program.ensures.groups in
     let found = rw (c.in-Some.is, c.new-input.ensures) at c.in_ok-find.ensures.found in
-    let span = first_group g.W.WordClass.word_chars program p (groups_of_part c.args.part) (whole c.args.text.now) c.in_ok-captures.captures
-    c.find.new.captures c.in-Some.whole lists c.in_ok-captures.ensures.made c.find.ensures.slots c.find.ensures.groups
-    (c.a_first_match_is_of_a_pattern.ensures.some program (p ∷ []) (whole c.args.text.now) _ _ matches found)
+    let span = first_group program (groups_of_part c.args.part) c.in_ok-captures.captures c.find.new.captures c.in-Some.whole lists
+    c.in_ok-captures.ensures.made c.find.ensures.slots c.find.ensures.groups
+    (number_of p (search_in g.W.WordClass.word_chars program (whole c.args.text.now)) c.in-Some.whole
+    (c.a_first_match_is_of_a_pattern.ensures.some program (p ∷ []) (whole c.args.text.now) _ _ matches found))
     (c.the_first_group_is_the_match.ensures.first_group program (whole c.args.text.now) _ _ c.in_ok-program.ensures.ends found) in
     let none = rw (c.in-None-get_group.is, first) at c.get_group.ensures.span in
     absurd (cc)

@@ -1,65 +1,49 @@
 use Rattle.std.proofs.Common.{◌≡◌, [], ◌∷◌, arith}
 use Rattle.rsc_engine.specs.Parts.{pattern_of, groups_of_part, groups_of_pattern}
-use Rattle.rsc_uses.proofs.PartsLemmas.{has_room, first_group, goes_nowhere_in, count_slots, preferred_way_of}
+use Rattle.rsc_uses.proofs.PartsLemmas.{has_room, first_group, count_slots}
 use Rattle.rsc_uses.proofs.parts.find_with_slots.Goals as goal
 
 pub returns-clause-start : goal.returns-clause-start
 returns-clause-start g c =
-    let p = pattern_of c.args.part in
-    let program = c.in_ok-program.program in
-    let matches = rw c.new.ensures.patterns at c.in_ok-program.ensures.matches in
-    let lists : program.automaton.groups ≡ groups_of_pattern c.args.part ∷ [] = rw c.new.ensures.groups at c.in_ok-program.ensures.groups in
-    let found = rw c.in-Some.is at c.in_ok-find.ensures.found in
-    let both = has_room g.W.WordClass.word_chars program p (groups_of_part c.args.part) c.args.input.now c.in_ok-captures.captures c.find.new.captures
-    c.in-Some.found lists c.in_ok-captures.ensures.made c.find.ensures.slots
-    (c.a_first_match_is_of_a_pattern.ensures.some program (p ∷ []) c.args.input.now _ _ matches found) in
-    rw both.0 at (c.the_first_group_is_the_match.ensures.first_start program c.args.input.now _ _ c.in_ok-program.ensures.ends found
-    (omega (arith, both.0, both.1)))
+    let one = c.a_match_of_one_pattern.ensures.first c.in_ok-program.program (pattern_of c.args.part) (groups_of_pattern c.args.part) (10, c.args.word_class)
+    c.args.input.now _ c.in-Some.found (rw c.new.ensures.patterns at c.in_ok-program.ensures.built)
+    (rw c.new.ensures.groups at c.in_ok-program.ensures.groups) c.in_ok-program.ensures.matcher (rw c.in-Some.is at c.in_ok-find.ensures.found) in
+    let room = has_room c.in_ok-program.program (groups_of_part c.args.part) c.in_ok-captures.captures c.find.new.captures
+    (rw c.new.ensures.groups at c.in_ok-program.ensures.groups) c.in_ok-captures.ensures.made c.find.ensures.slots in
+    rw one.0.number at (c.the_first_group_is_the_match.ensures.first_start c.in_ok-program.program c.args.input.now _ _ c.in_ok-program.ensures.ends
+    (rw c.in-Some.is at c.in_ok-find.ensures.found) (omega (arith, one.0.number, room)))
 
 pub returns-clause-end : goal.returns-clause-end
 returns-clause-end g c =
-    let p = pattern_of c.args.part in
-    let program = c.in_ok-program.program in
-    let matches = rw c.new.ensures.patterns at c.in_ok-program.ensures.matches in
-    let lists : program.automaton.groups ≡ groups_of_pattern c.args.part ∷ [] = rw c.new.ensures.groups at c.in_ok-program.ensures.groups in
-    let found = rw c.in-Some.is at c.in_ok-find.ensures.found in
-    let both = has_room g.W.WordClass.word_chars program p (groups_of_part c.args.part) c.args.input.now c.in_ok-captures.captures c.find.new.captures
-    c.in-Some.found lists c.in_ok-captures.ensures.made c.find.ensures.slots
-    (c.a_first_match_is_of_a_pattern.ensures.some program (p ∷ []) c.args.input.now _ _ matches found) in
-    rw both.0 at (c.the_first_group_is_the_match.ensures.first_end program c.args.input.now _ _ c.in_ok-program.ensures.ends found
-    (omega (arith, both.0, both.1)))
+    let one = c.a_match_of_one_pattern.ensures.first c.in_ok-program.program (pattern_of c.args.part) (groups_of_pattern c.args.part) (10, c.args.word_class)
+    c.args.input.now _ c.in-Some.found (rw c.new.ensures.patterns at c.in_ok-program.ensures.built)
+    (rw c.new.ensures.groups at c.in_ok-program.ensures.groups) c.in_ok-program.ensures.matcher (rw c.in-Some.is at c.in_ok-find.ensures.found) in
+    let room = has_room c.in_ok-program.program (groups_of_part c.args.part) c.in_ok-captures.captures c.find.new.captures
+    (rw c.new.ensures.groups at c.in_ok-program.ensures.groups) c.in_ok-captures.ensures.made c.find.ensures.slots in
+    rw one.0.number at (c.the_first_group_is_the_match.ensures.first_end c.in_ok-program.program c.args.input.now _ _ c.in_ok-program.ensures.ends
+    (rw c.in-Some.is at c.in_ok-find.ensures.found) (omega (arith, one.0.number, room)))
 
 pub returns-clause-group : goal.returns-clause-group
 returns-clause-group g c =
-    let p = pattern_of c.args.part in
-    let program = c.in_ok-program.program in
-    let matches = rw c.new.ensures.patterns at c.in_ok-program.ensures.matches in
-    let lists : program.automaton.groups ≡ groups_of_pattern c.args.part ∷ [] = rw c.new.ensures.groups at c.in_ok-program.ensures.groups in
-    let found = rw c.in-Some.is at c.in_ok-find.ensures.found in
-    first_group g.W.WordClass.word_chars program p (groups_of_part c.args.part) c.args.input.now c.in_ok-captures.captures c.find.new.captures
-    c.in-Some.found lists c.in_ok-captures.ensures.made c.find.ensures.slots c.find.ensures.groups
-    (c.a_first_match_is_of_a_pattern.ensures.some program (p ∷ []) c.args.input.now _ _ matches found)
-    (c.the_first_group_is_the_match.ensures.first_group program c.args.input.now _ _ c.in_ok-program.ensures.ends found)
+    let one = c.a_match_of_one_pattern.ensures.first c.in_ok-program.program (pattern_of c.args.part) (groups_of_pattern c.args.part) (10, c.args.word_class)
+    c.args.input.now _ c.in-Some.found (rw c.new.ensures.patterns at c.in_ok-program.ensures.built)
+    (rw c.new.ensures.groups at c.in_ok-program.ensures.groups) c.in_ok-program.ensures.matcher (rw c.in-Some.is at c.in_ok-find.ensures.found) in
+    first_group c.in_ok-program.program (groups_of_part c.args.part) c.in_ok-captures.captures c.find.new.captures c.in-Some.found
+    (rw c.new.ensures.groups at c.in_ok-program.ensures.groups) c.in_ok-captures.ensures.made c.find.ensures.slots c.find.ensures.groups one.0.number
+    (c.the_first_group_is_the_match.ensures.first_group c.in_ok-program.program c.args.input.now _ _ c.in_ok-program.ensures.ends
+    (rw c.in-Some.is at c.in_ok-find.ensures.found))
 
 pub returns-clause-slots : goal.returns-clause-slots
 returns-clause-slots g c =
-    let lists : c.in_ok-program.program.automaton.groups ≡ groups_of_pattern c.args.part ∷ [] =
-    rw c.new.ensures.groups at c.in_ok-program.ensures.groups in
-    count_slots (groups_of_pattern c.args.part ∷ []) c.in_ok-program.program.automaton.groups c.in_ok-captures.captures c.find.new.captures lists
-    c.in_ok-captures.ensures.made c.find.ensures.slots
+    count_slots (groups_of_pattern c.args.part ∷ []) c.in_ok-program.program.automaton.groups c.in_ok-captures.captures c.find.new.captures
+    (rw c.new.ensures.groups at c.in_ok-program.ensures.groups) c.in_ok-captures.ensures.made c.find.ensures.slots
 
 pub returns-clause-preferred : goal.returns-clause-preferred
 returns-clause-preferred g c =
-    let p = pattern_of c.args.part in
-    let program = c.in_ok-program.program in
-    let matches = rw c.new.ensures.patterns at c.in_ok-program.ensures.matches in
-    let ways = rw c.new.ensures.patterns at c.in_ok-program.ensures.preferred_ways in
-    let lists : program.automaton.groups ≡ groups_of_pattern c.args.part ∷ [] = rw c.new.ensures.groups at c.in_ok-program.ensures.groups in
-    let found = rw c.in-Some.is at c.in_ok-find.ensures.found in
-    preferred_way_of g.W.WordClass.word_chars program c.args.word_class p (groups_of_pattern c.args.part ∷ []) c.args.input.now c.find.new.captures
-    c.in-Some.found c.in_ok-program.ensures.matcher lists
-    (c.a_first_match_is_of_a_pattern.ensures.some program (p ∷ []) c.args.input.now _ _ matches found)
-    (λ its. c.captures_are_of_the_preferred_way.ensures.first program (p ∷ []) c.args.input.now _ _ p ways found its)
+    let one = c.a_match_of_one_pattern.ensures.first c.in_ok-program.program (pattern_of c.args.part) (groups_of_pattern c.args.part) (10, c.args.word_class)
+    c.args.input.now _ c.in-Some.found (rw c.new.ensures.patterns at c.in_ok-program.ensures.built)
+    (rw c.new.ensures.groups at c.in_ok-program.ensures.groups) c.in_ok-program.ensures.matcher (rw c.in-Some.is at c.in_ok-find.ensures.found) in
+    (one.0.records, one.0.way, one.0.hold.slots)
 
 pub returns-clause-way : goal.returns-clause-way
 returns-clause-way g c = λ loops.
@@ -70,10 +54,7 @@ returns-clause-way g c = λ loops.
     )
 
 pub returns-in-None-clause-none : goal.returns-in-None-clause-none
-returns-in-None-clause-none g c =
-    let p = pattern_of c.args.part in
-    let program = c.in_ok-program.program in
-    let matches = rw c.new.ensures.patterns at c.in_ok-program.ensures.matches in
-    let none = rw c.in-None.is at c.in_ok-find.ensures.none in
-    goes_nowhere_in g.W.WordClass.word_chars program c.args.word_class p c.args.input.now c.in_ok-program.ensures.matcher
-    (λ other. c.a_first_match_is_of_a_pattern.ensures.none program (p ∷ []) c.args.input.now other matches none)
+returns-in-None-clause-none g c = λ i j low high anchored wanted.
+    c.a_match_of_one_pattern.ensures.none c.in_ok-program.program (pattern_of c.args.part) (10, c.args.word_class) c.args.input.now
+    (rw c.new.ensures.patterns at c.in_ok-program.ensures.built) c.in_ok-program.ensures.matcher (rw c.in-None.is at c.in_ok-find.ensures.none)
+    wanted i j low high anchored

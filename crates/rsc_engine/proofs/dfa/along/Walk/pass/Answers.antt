@@ -11,7 +11,8 @@ stack-init g c = record {
 pub stack-preserved-then-index-at : goal.stack-preserved-then-index-at
 stack-preserved-then-index-at g c = record {
   passing = rw c.truncate.ensures.items (passing-again c.pop.new.self.items c.in-Some.top c.stack.invariant.passing c.in-Some.ensures.items
-      (was-seen c.pop.new.self.items c.in-Some.top c.stack.invariant.passing c.in-Some.ensures.items _ _ c.as_usize.ensures.value c.index.ensures c.if-index-at.true));
+      (was-seen c.pop.new.self.items c.in-Some.top c.stack.invariant.passing c.in-Some.ensures.items _ _
+      c.as_usize.ensures.value c.index.ensures c.if-index-at.true));
   same = c.stack.invariant.same;
 }
 
@@ -31,7 +32,8 @@ pub stack-preserved-in-Stuck : goal.stack-preserved-in-Stuck
 stack-preserved-in-Stuck g c = record {
   passing = rw (c.as_usize-in-Some.ensures.value, c.truncate.ensures.items)
       (passing-stuck c.pop.new.self.items c.in-Some.top c.stack.invariant.passing c.in-Some.ensures.items refl c.requires.start c.requires.end
-      (not-seen c.pop.new.self.items c.in-Some.top c.stack.invariant.passing c.in-Some.ensures.items _ _ c.as_usize.ensures.value c.index.ensures c.if-index-at.false) c.in-Stuck.ensures.way);
+      (not-seen c.pop.new.self.items c.in-Some.top c.stack.invariant.passing c.in-Some.ensures.items _ _
+      c.as_usize.ensures.value c.index.ensures c.if-index-at.false) c.in-Stuck.ensures.way);
   same = c.stack.invariant.same;
 }
 
@@ -41,7 +43,8 @@ stack-preserved-in-Continue-branch-3 g c =
     record {
       passing = rw (c.as_usize-in-Some.ensures.value, c.in_ok-push-in-One-2.ensures.items, c.in_ok-push-in-One.ensures.items, c.truncate.ensures.items)
           (passing-one c.pop.new.self.items c.in-Some.top c.stack.invariant.passing c.in-Some.ensures.items refl c.requires.start c.requires.end
-          (not-seen c.pop.new.self.items c.in-Some.top c.stack.invariant.passing c.in-Some.ensures.items _ _ c.as_usize.ensures.value c.index.ensures c.if-index-at.false)
+          (not-seen c.pop.new.self.items c.in-Some.top c.stack.invariant.passing c.in-Some.ensures.items _ _
+          c.as_usize.ensures.value c.index.ensures c.if-index-at.false)
           c.in-One.to c.len.result (rw (c.in_ok-push-in-One.ensures.items, c.truncate.ensures.items) at deep) c.in-One.ensures.way c.in-One.ensures.there);
       same = c.stack.invariant.same;
     }
@@ -60,7 +63,8 @@ stack-preserved-in-Continue-branch-6 g c =
         same,
       )
           (passing-two c.pop.new.self.items c.in-Some.top c.stack.invariant.passing c.in-Some.ensures.items refl c.requires.start c.requires.end
-          (not-seen c.pop.new.self.items c.in-Some.top c.stack.invariant.passing c.in-Some.ensures.items _ _ c.as_usize.ensures.value c.index.ensures c.if-index-at.false)
+          (not-seen c.pop.new.self.items c.in-Some.top c.stack.invariant.passing c.in-Some.ensures.items _ _
+          c.as_usize.ensures.value c.index.ensures c.if-index-at.false)
           c.in-Two.a c.in-Two.b c.len-in-Two.result (rw (c.in_ok-push-in-Two.ensures.items, c.truncate.ensures.items) at deep)
           c.in-Two.ensures.way c.in-Two.ensures.there);
       same = c.stack.invariant.same;
@@ -70,7 +74,8 @@ pub stack-preserved-else-has : goal.stack-preserved-else-has
 stack-preserved-else-has g c = record {
   passing = rw (c.as_usize-in-Some.ensures.value, c.truncate.ensures.items)
       (passing-over c.pop.new.self.items c.in-Some.top c.stack.invariant.passing c.in-Some.ensures.items refl c.requires.start c.requires.end
-      (not-seen c.pop.new.self.items c.in-Some.top c.stack.invariant.passing c.in-Some.ensures.items _ _ c.as_usize.ensures.value c.index.ensures c.if-index-at.false)
+      (not-seen c.pop.new.self.items c.in-Some.top c.stack.invariant.passing c.in-Some.ensures.items _ _
+      c.as_usize.ensures.value c.index.ensures c.if-index-at.false)
       c.in-Over.to c.in-Over.ensures.way (c.has.ensures.no c.if-has.false));
   same = c.stack.invariant.same;
 }
@@ -79,7 +84,8 @@ pub stack-preserved : goal.stack-preserved
 stack-preserved g c = record {
   passing = rw (c.as_usize-in-Some.ensures.value, c.truncate.ensures.items)
       (passing-match c.pop.new.self.items c.in-Some.top c.stack.invariant.passing c.in-Some.ensures.items refl c.requires.start c.requires.end
-      (not-seen c.pop.new.self.items c.in-Some.top c.stack.invariant.passing c.in-Some.ensures.items _ _ c.as_usize.ensures.value c.index.ensures c.if-index-at.false)
+      (not-seen c.pop.new.self.items c.in-Some.top c.stack.invariant.passing c.in-Some.ensures.items _ _
+      c.as_usize.ensures.value c.index.ensures c.if-index-at.false)
       _ c.in-Match.ensures.way (c.has-in-Match.ensures.no c.if-has-2.false));
   same = c.stack.invariant.same;
 }
@@ -87,14 +93,16 @@ stack-preserved g c = record {
 pub returns-then-has-clause-on : goal.returns-then-has-clause-on
 returns-then-has-clause-on g c =
     found-over c.pop.new.self.items c.in-Some.top c.stack.invariant.passing c.in-Some.ensures.items refl c.requires.start c.requires.end
-    (not-seen c.pop.new.self.items c.in-Some.top c.stack.invariant.passing c.in-Some.ensures.items _ _ c.as_usize.ensures.value c.index.ensures c.if-index-at.false)
+    (not-seen c.pop.new.self.items c.in-Some.top c.stack.invariant.passing c.in-Some.ensures.items _ _
+    c.as_usize.ensures.value c.index.ensures c.if-index-at.false)
     c.record.new.slots (c.has.ensures.yes c.if-has.true)
     (rw (c.as_slice.ensures.value, c.truncate.ensures.items, c.stack.invariant.same) at c.record.ensures) c.in-Over.to c.in-Over.ensures.way
 
 pub returns-then-has-2-clause-on : goal.returns-then-has-2-clause-on
 returns-then-has-2-clause-on g c =
     found-match c.pop.new.self.items c.in-Some.top c.stack.invariant.passing c.in-Some.ensures.items refl c.requires.start c.requires.end
-    (not-seen c.pop.new.self.items c.in-Some.top c.stack.invariant.passing c.in-Some.ensures.items _ _ c.as_usize.ensures.value c.index.ensures c.if-index-at.false)
+    (not-seen c.pop.new.self.items c.in-Some.top c.stack.invariant.passing c.in-Some.ensures.items _ _
+    c.as_usize.ensures.value c.index.ensures c.if-index-at.false)
     c.record-then-has-2.new.slots (c.has-in-Match.ensures.yes c.if-has-2.true)
     (rw (c.as_slice-then-has-2.ensures.value, c.truncate.ensures.items, c.stack.invariant.same) at c.record-then-has-2.ensures) _ c.in-Match.ensures.way
 
@@ -104,13 +112,16 @@ returns-clause-on g c = λ p from j run sought lists a. absurd (passing-never c.
 
 pub returns-in_err-push-in-Two-3-clause-unseen : goal.returns-in_err-push-in-Two-3-clause-unseen
 returns-in_err-push-in-Two-3-clause-unseen g c =
-    rw c.as_usize-in-Some.ensures.value (below-after c.pop.new.self.items c.in-Some.top c.stack.invariant.passing c.in-Some.ensures.items refl c.requires.start c.requires.end
-    (not-seen c.pop.new.self.items c.in-Some.top c.stack.invariant.passing c.in-Some.ensures.items _ _ c.as_usize.ensures.value c.index.ensures c.if-index-at.false))
+    rw c.as_usize-in-Some.ensures.value (below-after c.pop.new.self.items c.in-Some.top c.stack.invariant.passing c.in-Some.ensures.items
+    refl c.requires.start c.requires.end
+    (not-seen c.pop.new.self.items c.in-Some.top c.stack.invariant.passing c.in-Some.ensures.items _ _
+    c.as_usize.ensures.value c.index.ensures c.if-index-at.false))
 
 pub stack-smaller-in-Continue-branch-3 : goal.stack-smaller-in-Continue-branch-3
 stack-smaller-in-Continue-branch-3 g c =
     let less = fewer-left c.pop.new.self.items c.in-Some.top c.stack.invariant.passing c.in-Some.ensures.items
-    (not-seen c.pop.new.self.items c.in-Some.top c.stack.invariant.passing c.in-Some.ensures.items _ _ c.as_usize.ensures.value c.index.ensures c.if-index-at.false) in
+    (not-seen c.pop.new.self.items c.in-Some.top c.stack.invariant.passing c.in-Some.ensures.items _ _
+    c.as_usize.ensures.value c.index.ensures c.if-index-at.false) in
     rw (c.as_usize-in-Some.ensures.value, c.in_ok-push-in-One-2.ensures.items)
     (omega (
       arith,
@@ -123,7 +134,8 @@ stack-smaller-in-Continue-branch-3 g c =
 pub stack-smaller-in-Continue-branch-6 : goal.stack-smaller-in-Continue-branch-6
 stack-smaller-in-Continue-branch-6 g c =
     let less = fewer-left c.pop.new.self.items c.in-Some.top c.stack.invariant.passing c.in-Some.ensures.items
-    (not-seen c.pop.new.self.items c.in-Some.top c.stack.invariant.passing c.in-Some.ensures.items _ _ c.as_usize.ensures.value c.index.ensures c.if-index-at.false) in
+    (not-seen c.pop.new.self.items c.in-Some.top c.stack.invariant.passing c.in-Some.ensures.items _ _
+    c.as_usize.ensures.value c.index.ensures c.if-index-at.false) in
     rw (c.as_usize-in-Some.ensures.value, c.in_ok-push-in-Two-3.ensures.items, c.in_ok-push-in-Two-2.ensures.items)
     (omega (
       arith,

@@ -1,0 +1,36 @@
+//! What a program of one pattern answers.
+ghost use Rattle.std.specs.Prelude.{false, ◌≡◌, ℕ, List, [], ◌∷◌, Option};
+ghost use Rattle.rsc_captures.specs.Captured.{Captured};
+ghost use Rattle.rsc_captures.specs.Groups.{Groups};
+ghost use Rattle.rsc_search.specs.Inputs.{InputParts};
+ghost use Rattle.rsc_search.specs.Matches.{Matched};
+ghost use Rattle.rsc_engine.specs.Searches.{Compiled, search_in};
+ghost use Rattle.rsc_engine.specs.Patterns.{Pattern, may_be_empty};
+ghost use Rattle.rsc_engine.specs.Preferred.{IsFirstMatch, HasNone};
+ghost use Rattle.rsc_engine.specs.NextMatches.{IsNextMatch, IsOver};
+ghost use Rattle.rsc_engine.specs.PatternMatches.{IsBuiltOf};
+ghost use Rattle.rsc_engine.specs.OnePattern.{subject_in, IsMatchOfOne, GoesNowhereTo, GoesNowhereIn};
+
+use rsc_look::WordClass;
+
+/// What a program of one pattern answers, by that pattern alone. What it is built of, its groups and its matcher are clauses of `build`. The first match
+/// goes the pattern's preferred way, and from no earlier position does the pattern go anywhere; so it is with the next match, if the pattern takes bytes.
+/// Without a match the pattern goes nowhere.
+pub fn a_match_of_one_pattern<W: WordClass>()
+    ensures first { (program : Compiled W) (p : Pattern) (groups : Groups) (matcher : ℕ × W) (input : InputParts) (captures : Captured) (found : Matched) →
+        IsBuiltOf W.word_chars program (p ∷ []) → program.automaton.groups ≡ groups ∷ [] → program.automaton.matcher ≡ matcher →
+        IsFirstMatch (search_in W.word_chars program input) captures found →
+        IsMatchOfOne (subject_in W.word_chars input.haystack matcher) p groups input captures found
+        × GoesNowhereTo (subject_in W.word_chars input.haystack matcher) p input found.span.start }
+    ensures none { (program : Compiled W) (p : Pattern) (matcher : ℕ × W) (input : InputParts) → IsBuiltOf W.word_chars program (p ∷ []) →
+        program.automaton.matcher ≡ matcher → HasNone (search_in W.word_chars program input) →
+        GoesNowhereIn (subject_in W.word_chars input.haystack matcher) p input }
+    ensures next { (program : Compiled W) (p : Pattern) (groups : Groups) (matcher : ℕ × W) (input : InputParts) (last : Option ℕ) (captures : Captured)
+        (found : Matched) → IsBuiltOf W.word_chars program (p ∷ []) → program.automaton.groups ≡ groups ∷ [] → program.automaton.matcher ≡ matcher →
+        IsNextMatch (search_in W.word_chars program input) last captures found →
+        IsMatchOfOne (subject_in W.word_chars input.haystack matcher) p groups input captures found
+        × (may_be_empty p ≡ false → GoesNowhereTo (subject_in W.word_chars input.haystack matcher) p input found.span.start) }
+    ensures over { (program : Compiled W) (p : Pattern) (matcher : ℕ × W) (input : InputParts) (last : Option ℕ) →
+        IsBuiltOf W.word_chars program (p ∷ []) → program.automaton.matcher ≡ matcher → IsOver (search_in W.word_chars program input) last →
+        may_be_empty p ≡ false → GoesNowhereIn (subject_in W.word_chars input.haystack matcher) p input }
+{}
