@@ -2,7 +2,7 @@
 # Makes a Rattle repository whose crate may call the libraries.
 #   own/new-repository.sh FOLDER CRATE [engine [uses]]
 # FOLDER must not be there yet. It gets the six libraries, docs, crates.txt, HANDLES, and the crate CRATE with a function that calls rsc_look and a test; with
-# 'engine' rsc_engine too, the search of crates/rsc_example as src/pairs.rt, and a test of it; with 'uses' also rsc_uses, whose callers and lemmas CALLING.md quotes.
+# 'engine' rsc_engine too, the search of crates/rsc_calls as src/pairs.rt, and a test of it; with 'uses' also rsc_uses, whose callers and lemmas CALLING.md quotes.
 # The line of CRATE in crates.txt has the libraries that its files name: a check of CRATE proves those alone.
 set -euo pipefail
 here=$(cd "$(dirname "${BASH_SOURCE[0]}")/.." && pwd)
@@ -28,7 +28,7 @@ cp "$here"/docs/*.md "$1/docs"
 echo "$commit" > "$1/LIBRARIES"
 cp "$here/own/first.txt" "$1/crates/$2/src/lib.rt"
 if [ -n "${3:-}" ]; then
-  cp "$here/crates/rsc_example/src/pairs.rt" "$1/crates/$2/src"
+  cp "$here/crates/rsc_calls/src/pairs.rt" "$1/crates/$2/src"
   sed -i 's/^use rsc_look::{Look, LookMatcher, WordClass};$/&\n\n\/\/\/ A search for two patterns.\npub mod pairs;/' "$1/crates/$2/src/lib.rt"
   sed -i 's/^    use super::line_starts;$/    use super::line_starts;\n    use super::pairs::{named, pairs};\n    use rsc_engine::{Builder, find};/; s/^    use rsc_look::{AsciiWord, LookMatcher};$/&\n    use rsc_search::Input;/; $d' "$1/crates/$2/src/lib.rt"
   cat "$here/own/search.txt" >> "$1/crates/$2/src/lib.rt"
