@@ -40,9 +40,10 @@ case ${1:-} in
     trap 'kill "$snippets" $bodies 2> /dev/null || true; rm -rf "$said"' EXIT
     passed=yes
     rt ci 2>&1 | tee "$said/ci" || passed=no
-    step "programs with arguments, on a terminal, without UTF-8, where reading or writing fails"
+    step "programs with arguments, on a terminal, without UTF-8, where reading or writing fails; rsc_example beside the system's grep"
     if [ "$passed" = yes ]; then
       gate/stored-runs.py || passed=no
+      gate/beside-grep.py || passed=no
     else
       echo "not run, since rt ci failed"
     fi

@@ -2,10 +2,10 @@
 """Makes pairs of a pattern and a text for the engine, with the matches that Python's `re` finds.
 
     compare/pairs.py COUNT SEED PAIRS MATCHES     # writes a line for each pair to the file PAIRS, and its matches to MATCHES
-    compare/pairs.py COUNT SEED                   # writes them as the stored run crates/rsc_example/runs/pairs.txt has them
+    compare/pairs.py COUNT SEED                   # writes them as the stored run crates/rsc_calls/runs/pairs.txt has them
     compare/pairs.py --groups COUNT SEED ..       # only pairs with a match, a group and a choice, in longer texts, as in runs/groups.txt
 
-A line of PAIRS is what `rsc_example calls` reads: the pattern as the builder's calls, a tab, the digits of the text. Its matches are the starts and
+A line of PAIRS is what `rsc_calls calls` reads: the pattern as the builder's calls, a tab, the digits of the text. Its matches are the starts and
 ends of all groups of each match, `- -` for a group that takes no part, or `no match`.
 
 Python's own iteration gives an empty match where the last one ended too, so this one searches again a byte later, as the original does. What is
@@ -97,7 +97,7 @@ def main():
     count, numbers = int(given[0]), random.Random(int(given[1]))
     pairs = [pair(numbers, has_groups) for _ in range(count)]
     if len(given) == 2:
-        print(f"# What compare/pairs.py{' --groups' * has_groups} writes: the answers are those of Python's `re`.", "$ rsc_example calls", sep="\n")
+        print(f"# What compare/pairs.py{' --groups' * has_groups} writes: the answers are those of Python's `re`.", "$ rsc_calls calls", sep="\n")
         print(*(f"@ input {asked}\\n" for asked, _ in pairs), *(answer for _, answer in pairs), sep="\n")
         return
     for path, lines in zip(given[2:], zip(*pairs)):

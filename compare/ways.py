@@ -2,7 +2,7 @@
 """Makes pairs of a pattern and a text for the engine, with the matches that its rule gives, also where a part that may be empty is repeated.
 
     compare/ways.py COUNT SEED PAIRS MATCHES     # as compare/pairs.py writes them
-    compare/ways.py COUNT SEED                   # as the stored run crates/rsc_example/runs/ways.txt has them
+    compare/ways.py COUNT SEED                   # as the stored run crates/rsc_calls/runs/ways.txt has them
 
 The rule goes by the pattern alone: its ways are tried in order, and none makes a choice twice at one position. A choice is an alternative, a copy of a
 counted part that may be left out, the entering of a loop over what may be empty, or another round of a loop. Python's `re`, which compare/pairs.py asks,
@@ -150,7 +150,7 @@ def main():
     count, numbers = int(sys.argv[1]), random.Random(int(sys.argv[2]))
     pairs = [pair(numbers) for _ in range(count)]
     if len(sys.argv) == 3:
-        print("# What compare/ways.py writes: the answers are those of the engine's rule, by the pattern alone.", "$ rsc_example calls", sep="\n")
+        print("# What compare/ways.py writes: the answers are those of the engine's rule, by the pattern alone.", "$ rsc_calls calls", sep="\n")
         print(*(f"@ input {asked}\\n" for asked, _ in pairs), *(answer for _, answer in pairs), sep="\n")
         return
     for path, lines in zip(sys.argv[3:], zip(*pairs)):

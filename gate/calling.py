@@ -267,9 +267,8 @@ def page(crate, text):
     listed = names_of_specs(crate)
     module, name = re.search(r"^\| `(\w+)\.([^`]+)` \|", listed, flags=re.M).groups()
     cited = LAWS.format(crate=crate, law=law, module=module, name=name)
-    # A library that rsc_uses doesn't rest on has a line `<!-- callers: none -->`.
-    quoted = [] if mark[1] == "none" else ["## Callers\n", "\n".join(callers(path, names) for path, *names in map(str.split, mark[1].split(";")))]
-    return text[: mark.end()] + "\n" + "\n".join([NOTATION, items(crate), *quoted, cited, contracts(crate), listed])
+    quoted = "\n".join(callers(path, names) for path, *names in map(str.split, mark[1].split(";")))
+    return text[: mark.end()] + "\n" + "\n".join([NOTATION, items(crate), "## Callers\n", quoted, cited, contracts(crate), listed])
 
 
 HEAD = """# The public calls

@@ -6,6 +6,7 @@ The runs of a crate are in crates/CRATE/runs/*.txt, which read as a session does
     $ CRATE looks StartLF -             the arguments, as a shell splits them; \xHH in them is a byte
     @ input a\n                         standard input, with \n and \xHH for bytes; a\{500} is 500 times the byte before it
     @ later b\n                         more of it, which comes a little later
+    @ file a.txt a\n                    a file of that name where it runs, and its bytes
     @ terminal                          what is unusual: standard output is a terminal; `error terminal`, standard error is one; a variable NAME=VALUE;
                                         `output full`, which takes no byte; `output short`, which takes a hundred; `output closed`, which nobody reads;
                                         `input unreadable`; `input fails`, of which a read fails after the input that is given; `refused 3`, the third
@@ -25,7 +26,7 @@ from edits import ROOT, run_unproved
 
 UNREADABLE, FAILING = "@ input unreadable", "@ input fails"
 SHORT = "@ output short"
-Run = collections.namedtuple("Run", "name args unusual stdin stdout stderr status")
+Run = collections.namedtuple("Run", "name args unusual files stdin stdout stderr status")
 
 
 def unescaped(text):
@@ -48,9 +49,12 @@ def runs_of(crate):
             for number, line in enumerate(lines.read().splitlines(), 1):
                 if re.match(rf"\$ {crate}( |$)", line):
                     args = [unescaped(it) for it in shlex.split(line)[2:]]
-                    found.append(Run(f"{crate}/{os.path.basename(path)}:{number}", args, [], [], [], [], [0]))
+                    found.append(Run(f"{crate}/{os.path.basename(path)}:{number}", args, [], {}, [], [], [], [0]))
                 elif line.startswith(("@ input ", "@ later ")) and line not in (UNREADABLE, FAILING):
                     found[-1].stdin.append((line[2:7] == "later", unescaped(line[8:])))
+                elif line.startswith("@ file "):
+                    name, _, text = line[7:].partition(" ")
+                    found[-1].files[name] = unescaped(text)
                 elif line.startswith("@ "):
                     found[-1].unusual.append(line)
                 elif line.startswith("! "):

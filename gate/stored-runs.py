@@ -70,11 +70,19 @@ def read_to_end(file):
 
 
 def answer_of(program, run):
+    with tempfile.TemporaryDirectory(prefix="run-") as folder:
+        for name, text in run.files.items():
+            with open(f"{folder}/{name}", "wb") as file:
+                file.write(text)
+        return answer_in(folder, program, run)
+
+
+def answer_in(folder, program, run):
     writer, reader = output_to(run.unusual)
     variables = dict(unescaped(it[2:]).split(b"=", 1) for it in run.unusual if "=" in it)
     unended = unended_input(run)
     shown, errors = pty.openpty() if "@ error terminal" in run.unusual else os.pipe()
-    child = subprocess.Popen([program, *run.args], env=variables, stdout=writer, stderr=errors, stdin=subprocess.PIPE if unended is None else unended,
+    child = subprocess.Popen([program, *run.args], cwd=folder, env=variables, stdout=writer, stderr=errors, stdin=subprocess.PIPE if unended is None else unended,
                              preexec_fn=take_a_hundred_bytes if SHORT in run.unusual else None)
     os.close(writer)
     os.close(errors)
@@ -113,7 +121,7 @@ LONG = ("rsc_engine_bench",)
 
 def is_plain(run):
     """Returns whether a run has nothing unusual, so that `rt try --cases` can run it."""
-    return not run.unusual and b".." not in run.stdout and all(it.isascii() for it in run.args)
+    return not run.unusual and not run.files and b".." not in run.stdout and all(it.isascii() and b"\n" not in it for it in run.args)
 
 
 def write_cases(crate, folder, is_joined=False):
@@ -167,8 +175,8 @@ def try_unproved():
     print(*failed, sep="\n", end="\n" if failed else "")
     failures = sum(it.startswith("== ") for it in failed)
     others = sum(not is_plain(run) for crate in crates_with_runs() for run in runs_of(crate))
-    print(f"left out: proofs; wrong bodies; snippets; the long run of {', '.join(LONG)}; {others} stored runs (a terminal, a variable, an input or output that "
-          "fails, refused memory), and what the others write on standard error and end with")
+    print(f"left out: proofs; wrong bodies; snippets; the long run of {', '.join(LONG)}; {others} stored runs (a terminal, a variable, files, an input or output "
+          "that fails, refused memory), and what the others write on standard error and end with")
     print(f"{len(jobs) - failures} passed, {failures} failed")
     return 1 if failures or not jobs else 0
 

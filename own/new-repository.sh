@@ -2,7 +2,8 @@
 # Makes a Rattle repository whose crate may call the libraries.
 #   own/new-repository.sh FOLDER CRATE [engine [uses]]
 # FOLDER must not be there yet. It gets the six libraries, docs, crates.txt, HANDLES, and the crate CRATE with a function that calls rsc_look and a test; with
-# 'engine' rsc_engine too, the search of crates/rsc_example as src/pairs.rt, and a test of it; with 'uses' also rsc_uses, whose callers and lemmas CALLING.md quotes.
+# 'engine' rsc_engine too, the search of crates/rsc_calls as src/pairs.rt, and a test of it; with 'uses' also
+# rsc_replace and rsc_uses, whose callers and lemmas CALLING.md quotes.
 # The line of CRATE in crates.txt has the libraries that its files name: a check of CRATE proves those alone.
 set -euo pipefail
 here=$(cd "$(dirname "${BASH_SOURCE[0]}")/.." && pwd)
@@ -11,7 +12,7 @@ if [ $# -lt 2 ] || [ -e "$1" ] || [[ $2 == rsc_* ]] || [ "${3:-engine}" != engin
   exit 2
 fi
 commit=$(git -C "$here" describe --always --abbrev=40 --exclude '*' --dirty=", changed")
-libraries=(rsc_primitives rsc_alphabet rsc_look rsc_search rsc_captures rsc_nfa ${3:+rsc_engine} ${4:+rsc_uses})
+libraries=(rsc_primitives rsc_alphabet rsc_look rsc_search rsc_captures rsc_nfa ${3:+rsc_engine} ${4:+rsc_replace rsc_uses})
 
 mkdir -p "$1/crates/$2/src"
 git init -q "$1"
@@ -28,7 +29,7 @@ cp "$here"/docs/*.md "$1/docs"
 echo "$commit" > "$1/LIBRARIES"
 cp "$here/own/first.txt" "$1/crates/$2/src/lib.rt"
 if [ -n "${3:-}" ]; then
-  cp "$here/crates/rsc_example/src/pairs.rt" "$1/crates/$2/src"
+  cp "$here/crates/rsc_calls/src/pairs.rt" "$1/crates/$2/src"
   sed -i 's/^use rsc_look::{Look, LookMatcher, WordClass};$/&\n\n\/\/\/ A search for two patterns.\npub mod pairs;/' "$1/crates/$2/src/lib.rt"
   sed -i 's/^    use super::line_starts;$/    use super::line_starts;\n    use super::pairs::{named, pairs};\n    use rsc_engine::{Builder, find};/; s/^    use rsc_look::{AsciiWord, LookMatcher};$/&\n    use rsc_search::Input;/; $d' "$1/crates/$2/src/lib.rt"
   cat "$here/own/search.txt" >> "$1/crates/$2/src/lib.rt"

@@ -1,39 +1,32 @@
-//! An example: a program over `rsc_engine`, which prints the matches of several patterns.
+//! A small grep: prints the lines of files, or of standard input, that have a word or a match of a pattern.
 #![tactic(auto)]
 
-mod calls;
-mod pairs;
+mod arguments;
+mod blocks;
+mod error;
+mod page;
 mod patterns;
-mod texts;
+mod pieces;
+mod run;
+mod search;
 
-use pairs::pairs;
+use crate::error::GrepError;
+use crate::run::run;
 use std::env;
-use std::fmt::Display;
 use std::process::ExitCode;
 
 fn main(rt: HostRuntime) -> ExitCode {
-    // With an argument it answers lines of calls instead.
-    match env::args(&rt) {
-        Ok(arguments) if arguments.len() > 1 => {
-            return match calls::answer_all(&rt) {
-                Ok(()) => ExitCode::SUCCESS,
-                Err(error) => failure(&rt, &error),
-            };
+    let outcome = match env::args(&rt) {
+        Ok(arguments) => run(&rt, arguments),
+        Err(error) => Err(GrepError::of_arguments(rt.alloc(), &error)),
+    };
+    match outcome {
+        Ok(status) => ExitCode::from(status),
+        // Nobody reads what is printed.
+        Err(GrepError::Closed) => ExitCode::SUCCESS,
+        Err(error) => {
+            let _ = rt.eprintln(format_args!("rsc_example: {error}"));
+            ExitCode::from(2)
         }
-        Ok(_) => {}
-        Err(error) => return failure(&rt, &error),
     }
-    if let Err(error) = pairs(&rt, "größe=3, λόγος=слово; 漢字=字 #été") {
-        return failure(&rt, &error);
-    }
-    match texts::show_all(&rt) {
-        Ok(()) => ExitCode::SUCCESS,
-        Err(error) => failure(&rt, &error),
-    }
-}
-
-// Says what stopped the program on standard error.
-fn failure<E: Display>(rt: &HostRuntime, error: &E) -> ExitCode {
-    let _ = rt.eprintln(error);
-    ExitCode::FAILURE
 }

@@ -1,5 +1,5 @@
 -- A text with all matches of a program replaced.
-use Rattle.std.specs.Prelude.{◌≡◌, ℕ, Bool, List, [], ◌∷◌, ◌++◌, drop, slice_range}
+use Rattle.std.specs.Prelude.{◌≡◌, ℕ, zero, suc, Bool, List, [], ◌∷◌, ◌++◌, drop, slice_range}
 use Rattle.rsc_search.specs.Matches.{Matched}
 use Rattle.rsc_captures.specs.Captured.{Captured}
 use Rattle.rsc_engine.specs.Searches.{search_in}
@@ -30,3 +30,18 @@ with_matches_filled text template from (m ∷ rest) =
 abbrev pub IsReplaced : {W : Type 0} → (W → ℕ → Bool) → List ℕ → Left W → List ℕ → Type 0
 IsReplaced chars template left out =
     (all : List MatchWith) × AreAllWith chars left all × (out ≡ with_matches_filled left.input.haystack template left.input.span.start all)
+
+-- these are as many matches of what is left as a number says, the first ones in order, or all if there are no more
+abbrev pub AreFirstWith : {W : Type 0} → (W → ℕ → Bool) → ℕ → Left W → List MatchWith → Type 0
+AreFirstWith chars zero left first = first ≡ []
+AreFirstWith chars (suc most) left [] = IsOver (search_in chars left.program left.input) left.last
+AreFirstWith chars (suc most) left (m ∷ rest) =
+    IsNextMatch (search_in chars left.program left.input) left.last m.captures m.found
+    × HasSlotsOf left.program m.captures
+    × AreFirstWith chars most (after left m.found) rest
+
+-- these bytes are the rest of the haystack, with as many matches replaced, the first ones that are left, or all if there are no more
+abbrev pub IsReplacedUpTo : {W : Type 0} → (W → ℕ → Bool) → List ℕ → ℕ → Left W → List ℕ → Type 0
+IsReplacedUpTo chars template most left out =
+    (first : List MatchWith) × AreFirstWith chars most left first
+    × (out ≡ with_matches_filled left.input.haystack template left.input.span.start first)

@@ -5,7 +5,7 @@ ghost use Rattle.rsc_captures.specs.Captured.{Captured};
 ghost use Rattle.rsc_captures.specs.Groups.{Groups};
 ghost use Rattle.rsc_engine.specs.NextMatches.{Left};
 ghost use Rattle.rsc_engine.specs.Patterns.{Pattern, Subject};
-ghost use Rattle.rsc_replace.specs.Replacements.{AreAllWith, IsReplaced, MatchWith};
+ghost use Rattle.rsc_replace.specs.Replacements.{AreAllWith, AreFirstWith, IsReplaced, IsReplacedUpTo, MatchWith};
 ghost use Rattle.rsc_replace.specs.Templates.{filled};
 ghost use Rattle.rsc_replace.specs.PartReplacements.{AreAllWays, IsPartReplaced, Way};
 
@@ -18,11 +18,15 @@ pub fn a_template_without_dollars_is_itself()
         filled text captures template ≡ template }
 {}
 
-/// There is at most one list of all matches that are left with their captures, and so one text in which they are replaced.
+/// There is at most one list of all matches that are left with their captures, and so one text in which they are replaced; and one list of as many first ones.
 pub fn there_is_one_replaced_text<W: WordClass>()
     ensures all { (left : Left W) (one other : List MatchWith) → AreAllWith W.word_chars left one → AreAllWith W.word_chars left other → one ≡ other }
     ensures text { (left : Left W) (template one other : List ℕ) → IsReplaced W.word_chars template left one →
         IsReplaced W.word_chars template left other → one ≡ other }
+    ensures first { (most : ℕ) (left : Left W) (one other : List MatchWith) → AreFirstWith W.word_chars most left one →
+        AreFirstWith W.word_chars most left other → one ≡ other }
+    ensures up_to { (most : ℕ) (left : Left W) (template one other : List ℕ) → IsReplacedUpTo W.word_chars template most left one →
+        IsReplacedUpTo W.word_chars template most left other → one ≡ other }
 {
     laws::there_is_one_next_match();
     laws::there_is_one_match_with_captures();

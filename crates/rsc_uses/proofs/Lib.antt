@@ -6,6 +6,7 @@ mod FoundLemmas  -- what a search has found so far
 mod LexedLemmas  -- matches that stand side by side are tokens
 mod ListedLemmas  -- how such a list is made, number by number
 mod LookLemmas  -- slices of bytes as lists of numbers below 256
+mod MaskedLemmas  -- what stands for each match is the mask, whatever its groups are
 mod PartsLemmas  -- what matches of a program say of the pattern that it's built of
 mod PrimitivesLemmas  -- how many bytes a character takes
 mod ReplacedLemmas  -- spans that are replaced by what they have already

@@ -12,6 +12,7 @@ pub mod look;
 pub mod nfa;
 pub mod parts;
 pub mod primitives;
+pub mod replace;
 pub mod search;
 pub mod tables;
 pub mod threads;

@@ -1,6 +1,6 @@
 use rsc_engine::{Builder, Error, find};
 use rsc_look::AsciiWord;
-use rsc_replace::{expand, replace_all, replace_part};
+use rsc_replace::{expand, replace_all, replace_part, replacen};
 use rsc_search::Input;
 use std::test::Fail;
 
@@ -38,6 +38,17 @@ fn all_replaced(rt: HostRuntime) -> Result<(), Fail> {
     let program = builder.build(AsciiWord, true, pair)?;
     let out = replace_all(rt.alloc(), &program, b"ab cd, e f", b"$2-$1")?;
     assert!(rt; out.as_slice() == b"cd-ab, f-e".as_slice());
+    Ok(())
+}
+
+#[test]
+fn first_replaced(rt: HostRuntime) -> Result<(), Fail> {
+    // `replacen`
+    let builder = Builder::new(rt.alloc());
+    let letter = builder.literal(b"a")?;
+    let program = builder.build(AsciiWord, true, letter)?;
+    let out = replacen(rt.alloc(), &program, b"a-a-a", 2, b"b")?;
+    assert!(rt; out.as_slice() == b"b-b-a".as_slice());
     Ok(())
 }
 

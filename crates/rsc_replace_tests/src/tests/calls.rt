@@ -1,8 +1,9 @@
 //! The calls that replace: between matches, at both ends of a text, at empty matches, with several patterns, and why nothing is replaced.
 use crate::made::{first_wrong, part_of};
-use rsc_engine::{Builder, Error};
+use rsc_engine::{Builder, Error, Program};
 use rsc_look::AsciiWord;
-use rsc_replace::{replace_all, replace_part};
+use rsc_replace::{replace_all, replace_part, replacen};
+use std::alloc::Global;
 use std::test::Fail;
 
 #[test]
@@ -53,6 +54,31 @@ fn names_are_those_of_the_pattern_that_matched(rt: HostRuntime) -> Result<(), Fa
     let program = builder.build(AsciiWord, true, other)?;
     let out = replace_all(rt.alloc(), &program, b"aa-bc", b"[$key $1 $2]")?;
     assert!(rt; out.as_slice() == b"[a a ]-[c b c]".as_slice());
+    Ok(())
+}
+
+// Whether as many matches of a program in `abab a` are replaced.
+fn is_replaced(
+    alloc: Global,
+    program: &Program<AsciiWord>,
+    limit: usize,
+    wanted: &str,
+) -> Result<bool, Error> {
+    let out = replacen(alloc, program, b"abab a", limit, b"<$1>")?;
+    Ok(out.as_slice() == wanted.as_bytes())
+}
+
+#[test]
+fn a_limit_replaces_the_first_matches(rt: HostRuntime) -> Result<(), Fail> {
+    let builder = Builder::new(rt.alloc());
+    let part = part_of(rt.alloc(), &builder, "aG")?;
+    let program = builder.build(AsciiWord, true, part)?;
+    assert!(rt; is_replaced(rt.alloc(), &program, 1, "<a>bab a")?);
+    assert!(rt; is_replaced(rt.alloc(), &program, 2, "<a>b<a>b a")?);
+    assert!(rt; is_replaced(rt.alloc(), &program, 3, "<a>b<a>b <a>")?);
+    // More than there are; and 0 means all.
+    assert!(rt; is_replaced(rt.alloc(), &program, usize::MAX, "<a>b<a>b <a>")?);
+    assert!(rt; is_replaced(rt.alloc(), &program, 0, "<a>b<a>b <a>")?);
     Ok(())
 }
 

@@ -3,7 +3,7 @@ use rsc_engine::{Answer, Builder, Cache, Dfa, Error, Matches, Part, Program};
 use rsc_look::{AsciiWord, Look, LookSet};
 use rsc_primitives::PatternID;
 use rsc_search::{Input, Span};
-use rsc_uses::{ends, engine, lexer, parts};
+use rsc_uses::{ends, engine, lexer, parts, replace};
 use std::alloc::Global;
 use std::test::Fail;
 
@@ -19,6 +19,14 @@ fn a_part_is_found(rt: HostRuntime) -> Result<(), Fail> {
     let whole = Builder::new(rt.alloc()).range(b'a', b'z');
     let found = parts::find_part(rt.alloc(), AsciiWord, whole, b"-a b")?;
     assert!(rt; found == Some((1, 2)));
+    Ok(())
+}
+
+#[test]
+fn each_match_is_masked(rt: HostRuntime) -> Result<(), Fail> {
+    let program = a_letter(rt.alloc())?;
+    let out = replace::mask_all(rt.alloc(), &program, b"1a2b")?;
+    assert!(rt; out.as_slice() == b"1***2***".as_slice());
     Ok(())
 }
 

@@ -1,4 +1,4 @@
-use Rattle.rsc_replace.proofs.ReplacementsLemmas.{same_all, same_text}
+use Rattle.rsc_replace.proofs.ReplacementsLemmas.{same_all, same_text, same_first, same_first_text}
 use Rattle.rsc_replace.proofs.laws.there_is_one_replaced_text.Goals as goal
 
 pub returns-clause-all : goal.returns-clause-all
@@ -8,3 +8,11 @@ returns-clause-all g c =
 pub returns-clause-text : goal.returns-clause-text
 returns-clause-text g c =
     same_text g.W.WordClass.word_chars (record { next = c.there_is_one_match_with_captures.ensures.next; over = c.there_is_one_next_match.ensures.over })
+
+pub returns-clause-first : goal.returns-clause-first
+returns-clause-first g c =
+    same_first g.W.WordClass.word_chars (record { next = c.there_is_one_match_with_captures.ensures.next; over = c.there_is_one_next_match.ensures.over })
+
+pub returns-clause-up_to : goal.returns-clause-up_to
+returns-clause-up_to g c =
+    same_first_text g.W.WordClass.word_chars (record { next = c.there_is_one_match_with_captures.ensures.next; over = c.there_is_one_next_match.ensures.over })
