@@ -2,6 +2,7 @@
 mod any_bytes;
 mod carried;
 mod classes;
+mod cost;
 mod forms;
 mod look_sets;
 mod matchers;

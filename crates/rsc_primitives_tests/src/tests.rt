@@ -1,4 +1,5 @@
 mod any_bytes;
+mod cost;
 mod escapes;
 mod forms;
 mod indices;

@@ -83,10 +83,10 @@ fn text_of_singletons_to(alloc: Global, first: u8) -> Result<String, AllocError>
     Ok(text)
 }
 
-// 200 classes, and 255, of which the last one has two bytes.
+// From one class to 255, of which the last one has two bytes.
 #[test]
-fn many_classes_are_shown(rt: HostRuntime) -> Result<(), Fail> {
-    for first in [199u8, 254] {
+fn any_number_of_classes_is_shown(rt: HostRuntime) -> Result<(), Fail> {
+    for first in 0..255u8 {
         let mut classes = ByteClasses::singletons();
         for byte in first..=255 {
             classes.set(byte, first);

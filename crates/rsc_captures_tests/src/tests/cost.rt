@@ -1,4 +1,4 @@
-//! Runs so long that a call whose time grows with the groups, the names or the patterns doesn't end within the time that a test has.
+//! Runs so long that a call whose time grows with the groups, the names, the patterns or the text doesn't end within the time that a test has.
 ghost use Rattle.std.specs.Prelude.{◌≤◌};
 
 use super::group_info::{groups_of, names_of};
@@ -157,5 +157,27 @@ fn a_clone_takes_the_same_time_among_any_groups(rt: HostRuntime) -> Result<(), F
         let copy = info.clone()?;
         assert!(rt; copy.pattern_len() == GROUPS / 2);
     }
+    Ok(())
+}
+
+// Whether the first two bytes of a text of `n` alone are extracted, and the first of them, as often as it has bytes.
+fn are_extracted(captures: &Captures, text: &str) -> bool {
+    for _ in 0..text.len() {
+        if captures.extract_from::<&str, 1>(text) != Some(("nn", ["n"])) {
+            return false;
+        }
+    }
+    true
+}
+
+#[test]
+fn an_extraction_takes_the_same_time_in_any_text(rt: HostRuntime) -> Result<(), Fail> {
+    let alloc = rt.alloc();
+    let text = "n".repeat(alloc, 2 * GROUPS)?;
+    let mut captures = Captures::all(alloc, GroupInfo::new(alloc, &[&[None, None]])?)?;
+    captures.set_pattern(Some(PatternID::ZERO));
+    let is_first = captures.set_group(0, Some(Span { start: 0, end: 2 }));
+    let is_second = captures.set_group(1, Some(Span { start: 1, end: 2 }));
+    assert!(rt; is_first && is_second && are_extracted(&captures, &text));
     Ok(())
 }

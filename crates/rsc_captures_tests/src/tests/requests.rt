@@ -322,3 +322,28 @@ fn checks_of_a_long_list_ask_for_no_memory(rt: HostRuntime) -> Result<(), Fail> 
     assert!(rt; is_refused && asking == "", "{asking}");
     Ok(())
 }
+
+// The bytes that the group info of one pattern asks an arena for, which takes nothing back.
+fn asked_by(alloc: Global, groups: &[Option<&str>]) -> Result<usize, Fail> {
+    let arena = Bump::try_with_capacity(alloc, 1_000_000)?;
+    let whole = arena.chunk_capacity();
+    let mut lists: Vec<&[Option<&str>]> = Vec::new(alloc);
+    lists.push(groups)?;
+    let _info = GroupInfo::new(&arena, &lists)?;
+    Ok(whole.saturating_sub(arena.chunk_capacity()))
+}
+
+// A group takes 20 bytes, its name 8 here, and its entries of the table 8 to 16.
+#[test]
+fn a_group_info_asks_for_what_it_keeps(rt: HostRuntime) -> Result<(), Fail> {
+    for count in [12usize, 300, 3_000] {
+        let names = names_of(rt.alloc(), count)?;
+        let groups = groups_of(rt.alloc(), &names)?;
+        let bytes = asked_by(rt.alloc(), &groups)?;
+        assert!(rt;
+            36 * count <= bytes && bytes <= 44 * count + 512,
+            "{count} groups ask for {bytes} bytes"
+        );
+    }
+    Ok(())
+}

@@ -5,6 +5,7 @@ use rsc_captures::{
     GroupInfoErrorKind, GroupInfoPatternNames,
 };
 use rsc_primitives::{PatternID, PatternIDError};
+use rsc_primitives_tests::forms::is_shown;
 use rsc_search::Span;
 use std::alloc::Global;
 use std::error::Error;
@@ -45,8 +46,8 @@ pub(super) fn bytes_shown<T: fmt::Debug>(value: &T) -> u64 {
     if is_ok { counter.count } else { 0 }
 }
 
-// Whether a value is shown by this text.
-fn is_shown<T: fmt::Debug>(alloc: Global, value: &T, want: &str) -> bool {
+// Whether a value is shown by this text where no form is asked for.
+fn is_plainly_shown<T: fmt::Debug>(alloc: Global, value: &T, want: &str) -> bool {
     match format!(in alloc; "{value:?}") {
         Ok(text) => text.as_str() == want,
         Err(_) => false,
@@ -78,12 +79,20 @@ fn captures_with_a_named_group_are_shown(rt: HostRuntime) -> Result<(), Fail> {
     Ok(())
 }
 
-// Whether spans of twelve groups are shown by how many are left.
+// Whether spans of twelve groups are shown by how many are left, down to none.
 fn are_spans_shown(alloc: Global, captures: &Captures) -> bool {
     let mut spans = captures.iter();
-    is_shown(alloc, &spans, "CapturesPatternIter(12)")
-        && spans.next() == Some(None)
-        && is_shown(alloc, &spans, "CapturesPatternIter(11)")
+    for passed in 0..=12usize {
+        let left = 12 - passed;
+        let Ok(want) = format!(in alloc; "CapturesPatternIter({left})") else {
+            return false;
+        };
+        if !is_shown(alloc, &spans, &want) {
+            return false;
+        }
+        let _ = spans.next();
+    }
+    is_shown(alloc, &spans, "CapturesPatternIter(0)")
 }
 
 // A pattern of twelve groups, of which the last has a span.
@@ -139,7 +148,7 @@ fn each_of_101_groups_is_shown(rt: HostRuntime) -> Result<(), Fail> {
 // Whether lists are refused by an error that is shown by this text.
 fn is_refusal_shown(alloc: Global, lists: &[&[Option<&str>]], want: &str) -> bool {
     match GroupInfo::new(alloc, lists) {
-        Err(error) => is_shown(alloc, &error, want),
+        Err(error) => is_plainly_shown(alloc, &error, want),
         Ok(_) => false,
     }
 }

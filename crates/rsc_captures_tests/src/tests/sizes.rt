@@ -137,6 +137,58 @@ fn captures_without_slots_take_no_memory(rt: HostRuntime) -> Result<(), Fail> {
     Ok(())
 }
 
+// Sets the pattern and the two slots of the first group, if they are there. Whether a clone is made, and has the same.
+fn is_cloned(captures: &mut Captures, pid: Option<PatternID>, offsets: [Option<usize>; 2]) -> bool {
+    captures.set_pattern(pid);
+    let slots = captures.slots_mut();
+    for slot in 0..2usize {
+        if slot < slots.len() {
+            slots[slot] = offsets[slot].and_then(|offset| NonMaxUsize::new(offset));
+        }
+    }
+    match captures.clone() {
+        Ok(copy) => copy.pattern() == pid && copy.slots() == captures.slots(),
+        Err(_) => false,
+    }
+}
+
+// Captures of one pattern with any slots, of that pattern, of others and of none, with spans from either end and halves of spans.
+#[test]
+fn clones_of_any_captures_are_made(rt: HostRuntime) -> Result<(), Fail> {
+    let info = GroupInfo::new(rt.alloc(), &[&[None, Some("x")]])?;
+    let mut all = Captures::all(rt.alloc(), info.clone()?)?;
+    let mut matches = Captures::matches(rt.alloc(), info.clone()?)?;
+    let mut empty = Captures::empty(rt.alloc(), info)?;
+    for number in [0, 1, 2147483646, 2147483647] {
+        let pid = PatternID::new(number).ok();
+        for offsets in [
+            [None, None],
+            [Some(3), None],
+            [None, Some(5)],
+            [Some(3), Some(5)],
+            [Some(5), Some(5)],
+            [Some(5), Some(3)],
+        ] {
+            let is_of_all = is_cloned(&mut all, pid, offsets);
+            let is_of_matches = is_cloned(&mut matches, pid, offsets);
+            let is_of_empty = is_cloned(&mut empty, pid, offsets);
+            assert!(rt; is_of_all && is_of_matches && is_of_empty, "{number}");
+        }
+    }
+    Ok(())
+}
+
+#[test]
+fn many_clones_share_a_group_info(rt: HostRuntime) -> Result<(), Fail> {
+    let info = GroupInfo::new(rt.alloc(), &[&[None, Some("x")]])?;
+    let mut clones: Vec<GroupInfo> = Vec::new(rt.alloc());
+    for _ in 0..100_000 {
+        clones.push(info.clone()?)?;
+    }
+    assert!(rt; clones.len() == 100_000 && info.to_index(PatternID::ZERO, "x") == Some(1));
+    Ok(())
+}
+
 // Offsets at which a number of fewer bits would end.
 #[test]
 fn a_clone_keeps_offsets_of_any_size(rt: HostRuntime) -> Result<(), Fail> {

@@ -1,7 +1,7 @@
 //! Automata of sizes on both sides of any limit, what a refused one gives back, and shown texts.
 use linked_list_allocator::LocalHeap;
 use rsc_captures::GroupInfo;
-use rsc_look::{AsciiWord, Look, LookMatcher};
+use rsc_look::{AsciiWord, Look, LookMatcher, LookSet};
 use rsc_nfa::{BuildError, Nfa, State};
 use rsc_primitives::{PatternID, SmallIndex, StateID};
 use std::alloc::Global;
@@ -121,7 +121,79 @@ fn used_of_info(alloc: Global) -> Result<(usize, usize, usize), Fail> {
 #[test]
 fn states_are_in_the_memory_that_is_handed_in(rt: HostRuntime) -> Result<(), Fail> {
     let (before, after, of_states) = used_of_info(rt.alloc())?;
-    assert!(rt; before == after && of_states >= 64 * 8);
+    // A state takes 12 bytes.
+    assert!(rt; before == after && 64 * 12 <= of_states && of_states <= 64 * 12 + 64);
+    Ok(())
+}
+
+// A terminator may be a word byte, or above 7F.
+#[test]
+fn any_terminator_is_answered(rt: HostRuntime) -> Result<(), Fail> {
+    for terminator in 0..=255u8 {
+        let mut matcher = LookMatcher::new(AsciiWord);
+        let _ = matcher.set_line_terminator(terminator);
+        let info = GroupInfo::new(rt.alloc(), &[&[None]])?;
+        let states = [State::Accept {
+            pattern: PatternID::ZERO,
+        }];
+        let made = Nfa::new(rt.alloc(), info, matcher, &states);
+        assert!(rt;
+            made.is_ok_and(|nfa| nfa.matcher().get_line_terminator() == terminator),
+            "{terminator}"
+        );
+    }
+    Ok(())
+}
+
+#[test]
+fn any_assertion_is_answered(rt: HostRuntime) -> Result<(), Fail> {
+    for look in LookSet::full().iter() {
+        let info = GroupInfo::new(rt.alloc(), &[&[None]])?;
+        let states = [
+            State::Assert {
+                look,
+                next: StateID::must(1),
+            },
+            State::Accept {
+                pattern: PatternID::ZERO,
+            },
+        ];
+        let made = Nfa::new(rt.alloc(), info, LookMatcher::new(AsciiWord), &states);
+        assert!(rt;
+            made.is_ok_and(|nfa| nfa.looks().contains(look)),
+            "{look:?}"
+        );
+    }
+    Ok(())
+}
+
+// A state that records in a slot, and one that accepts a pattern, of a group info that has both.
+fn state_of_each(slot: usize, pattern: usize) -> Result<[State; 2], Fail> {
+    Ok([
+        State::Capture {
+            slot: SmallIndex::new(slot)?,
+            next: StateID::must(1),
+        },
+        State::Accept {
+            pattern: PatternID::new(pattern)?,
+        },
+    ])
+}
+
+#[test]
+fn slots_and_patterns_of_any_number_are_answered(rt: HostRuntime) -> Result<(), Fail> {
+    let pattern: &[Option<&str>] = &[None];
+    let patterns: Vec<&[Option<&str>]> = vec![in rt.alloc(); pattern; 100_000]?;
+    let info = GroupInfo::new(rt.alloc(), &patterns)?;
+    for slot in [0, 1, 255, 256, 65_535, 65_536, 199_999] {
+        let states = state_of_each(slot, slot / 2)?;
+        let matcher = LookMatcher::new(AsciiWord);
+        let made = Nfa::new(rt.alloc(), info.clone()?, matcher, &states);
+        assert!(rt;
+            made.is_ok_and(|nfa| nfa.states() == states.as_slice()),
+            "{slot}"
+        );
+    }
     Ok(())
 }
 

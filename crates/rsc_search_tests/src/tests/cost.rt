@@ -1,6 +1,6 @@
-//! Runs so long that a call whose time grows with the set doesn't end within the time that a test has.
+//! Runs so long that a call whose time grows with the set, or with the text, doesn't end within the time that a test has.
 use rsc_primitives::PatternID;
-use rsc_search::PatternSet;
+use rsc_search::{Input, PatternSet, Span};
 use std::alloc::Global;
 use std::test::Fail;
 
@@ -76,5 +76,29 @@ fn sets_are_compared_cloned_and_cleared_in_one_walk(rt: HostRuntime) -> Result<(
     assert!(rt; copy == set);
     set.clear();
     assert!(rt; set == other);
+    Ok(())
+}
+
+// Whether each position of a text of this character alone is asked and cut as it should.
+fn are_cut(text: &str) -> bool {
+    let input = Input::new(text.as_bytes());
+    for at in 0..text.len() {
+        let is_between = at % 2 == 0;
+        let span = Span {
+            start: at,
+            end: at.saturating_add(2),
+        };
+        let is_cut = span.get_str(text) == Some("é");
+        if [input.is_char_boundary(at), is_cut] != [is_between; 2] {
+            return false;
+        }
+    }
+    true
+}
+
+#[test]
+fn each_part_of_a_text_takes_the_same_time_in_any_text(rt: HostRuntime) -> Result<(), Fail> {
+    let text = "é".repeat(rt.alloc(), COUNT)?;
+    assert!(rt; are_cut(&text));
     Ok(())
 }
