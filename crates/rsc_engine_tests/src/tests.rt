@@ -7,3 +7,4 @@ mod lines;
 mod matches;
 mod model;
 mod programs;
+mod sizes;
