@@ -30,6 +30,9 @@ echo "$commit" > "$1/LIBRARIES"
 cp "$here/own/first.txt" "$1/crates/$2/src/lib.rt"
 if [ -n "${3:-}" ]; then
   cp "$here/crates/rsc_calls/src/pairs.rt" "$1/crates/$2/src"
+  mkdir -p "$1/crates/$2/proofs"
+  cp -r "$here/crates/rsc_calls/proofs/pairs" "$1/crates/$2/proofs"
+  find "$1/crates/$2/proofs" -name '*.antt' -exec sed -i "s/rsc_calls/$2/" {} +
   sed -i 's/^use rsc_look::{Look, LookMatcher, WordClass};$/&\n\n\/\/\/ A search for two patterns.\npub mod pairs;/' "$1/crates/$2/src/lib.rt"
   sed -i 's/^    use super::line_starts;$/    use super::line_starts;\n    use super::pairs::{named, pairs};\n    use rsc_engine::{Builder, find};/; s/^    use rsc_look::{AsciiWord, LookMatcher};$/&\n    use rsc_search::Input;/; $d' "$1/crates/$2/src/lib.rt"
   cat "$here/own/search.txt" >> "$1/crates/$2/src/lib.rt"

@@ -1,4 +1,4 @@
-use rsc_engine::{Builder, Error, Matches, Part, Program};
+use rsc_engine::{Builder, Error, Matches, Part, Program, laws};
 use rsc_look::UnicodeWord;
 use rsc_primitives::PatternID;
 use rsc_search::Input;
@@ -18,11 +18,8 @@ pub fn pairs(rt: &HostRuntime, text: &str) -> Result<(), Error> {
     let program = pair_or_tag(rt.alloc())?;
     let mut captures = program.captures(rt.alloc())?;
     let mut matches = Matches::new(rt.alloc(), &program, Input::new(text.as_bytes()))?;
-    // Each match ends after the one before it, so there are at most that many.
-    for _ in 0..=text.len() {
-        let Some(found) = matches.next(&mut captures)? else {
-            break;
-        };
+    laws::an_iteration_ends();
+    while let Some(found) = matches.next(&mut captures)? {
         let is_pair = found.pattern() == PatternID::ZERO;
         if let Some(value) = captures.get_group_by_name("value") {
             let value = value.get_str(text).unwrap_or("?");
