@@ -1,4 +1,6 @@
 //! Programs, texts and tables of sizes on both sides of any limit: each is built, and each search answers.
+ghost use Rattle.std.specs.Prelude.{◌≤◌};
+
 use crate::made::captures_of;
 use rsc_captures::Captures;
 use rsc_engine::{Builder, Cache, Dfa, Error, Matches, Part, Program, find};
@@ -63,7 +65,9 @@ fn text_of(alloc: Global, byte: u8, count: usize) -> Result<Vec<u8>, Error> {
     Ok(text)
 }
 
-fn span_to(count: usize) -> Span {
+fn span_to(count: usize) -> Span
+    ensures { result.start ≤ result.end }
+{
     Span {
         start: 1,
         end: count.saturating_add(1),
@@ -78,7 +82,8 @@ fn long_part(
     count: usize,
 ) -> Result<Part<'static>, Error> {
     if number == 0 {
-        return builder.literal(&text_of(alloc, b'a', count)?.as_slice()[1..]);
+        let text = text_of(alloc, b'a', count)?;
+        return builder.literal(text.as_slice().get(1..).unwrap_or(&[]));
     }
     builder.repeat(builder.range(b'a', b'a'), count, None)
 }
