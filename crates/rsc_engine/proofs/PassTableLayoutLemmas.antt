@@ -15,7 +15,7 @@ use Rattle.rsc_engine.specs.RowsLayout.{Machine, Alike, IsPlainUnit}
 use Rattle.rsc_engine.specs.TablesLayout.{column}
 use Rattle.rsc_engine.specs.PassTableLayout.{row_of, IsPassRow, IsPassStep, IsPassLed, IsPassTo, IsSoundPassRow, AreFew, IsPassTable, IsPassGrown}
 use Rattle.rsc_engine.proofs.LawfulLayoutLemmas.{Alike-self, Alike-trans}
-use Rattle.rsc_engine.proofs.TablesLayoutLemmas.{get_before, get_last, column_below, column_alike, one_entry, map_some, written_so}
+use Rattle.rsc_engine.proofs.TablesLayoutLemmas.{get_before, get_last, column_below, column_alike, AreApart, map_some, written_so}
 
 -- ---- rows stay where they are
 
@@ -127,11 +127,11 @@ IsPassTable-push m classes width most rows leads row x few sound room = record {
       (λ next s. IsPassTo-grown m classes rows (rows ++ row ∷ []) k unit next (IsPassGrown-push rows row) s) (x.each k unit b);
 }
 
-pub IsPassTable-set : (m : Machine) (classes : List ℕ) (width most : ℕ) (rows : List PassRow) (leads : List Lead) (row entry : ℕ) (unit : Option ℕ)
-    (next : ℕ) (lead : Lead) → IsPassTable m classes width most rows leads → width ≡ symbol_count classes → LastClassIsGreatest classes
+pub IsPassTable-set : (law : AreApart) (m : Machine) (classes : List ℕ) (width most : ℕ) (rows : List PassRow) (leads : List Lead) (row entry : ℕ)
+    (unit : Option ℕ) (next : ℕ) (lead : Lead) → IsPassTable m classes width most rows leads → width ≡ symbol_count classes → LastClassIsGreatest classes
     → IfSome unit (λ b. b < 256) → IsPassTo m classes rows rows row unit next → (row_of lead ≡ None) ⊎ (row_of lead ≡ Some next)
     → entry ≡ row * width + column classes unit → entry < length leads → IsPassTable m classes width most rows (set leads entry lead)
-IsPassTable-set m classes width most rows leads row entry unit next lead x columns bounded byte s says at below = record {
+IsPassTable-set law m classes width most rows leads row entry unit next lead x columns bounded byte s says at below = record {
   few = x.few;
   sound = x.sound;
   room = rw (length-set leads entry lead) x.room;
@@ -142,7 +142,7 @@ IsPassTable-set m classes width most rows leads row entry unit next lead x colum
         → IfSome (row_of (get_or (set leads entry lead) (k * width + column classes u) Unknown)) (IsPassTo m classes rows rows k u)
     each k u b = ⊎_elim
         (λ (same : k * width + column classes u ≡ entry).
-        let one = one_entry width k row (column classes u) (column classes unit) (column_below classes width u columns bounded b)
+        let one = law width k (column classes u) row (column classes unit) (column_below classes width u columns bounded b)
         (column_below classes width unit columns bounded byte) (same ∙ at) in
         rw (get_or-set_at leads entry (k * width + column classes u) lead Unknown same below)
         (written_so (row_of lead) next (IsPassTo m classes rows rows k u) says

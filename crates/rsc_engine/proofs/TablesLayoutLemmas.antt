@@ -1,9 +1,8 @@
 -- What the table of a DFA says is so, and stays so as it grows.
-use Rattle.std.proofs.Common.{◌≡◌, ℕ, zero, suc, ◌+◌, ◌*◌, ◌/◌, ◌%◌, ◌<◌, ◌≤◌, ◌⊎◌, ⊎_elim, inl, inr, Bool, true, false, List, [], ◌∷◌, ◌++◌, length, get_or, set, slice_index, slice_index_or, refl, sym, ap, ◌∙◌, subst, arith, length-append, slice_get, Option, Some, None, IfSome, IsTrue, true≢false}
+use Rattle.std.proofs.Common.{◌≡◌, ℕ, zero, suc, ◌+◌, ◌*◌, ◌<◌, ◌≤◌, ◌⊎◌, ⊎_elim, inl, inr, Bool, true, false, List, [], ◌∷◌, ◌++◌, length, get_or, set, slice_index, slice_index_or, refl, sym, ap, ◌∙◌, subst, arith, length-append, slice_get, Option, Some, None, IfSome, IsTrue, true≢false}
 use Rattle.std.specs.List.{All}
 use Rattle.std.proofs.lemmas.Bool.{cases_eq, cases_lt}
 use Rattle.std.proofs.lemmas.Grind.{get_or-set_at}
-use Rattle.std.proofs.lemmas.Nat.{div-mul-add, mod-mul-add}
 use Rattle.std.proofs.lemmas.List.{get_or-set_other, length-set}
 use Rattle.std.proofs.lemmas.List.Elements.{All-push, All-contains}
 use Rattle.std.proofs.lemmas.Option.{slice_get_within, slice_get-get_or, get_or_from_slice_get}
@@ -116,11 +115,10 @@ column_alike classes (Some u) (Some v) bounded a b e = (a, b, e)
 column_alike classes None (Some v) bounded a b e = absurd (omega (arith, e, bounded.within v b))
 column_alike classes (Some u) None bounded a b e = absurd (omega (arith, e, bounded.within u a))
 
-pub one_entry : (width k row c d : ℕ) → c < width → d < width → k * width + c ≡ row * width + d → (k ≡ row) × (c ≡ d)
-one_entry width k row c d l h e = (
-  sym (div-mul-add k width c l) ∙ ap (λ (x : ℕ). x / width) e ∙ div-mul-add row width d h,
-  sym (mod-mul-add k width c l) ∙ ap (λ (x : ℕ). x % width) e ∙ mod-mul-add row width d h,
-)
+-- entries at one index are of one row and one column, as a law of rsc_alphabet says
+abbrev pub AreApart : Type 0
+AreApart = (width row column row2 column2 : ℕ) → column < width → column2 < width → row * width + column ≡ row2 * width + column2
+    → (row ≡ row2) × (column ≡ column2)
 
 pub map_some : {X : Type 0} → (o : Option X) (P Q : X → Type 0) → ((x : X) → P x → Q x) → IfSome o P → IfSome o Q
 map_some None P Q f x = x
@@ -150,11 +148,11 @@ IsExact-push m classes width rows leads row x sound room = record {
       (λ step s. IsStepTo-grown m classes rows (rows ++ row ∷ []) k unit step (IsGrown-push rows row) s) (x.each k unit b);
 }
 
-pub IsExact-set : (m : Machine) (classes : List ℕ) (width : ℕ) (rows : List Row) (leads : List Lead) (row entry : ℕ) (unit : Option ℕ) (step : Step)
-    (lead : Lead) → IsExact m classes width rows leads → width ≡ symbol_count classes → LastClassIsGreatest classes → IfSome unit (λ b. b < 256)
+pub IsExact-set : (law : AreApart) (m : Machine) (classes : List ℕ) (width : ℕ) (rows : List Row) (leads : List Lead) (row entry : ℕ) (unit : Option ℕ)
+    (step : Step) (lead : Lead) → IsExact m classes width rows leads → width ≡ symbol_count classes → LastClassIsGreatest classes → IfSome unit (λ b. b < 256)
     → IsStepTo m classes rows rows row unit step → (step_of lead ≡ None) ⊎ (step_of lead ≡ Some step) → entry ≡ row * width + column classes unit
     → entry < length leads → IsExact m classes width rows (set leads entry lead)
-IsExact-set m classes width rows leads row entry unit step lead x columns bounded byte s says at below = record {
+IsExact-set law m classes width rows leads row entry unit step lead x columns bounded byte s says at below = record {
   sound = x.sound;
   room = rw (length-set leads entry lead) x.room;
   each = each;
@@ -164,7 +162,7 @@ IsExact-set m classes width rows leads row entry unit step lead x columns bounde
         → IfSome (step_of (get_or (set leads entry lead) (k * width + column classes u) Unknown)) (IsStepTo m classes rows rows k u)
     each k u b = ⊎_elim
         (λ (same : k * width + column classes u ≡ entry).
-        let one = one_entry width k row (column classes u) (column classes unit) (column_below classes width u columns bounded b)
+        let one = law width k (column classes u) row (column classes unit) (column_below classes width u columns bounded b)
         (column_below classes width unit columns bounded byte) (same ∙ at) in
         rw (get_or-set_at leads entry (k * width + column classes u) lead Unknown same below)
         (written_so (step_of lead) step (IsStepTo m classes rows rows k u) says

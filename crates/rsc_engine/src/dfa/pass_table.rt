@@ -11,6 +11,7 @@ use super::pass_entries::{is_same_pattern, lead_to, led_to, pass_key};
 use super::plan::Plan;
 use super::retreat::retreat_beside;
 use crate::{Error, Program};
+use rsc_alphabet::laws::entries_of_a_table_are_apart;
 use rsc_look::WordClass;
 use rsc_primitives::{PatternID, StateID};
 use rsc_search::Anchored;
@@ -159,6 +160,7 @@ impl PassTable {
             self.new.rows.items self.new.leads.items }
         ensures rows { self.new.rows.items ≡ self.old.rows.items }
     {
+        entries_of_a_table_are_apart();
         is_byte(unit);
         let entry = entry_index(plan, row, unit, self.rows.len(), self.leads.len());
         self.leads[entry] = lead_to(next, is_last);

@@ -15,6 +15,7 @@ use super::lawful::steps_are_lawful;
 use super::plan::{Plan, byte_at};
 use super::successor::successor;
 use crate::Error;
+use rsc_alphabet::laws::entries_of_a_table_are_apart;
 use rsc_look::WordClass;
 use rsc_primitives::StateID;
 use rsc_search::{Anchored, Input};
@@ -264,6 +265,7 @@ impl Table {
         ensures exact { IsExact (machine W.word_chars plan.now.program.now) plan.now.classes plan.now.width self.new.rows.items self.new.leads.items }
         ensures rows { self.new.rows.items ≡ self.old.rows.items }
     {
+        entries_of_a_table_are_apart();
         is_byte(unit);
         let entry = entry_index(plan, row, unit, self.rows.len(), self.leads.len());
         self.leads[entry] = written(step, is_last);
