@@ -4,11 +4,13 @@ ghost use Rattle.rsc_search.specs.Inputs.{whole};
 ghost use Rattle.rsc_search.specs.Matches.{Matched};
 ghost use Rattle.rsc_engine.specs.Searches.{search_in, FailsFor};
 ghost use Rattle.rsc_engine.specs.NextMatches.{AreAll};
-ghost use Rattle.rsc_uses.specs.Masked.{masked};
+ghost use Rattle.rsc_engine.specs.Parts.{pattern_of, groups_of_pattern};
+ghost use Rattle.rsc_replace.specs.PartReplacements.{FailsToReplace, IsPartReplaced, read_as_text};
+ghost use Rattle.rsc_uses.specs.Masked.{masked, IsFirstMasked};
 
-use rsc_engine::{AsciiWordClass, Error, Program};
+use rsc_engine::{AsciiWordClass, Error, Part, Program};
 use rsc_look::WordClass;
-use rsc_replace::{laws, replace_all};
+use rsc_replace::{laws, replace_all, replace_part, replacen};
 use std::alloc::Global;
 
 const MASK: [u8; 3] = [b'*', b'*', b'*'];
@@ -26,5 +28,35 @@ pub fn mask_all<W: WordClass + AsciiWordClass>(
 {
     laws::a_template_without_dollars_is_itself();
     let out = replace_all(alloc, program, text, &MASK)?;
+    Ok(out)
+}
+
+/// The text with `***` where the first match of a program is; the text as it is, if there is no match.
+pub fn mask_first<W: WordClass + AsciiWordClass>(
+    alloc: Global,
+    program: &Program<W>,
+    text: &[u8],
+) -> Result<Vec<u8>, Error>
+    ensures masked { IfOk result (λ out.
+        IsFirstMasked (search_in W.word_chars program.now (whole text.now)) text.now (0x2A ∷ 0x2A ∷ 0x2A ∷ []) out.items) }
+    ensures refused { IfErr result (FailsFor (search_in W.word_chars program.now (whole text.now))) }
+{
+    laws::a_template_without_dollars_is_itself();
+    let out = replacen(alloc, program, text, 1, &MASK)?;
+    Ok(out)
+}
+
+/// The text with a space where each match of a part is.
+pub fn blank_out<W: WordClass + AsciiWordClass>(
+    alloc: Global,
+    word_class: W,
+    part: Part<'_>,
+    text: &[u8],
+) -> Result<Vec<u8>, Error>
+    ensures replaced { IfOk result (λ out. IsPartReplaced (read_as_text text.now (W.word_chars word_class))
+        (groups_of_pattern part.entry) (pattern_of part.entry) (0x20 ∷ []) out.items) }
+    ensures refused { IfErr result (FailsToReplace (pattern_of part.entry) (groups_of_pattern part.entry) text.now) }
+{
+    let out = replace_part(alloc, word_class, part, text, b" ")?;
     Ok(out)
 }

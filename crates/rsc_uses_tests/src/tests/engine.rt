@@ -27,6 +27,12 @@ fn each_match_is_masked(rt: HostRuntime) -> Result<(), Fail> {
     let program = a_letter(rt.alloc())?;
     let out = replace::mask_all(rt.alloc(), &program, b"1a2b")?;
     assert!(rt; out.as_slice() == b"1***2***".as_slice());
+    let out = replace::mask_first(rt.alloc(), &program, b"1a2b")?;
+    assert!(rt; out.as_slice() == b"1***2b".as_slice());
+    let builder = Builder::new(rt.alloc());
+    let letter = builder.range(b'a', b'z');
+    let out = replace::blank_out(rt.alloc(), AsciiWord, letter, b"1a2b")?;
+    assert!(rt; out.as_slice() == b"1 2 ".as_slice());
     Ok(())
 }
 
