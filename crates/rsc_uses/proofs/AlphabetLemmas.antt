@@ -109,20 +109,3 @@ lead_more leads ranges n lead room so_far is b l =
     let here : b ≡ n = omega (arith, high, l) in
     subst (λ x. slice_index (slice_set leads n lead) x ≡ lead_in ranges x) (sym here) (get_or-set_same leads n lead 0 room ∙ is))
     (cases_lt b n)
-
--- one byte more of a row of a table: the entries of the bytes so far are right, if bytes of one class are
-pub row_more : (table classes : List ℕ) (from n : ℕ) (ranges : List (ℕ × ℕ))
-    → ((b c : ℕ) → b < 256 → c < 256 → slice_index classes b ≡ slice_index classes c → lead_in ranges b ≡ lead_in ranges c)
-    → n < 256 → from + slice_index classes n < length table
-    → ((b : ℕ) → b < n → slice_index table (from + slice_index classes b) ≡ lead_in ranges b)
-    → (b : ℕ) → b < n + 1
-    → slice_index (slice_set table (from + slice_index classes n) (lead_in ranges n)) (from + slice_index classes b) ≡ lead_in ranges b
-row_more table classes from n ranges alike is_byte within so_far b l =
-    ⊎_elim
-    (λ (same : slice_index classes b ≡ slice_index classes n).
-    rw same (get_or-set_same table (from + slice_index classes n) (lead_in ranges n) 0 within) ∙ alike n b is_byte (omega (arith, l, is_byte)) (sym same))
-    (λ (differs : ¬ (slice_index classes b ≡ slice_index classes n)).
-    let before : b ≢ n = λ e. differs (ap (slice_index classes) e) in
-    let beside : from + slice_index classes b ≢ from + slice_index classes n = λ e. differs (omega (arith, e)) in
-    get_or-set_other table (from + slice_index classes n) (from + slice_index classes b) (lead_in ranges n) 0 beside ∙ so_far b (omega (arith, l, before)))
-    (cases_eq (slice_index classes b) (slice_index classes n))

@@ -11,4 +11,4 @@ mod PartsLemmas  -- what matches of a program say of the pattern that it's built
 mod PrimitivesLemmas  -- how many bytes a character takes
 mod ReplacedLemmas  -- spans that are replaced by what they have already
 mod SearchLemmas  -- sums of a table's entries, modulo a number
-mod TokensLemmas  -- runs grow byte by byte, and a byte of another kind bounds them
+mod TokensLemmas  -- tokens that tile a text, one after the other

@@ -1,41 +1,52 @@
--- What a table over the classes of bytes accepts, and what a token is.
-use Rattle.std.specs.Prelude.{◌≡◌, ◌<◌, ◌≤◌, ◌+◌, ◌*◌, ◌^◌, ◌==◌, ℕ, Bool, List, [], ◌∷◌, length, slice_index, true}
-use Rattle.rsc_search.specs.Matches.{Matched}
-use Rattle.rsc_alphabet.specs.Iterators.{stride2_of}
+-- The tokens of a text, and the table that finds them.
+use Rattle.std.specs.Prelude.{◌≡◌, ◌<◌, ◌≤◌, ℕ, Bool, true, false, List, [], ◌∷◌, length, slice_index, if◌then◌else◌}
+use Rattle.rsc_alphabet.specs.Partitions.{LastClassIsGreatest}
+use Rattle.rsc_uses.specs.declared.tokenizer.Kind.{Kind}
+use Rattle.rsc_uses.specs.declared.tokenizer.Kind.TheVariants.{Name, Number, Operator, Space, Wrong}
+use Rattle.rsc_uses.specs.declared.tokenizer.Token.{Token}
+use Rattle.rsc_uses.specs.declared.tokenizer.TheConstants.{NAMES, DIGITS, OPERATORS, SPACES}
+use Rattle.rsc_uses.specs.Leads.{in_ranges, HasRow}
 
--- the table's entry of the kind and the byte's class is 1
-abbrev pub kind_accepts : List ℕ → List ℕ → ℕ → ℕ → Bool
-kind_accepts classes table kind byte = slice_index table (kind * 2 ^ stride2_of classes + slice_index classes byte) == 1
+-- the bytes that a token of a kind may have after its first byte, as ranges
+abbrev pub ranges_of : Kind → List (ℕ × ℕ)
+ranges_of Name = NAMES
+ranges_of Number = DIGITS
+ranges_of Operator = OPERATORS
+ranges_of Space = SPACES
+ranges_of Wrong = []
 
--- the table has a whole row for each of the three kinds
-abbrev pub HasRows : List ℕ → List ℕ → Type 0
-HasRows classes table = (kind : ℕ) → kind < 3 → (kind + 1) * 2 ^ stride2_of classes ≤ length table
+-- a token of the kind continues with the byte
+abbrev pub continues : Kind → ℕ → Bool
+continues kind b = in_ranges (ranges_of kind) b
 
--- all bytes from the one position up to the other are of the kind
-pub record IsRunOf (classes table : List ℕ) (kind : ℕ) (haystack : List ℕ) (from to : ℕ) : Type 0 where
-  pub each : (i : ℕ) → from ≤ i → i < to → kind_accepts classes table kind (slice_index haystack i) ≡ true
+-- the kind of a token, by its first byte: a digit begins a number, though a name may continue with it
+abbrev pub kind_begun : ℕ → Kind
+kind_begun b =
+    if continues Number b then Number
+    else (if continues Name b then Name else (if continues Operator b then Operator else (if continues Space b then Space else Wrong)))
 
--- no run of the kind from the one position on goes further than to the other
-pub record IsBound (classes table : List ℕ) (kind : ℕ) (haystack : List ℕ) (from to : ℕ) : Type 0 where
-  pub none : (e : ℕ) → e ≤ length haystack → IsRunOf classes table kind haystack from e → e ≤ to
+-- a token has the longest run of bytes of its kind, which its first byte decides
+pub record IsToken (text : List ℕ) (token : Token) : Type 0 where
+  pub some : token.span.start < token.span.end
+  pub within : token.span.end ≤ length text
+  pub first : kind_begun (slice_index text token.span.start) ≡ token.kind
+  pub rest : (i : ℕ) → token.span.start < i → i < token.span.end → continues token.kind (slice_index text i) ≡ true
+  pub longest : token.span.end < length text → continues token.kind (slice_index text token.span.end) ≡ false
 
--- the longest token at a position: it isn't empty, it lies in the haystack, and no run of any kind goes further
-pub record IsToken (classes table haystack : List ℕ) (from kind to : ℕ) : Type 0 where
-  pub is_kind : kind < 3
-  pub some : from < to
-  pub within : to ≤ length haystack
-  pub run : IsRunOf classes table kind haystack from to
-  pub longest : (k : ℕ) → k < 3 → IsBound classes table k haystack from to
+-- tokens tile the text from the one position to the other: each begins where the one before it ended
+abbrev pub Tile : List ℕ → ℕ → ℕ → List Token → Type 0
+Tile text from to [] = from ≡ to
+Tile text from to (token ∷ rest) = (token.span.start ≡ from) × IsToken text token × Tile text token.span.end to rest
 
--- no token begins at a position from the one up to the other
-pub record BeginNone (classes table haystack : List ℕ) (from to : ℕ) : Type 0 where
-  pub order : from ≤ to
-  pub none : (i k : ℕ) → from ≤ i → i < to → k < 3 → IsBound classes table k haystack i i
+-- the row of a kind in the table
+abbrev pub kind_row : Kind → ℕ
+kind_row Name = 0
+kind_row Number = 1
+kind_row Operator = 2
+kind_row Space = 3
+kind_row Wrong = 4
 
--- the tokens from the one position to the other: each is the longest one at its position, each begins after the one before it ended, and in between
--- none begins
-abbrev pub AreTokens : List ℕ → List ℕ → List ℕ → ℕ → ℕ → List Matched → Type 0
-AreTokens classes table haystack from to [] = BeginNone classes table haystack from to
-AreTokens classes table haystack from to (m ∷ rest) =
-    BeginNone classes table haystack from m.span.start × IsToken classes table haystack m.span.start m.pattern m.span.end
-    × AreTokens classes table haystack m.span.end to rest
+-- the table has a row for each kind, which says with which bytes a token of the kind continues
+pub record IsTable (classes table : List ℕ) : Type 0 where
+  pub bounded : LastClassIsGreatest classes
+  pub rows : (kind : Kind) → HasRow classes table (kind_row kind) (ranges_of kind)

@@ -14,6 +14,5 @@ pub mod parts;
 pub mod primitives;
 pub mod replace;
 pub mod search;
-pub mod tables;
 pub mod threads;
-pub mod tokens;
+pub mod tokenizer;

@@ -1,5 +1,5 @@
 //! Inputs that move on, and sets of patterns.
-ghost use Rattle.std.specs.Prelude.{◌≡◌, ◌↔◌, ◌+◌, ◌<◌, ◌≤◌, ◌++◌, ℕ, All, IsTrue, IfOk, IfSome, IfNone, Option, is_none, [], slice_index, slice_range, length, reverse, sum_by, true, ◌%◌, ◌^◌, ◌-◌, ◌⊎◌};
+ghost use Rattle.std.specs.Prelude.{◌≡◌, ◌↔◌, ◌+◌, ◌<◌, ◌≤◌, ◌++◌, ℕ, All, IsTrue, IfOk, IfSome, IfNone, Option, is_none, [], slice_index, slice_range, length, map, reverse, sum_by, true, ◌%◌, ◌^◌, ◌-◌, ◌⊎◌};
 ghost use Rattle.std.specs.Option.{option_copied};
 ghost use Rattle.std.specs.List.{range_with_len};
 ghost use Rattle.rsc_look.specs.Holds.{Holds};
@@ -151,6 +151,20 @@ pub fn set_of(alloc: Global, capacity: usize, ids: &[PatternID]) -> Result<Patte
     let mut set = PatternSet::new(alloc, capacity)?;
     for pid in ids {
         set.insert(*pid);
+    }
+    Ok(set)
+}
+
+/// The kinds that occur among tokens, of which there are three.
+pub fn kinds_of(alloc: Global, tokens: &[Match]) -> Result<PatternSet, AllocError>
+    requires { All (λ m. m.pattern < 3) tokens.now }
+    ensures capacity { IfOk result (λ set. set.capacity ≡ 3) }
+    ensures exactly { IfOk result (λ set. (q : ℕ) → q < 3 → has_member set.members q ≡ has_member (map (λ m. m.pattern) tokens.now) q) }
+{
+    laws::insertion_adds_one_member();
+    let mut set = PatternSet::new(alloc, 3)?;
+    for token in tokens {
+        set.insert(token.pattern());
     }
     Ok(set)
 }

@@ -3,14 +3,15 @@ ghost use Rattle.std.specs.Prelude.{◌≡◌, ◌<◌, ℕ, Some, IfSome, slice
 
 mod engine;
 mod indices;
+mod tokenizer;
 
-use rsc_alphabet::{ByteClassSet, ByteSet, Unit, classes_of_ranges, laws};
+use rsc_alphabet::{ByteClassSet, ByteSet, Unit, laws};
 use rsc_captures::{Captures, GroupInfo};
 use rsc_look::{AsciiWord, Look, LookMatcher, LookSet, UnicodeWord};
 use rsc_nfa::{Nfa, State};
 use rsc_primitives::{NonMaxUsize, PatternID, StateID};
 use rsc_search::{Input, Match, MatchError, MatchKind, PatternSet, Span};
-use rsc_uses::{alphabet, captures, look, nfa, primitives, search, tables, threads, tokens};
+use rsc_uses::{alphabet, captures, look, nfa, primitives, search, threads};
 use std::test::Fail;
 
 fn are_positions(found: &[usize], want: &[usize]) -> bool {
@@ -111,27 +112,6 @@ fn entries_of_rows(rt: HostRuntime) -> Result<(), Fail> {
     assert!(rt; row[usize::from(map.get(b'q'))] == 1 && row[usize::from(map.get(b'-'))] == 0);
     let leads = alphabet::leads_of(&ranges);
     assert!(rt; leads[usize::from(b'5')] == 1 && !alphabet::in_ranges(&ranges, b'A'));
-    Ok(())
-}
-
-#[test]
-fn a_table_of_letters_and_digits(rt: HostRuntime) -> Result<(), Fail> {
-    let (map, table) = tables::letters_and_digits(rt.alloc())?;
-    let entries = [
-        (b'q', 1, 0),
-        (b'Z', 1, 0),
-        (b'7', 0, 1),
-        (b'_', 0, 0),
-        (0xFF, 0, 0),
-    ];
-    for (byte, letter, digit) in &entries {
-        assert_eq!(rt;
-            table.get(usize::from(map.get(*byte))).copied(),
-            Some(*letter)
-        );
-        let second = (1 << map.stride2()) + usize::from(map.get(*byte));
-        assert_eq!(rt; table.get(second).copied(), Some(*digit));
-    }
     Ok(())
 }
 
@@ -440,42 +420,12 @@ fn answers_that_differ_from_the_original(rt: HostRuntime) -> Result<(), Fail> {
 }
 
 #[test]
-fn tokens_of_a_text(rt: HostRuntime) -> Result<(), Fail> {
-    let alloc = rt.alloc();
-    let ranges = [(b'0', b'9'), (b'a', b'z'), (b' ', b' ')];
-    let classes = classes_of_ranges(&ranges);
-    // The row of each kind accepts the class of its range alone.
-    let mut table = Vec::new(alloc);
-    for (start, _) in ranges {
-        let accepted = usize::from(classes.get(start));
-        for class in 0..1usize << classes.stride2() {
-            table.push(u32::from(class == accepted))?;
-        }
-    }
-    let table = table.as_slice();
-    if !tokens::has_rows(&classes, table) {
-        assert!(rt; false);
-        return Ok(());
-    }
-    let text: &[u8] = b"ab 12!c";
-    let found = tokens::tokens(alloc, &classes, table, text)?;
-    let want = [(1, 0, 2), (2, 2, 3), (0, 3, 5), (1, 6, 7)];
-    assert_eq!(rt; found.len(), want.len());
-    for (token, (kind, start, end)) in found.iter().zip(want.iter()) {
-        let span = Span {
-            start: *start,
-            end: *end,
-        };
-        assert!(rt; token.pattern().as_usize() == *kind && token.span() == span);
-    }
-    assert!(rt; tokens::token_at(&classes, table, text, 5).is_none());
-    assert!(rt; tokens::run_end(&classes, table, 1, text, 0) == 2);
-    assert!(rt; tokens::kind_accepts(&classes, table, 2, b' '));
-    let few = [
+fn kinds_of_tokens(rt: HostRuntime) -> Result<(), Fail> {
+    let tokens = [
         Match::must(2, Span { start: 0, end: 1 }),
         Match::must(0, Span { start: 1, end: 2 }),
     ];
-    let kinds = tokens::kinds_of(alloc, &few)?;
+    let kinds = search::kinds_of(rt.alloc(), &tokens)?;
     assert!(rt; kinds.contains(PatternID::ZERO) && kinds.contains(PatternID::must(2)));
     assert!(rt; !kinds.contains(PatternID::must(1)) && kinds.len() == 2);
     Ok(())

@@ -1,6 +1,6 @@
 use Rattle.std.proofs.Common.{◌≡◌, ◌<◌, ℕ, take, map}
 use Rattle.rsc_search.specs.PatternSets.{has_member}
-use Rattle.rsc_uses.proofs.tokens.kinds_of.Given as goal
+use Rattle.rsc_uses.proofs.search.kinds_of.Given as goal
 
 -- the members are the kinds of the tokens so far
 abbrev pub invariant-loop-token : goal.invariant-loop-token
