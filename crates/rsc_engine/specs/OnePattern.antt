@@ -1,6 +1,9 @@
--- What a program of one pattern answers, by the pattern alone: where it goes first, where next, and that it goes nowhere.
-use Rattle.std.specs.Prelude.{◌≡◌, ℕ, ◌<◌, ◌≤◌, Bool, true, List, [], ◌∷◌}
+-- What a program of one pattern answers, by the pattern alone: where it goes first, where next, and that it goes nowhere. `last` is where the last match ended,
+-- if there was one.
+use Rattle.std.specs.Prelude.{◌≡◌, ℕ, ◌<◌, ◌≤◌, ◌⊎◌, Bool, true, List, [], ◌∷◌, Option, Some}
+use Rattle.rsc_primitives.specs.Decoding.{IsCharBoundary}
 use Rattle.rsc_search.specs.declared.anchored.Anchored.TheVariants.{No}
+use Rattle.rsc_search.specs.declared.span.Span.{Span}
 use Rattle.rsc_search.specs.Inputs.{InputParts}
 use Rattle.rsc_search.specs.Matches.{Matched}
 use Rattle.rsc_search.specs.Modes.{pattern_of_mode}
@@ -34,3 +37,40 @@ GoesNowhereTo x p input at = (i j : ℕ) → input.span.start ≤ i → i < at �
 abbrev pub GoesNowhereIn : Subject → Pattern → InputParts → Type 0
 GoesNowhereIn x p input = is_wanted (pattern_of_mode input.anchored) 0 ≡ true → (i j : ℕ) → input.span.start ≤ i → i ≤ input.span.end
     → (¬ (input.anchored ≡ No) → i ≡ input.span.start) → j ≤ input.span.end → ¬ (Goes x p i j)
+
+-- the only pattern's preferred way from i to positions up to the end leads to j, and makes these records
+pub record IsWayOfOne (x : Subject) (p : Pattern) (groups : Groups) (end i j : ℕ) (records : List (ℕ × ℕ)) : Type 0 where
+  pub within : j ≤ end
+  pub goes : Goes x p i j
+  pub way : IsPreferredWay x (as_whole (groups ∷ []) 0 p) (λ k. k ≤ end) i j records
+
+-- the only pattern's preferred way from the position is empty
+abbrev pub StaysAt : Subject → Pattern → Groups → ℕ → ℕ → Type 0
+StaysAt x p groups end at = (records : List (ℕ × ℕ)) × IsWayOfOne x p groups end at at records
+
+-- an empty match at the position is left out: the last match ended there, or haystacks are text and the position is within a character
+abbrev pub IsLeftOut : Bool → List ℕ → Option ℕ → ℕ → Type 0
+IsLeftOut utf8 haystack last at = (last ≡ Some at) ⊎ ((utf8 ≡ true) × (¬ (IsCharBoundary haystack at)))
+
+-- no match is taken at the position: the pattern goes nowhere from there up to the end, or its preferred way is empty and left out
+abbrev pub IsPassedOfOne : Subject → Pattern → Groups → Bool → ℕ → Option ℕ → ℕ → Type 0
+IsPassedOfOne x p groups utf8 end last at =
+    ((j : ℕ) → j ≤ end → ¬ (Goes x p at j)) ⊎ (StaysAt x p groups end at × IsLeftOut utf8 x.haystack last at)
+
+-- the next match may begin at the position: it's in the span, and if the search is anchored, at each earlier one the match would repeat the last one
+pub record IsOpenOfOne (x : Subject) (p : Pattern) (groups : Groups) (input : InputParts) (last : Option ℕ) (at : ℕ) : Type 0 where
+  pub start : input.span.start ≤ at
+  pub end : at ≤ input.span.end
+  pub anchored : ¬ (input.anchored ≡ No) → (earlier : ℕ) → input.span.start ≤ earlier → earlier < at
+      → StaysAt x p groups input.span.end earlier × (last ≡ Some earlier)
+
+-- the next match is here: it may begin there, it isn't empty and left out, and each earlier position of the input's span is passed
+pub record IsNextOfOne (x : Subject) (p : Pattern) (groups : Groups) (utf8 : Bool) (input : InputParts) (last : Option ℕ) (span : Span) : Type 0 where
+  pub opens : IsOpenOfOne x p groups input last span.start
+  pub taken : span.start ≡ span.end → ¬ (IsLeftOut utf8 x.haystack last span.start)
+  pub passed : (at : ℕ) → input.span.start ≤ at → at < span.start → IsPassedOfOne x p groups utf8 input.span.end last at
+
+-- each position at which the next match may begin is passed, if the pattern may match
+abbrev pub IsOverOfOne : Subject → Pattern → Groups → Bool → InputParts → Option ℕ → Type 0
+IsOverOfOne x p groups utf8 input last = is_wanted (pattern_of_mode input.anchored) 0 ≡ true → (at : ℕ)
+    → IsOpenOfOne x p groups input last at → IsPassedOfOne x p groups utf8 input.span.end last at
