@@ -1,15 +1,15 @@
 -- A text with all matches of one pattern replaced, said of the pattern alone.
-use Rattle.std.specs.Prelude.{◌≡◌, ℕ, ◌+◌, ◌*◌, ◌^◌, ◌<◌, ◌≤◌, ◌⊎◌, Bool, List, [], ◌∷◌, length, map, Option, Some, None}
+use Rattle.std.specs.Prelude.{◌≡◌, ℕ, ◌+◌, ◌*◌, ◌^◌, ◌≤◌, ◌⊎◌, Bool, true, List, [], ◌∷◌, length, map, Option, Some, None}
 use Rattle.std.specs.List.{range_with_len}
-use Rattle.rsc_primitives.specs.Decoding.{IsCharBoundary}
+use Rattle.rsc_search.specs.Inputs.{whole}
 use Rattle.rsc_captures.specs.Captured.{Captured, group_span}
 use Rattle.rsc_captures.specs.Groups.{Groups, all_groups}
 use Rattle.rsc_engine.specs.declared.error.Error.{Error}
 use Rattle.rsc_engine.specs.declared.error.Error.TheVariants.{TooLarge}
-use Rattle.rsc_engine.specs.Patterns.{Pattern, Subject, Goes}
+use Rattle.rsc_engine.specs.NextMatches.{from_start}
+use Rattle.rsc_engine.specs.Patterns.{Pattern, Subject}
 use Rattle.rsc_engine.specs.Ways.{last_in}
-use Rattle.rsc_engine.specs.GroupNumbers.{as_whole}
-use Rattle.rsc_engine.specs.PreferredWays.{IsPreferredWay}
+use Rattle.rsc_engine.specs.OnePattern.{IsWayOfOne, IsNextOfOne, IsOverOfOne}
 use Rattle.rsc_engine.specs.Refusals.{IsErrorOf}
 use Rattle.rsc_engine.specs.Sizes.{size_of_program, most_states}
 use Rattle.rsc_replace.specs.Replacements.{MatchWith, with_matches_filled}
@@ -33,32 +33,15 @@ captures_of groups w =
 abbrev pub match_of_way : Groups → Way → MatchWith
 match_of_way groups w = record { found = record { pattern = 0; span = record { start = w.start; end = w.end } }; captures = captures_of groups w }
 
--- the way is the one that the pattern prefers from its start to positions of the text
-abbrev pub IsBestWay : Subject → Groups → Pattern → Way → Type 0
-IsBestWay x groups p w = IsPreferredWay x (as_whole (groups ∷ []) 0 p) (λ j. j ≤ length x.haystack) w.start w.end w.records
-
--- the way is empty, and where the last match ended or within a character
-abbrev pub IsLeftOut : Subject → Option ℕ → Way → Type 0
-IsLeftOut x last w = (w.start ≡ w.end) × ((last ≡ Some w.start) ⊎ (¬ (IsCharBoundary x.haystack w.start)))
-
--- no match begins at the position: the pattern goes nowhere from there, or the way that it prefers is left out
-abbrev pub HasNoneAt : Subject → Groups → Pattern → Option ℕ → ℕ → Type 0
-HasNoneAt x groups p last at =
-    ((j : ℕ) → j ≤ length x.haystack → ¬ (Goes x p at j)) ⊎ ((w : Way) × (w.start ≡ at) × IsBestWay x groups p w × IsLeftOut x last w)
-
--- the first match from a position on; `last` is where the one before it ended, if there was one
+-- the first match from a position on, by a way of the pattern; its first group is the whole match; `last` is where the one before it ended, if there was one
 pub record IsNextWay (x : Subject) (groups : Groups) (p : Pattern) (last : Option ℕ) (from : ℕ) (w : Way) : Type 0 where
-  pub start : (from ≤ w.start) × (w.start ≤ length x.haystack)
-  pub end : w.end ≤ length x.haystack
-  pub goes : Goes x p w.start w.end
-  pub best : IsBestWay x groups p w
-  pub whole : group_span (captures_of groups w) 0 ≡ Some (record { start = w.start; end = w.end })
-  pub taken : ¬ (IsLeftOut x last w)
-  pub none_before : (at : ℕ) → from ≤ at → at < w.start → HasNoneAt x groups p last at
+  pub way : IsWayOfOne x p groups (length x.haystack) w.start w.end w.records
+  pub next : IsNextOfOne x p groups true (from_start (whole x.haystack) from) last (record { start = w.start; end = w.end })
+  pub group : group_span (captures_of groups w) 0 ≡ Some (record { start = w.start; end = w.end })
 
 -- these are all matches from a position on, in order
 abbrev pub AreAllWays : Subject → Groups → Pattern → Option ℕ → ℕ → List Way → Type 0
-AreAllWays x groups p last from [] = (at : ℕ) → from ≤ at → at ≤ length x.haystack → HasNoneAt x groups p last at
+AreAllWays x groups p last from [] = IsOverOfOne x p groups true (from_start (whole x.haystack) from) last
 AreAllWays x groups p last from (w ∷ rest) = IsNextWay x groups p last from w × AreAllWays x groups p (Some w.end) w.end rest
 
 -- these bytes are the text with all matches of the pattern replaced by what the template stands for

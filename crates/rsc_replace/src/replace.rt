@@ -101,6 +101,7 @@ pub fn replace_part<W: WordClass + AsciiWordClass>(
     ensures ordered { OnOk result (has_a_reversed_range (pattern_of part.entry ∷ []) ≡ false) }
     ensures refused { IfErr result (FailsToReplace (pattern_of part.entry) (groups_of_pattern part.entry) text.now) }
 {
+    laws::one_pattern::a_match_of_one_pattern::<W>();
     laws::the_first_group_is_the_match::<W>();
     let program = Builder::new(alloc).build(word_class, true, part)?;
     let out = replace_all(alloc, &program, text, template)?;

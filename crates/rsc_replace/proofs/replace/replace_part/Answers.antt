@@ -1,7 +1,9 @@
-use Rattle.std.proofs.Common.{subst, arith}
+use Rattle.std.proofs.Common.{arith}
+use Rattle.rsc_search.specs.Inputs.{whole}
+use Rattle.rsc_engine.specs.NextMatches.{from_start}
 use Rattle.rsc_engine.specs.Parts.{pattern_of, groups_of_pattern}
-use Rattle.rsc_replace.specs.PartReplacements.{IsPartReplaced}
-use Rattle.rsc_replace.proofs.PartReplacementsLemmas.{read_by, part_replaced}
+use Rattle.rsc_replace.specs.PartReplacements.{read_as_text}
+use Rattle.rsc_replace.proofs.PartReplacementsLemmas.{part_replaced}
 use Rattle.rsc_replace.proofs.replace.replace_part.Goals as goal
 
 pub returns-clause-replaced : goal.returns-clause-replaced
@@ -10,15 +12,22 @@ returns-clause-replaced g c =
     let program = c.in_ok-program.program in
     let p = pattern_of c.args.part in
     let groups = groups_of_pattern c.args.part in
+    let text = c.args.text.now in
+    let one = c.a_match_of_one_pattern.ensures in
+    let built = rw c.new.ensures.patterns at c.in_ok-program.ensures.built in
+    let lists = rw c.new.ensures.groups at c.in_ok-program.ensures.groups in
+    let matcher = c.in_ok-program.ensures.matcher in
+    let utf8 = c.in_ok-program.ensures.text in
     let all = c.in_ok-out.ensures.replaced in
-    subst (λ matcher. IsPartReplaced (read_by chars matcher c.args.text.now) groups p c.args.template.now c.in_ok-out.out.items)
-    c.in_ok-program.ensures.matcher
-    (part_replaced chars program groups p (record {
-      matches = rw c.new.ensures.patterns at c.in_ok-program.ensures.matches;
-      ways = rw c.new.ensures.patterns at c.in_ok-program.ensures.preferred_ways;
-      lists = rw c.new.ensures.groups at c.in_ok-program.ensures.groups;
+    part_replaced chars program groups p (read_as_text text (chars c.args.word_class)) (record {
+      lists = lists;
       some = omega arith;
-      text = c.in_ok-program.ensures.text;
-      whole = λ input last captures found next room some.
-          c.the_first_group_is_the_match.ensures.next_group program input last captures found c.in_ok-program.ensures.ends next room some;
-    }) c.args.text.now c.args.template.now c.in_ok-out.out.items all.0 all.1 all.2)
+      ways = λ from last captures found next.
+          (one.next program p groups (10, c.args.word_class) (from_start (whole text) from) last captures found built lists matcher next).0;
+      next = λ from last captures found next.
+          one.taken program p groups (10, c.args.word_class) _ (from_start (whole text) from) last captures found built lists matcher utf8 next;
+      over = λ from last over. one.passed program p groups (10, c.args.word_class) _ (from_start (whole text) from) last built lists matcher utf8 over;
+      group = λ from last captures found next room some.
+          c.the_first_group_is_the_match.ensures.next_group program (from_start (whole text) from) last captures found c.in_ok-program.ensures.ends next room
+          some;
+    }) c.args.template.now c.in_ok-out.out.items all.0 all.1 all.2
