@@ -26,6 +26,9 @@ const SPARE: usize = 4096;
 
 const SPARE_FOR_A_BYTE: usize = 4;
 
+// A walk that needs more flags than these, 128 MiB, is made only if there are no bytes to spare.
+const FLAGS: usize = 1073741824;
+
 /// The matches in an input that are left, in order.
 ///
 /// After a match that lay further from the one before than it is long, the passes of a [`Dfa`] find the next one, as long as what they read behind the ends of
@@ -242,7 +245,7 @@ impl<'p, 'h, W: WordClass + AsciiWordClass> Rest<'p, 'h, W> {
         ensures unset { IfOk result (λ found. IfNone found (IsCleared captures.old captures.new)) }
         ensures failed { OnErr result (IsCleared captures.old captures.new) }
     {
-        if !self.is_far || self.spare == 0 {
+        if self.spare == 0 || self.is_for_a_walk() {
             return self.walk_on(captures);
         }
         let start = self.input.start();
@@ -260,6 +263,11 @@ impl<'p, 'h, W: WordClass + AsciiWordClass> Rest<'p, 'h, W> {
                 Ok(Some(found))
             }
         }
+    }
+
+    // Whether a walk takes less time than the passes, and its flags take little memory.
+    fn is_for_a_walk(&self) -> bool {
+        !self.is_far && self.flag_count <= FLAGS
     }
 
     // The same by the walk.
