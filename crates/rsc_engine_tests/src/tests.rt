@@ -8,4 +8,3 @@ mod matches;
 mod model;
 mod programs;
 mod sizes;
-mod slow;

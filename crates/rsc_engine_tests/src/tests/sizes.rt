@@ -12,10 +12,6 @@ use std::test::Fail;
 
 const SIZES: [usize; 9] = [1, 2, 63, 64, 65, 255, 256, 1000, 2000];
 
-// To make all rows of a pass back over a longer part takes time in proportion to its square, which is long in a program that isn't optimized. So such parts are
-// asked where they end, and more groups than that are empty.
-const FAR: usize = 256;
-
 // The first match of an input by one of four searches.
 fn first_by(
     alloc: Global,
@@ -35,6 +31,11 @@ fn first_by(
     }
 }
 
+// To make all rows for a long part takes time in proportion to its square, so only `find`, which makes none in a short text, is asked for one.
+fn searches_of(count: usize) -> usize {
+    if count > 256 { 1 } else { 4 }
+}
+
 // Whether each of these searches finds a match of the pattern in the span, with the span of a group.
 fn finds(
     alloc: Global,
@@ -42,8 +43,9 @@ fn finds(
     input: &Input<'_>,
     wanted: Match,
     group: (usize, Span),
+    searches: usize,
 ) -> Result<bool, Fail> {
-    for search in 0..4 {
+    for search in 0..searches {
         let mut captures = captures_of(alloc, program)?;
         let found = first_by(alloc, program, input, &mut captures, search)?;
         if found != Some(wanted) || captures.get_group(group.0) != Some(group.1) {
@@ -72,16 +74,7 @@ fn span_to(count: usize) -> Span
     }
 }
 
-// A hyphen, a `b`, and an `a` for each byte more.
-fn letters(alloc: Global, count: usize) -> Result<Vec<u8>, Error> {
-    let mut text = text_of(alloc, b'a', count)?;
-    if text.len() > 1 {
-        text[1] = b'b';
-    }
-    Ok(text)
-}
-
-// A literal of that many bytes, the first of which is another one; or that byte, and then a letter at least as often as there are bytes left.
+// A literal of that many bytes; or a letter at least that many times.
 fn long_part(
     alloc: Global,
     builder: &Builder<'static>,
@@ -89,66 +82,46 @@ fn long_part(
     count: usize,
 ) -> Result<Part<'static>, Error> {
     if number == 0 {
-        let text = letters(alloc, count)?;
+        let text = text_of(alloc, b'a', count)?;
         return builder.literal(text.as_slice().get(1..).unwrap_or(&[]));
     }
-    let rest = builder.repeat(builder.range(b'a', b'a'), count.saturating_sub(1), None)?;
-    builder.then(builder.range(b'b', b'b'), rest)
-}
-
-// Whether the first match is there, or ends there.
-fn ends(alloc: Global, program: &Program<AsciiWord>, text: &[u8], span: Span) -> Result<bool, Fail>
-    requires { span.start ≤ span.end }
-{
-    let input = Input::new(text);
-    if text.len() > FAR + 1 {
-        return Ok(Dfa::new(alloc, program, 1000).leftmost_end(&input)? == Some(span.end));
-    }
-    finds(alloc, program, &input, Match::must(0, span), (0, span))
+    builder.repeat(builder.range(b'a', b'a'), count, None)
 }
 
 #[test]
 fn parts_of_any_length_are_found(rt: HostRuntime) -> Result<(), Fail> {
     let alloc = rt.alloc();
     for count in SIZES {
-        let text = letters(alloc, count)?;
+        let text = text_of(alloc, b'a', count)?;
         let span = span_to(count);
         for number in 0..2 {
             let builder = Builder::new(alloc);
             let part = long_part(alloc, &builder, number, count)?;
             let program = builder.build(AsciiWord, true, part)?;
-            assert!(rt; ends(alloc, &program, &text, span)?, "{number} {count}");
+            let wanted = Match::must(0, span);
+            assert!(rt;
+                finds(
+                    alloc,
+                    &program,
+                    &Input::new(&text),
+                    wanted,
+                    (0, span),
+                    searches_of(count)
+                )?,
+                "{number} {count}"
+            );
         }
     }
     Ok(())
 }
 
-// `(a)(a)..`, or `()()..`: that many groups.
+// `(a)(a)..`: that many groups.
 fn groups(alloc: Global, builder: &Builder<'static>, count: usize) -> Result<Part<'static>, Error> {
     let mut parts = Vec::new(alloc);
     for _ in 0..count {
-        let part = if count > FAR {
-            builder.empty()
-        } else {
-            builder.range(b'a', b'a')
-        };
-        parts.push(builder.group(None, part)?)?;
+        parts.push(builder.group(None, builder.range(b'a', b'a'))?)?;
     }
     builder.concat(parts)
-}
-
-// The whole match of these groups in a text of a hyphen and then a byte for each, and the last group.
-fn spans_of(count: usize) -> (Span, Span)
-    ensures { result.0.start ≤ result.0.end }
-{
-    if count > FAR {
-        return (Span { start: 0, end: 0 }, Span { start: 0, end: 0 });
-    }
-    let last = Span {
-        start: count,
-        end: count.saturating_add(1),
-    };
-    (span_to(count), last)
 }
 
 #[test]
@@ -159,15 +132,19 @@ fn the_last_of_any_number_of_groups_is_set(rt: HostRuntime) -> Result<(), Fail> 
         let part = groups(alloc, &builder, count)?;
         let program = builder.build(AsciiWord, true, part)?;
         let text = text_of(alloc, b'a', count)?;
-        let (whole, last) = spans_of(count);
-        let input = Input::new(&text);
+        let last = Span {
+            start: count,
+            end: count.saturating_add(1),
+        };
+        let wanted = Match::must(0, span_to(count));
         assert!(rt;
             finds(
                 alloc,
                 &program,
-                &input,
-                Match::must(0, whole),
-                (count, last)
+                &Input::new(&text),
+                wanted,
+                (count, last),
+                searches_of(count)
             )?,
             "{count}"
         );
@@ -204,7 +181,7 @@ fn the_last_of_any_number_of_patterns_is_found(rt: HostRuntime) -> Result<(), Fa
         let wanted = Match::must(number, span_to(3));
         let input = Input::new(&text);
         assert!(rt;
-            finds(alloc, &program, &input, wanted, (0, span_to(3)))?,
+            finds(alloc, &program, &input, wanted, (0, span_to(3)), 4)?,
             "{count}"
         );
         let mut anchored = Input::new(&text).anchored(Anchored::Pattern(PatternID::must(number)));
@@ -237,7 +214,14 @@ fn the_last_of_any_number_of_ranges_is_found(rt: HostRuntime) -> Result<(), Fail
         let text = [last.saturating_add(1), last];
         let wanted = Match::must(0, span_to(1));
         assert!(rt;
-            finds(alloc, &program, &Input::new(&text), wanted, (0, span_to(1)))?,
+            finds(
+                alloc,
+                &program,
+                &Input::new(&text),
+                wanted,
+                (0, span_to(1)),
+                4
+            )?,
             "{count}"
         );
     }

@@ -1,0 +1,13 @@
+use Rattle.std.proofs.Common.{◌≡◌, ◌<◌, ◌+◌, ◌*◌, ◌∙◌, sym, get_or, length, Some, rules}
+use Rattle.std.proofs.lemmas.List.{get_or_read}
+use Rattle.rsc_engine.specs.declared.dfa.entries.Lead.TheVariants.{Unknown, To}
+use Rattle.rsc_engine.specs.TablesLayout.{column}
+use Rattle.rsc_engine.proofs.dfa.table.Table.known_row.Goals as goal
+
+pub returns-in-To : goal.returns-in-To
+returns-in-To g c =
+    let leads = c.args.self.now.leads.items in
+    let below : c.entry_index-entry.result < length leads = search rules in
+    let entry : get_or leads (c.args.row * c.args.plan.now.width + column c.args.plan.now.classes (Some c.args.byte)) Unknown ≡ To c.in-To.next =
+    rw c.entry_index-entry.ensures.value at (sym (get_or_read leads _ _ below c.index.ensures Unknown) ∙ c.in-To.is) in
+    rw entry at (c.requires.exact.each c.args.row (Some c.args.byte) c.ranges.byte.fits)
