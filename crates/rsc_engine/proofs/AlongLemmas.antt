@@ -86,22 +86,22 @@ pub records-all : (states : List State) (run : List (ℕ × ℕ)) (n : ℕ) (slo
 records-all states run n slots len had s l =
     had s l ∙ ap (λ (x : List (ℕ × ℕ)). recorded states x s) (take_all (n + 1) run (omega (arith, len)))
 
--- ---- what was seen at a position
+-- ---- what was seen at a position, by its stamp
 
 abbrev pub seen_at : ℕ → List ℕ → ℕ → Bool
-seen_at i seen s = get_or seen s 0 == i + 1
+seen_at stamp seen s = get_or seen s 0 == stamp
 
-more-seen : (i : ℕ) (seen : List ℕ) (s : ℕ) → s < length seen → IsMore (seen_at i seen) s (seen_at i (set seen s (i + 1)))
-more-seen i seen s l = record {
-  new = eq-eqb (get_or (set seen s (i + 1)) s 0) (i + 1) (get_or-set_same seen s (i + 1) 0 l);
+more-seen : (stamp : ℕ) (seen : List ℕ) (s : ℕ) → s < length seen → IsMore (seen_at stamp seen) s (seen_at stamp (set seen s stamp))
+more-seen stamp seen s l = record {
+  new = eq-eqb (get_or (set seen s stamp) s 0) stamp (get_or-set_same seen s stamp 0 l);
   kept = λ t is. ⊎_elim
-      (λ (same : t ≡ s). eq-eqb (get_or (set seen s (i + 1)) t 0) (i + 1)
-      (ap (λ (k : ℕ). get_or (set seen s (i + 1)) k 0) same ∙ get_or-set_same seen s (i + 1) 0 l))
-      (λ (apart : (t ≡ s) → ⊥). ap (λ (k : ℕ). k == i + 1) (get_or-set_other seen s t (i + 1) 0 apart) ∙ is)
+      (λ (same : t ≡ s). eq-eqb (get_or (set seen s stamp) t 0) stamp
+      (ap (λ (k : ℕ). get_or (set seen s stamp) k 0) same ∙ get_or-set_same seen s stamp 0 l))
+      (λ (apart : (t ≡ s) → ⊥). ap (λ (k : ℕ). k == stamp) (get_or-set_other seen s t stamp 0 apart) ∙ is)
       (cases_eq t s);
   only = λ t is. ⊎_elim
       (λ (same : t ≡ s). inl same)
-      (λ (apart : (t ≡ s) → ⊥). inr (ap (λ (k : ℕ). k == i + 1) (sym (get_or-set_other seen s t (i + 1) 0 apart)) ∙ is))
+      (λ (apart : (t ≡ s) → ⊥). inr (ap (λ (k : ℕ). k == stamp) (sym (get_or-set_other seen s t stamp 0 apart)) ∙ is))
       (cases_eq t s);
 }
 
@@ -115,18 +115,18 @@ below-set n seen s v l small below t = ⊎_elim
 -- ---- the loop
 
 -- what the loop keeps: of the run that is sought the stack has the states by which it may go, from the slots as they were
-pub record IsPassing (e : Search) (n i sid : ℕ) (list : List ℕ) (slots : List (Option ℕ)) (seen : List ℕ) (stack : List (ℕ × ℕ)) (trail : List ℕ)
+pub record IsPassing (e : Search) (n i stamp sid : ℕ) (list : List ℕ) (slots : List (Option ℕ)) (seen : List ℕ) (stack : List (ℕ × ℕ)) (trail : List ℕ)
     : Type 0 where
   pub len : length seen ≡ n
-  pub below : AreBelow (i + 2) seen
+  pub below : AreBelow (stamp + 1) seen
   pub there : All (λ (x : ℕ × ℕ). x.0 < n) stack
   pub states : AreStates n trail
   pub on : (p from j : ℕ) (run : List (ℕ × ℕ)) → IsSought e p from j run → Lists (λ s. ArrivesAtOnce e p j s i) list → (a : IsAlong e run sid i slots)
-      → IsOnTrack e p j run a.index i (seen_at i seen) trail (reverse stack)
+      → IsOnTrack e p j run a.index i (seen_at stamp seen) trail (reverse stack)
 
-pub passing-first : {e : Search} {n i sid : ℕ} {list : List ℕ} {slots : List (Option ℕ)} {seen : List ℕ} → length seen ≡ n → AreBelow (i + 1) seen → sid < n
-    → IsPassing e n i sid list slots seen ((sid, 0) ∷ []) []
-passing-first {e} {n} {i} {sid} {list} {slots} {seen} len below there = record {
+pub passing-first : {e : Search} {n i stamp sid : ℕ} {list : List ℕ} {slots : List (Option ℕ)} {seen : List ℕ} → length seen ≡ n → AreBelow stamp seen → sid < n
+    → IsPassing e n i stamp sid list slots seen ((sid, 0) ∷ []) []
+passing-first {e} {n} {i} {stamp} {sid} {list} {slots} {seen} len below there = record {
   len = len;
   below = λ s. omega (arith, below s);
   there = all;
@@ -136,8 +136,8 @@ passing-first {e} {n} {i} {sid} {list} {slots} {seen} len below there = record {
     within = omega (arith, a.within);
     here = let same : a.index + 0 ≡ a.index = omega arith in ap (λ (k : ℕ). place run k) same ∙ a.here;
     passed = λ k l. absurd (omega (arith, l));
-    avoids = λ k low l is. ne_eqb (get_or seen (place run k).0 0) (i + 1)
-        (λ (h : get_or seen (place run k).0 0 ≡ i + 1). omega (arith, h, below (place run k).0));
+    avoids = λ k low l is. ne_eqb (get_or seen (place run k).0 0) stamp
+        (λ (h : get_or seen (place run k).0 0 ≡ stamp). omega (arith, h, below (place run k).0));
   });
 }
   where
@@ -193,8 +193,8 @@ over-quiet e s t i slot leads = go (slice_get e.states s) leads
 stops : (e : Search) (s p : ℕ) (i : ℕ) (q : ℕ × ℕ) → slice_get e.states s ≡ Some (Accept p) → Leads e (s, i) q → ⊥
 stops e s p i q is leads = rw is at leads
 
-module _ {e : Search} {n i sid : ℕ} {list : List ℕ} {slots : List (Option ℕ)} {seen : List ℕ} {before : List (ℕ × ℕ)} {trail : List ℕ} (stack : List (ℕ × ℕ))
-    (x : ℕ × ℕ) (f : IsPassing e n i sid list slots seen before trail) (popped : before ≡ stack ++ x ∷ []) where
+module _ {e : Search} {n i stamp sid : ℕ} {list : List ℕ} {slots : List (Option ℕ)} {seen : List ℕ} {before : List (ℕ × ℕ)} {trail : List ℕ}
+    (stack : List (ℕ × ℕ)) (x : ℕ × ℕ) (f : IsPassing e n i stamp sid list slots seen before trail) (popped : before ≡ stack ++ x ∷ []) where
   all : All (λ (y : ℕ × ℕ). y.0 < n) (stack ++ x ∷ [])
   all = subst (λ (l : List (ℕ × ℕ)). All (λ (y : ℕ × ℕ). y.0 < n) l) popped f.there
 
@@ -208,85 +208,85 @@ module _ {e : Search} {n i sid : ℕ} {list : List ℕ} {slots : List (Option �
   rest = reverse stack
 
   on : (p from j : ℕ) (run : List (ℕ × ℕ)) → IsSought e p from j run → Lists (λ s. ArrivesAtOnce e p j s i) list → (a : IsAlong e run sid i slots)
-      → IsOnTrack e p j run a.index i (seen_at i seen) trail (x ∷ rest)
-  on p from j run sought lists a = subst (λ (l : List (ℕ × ℕ)). IsOnTrack e p j run a.index i (seen_at i seen) trail l)
+      → IsOnTrack e p j run a.index i (seen_at stamp seen) trail (x ∷ rest)
+  on p from j run sought lists a = subst (λ (l : List (ℕ × ℕ)). IsOnTrack e p j run a.index i (seen_at stamp seen) trail l)
       (ap reverse popped ∙ reverse-top stack x) (f.on p from j run sought lists a)
 
-  pub passing-again : seen_at i seen x.0 ≡ true → IsPassing e n i sid list slots seen stack (take x.1 trail)
+  pub passing-again : seen_at stamp seen x.0 ≡ true → IsPassing e n i stamp sid list slots seen stack (take x.1 trail)
   passing-again was = record {
     len = f.len;
     below = f.below;
     there = stack-rest n stack x all;
     states = states-take n x.1 trail f.states;
     on = λ p from j run sought lists a.
-        track-again e p from j run sought a.index i (seen_at i seen) (seen_at i seen) trail x rest was (on p from j run sought lists a);
+        track-again e p from j run sought a.index i (seen_at stamp seen) (seen_at stamp seen) trail x rest was (on p from j run sought lists a);
   }
 
   read : (k b : ℕ) → k ≡ x.0 → b ≡ get_or seen k b → get_or seen x.0 0 ≡ b
   read k b same got = get_or_default seen x.0 0 b marked ∙ ap (λ (h : ℕ). get_or seen h b) (sym same) ∙ sym got
 
-  pub was-seen : (k b : ℕ) → k ≡ x.0 → b ≡ get_or seen k b → b ≡ i + 1 → seen_at i seen x.0 ≡ true
-  was-seen k b same got is = eq-eqb (get_or seen x.0 0) (i + 1) (read k b same got ∙ is)
+  pub was-seen : (k b : ℕ) → k ≡ x.0 → b ≡ get_or seen k b → b ≡ stamp → seen_at stamp seen x.0 ≡ true
+  was-seen k b same got is = eq-eqb (get_or seen x.0 0) stamp (read k b same got ∙ is)
 
-  pub not-seen : (k b : ℕ) → k ≡ x.0 → b ≡ get_or seen k b → (b ≡ i + 1 → ⊥) → seen_at i seen x.0 ≡ false
-  not-seen k b same got apart = ne_eqb (get_or seen x.0 0) (i + 1) (λ is. apart (sym (read k b same got) ∙ is))
+  pub not-seen : (k b : ℕ) → k ≡ x.0 → b ≡ get_or seen k b → (b ≡ stamp → ⊥) → seen_at stamp seen x.0 ≡ false
+  not-seen k b same got apart = ne_eqb (get_or seen x.0 0) stamp (λ is. apart (sym (read k b same got) ∙ is))
 
   abbrev after : List ℕ
-  after = set seen x.0 (i + 1)
+  after = set seen x.0 stamp
 
   abbrev pub left_at : ℕ → ℕ
-  left_at v = cond (not (v == i + 1)) 1 0
+  left_at v = cond (not (v == stamp)) 1 0
 
-  pub fewer-left : seen_at i seen x.0 ≡ false → count_by (λ (v : ℕ). not (v == i + 1)) after + 1 ≡ count_by (λ (v : ℕ). not (v == i + 1)) seen
+  pub fewer-left : seen_at stamp seen x.0 ≡ false → count_by (λ (v : ℕ). not (v == stamp)) after + 1 ≡ count_by (λ (v : ℕ). not (v == stamp)) seen
   fewer-left fresh =
-      let sums = sum_by-set left_at seen x.0 (i + 1) 0 marked in
+      let sums = sum_by-set left_at seen x.0 stamp 0 marked in
       let one : left_at (get_or seen x.0 0) ≡ 1 = ap (λ (b : Bool). cond (not b) 1 0) fresh in
-      let none : left_at (i + 1) ≡ 0 = ap (λ (b : Bool). cond (not b) 1 0) (eq-eqb (i + 1) (i + 1) refl) in
+      let none : left_at stamp ≡ 0 = ap (λ (b : Bool). cond (not b) 1 0) (eq-eqb stamp stamp refl) in
       omega (arith, sums, one, none)
 
-  module _ (size : n ≡ length e.states) (low : e.start ≤ i) (high : i ≤ e.end) (fresh : seen_at i seen x.0 ≡ false) where
+  module _ (size : n ≡ length e.states) (low : e.start ≤ i) (high : i ≤ e.end) (fresh : seen_at stamp seen x.0 ≡ false) where
     place_there : IsPlace e (x.0, i)
     place_there = (omega (arith, top-there, size), low, high)
 
-    g : IsMore (seen_at i seen) x.0 (seen_at i after)
-    g = more-seen i seen x.0 marked
+    g : IsMore (seen_at stamp seen) x.0 (seen_at stamp after)
+    g = more-seen stamp seen x.0 marked
 
     len_after : length after ≡ n
-    len_after = length-set seen x.0 (i + 1) ∙ f.len
+    len_after = length-set seen x.0 stamp ∙ f.len
 
-    pub below-after : AreBelow (i + 2) after
-    below-after = below-set (i + 2) seen x.0 (i + 1) marked (omega arith) f.below
+    pub below-after : AreBelow (stamp + 1) after
+    below-after = below-set (stamp + 1) seen x.0 stamp marked (omega arith) f.below
 
     trail_after : AreStates n (take x.1 trail ++ x.0 ∷ [])
     trail_after = states-push n (take x.1 trail) x.0 (states-take n x.1 trail f.states) top-there
 
     off : ((p from j : ℕ) (run : List (ℕ × ℕ)) → IsSought e p from j run → Lists (λ s. ArrivesAtOnce e p j s i) list → (a : IsAlong e run sid i slots)
-        → GoesBy run a.index i (seen_at i seen) trail x → ⊥)
-        → IsPassing e n i sid list slots after stack (take x.1 trail)
+        → GoesBy run a.index i (seen_at stamp seen) trail x → ⊥)
+        → IsPassing e n i stamp sid list slots after stack (take x.1 trail)
     off never = record {
       len = len_after;
       below = below-after;
       there = stack-rest n stack x all;
       states = states-take n x.1 trail f.states;
       on = λ p from j run sought lists a.
-          track-off e p from j run sought a.index i (seen_at i seen) (seen_at i after) trail x rest g fresh place_there
+          track-off e p from j run sought a.index i (seen_at stamp seen) (seen_at stamp after) trail x rest g fresh place_there
           (never p from j run sought lists a) (on p from j run sought lists a);
     }
 
-    pub passing-stuck : IsWayOn e i x.0 Stuck → IsPassing e n i sid list slots after stack (take x.1 trail)
-    passing-stuck way = off (λ p from j run sought lists a by. stuck-off e p from j run sought a.index i (seen_at i seen) trail x by way.0 way.1)
+    pub passing-stuck : IsWayOn e i x.0 Stuck → IsPassing e n i stamp sid list slots after stack (take x.1 trail)
+    passing-stuck way = off (λ p from j run sought lists a by. stuck-off e p from j run sought a.index i (seen_at stamp seen) trail x by way.0 way.1)
 
     -- how deep the next state stands
-    deeper : (d p j k : ℕ) (run : List (ℕ × ℕ)) → d ≡ length (take x.1 trail ++ x.0 ∷ []) → IsOnTrack e p j run k i (seen_at i seen) trail (x ∷ rest)
+    deeper : (d p j k : ℕ) (run : List (ℕ × ℕ)) → d ≡ length (take x.1 trail ++ x.0 ∷ []) → IsOnTrack e p j run k i (seen_at stamp seen) trail (x ∷ rest)
         → x.1 + 1 ≡ d
     deeper d p j k run is t = omega (arith, is, length-append (take x.1 trail) (x.0 ∷ []), length-take-le x.1 trail (deep t))
       where
-        deep : IsOnTrack e p j run k i (seen_at i seen) trail (x ∷ rest) → x.1 ≤ length trail
+        deep : IsOnTrack e p j run k i (seen_at stamp seen) trail (x ∷ rest) → x.1 ≤ length trail
         deep (goes _ _ _ by) = by.deep
         deep (passes _ _ _ le off more) = le
 
     pub passing-one : (t d : ℕ) → d ≡ length (take x.1 trail ++ x.0 ∷ []) → IsWayOn e i x.0 (One t) → t < n
-        → IsPassing e n i sid list slots after (stack ++ (t, d) ∷ []) (take x.1 trail ++ x.0 ∷ [])
+        → IsPassing e n i stamp sid list slots after (stack ++ (t, d) ∷ []) (take x.1 trail ++ x.0 ∷ [])
     passing-one t d is way l = record {
       len = len_after;
       below = below-after;
@@ -294,15 +294,15 @@ module _ {e : Search} {n i sid : ℕ} {list : List ℕ} {slots : List (Option �
       states = trail_after;
       on = λ p from j run sought lists a.
           let was = on p from j run sought lists a in
-          subst (λ (k : ℕ). IsOnTrack e p j run a.index i (seen_at i after) (take x.1 trail ++ x.0 ∷ []) (reverse (stack ++ (t, k) ∷ [])))
+          subst (λ (k : ℕ). IsOnTrack e p j run a.index i (seen_at stamp after) (take x.1 trail ++ x.0 ∷ []) (reverse (stack ++ (t, k) ∷ [])))
           (deeper d p j a.index run is was)
-          (subst (λ (l : List (ℕ × ℕ)). IsOnTrack e p j run a.index i (seen_at i after) (take x.1 trail ++ x.0 ∷ []) l)
+          (subst (λ (l : List (ℕ × ℕ)). IsOnTrack e p j run a.index i (seen_at stamp after) (take x.1 trail ++ x.0 ∷ []) l)
           (sym (reverse-top stack (t, x.1 + 1)))
-          (track-single e p from j run sought a.index i (seen_at i seen) (seen_at i after) trail x rest g fresh place_there t way.0 way.2 way.3 was));
+          (track-single e p from j run sought a.index i (seen_at stamp seen) (seen_at stamp after) trail x rest g fresh place_there t way.0 way.2 way.3 was));
     }
 
     pub passing-two : (a b d : ℕ) → d ≡ length (take x.1 trail ++ x.0 ∷ []) → IsWayOn e i x.0 (Two a b) → (a < n) × (b < n)
-        → IsPassing e n i sid list slots after ((stack ++ (b, d) ∷ []) ++ (a, d) ∷ []) (take x.1 trail ++ x.0 ∷ [])
+        → IsPassing e n i stamp sid list slots after ((stack ++ (b, d) ∷ []) ++ (a, d) ∷ []) (take x.1 trail ++ x.0 ∷ [])
     passing-two a b d is way l = record {
       len = len_after;
       below = below-after;
@@ -310,23 +310,23 @@ module _ {e : Search} {n i sid : ℕ} {list : List ℕ} {slots : List (Option �
       states = trail_after;
       on = λ p from j run sought lists along.
           let was = on p from j run sought lists along in
-          subst (λ (k : ℕ). IsOnTrack e p j run along.index i (seen_at i after) (take x.1 trail ++ x.0 ∷ [])
+          subst (λ (k : ℕ). IsOnTrack e p j run along.index i (seen_at stamp after) (take x.1 trail ++ x.0 ∷ [])
           (reverse ((stack ++ (b, k) ∷ []) ++ (a, k) ∷ [])))
           (deeper d p j along.index run is was)
-          (subst (λ (l : List (ℕ × ℕ)). IsOnTrack e p j run along.index i (seen_at i after) (take x.1 trail ++ x.0 ∷ []) l)
+          (subst (λ (l : List (ℕ × ℕ)). IsOnTrack e p j run along.index i (seen_at stamp after) (take x.1 trail ++ x.0 ∷ []) l)
           (sym (reverse-top (stack ++ (b, x.1 + 1) ∷ []) (a, x.1 + 1) ∙ ap (λ (l : List (ℕ × ℕ)). (a, x.1 + 1) ∷ l) (reverse-top stack (b, x.1 + 1))))
-          (track-fork e p from j run sought along.index i (seen_at i seen) (seen_at i after) trail x rest g fresh place_there a b way along.before
+          (track-fork e p from j run sought along.index i (seen_at stamp seen) (seen_at stamp after) trail x rest g fresh place_there a b way along.before
           (rw way refl) was));
     }
 
     -- the state isn't in the list
-    pub passing-over : (t : ℕ) → IsWayOn e i x.0 (Over t) → ¬ (Contains list x.0) → IsPassing e n i sid list slots after stack (take x.1 trail)
+    pub passing-over : (t : ℕ) → IsWayOn e i x.0 (Over t) → ¬ (Contains list x.0) → IsPassing e n i stamp sid list slots after stack (take x.1 trail)
     passing-over t way none = off (λ p from j run sought lists a by.
-        none (lists.all x.0 (goes-over e p from j run sought a.index i (seen_at i seen) trail x t by place_there way.0 way.2 way.3).2))
+        none (lists.all x.0 (goes-over e p from j run sought a.index i (seen_at stamp seen) trail x t by place_there way.0 way.2 way.3).2))
 
-    pub passing-match : (q : ℕ) → IsWayOn e i x.0 (Match q) → ¬ (Contains list x.0) → IsPassing e n i sid list slots after stack (take x.1 trail)
+    pub passing-match : (q : ℕ) → IsWayOn e i x.0 (Match q) → ¬ (Contains list x.0) → IsPassing e n i stamp sid list slots after stack (take x.1 trail)
     passing-match q way none = off (λ p from j run sought lists a by.
-        none (lists.all x.0 (goes-to-end e p from j run sought a.index i (seen_at i seen) trail x by place_there way.0
+        none (lists.all x.0 (goes-to-end e p from j run sought a.index i (seen_at stamp seen) trail x by place_there way.0
         (λ r leads. stops e x.0 q i r way.1 leads)).1))
 
     -- the state is in the list, and what the trail's states record was written
@@ -336,12 +336,12 @@ module _ {e : Search} {n i sid : ℕ} {list : List ℕ} {slots : List (Option �
         → AreRecordsTo e.states run m slots → AreRecordsTo e.states run (m + length (take x.1 trail)) new) where
       -- the run goes by it
       by_it : (p from j : ℕ) (run : List (ℕ × ℕ)) → IsSought e p from j run → Lists (λ s. ArrivesAtOnce e p j s i) list → (a : IsAlong e run sid i slots)
-          → GoesBy run a.index i (seen_at i seen) trail x
+          → GoesBy run a.index i (seen_at stamp seen) trail x
       by_it p from j run sought lists a = go (on p from j run sought lists a)
         where
-          go : IsOnTrack e p j run a.index i (seen_at i seen) trail (x ∷ rest) → GoesBy run a.index i (seen_at i seen) trail x
+          go : IsOnTrack e p j run a.index i (seen_at stamp seen) trail (x ∷ rest) → GoesBy run a.index i (seen_at stamp seen) trail x
           go (goes _ _ _ by) = by
-          go (passes _ _ _ deep apart more) = absurd (once-not-apart e p j i (seen_at i seen) x.0 fresh (lists.only x.0 has) apart)
+          go (passes _ _ _ deep apart more) = absurd (once-not-apart e p j i (seen_at stamp seen) x.0 fresh (lists.only x.0 has) apart)
 
       written : (p from j : ℕ) (run : List (ℕ × ℕ)) → IsSought e p from j run → Lists (λ s. ArrivesAtOnce e p j s i) list → (a : IsAlong e run sid i slots)
           → AreRecordsTo e.states run (a.index + x.1) new
@@ -351,7 +351,7 @@ module _ {e : Search} {n i sid : ℕ} {list : List ℕ} {slots : List (Option �
           let short : k < x.1 = omega (arith, l, depth) in
           (by.passed k short).0 ∙ ap (λ (s : ℕ). (s, i)) (sym (get_or-take x.1 trail k 0 short))) a.records)
         where
-          by : GoesBy run a.index i (seen_at i seen) trail x
+          by : GoesBy run a.index i (seen_at stamp seen) trail x
           by = by_it p from j run sought lists a
 
           depth : length (take x.1 trail) ≡ x.1
@@ -368,11 +368,11 @@ module _ {e : Search} {n i sid : ℕ} {list : List ℕ} {slots : List (Option �
             (λ slot. rw by.here (over-quiet e x.0 t i slot way.2)) (written p from j run sought lists a);
       }
         where
-          by : GoesBy run a.index i (seen_at i seen) trail x
+          by : GoesBy run a.index i (seen_at stamp seen) trail x
           by = by_it p from j run sought lists a
 
           on_way : (a.index + x.1 + 1 < length run) × (place run (a.index + x.1 + 1) ≡ (t, i + 1)) × ArrivesAtOnce e p j x.0 i
-          on_way = goes-over e p from j run sought a.index i (seen_at i seen) trail x t by place_there way.0 way.2 way.3
+          on_way = goes-over e p from j run sought a.index i (seen_at stamp seen) trail x t by place_there way.0 way.2 way.3
 
           early : (k : ℕ) → k < a.index + x.1 + 1 → (place run k).1 < i + 1
           early k l = ⊎_elim
@@ -392,12 +392,12 @@ module _ {e : Search} {n i sid : ℕ} {list : List ℕ} {slots : List (Option �
           → Lists (λ s. ArrivesAtOnce e p j s i) list → IsAlong e run sid i slots → AreRecords e run new
       found-match q way p from j run sought lists a =
           records-all e.states run (a.index + x.1) new
-          (goes-to-end e p from j run sought a.index i (seen_at i seen) trail x (by_it p from j run sought lists a) place_there way.0
+          (goes-to-end e p from j run sought a.index i (seen_at stamp seen) trail x (by_it p from j run sought lists a) place_there way.0
           (λ r leads. stops e x.0 q i r way.1 leads)).0 (written p from j run sought lists a)
 
 -- the stack isn't empty before the run's end
-pub passing-never : {e : Search} {n i sid : ℕ} {list : List ℕ} {slots : List (Option ℕ)} {seen : List ℕ} {trail : List ℕ} (stack : List (ℕ × ℕ))
-    → IsPassing e n i sid list slots seen stack trail → length stack ≡ 0 → (p from j : ℕ) (run : List (ℕ × ℕ)) → IsSought e p from j run
+pub passing-never : {e : Search} {n i stamp sid : ℕ} {list : List ℕ} {slots : List (Option ℕ)} {seen : List ℕ} {trail : List ℕ} (stack : List (ℕ × ℕ))
+    → IsPassing e n i stamp sid list slots seen stack trail → length stack ≡ 0 → (p from j : ℕ) (run : List (ℕ × ℕ)) → IsSought e p from j run
     → Lists (λ s. ArrivesAtOnce e p j s i) list → IsAlong e run sid i slots → ⊥
 passing-never [] f none p from j run sought lists a = elim (f.on p from j run sought lists a) [ ]
 passing-never (x ∷ stack) f none p from j run sought lists a = omega (arith, none)

@@ -1,14 +1,14 @@
 -- The backward pass along the rows of a table.
-use Rattle.std.proofs.Common.{◌≡◌, ℕ, zero, suc, ◌+◌, ◌-◌, ◌<◌, ◌≤◌, Bool, true, false, List, refl, sym, ap, subst, ◌∙◌, arith, slice_get, Option, Some, None, IfSome}
+use Rattle.std.proofs.Common.{◌≡◌, ℕ, zero, suc, ◌+◌, ◌-◌, ◌<◌, ◌≤◌, Bool, true, List, refl, sym, ap, subst, ◌∙◌, arith, slice_get, Option, Some, None, IfSome}
 use Rattle.rsc_look.specs.Holds.{byte_before, byte_after}
 use Rattle.rsc_search.specs.declared.anchored.Anchored.{Anchored}
 use Rattle.rsc_engine.specs.declared.dfa.pass_table.PassRow.{PassRow}
 use Rattle.rsc_engine.specs.Searches.{Search}
 use Rattle.rsc_engine.specs.RowsLayout.{machine_of, Alike, IsNear, around, middle}
-use Rattle.rsc_engine.specs.BackwardLayout.{IsRetreated, least_with, IsGoingBack, begins_in, StandsBackward, GoesBackward}
+use Rattle.rsc_engine.specs.BackwardLayout.{IsRetreated, least_with, IsGoingBack, begins_in, StandsBackward, IsLastRow, GoesBackward}
 use Rattle.rsc_engine.specs.PassTableLayout.{IsPassRow, IsPassStep, IsPassTo}
 use Rattle.rsc_engine.proofs.LawfulLayoutLemmas.{IsNear-from, Alike-self, Alike-trans, SameBefore-from, around-least}
-use Rattle.rsc_engine.proofs.TablesLayoutLemmas.{some_same, plain_alike, IsSearched}
+use Rattle.rsc_engine.proofs.PassTableLayoutLemmas.{some_same, plain_alike, IsSearched}
 use Rattle.rsc_engine.proofs.BackwardLemmas.{going-back, retreated-near}
 
 pub before-after : (h : List ℕ) (i : ℕ) → 0 < i → byte_before h i ≡ byte_after h (i - 1)
@@ -31,16 +31,16 @@ module _ (e : Search) (classes : List ℕ) where
     going = rw (r.there, r.same_begins, r.is_list) going;
   }
 
-  pub stands-back-first : (rows : List PassRow) (k p j : ℕ) (mode : Anchored) (after : Option ℕ) (list : List ℕ) → after ≡ byte_after e.haystack j
-      → IsPassRow classes rows k true mode false None after list → IsGoingBack e p j (j + 1) j list → StandsBackward e p j classes rows k (j + 1) j
-  stands-back-first rows k p j mode after list is r going = record {
-    row = r.to;
-    there = r.there;
-    backward = r.same_pass;
+  pub stands-back-first : (rows : List PassRow) (k p j : ℕ) (after : Option ℕ) → after ≡ byte_after e.haystack j
+      → (x : IsLastRow e.states classes rows p after k) → IsGoingBack e p j (j + 1) j x.row.list.items → StandsBackward e p j classes rows k (j + 1) j
+  stands-back-first rows k p j after is x going = record {
+    row = x.row;
+    there = x.there;
+    backward = x.backward;
     alike = λ i on.
         let same : j ≡ i = omega (arith, on) in
-        subst (λ (b : Option ℕ). Alike classes b r.to.read) (is ∙ ap (byte_after e.haystack) same) r.alike;
-    going = rw r.is_list going;
+        subst (λ (b : Option ℕ). Alike classes b x.row.read) (is ∙ ap (byte_after e.haystack) same) x.alike;
+    going = going;
   }
 
   module _ (width : ℕ) (unicode : Bool) (s : IsSearched e classes width unicode) where

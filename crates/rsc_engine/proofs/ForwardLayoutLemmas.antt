@@ -1,15 +1,17 @@
 -- The forward pass along the rows of a table.
-use Rattle.std.proofs.Common.{◌≡◌, ℕ, suc, ◌+◌, ◌<◌, ◌≤◌, Bool, false, List, refl, sym, ◌∙◌, subst, arith, slice_get, Option, Some, None, Result, Ok, Err, IfSome, IfOk}
+use Rattle.std.proofs.Common.{◌≡◌, ℕ, suc, ◌+◌, ◌<◌, ◌≤◌, Bool, true, false, List, [], ◌∷◌, length, refl, sym, ◌∙◌, subst, arith, slice_get, Option, Some, None, Result, Ok, Err, IfSome, IfOk}
 use Rattle.rsc_look.specs.Holds.{byte_before, byte_after}
 use Rattle.rsc_search.specs.declared.anchored.Anchored.{Anchored}
+use Rattle.rsc_search.specs.declared.anchored.Anchored.TheVariants.{No}
 use Rattle.rsc_engine.specs.declared.dfa.pass_table.PassRow.{PassRow}
 use Rattle.rsc_engine.specs.Searches.{Search}
 use Rattle.rsc_engine.specs.RowsLayout.{machine_of, Alike, IsNear, around, middle}
-use Rattle.rsc_engine.specs.ForwardLayout.{beside, IsAdvanced, last_with, IsGoing, pattern_in, StandsForward, GoesForward}
+use Rattle.rsc_engine.specs.ForwardLayout.{beside, IsAdvanced, last_with, IsGoing, pattern_in, StandsForward, StandsInEach, GoesForward, GoesInEach, up_to}
 use Rattle.rsc_engine.specs.PassTableLayout.{IsPassRow, IsPassStep, IsPassTo}
 use Rattle.rsc_engine.proofs.LawfulLayoutLemmas.{IsNear-from, Alike-self, Alike-trans}
-use Rattle.rsc_engine.proofs.TablesLayoutLemmas.{some_same, plain_alike, IsSearched}
-use Rattle.rsc_engine.proofs.ForwardLemmas.{going-advanced, going-near}
+use Rattle.rsc_engine.proofs.PassTableLayoutLemmas.{some_same, plain_alike, IsSearched}
+use Rattle.rsc_engine.proofs.ForwardLemmas.{going-near, going-first}
+use Rattle.rsc_engine.proofs.EndsLemmas.{near-whole}
 
 module _ (e : Search) (classes : List ℕ) where
   -- the row that is next stands for the next position
@@ -28,17 +30,6 @@ module _ (e : Search) (classes : List ℕ) where
             (subst (λ (j : ℕ). Alike classes (byte_before e.haystack j) other) same near) r.alike;
         going = rw (r.there, r.same_found, r.same_begins, r.is_list) going;
       }
-
-  -- made from the haystack itself
-  pub goes-here : (old new : List PassRow) (k i next : ℕ) (row : PassRow) (found : Option ℕ) (after : Bool) (list : List ℕ) → i ≤ e.end
-      → slice_get old k ≡ Some row → IfSome (byte_after e.haystack i) (λ b. b < 256)
-      → IsPassRow classes new next false e.mode after found (byte_after e.haystack i) list → IsAdvanced e i row.begins row.list.items found after list
-      → GoesForward e classes old new k i next
-  goes-here old new k i next row found after list high there byte r a = λ last on.
-      let same : on.row ≡ row = some_same on.row row (sym on.there ∙ there) in
-      stands old new next i last found after list (byte_after e.haystack i) (Alike-self classes (byte_after e.haystack i) (byte_after e.haystack i) refl byte) r
-      (going-advanced e i row.begins last row.list.items found after list
-      (subst (λ (x : PassRow). IsGoing e i x.begins last x.list.items) same on.going) high a)
 
   module _ (width : ℕ) (unicode : Bool) (s : IsSearched e classes width unicode) where
     -- made beside two bytes of these classes
@@ -66,7 +57,7 @@ module _ (e : Search) (classes : List ℕ) where
         (subst (λ (b : Bool). IsPassStep (machine_of e) a.from.mode b a.from.read a.from.begins a.from.list.items a.other a.leads.found a.leads.after
         a.leads.list) back a.leads.step)))
 
-  pub stands-first : (rows : List PassRow) (k i : ℕ) (begins : Bool) (before : Option ℕ) (list : List ℕ) → before ≡ byte_before e.haystack i
+  stands-first : (rows : List PassRow) (k i : ℕ) (begins : Bool) (before : Option ℕ) (list : List ℕ) → before ≡ byte_before e.haystack i
       → IsPassRow classes rows k false e.mode begins None before list → IsGoing e i begins None list → StandsForward e classes rows k i None
   stands-first rows k i begins before list is r going = record {
     row = r.to;
@@ -76,6 +67,40 @@ module _ (e : Search) (classes : List ℕ) where
     alike = subst (λ (b : Option ℕ). Alike classes b r.to.read) is r.alike;
     going = rw (r.same_begins, r.is_list) going;
   }
+
+-- ---- in the search up to each end
+
+module _ (e : Search) (classes : List ℕ) where
+  -- made from the haystack itself
+  pub each-here : (old new : List PassRow) (k i next : ℕ) (row : PassRow) (found : Option ℕ) (after : Bool) (list : List ℕ) → e.end ≤ length e.haystack
+      → slice_get old k ≡ Some row → IfSome (byte_after e.haystack i) (λ b. b < 256)
+      → IsPassRow classes new next false e.mode after found (byte_after e.haystack i) list
+      → IsAdvanced (beside (machine_of e) e.mode e.haystack) i row.begins row.list.items found after list → GoesInEach e classes old new k i next
+  each-here old new k i next row found after list within there byte r a = λ t low high last on.
+      let same : on.row ≡ row = some_same on.row row (sym on.there ∙ there) in
+      let near : IsNear (up_to e t) i e.haystack i = near-whole (up_to e t) i low (omega (arith, high, within)) in
+      let alike = Alike-self classes (byte_after e.haystack i) (byte_after e.haystack i) refl byte in
+      stands (up_to e t) classes old new next i last found after list (byte_after e.haystack i) alike r
+      (going-near (up_to e t) i e.haystack i row.begins last row.list.items found after list near
+      (subst (λ (x : PassRow). IsGoing (up_to e t) i x.begins last x.list.items) same on.going) low a)
+
+  -- made beside two bytes of these classes
+  pub each-forward : (width : ℕ) (unicode : Bool) → IsSearched e classes width unicode → (old new : List PassRow) (k i next : ℕ)
+      → IsPassTo (machine_of e) classes old new k (byte_after e.haystack i) next → GoesInEach e classes old new k i next
+  each-forward width unicode s old new k i next a = λ t low high.
+      goes-forward (up_to e t) classes width unicode (record { laws = s.laws; plan = s.plan; within = omega (arith, high, s.within) })
+      old new k i next low a
+
+  -- from where a pass stands it goes on
+  pub each-on : (old new : List PassRow) (k i next : ℕ) (last : Option (ℕ × ℕ)) → GoesInEach e classes old new k i next
+      → StandsInEach e classes old k i last → StandsInEach e classes new next (i + 1) (last_with (pattern_in (slice_get new next)) i last)
+  each-on old new k i next last goes on = λ t past high. goes t (omega (arith, past)) high last (on t (omega (arith, past)) high)
+
+  pub each-first : (rows : List PassRow) (k : ℕ) (begins : Bool) (before : Option ℕ) (list : List ℕ) → before ≡ byte_before e.haystack e.start
+      → IsPassRow classes rows k false e.mode begins None before list
+      → (begins ≡ true → e.mode ≡ No) → (begins ≡ false → ¬ (e.mode ≡ No)) → list ≡ e.start_state ∷ [] → StandsInEach e classes rows k e.start None
+  each-first rows k begins before list is r free anchored one = λ t past high.
+      stands-first (up_to e t) classes rows k e.start begins before list is r (going-first (up_to e t) begins list free anchored one)
 
 -- what is so of each result, if there is one
 pub map_ok : {X E : Type 0} → (r : Result X E) (P Q : X → Type 0) → ((x : X) → P x → Q x) → IfOk r P → IfOk r Q

@@ -161,35 +161,36 @@ going-near e k near at begins last list found after next n g high a = ⊎_elim w
 
 -- ---- before the first position
 
-pub going-first : (e : Search) (begins : Bool) (list : List ℕ) → e.start ≤ e.end → (begins ≡ true → e.mode ≡ No) → (begins ≡ false → ¬ (e.mode ≡ No))
+pub going-first : (e : Search) (begins : Bool) (list : List ℕ) → (begins ≡ true → e.mode ≡ No) → (begins ≡ false → ¬ (e.mode ≡ No))
     → list ≡ e.start_state ∷ [] → IsGoing e e.start begins None list
-going-first e begins list within free anchored is = go begins refl
+going-first e begins list free anchored is = go begins refl
   where
+    -- in an empty span no match begins
+    none : e.end < e.start → HasNone e
+    none past at may = absurd (omega (arith, may.start, may.end, past))
+
+    first : e.start ≤ e.end → Decides e e.start unseen (IsLastPlace e) ((at : ℕ) → e.start ≤ at → at < e.start + 1 → HasNoMatch e at) (e.start_state ∷ [])
+    first within = decides-start e e.start (record { start = omega arith; end = within; anchored = λ _. refl }) (λ at low l. absurd (omega (arith, low, l)))
+
     go : (b : Bool) → begins ≡ b → IsGoing e e.start begins None list
     go true same = record {
       status = Open;
       held = (same, refl, free same);
       low = omega arith;
-      due = λ _. subst (λ (l : List ℕ). IsDue e e.start Open l) (sym is)
-          (decides-start e e.start (record { start = omega arith; end = within; anchored = λ no. absurd (no (free same)) })
-          (λ at low l. absurd (omega (arith, low, l))));
-      over = λ past. absurd (omega (arith, past, within));
+      due = λ within. subst (λ (l : List ℕ). IsDue e e.start Open l) (sym is) (first within);
+      over = none;
     }
     go false same = record {
       status = Closed None;
       held = (same, refl);
       low = omega arith;
-      due = λ _. subst (λ (l : List ℕ). IsDue e e.start (Closed None) l) (sym is) (
-        first.0,
+      due = λ within. subst (λ (l : List ℕ). IsDue e e.start (Closed None) l) (sym is) (
+        (first within).0,
         λ hopeless at may run m.
-            first.1 hopeless at may.start (omega (arith, may.anchored (anchored same))) run m,
+            (first within).1 hopeless at may.start (omega (arith, may.anchored (anchored same))) run m,
       );
-      over = λ past. absurd (omega (arith, past, within));
+      over = none;
     }
-      where
-        first : Decides e e.start unseen (IsLastPlace e) ((at : ℕ) → e.start ≤ at → at < e.start + 1 → HasNoMatch e at) (e.start_state ∷ [])
-        first = decides-start e e.start (record { start = omega arith; end = within; anchored = λ _. refl })
-            (λ at low l. absurd (omega (arith, low, l)))
 
 is_no : (mode : Anchored) → (mode ≡ No) ⊎ (¬ (mode ≡ No))
 is_no No = inl refl
@@ -210,7 +211,3 @@ anchored_if true m mode both same h = λ is. both.0 refl (same ∙ is)
 
 pub leftmost-end : (e : Search) (p i : ℕ) → IsEndOf e p i → IsLeftmostEnd e i
 leftmost-end e p i x = record { run = x.run; is_first = x.is_first; ends = x.end }
-
--- where a match ends, one begins
-pub end-some : (e : Search) (p i : ℕ) → IsEndOf e p i → ¬ (HasNone e)
-end-some e p i x none = none (place x.run 0).1 x.is_first.begins x.run x.is_first.preferred.is_match

@@ -10,8 +10,8 @@ pub mod CompileLemmas  -- how lists of states grow, part by part
 pub mod CoursesLayoutLemmas  -- paths of states take the courses of parts, and the first path the first way
 pub mod CoursesLemmas  -- which way of a course is the first depends on what is wanted alone
 pub mod DecidesLayoutLemmas  -- what a list decides as its states are looked at, one after the other
+pub mod EndsLemmas  -- the search up to another end of its span, and the first match to end
 pub mod EnclosesLayoutLemmas  -- where the states of parts lead that are made of parts
-pub mod EntriesLemmas  -- where no match that began earlier goes on from a row
 pub mod FirstEndsLemmas  -- the first end of a pattern is an end, and the only one
 pub mod FirstWaysLemmas  -- the first way of a pattern leads to its first end, depends on what is wanted alone, and is the only one; patterns with the same one
 pub mod FirstsLayoutLemmas  -- steps to a pattern's match go by its ways, and the first path by the first way of a course of it
@@ -49,13 +49,10 @@ pub mod PreferredWaysLemmas  -- a pattern has one preferred way, whatever number
 pub mod RefusalsLemmas  -- why there is no program
 pub mod RenamedLayoutLemmas  -- courses that are alike but for the numbers of their choices go the same ways
 pub mod RetreatLemmas  -- marks for the states that lead back to those of a list, as they grow; and lists of the states of which something is so
-pub mod RowsLayoutLemmas  -- a row at a position is exact, and so is the next one
 pub mod RunsLemmas  -- runs with a place before them, or in a part of a span; and what a run records is between its first position and its last
 pub mod SizesLemmas  -- how many states copies and lists of parts have, and programs
 pub mod StartsLayoutLemmas  -- no match begins with a byte that isn't marked
 pub mod StepsLayoutLemmas  -- where steps lead
-pub mod SuccessorLemmas  -- a closure as it grows
-pub mod TablesLayoutLemmas  -- what the table of a DFA says is so, and stays so as it grows
 pub mod TakesLayoutLemmas  -- the courses of parts made of parts, and the numbers of their choices
 pub mod TrailLemmas  -- where a trail begins and ends, and what its visits are
 pub mod TrailsLayoutLemmas  -- the stops of a trail, as it grows and goes back

@@ -79,16 +79,6 @@ end-within e i x =
     let last = x.is_match.is_run.places (length x.run - 1) (omega (arith, x.is_match.some)) in
     (omega (arith, last.1, x.ends), omega (arith, last.2, x.ends))
 
--- the byte before a line's start is a line feed, and so none above 7F
-pub quit-from : (h : List ℕ) (from i : ℕ) → BeginsLine h from → from ≤ i + 1 → 128 ≤ slice_index h i → from ≤ i
-quit-from h from i begins low beyond = ⊎_elim
-    (λ (l : i < from).
-    let e : from - 1 ≡ i = omega (arith, low, l) in
-    let feed : slice_index h i ≡ 10 = rw e at (begins (omega (arith, l))) in
-    absurd (omega (arith, feed, beyond)))
-    (λ (g : from ≤ i). g)
-    (cases_lt i from)
-
 abbrev HasMatchOf : Search → Span → Type 0
 HasMatchOf e line = ¬ (HasNone (record e { start = line.start; end = line.end }))
 

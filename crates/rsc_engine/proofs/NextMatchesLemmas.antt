@@ -107,6 +107,14 @@ module _ (e : Search) (i start : ℕ) (last : Option ℕ) (run : List (ℕ × �
     opens = λ within. absurd (omega (arith, within));
   }
 
+-- what a run records depends on the states alone
+pub of_states : (e f : Search) (run : List (ℕ × ℕ)) (m : Matched) (c : Captured) → f.states ≡ e.states → IsOf e run m c → IsOf f run m c
+of_states e f run m c same x = record {
+  ends = record { pattern = rw same x.ends.pattern; start = x.ends.start; end = x.ends.end };
+  pattern = x.pattern;
+  records = λ s l. rw same (x.records s l);
+}
+
 -- and if there is none, the iteration is over
 pub none_next : (e : Search) (i start : ℕ) (last : Option ℕ) → IsMoved (record e { start = start }) last i
     → HasNone (record e { start = i }) → IsOver (record e { start = start }) last

@@ -1,9 +1,10 @@
 -- A look at a list, as its stack goes down.
-use Rattle.std.proofs.Common.{◌≡◌, ℕ, ◌+◌, ◌-◌, ◌<◌, ◌≤◌, inl, inr, ⊎_elim, Bool, true, false, cond, not, count_by, replicate, length-append, true≢false, List, [], ◌∷◌, ◌++◌, length, reverse, get_or, set, refl, sym, ap, subst, ◌∙◌, arith, Option, Some, None}
+use Rattle.std.proofs.Common.{◌≡◌, ℕ, ◌+◌, ◌-◌, ◌<◌, ◌≤◌, ◌⊎◌, inl, inr, ⊎_elim, Bool, true, false, cond, not, count_by, replicate, length-append, true≢false, List, [], ◌∷◌, ◌++◌, length, reverse, get_or, set, refl, sym, ap, subst, ◌∙◌, arith, Option, Some, None}
 use Rattle.std.proofs.lemmas.Bool.{cases_eq, cases_lt}
 use Rattle.std.proofs.lemmas.List.Sums.{sum_by-set}
 use Rattle.std.proofs.lemmas.List.{get_or-set_same, get_or-set_other, length-set, reverse-append, reverse-reverse, length-reverse, get_or-reverse, length-replicate, get_or-replicate, get_or_past, get_or_default, get_or_append_left, get_or-append_right}
-use Rattle.std.proofs.lemmas.List.Elements.{Contains-get_or}
+use Rattle.std.specs.List.{Contains}
+use Rattle.std.proofs.lemmas.List.Elements.{Contains-get_or, Contains-append_left, Contains-push, Contains-push_cases}
 use Rattle.rsc_engine.specs.RowsLayout.{Gathers, AreStates}
 use Rattle.rsc_engine.specs.Searches.{Search}
 use Rattle.rsc_engine.specs.Runs.{IsPlace}
@@ -26,6 +27,31 @@ more-marked marks s l = record {
       (λ (apart : (t ≡ s) → ⊥). inr (sym (get_or-set_other marks s t true false apart) ∙ is))
       (cases_eq t s);
 }
+
+-- ---- marks
+
+pub Gathers-more : (seen : List Bool) (list : List ℕ) (s : ℕ) → Gathers seen list → s < length seen → Gathers (set seen s true) (list ++ s ∷ [])
+Gathers-more seen list s g l = record {
+  marked = λ x is. ⊎_elim
+      (λ (same : x ≡ s). subst (λ (y : ℕ). Contains (list ++ s ∷ []) y) (sym same) (Contains-push list s))
+      (λ (apart : (x ≡ s) → ⊥). Contains-append_left list (s ∷ []) x (g.marked x (sym (get_or-set_other seen s x true false apart) ∙ is)))
+      (cases_eq x s);
+  listed = λ x has. (omega (arith, length-set seen s true, within x (Contains-push_cases list s x has)), is x (Contains-push_cases list s x has));
+}
+  where
+    within : (x : ℕ) → Contains list x ⊎ (s ≡ x) → x < length seen
+    within x (inl h) = (g.listed x h).0
+    within x (inr h) = subst (λ (y : ℕ). y < length seen) h l
+
+    at_same : (x : ℕ) → x ≡ s → get_or (set seen s true) x false ≡ true
+    at_same x same = subst (λ (y : ℕ). get_or (set seen s true) y false ≡ true) (sym same) (get_or-set_same seen s true false l)
+
+    is : (x : ℕ) → Contains list x ⊎ (s ≡ x) → get_or (set seen s true) x false ≡ true
+    is x (inr h) = at_same x (sym h)
+    is x (inl h) = ⊎_elim
+        (λ (same : x ≡ s). at_same x same)
+        (λ (apart : (x ≡ s) → ⊥). get_or-set_other seen s x true false apart ∙ (g.listed x h).1)
+        (cases_eq x s)
 
 reverse-last : (stack : List ℕ) (s : ℕ) → reverse (stack ++ s ∷ []) ≡ s ∷ reverse stack
 reverse-last stack s = reverse-append stack (s ∷ [])

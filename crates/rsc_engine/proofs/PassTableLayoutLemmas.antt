@@ -1,5 +1,5 @@
 -- The table of both passes: what it says is so, and stays so as it grows.
-use Rattle.std.proofs.Common.{◌≡◌, ℕ, ◌+◌, ◌*◌, ◌<◌, ◌≤◌, ◌⊎◌, ⊎_elim, inr, Bool, List, [], ◌∷◌, ◌++◌, length, get_or, set, slice_index_or, refl, sym, ◌∙◌, subst, arith, length-append, slice_get, Option, Some, None, IfSome}
+use Rattle.std.proofs.Common.{◌≡◌, ℕ, zero, suc, ◌+◌, ◌*◌, ◌<◌, ◌≤◌, ◌⊎◌, ⊎_elim, inl, inr, Bool, true, List, [], ◌∷◌, ◌++◌, length, get_or, set, slice_index_or, refl, sym, ◌∙◌, subst, arith, length-append, slice_get, Option, Some, None, IfSome}
 use Rattle.std.proofs.lemmas.Bool.{cases_eq}
 use Rattle.std.proofs.lemmas.Grind.{get_or-set_at}
 use Rattle.std.proofs.lemmas.List.{get_or-set_other, length-set}
@@ -8,16 +8,47 @@ use Rattle.std.proofs.lemmas.Option.{slice_get_within, get_or_from_slice_get}
 use Rattle.std.specs.List.{All}
 use Rattle.rsc_alphabet.specs.Partitions.{LastClassIsGreatest}
 use Rattle.rsc_alphabet.specs.Iterators.{symbol_count}
+use Rattle.rsc_nfa.specs.declared.state.State.{State}
+use Rattle.rsc_nfa.specs.declared.state.State.TheVariants.{Accept}
+use Rattle.rsc_search.specs.declared.anchored.Anchored.{Anchored}
 use Rattle.rsc_engine.specs.declared.dfa.pass_table.PassRow.{PassRow}
 use Rattle.rsc_engine.specs.declared.dfa.entries.Lead.{Lead}
 use Rattle.rsc_engine.specs.declared.dfa.entries.Lead.TheVariants.{Unknown}
-use Rattle.rsc_engine.specs.RowsLayout.{Machine, Alike, IsPlainUnit}
-use Rattle.rsc_engine.specs.TablesLayout.{column}
-use Rattle.rsc_engine.specs.PassTableLayout.{row_of, IsPassRow, IsPassStep, IsPassLed, IsPassTo, IsSoundPassRow, AreFew, IsPassTable, IsPassGrown}
+use Rattle.rsc_engine.specs.Searches.{Search}
+use Rattle.rsc_engine.specs.LawfulLayout.{Lawful}
+use Rattle.rsc_engine.specs.RowsLayout.{Machine, machine_of, Alike, IsPlan, IsPlainUnit}
+use Rattle.rsc_engine.specs.BackwardLayout.{Lists, IsLastRow}
+use Rattle.rsc_engine.specs.PassTableLayout.{column, row_of, IsPassRow, IsPassStep, IsPassLed, IsPassTo, IsSoundPassRow, AreFew, IsPassTable, IsPassGrown}
 use Rattle.rsc_engine.proofs.LawfulLayoutLemmas.{Alike-self, Alike-trans}
-use Rattle.rsc_engine.proofs.TablesLayoutLemmas.{get_before, get_last, column_below, column_alike, AreApart, map_some, written_so}
+
+-- ---- a search
+
+pub some_same : {X : Type 0} → (x y : X) → Some x ≡ Some y → x ≡ y
+some_same x y e = cc
+
+pub plain_alike : (m : Machine) (classes : List ℕ) (width : ℕ) (unicode : Bool) (p q : Option ℕ) → IsPlan m classes width unicode
+    → Alike classes p q → IsPlainUnit m q → IsPlainUnit m p
+plain_alike m classes width unicode None None plan a x = x
+plain_alike m classes width unicode (Some b) (Some c) plan a x = λ is. plan.parted is c b (x is) a.0 (sym a.2)
+plain_alike m classes width unicode None (Some q) plan a x = absurd a
+plain_alike m classes width unicode (Some p) None plan a x = absurd a
+
+-- what a search knows throughout
+pub record IsSearched (e : Search) (classes : List ℕ) (width : ℕ) (unicode : Bool) : Type 0 where
+  pub laws : Lawful
+  pub plan : IsPlan (machine_of e) classes width unicode
+  pub within : e.end ≤ length e.haystack
 
 -- ---- rows stay where they are
+
+pub get_before : {X : Type 0} → (xs : List X) (x y : X) (k : ℕ) → slice_get xs k ≡ Some y → slice_get (xs ++ x ∷ []) k ≡ Some y
+get_before [] x y k e = absurd (cc)
+get_before (z ∷ xs) x y zero e = e
+get_before (z ∷ xs) x y (suc k) e = get_before xs x y k e
+
+pub get_last : {X : Type 0} → (xs : List X) (x : X) → slice_get (xs ++ x ∷ []) (length xs) ≡ Some x
+get_last [] x = refl
+get_last (z ∷ xs) x = get_last xs x
 
 pub IsPassGrown-push : (rows : List PassRow) (row : PassRow) → IsPassGrown rows (rows ++ row ∷ [])
 IsPassGrown-push rows row = record { kept = λ k y e. get_before rows row y k e }
@@ -33,6 +64,18 @@ IsPassRow-last classes rows row k at byte = record {
   same_found = refl;
   alike = Alike-self classes row.read row.read refl byte;
   is_list = refl;
+}
+
+-- a row of the states that accept a pattern
+pub last-row : (states : List State) (classes : List ℕ) (rows : List PassRow) (k p : ℕ) (mode : Anchored) (begins : Bool) (found : Option ℕ)
+    (after : Option ℕ) (list : List ℕ) → IsPassRow classes rows k true mode begins found after list
+    → Lists (λ s. slice_get states s ≡ Some (Accept p)) list → IsLastRow states classes rows p after k
+last-row states classes rows k p mode begins found after list r l = record {
+  row = r.to;
+  there = r.there;
+  backward = r.same_pass;
+  alike = r.alike;
+  accepting = subst (λ (x : List ℕ). Lists (λ s. slice_get states s ≡ Some (Accept p)) x) (sym r.is_list) l;
 }
 
 IsPassLed-grown : (m : Machine) (classes : List ℕ) (old new : List PassRow) (from : PassRow) (unit : Option ℕ) (next : ℕ) → IsPassGrown old new
@@ -92,6 +135,33 @@ IsPassTo-alike m classes old new row unit other next a x = record {
 }
 
 -- ---- entries
+
+pub column_below : (classes : List ℕ) (width : ℕ) (unit : Option ℕ) → width ≡ symbol_count classes → LastClassIsGreatest classes
+    → IfSome unit (λ b. b < 256) → column classes unit < width
+column_below classes width None e bounded b = omega (arith, e)
+column_below classes width (Some u) e bounded b = omega (arith, e, bounded.within u b)
+
+pub column_alike : (classes : List ℕ) (u v : Option ℕ) → LastClassIsGreatest classes → IfSome u (λ b. b < 256) → IfSome v (λ b. b < 256)
+    → column classes u ≡ column classes v → Alike classes u v
+column_alike classes None None bounded a b e = tt
+column_alike classes (Some u) (Some v) bounded a b e = (a, b, e)
+column_alike classes None (Some v) bounded a b e = absurd (omega (arith, e, bounded.within v b))
+column_alike classes (Some u) None bounded a b e = absurd (omega (arith, e, bounded.within u a))
+
+-- entries at one index are of one row and one column, as a law of rsc_alphabet says
+abbrev pub AreApart : Type 0
+AreApart = (width row column row2 column2 : ℕ) → column < width → column2 < width → row * width + column ≡ row2 * width + column2
+    → (row ≡ row2) × (column ≡ column2)
+
+pub map_some : {X : Type 0} → (o : Option X) (P Q : X → Type 0) → ((x : X) → P x → Q x) → IfSome o P → IfSome o Q
+map_some None P Q f x = x
+map_some (Some y) P Q f x = f y x
+
+-- an entry that says nothing, or what holds
+pub written_so : {X : Type 0} → (o : Option X) (step : X) (P : X → Type 0) → (o ≡ None) ⊎ (o ≡ Some step) → P step → IfSome o P
+written_so None step P w x = tt
+written_so (Some y) step P (inl e) x = absurd (cc)
+written_so (Some y) step P (inr e) x = let same : step ≡ y = cc in subst P same x
 
 pub few-pushed : (most : ℕ) (rows : List PassRow) (row : PassRow) → AreFew most (length rows + 1) → AreFew most (length (rows ++ row ∷ []))
 few-pushed most rows row f = rw (length-append rows (row ∷ [])) f

@@ -10,7 +10,7 @@ use Rattle.rsc_captures.specs.Captured.{Captured}
 use Rattle.rsc_search.specs.Matches.{Matched}
 use Rattle.rsc_engine.specs.Searches.{Search}
 use Rattle.rsc_engine.specs.Runs.{Leads, IsPlace, IsMatchRun}
-use Rattle.rsc_engine.specs.Preferred.{IsOf, MayBegin, HasNone}
+use Rattle.rsc_engine.specs.Preferred.{IsOf}
 use Rattle.rsc_engine.proofs.WalksLayoutLemmas.{run-rises}
 
 some_same : (i j : ℕ) → Some i ≡ Some j → i ≡ j
@@ -77,24 +77,6 @@ match-wider e from n p run low high m = record {
   begins = m.begins;
   ends = m.ends;
 }
-
--- a span without a match has none in a part of it that begins where it does
-pub HasNone-part : (e : Search) (n : ℕ) → n ≤ e.end → HasNone e → HasNone (record e { end = n })
-HasNone-part e n le none at may run m = none at may_begin run is_match
-  where
-    may_begin : MayBegin e at
-    may_begin = record { start = may.start; end = omega (arith, may.end, le); anchored = may.anchored }
-
-    is_match : IsMatchRun e (e.start_state, at) run
-    is_match = record {
-      is_run = record {
-        places = λ k l. let w = m.is_run.places k l in (w.0, w.1, omega (arith, w.2, le));
-        steps = λ k l. step-wider e n (place run k) (place run (k + 1)) le (m.is_run.steps k l);
-      };
-      some = m.some;
-      begins = m.begins;
-      ends = m.ends;
-    }
 
 -- each offset of a match is within its span
 pub offset-within : (e : Search) (from : ℕ × ℕ) (run : List (ℕ × ℕ)) (found : Matched) (captures : Captured) (slot i : ℕ) → IsMatchRun e from run

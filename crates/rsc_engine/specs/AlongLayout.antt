@@ -31,7 +31,7 @@ pub record IsAlong (e : Search) (run : List (ℕ × ℕ)) (s i : ℕ) (slots : L
 
 -- ---- within a position
 
--- no state was seen there, or at one from it on
+-- each state's stamp is below this one: no state was seen with it
 abbrev pub AreBelow : ℕ → List ℕ → Type 0
 AreBelow n seen = (s : ℕ) → slice_index_or seen s 0 < n
 

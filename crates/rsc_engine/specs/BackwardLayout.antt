@@ -2,6 +2,7 @@
 use Rattle.std.specs.Prelude.{◌≡◌, ℕ, ◌+◌, ◌-◌, ◌<◌, ◌≤◌, ◌⊎◌, Bool, true, false, List, slice_get, slice_index_or, Option, Some, None}
 use Rattle.std.specs.List.{Contains}
 use Rattle.rsc_look.specs.Holds.{byte_after}
+use Rattle.rsc_nfa.specs.declared.state.State.{State}
 use Rattle.rsc_nfa.specs.declared.state.State.TheVariants.{Accept}
 use Rattle.rsc_nfa.specs.Steps.{place}
 use Rattle.rsc_engine.specs.declared.dfa.pass_table.PassRow.{PassRow}
@@ -90,6 +91,14 @@ pub record StandsBackward (e : Search) (p j : ℕ) (classes : List ℕ) (rows : 
   pub backward : row.backward ≡ true
   pub alike : (i : ℕ) → b ≡ i + 1 → Alike classes (byte_after e.haystack i) row.read
   pub going : IsGoingBack e p j b least row.list.items
+
+-- the row is one of the backward pass, from the end of a match of the pattern
+pub record IsLastRow (states : List State) (classes : List ℕ) (rows : List PassRow) (p : ℕ) (after : Option ℕ) (k : ℕ) : Type 0 where
+  pub row : PassRow
+  pub there : slice_get rows k ≡ Some row
+  pub backward : row.backward ≡ true
+  pub alike : Alike classes after row.read
+  pub accepting : Lists (λ s. slice_get states s ≡ Some (Accept p)) row.list.items
 
 -- from where a pass stands at the position, the row that is next is that of the one before it
 abbrev pub GoesBackward : Search → List ℕ → List PassRow → List PassRow → ℕ → ℕ → ℕ → Type 0

@@ -7,7 +7,7 @@ pub mod Courses  -- courses: patterns with their copies written out, and how the
 pub mod CoursesLayout  -- how paths of states take a course: a choice's number is that of its fork
 pub mod DecidesLayout  -- what an ordered list of states decides: the first of them from which a match is reached
 pub mod EnclosesLayout  -- where the states of a part lead, and in which slots they record
-pub mod Ends  -- where matches end, and what a DFA answers
+pub mod Ends  -- where matches end
 pub mod Features  -- what stands in a pattern, in parts that may be there
 pub mod FirstEnds  -- which end of a pattern is preferred
 pub mod FirstWays  -- which way of a pattern is preferred
@@ -47,7 +47,6 @@ pub mod Searches  -- a program, what a search is over, and why it has no answer
 pub mod Sizes  -- how many states a pattern has, and a program of patterns
 pub mod StartsLayout  -- the bytes with which a match may begin
 pub mod StepsLayout  -- steps from a place on
-pub mod TablesLayout  -- the table of a DFA
 pub mod TakesLayout  -- how paths of states take a course of a pattern
 pub mod TrailsLayout  -- a trail: which places each of its visits stands for, and which other ways are left to try there
 pub mod Trees  -- which pattern a tree is

@@ -9,7 +9,6 @@ ghost use Rattle.rsc_engine.specs.declared.error.Error.TheVariants.{OutOfMemory}
 ghost use Rattle.rsc_engine.specs.declared.moves.Move.TheVariants.{Accepts};
 ghost use Rattle.rsc_engine.specs.Searches.{Search, search_in};
 ghost use Rattle.rsc_engine.specs.Runs.{HasNoMatch};
-ghost use Rattle.rsc_engine.specs.Ends.{BeginsFrom};
 ghost use Rattle.rsc_engine.specs.StartsLayout.{AreStarts};
 ghost use Rattle.rsc_engine.specs.Preferred.{IsPreferred, IsLeftmostFirst, HasNone};
 ghost use Rattle.rsc_engine.specs.WalksLayout.{HasFlags, IsClosed, IsClosedFrom, IsSettled, is_flagged, IsLess};
@@ -72,15 +71,13 @@ impl Walk {
         self.visited.renew(alloc, flag_count)
     }
 
-    /// Whether a match begins in the input's span, in which none does before a position. If so, the walk has its run.
+    /// Whether a match begins in the input's span. If so, the walk has its run.
     pub(crate) fn search<W: WordClass>(
         &mut self,
         program: &Program<W>,
         input: &Input<'_>,
         starts: &Starts,
-        from: usize,
     ) -> Result<bool, Error>
-        requires from { BeginsFrom (search_in W.word_chars program.now input.now) from }
         requires room { HasFlags (search_in W.word_chars program.now input.now) self.old.visited }
         requires closed { IsClosed (search_in W.word_chars program.now input.now) (is_flagged (search_in W.word_chars program.now input.now) self.old.visited) }
         requires starts { starts.now.known ≡ true → AreStarts program.now.automaton.states program.now.start starts.now.marks.items starts.now.bytes.items }
@@ -100,7 +97,7 @@ impl Walk {
             return Ok(false);
         }
         let last = last_start(input);
-        'starts: for at in from..last + 1 {
+        'starts: for at in input.start()..last + 1 {
             match self.try_at(program, input, starts, at) {
                 Ok(true) => return Ok(true),
                 Ok(false) => {}

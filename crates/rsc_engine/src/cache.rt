@@ -6,8 +6,6 @@ ghost use Rattle.rsc_engine.specs.Preferred.{HasNone, IsFirstMatch, IsCleared, I
 
 use crate::backtrack::Walk;
 use crate::dfa::MOST_ROWS;
-use crate::groups::write_match;
-use crate::numbers::flags_needed;
 use crate::starts::Starts;
 use crate::{AsciiWordClass, Dfa, Error, Matches, Program};
 use rsc_captures::Captures;
@@ -93,17 +91,7 @@ impl<'p, W: WordClass + AsciiWordClass> Cache<'p, W> {
         ensures within { IfOk result (λ found. IfSome found (IsInSpan input.now)) }
         ensures refused { IfErr result (FailsFor (search_in W.word_chars self.old input.now)) }
     {
-        captures.clear();
-        let Some(from) = self.dfa.begin(input)? else {
-            return Ok(None);
-        };
-        let flag_count = flags_needed(self.program, input)?;
-        self.walk.reopen(self.alloc, flag_count)?;
-        if !self.walk.search(self.program, input, &self.starts, from)? {
-            return Ok(None);
-        }
-        let trail = self.walk.trail.as_slice();
-        Ok(Some(write_match(self.program, input, trail, captures)))
+        self.dfa.find(input, captures)
     }
 
     /// All matches in an input's span, over what the cache has. [`Matches::into_cache`] gives it back.

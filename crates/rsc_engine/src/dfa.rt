@@ -1,58 +1,51 @@
-//! A lazy DFA: two tables of rows that searches fill as they go.
+//! A lazy DFA: a table of rows that searches fill as they go.
 //!
-//! In the one a row is a set of states ([`successor`] makes it, from the one before and a byte): it says where the first match to end ends ([`earliest`]). The
-//! other serves two passes: forward a row is an ordered list ([`ordered`] looks at it), and says where the leftmost-first match ends ([`forward`]); backward it
-//! has the states from which a run leads to that end ([`retreat`] goes a step back), and says where the match begins ([`backward`]) and, by the rows that were
-//! come to, what it records ([`along`]). The [`plan`] has what stays the same. [`needed`] finds bytes that each match has, without which no row is looked at.
-ghost use Rattle.std.specs.Prelude.{◌≡◌, ◌+◌, ◌-◌, ◌<◌, ◌≤◌, IfOk, IfErr, IfSome, IfNone, OnErr, true, false, length};
+//! The table serves two passes: forward a row is an ordered list ([`ordered`] looks at it), and says where the leftmost-first match ends, or the first one to
+//! end ([`forward`]); backward it has the states from which a run leads to that end ([`retreat`] goes a step back), and says where the match begins
+//! ([`backward`]) and, by the rows that were come to, what it records ([`along`]). The [`plan`] has what stays the same. [`needed`] finds bytes that each match
+//! has, without which no row is looked at.
+ghost use Rattle.std.specs.Prelude.{◌≡◌, ◌+◌, ◌≤◌, IfOk, IfErr, IfSome, IfNone, OnErr, true, false, length};
 ghost use Rattle.rsc_search.specs.declared.anchored.Anchored.TheVariants.{No};
 ghost use Rattle.rsc_engine.specs.declared.error.Error.TheVariants.{OutOfMemory};
 ghost use Rattle.rsc_engine.specs.Searches.{search_in, FailsFor};
 ghost use Rattle.rsc_engine.specs.Preferred.{HasNone, IsFirstMatch, IsCleared, IsInSpan};
-ghost use Rattle.rsc_engine.specs.Ends.{IsAnswer, IsLeftmostEnd, BeginsFrom};
-ghost use Rattle.rsc_engine.specs.RowsLayout.{machine, IsPlan, IsNeverEntered};
-ghost use Rattle.rsc_engine.specs.TablesLayout.{IsExact};
+ghost use Rattle.rsc_engine.specs.Ends.{IsEarliestEnd, IsLeftmostEnd};
+ghost use Rattle.rsc_engine.specs.RowsLayout.{machine, IsPlan};
 ghost use Rattle.rsc_engine.specs.PassTableLayout.{IsPassTable};
 ghost use Rattle.rsc_engine.specs.OrderedLayout.{IsEndOf};
 
 mod along;
 mod backward;
 mod backward_steps;
-mod earliest;
+mod begin_rows;
 mod entries;
 mod forward;
 mod forward_steps;
 mod lawful;
+mod near;
 mod needed;
 mod ordered;
 mod pass_entries;
 mod pass_table;
 mod plan;
 mod retreat;
-mod successor;
-mod table;
 
-use crate::first::{find_from, is_match_by_walk};
+use crate::first::find_by_walk;
 use crate::{AsciiWordClass, Error, Program};
-use along::match_along;
-use earliest::search;
-use forward::{first_end, has_match};
+use along::{Walk, match_along};
+use forward::first_end;
 use needed::Needed;
 use pass_table::PassTable;
 use plan::Plan;
 use rsc_captures::Captures;
 use rsc_look::WordClass;
-use rsc_primitives::{PatternID, StateID};
-use rsc_search::{Input, Match, Span};
+use rsc_primitives::PatternID;
+use rsc_search::{Input, Match};
 use std::alloc::Global;
 use std::marker::Model;
-use table::Table;
 
 // A span of fewer bytes is a short one.
 const LONG: usize = 4096;
-
-// How many bytes of a first long span are walked over before a row is made.
-const NEAR: usize = 256;
 
 // That many states have numbers.
 const MOST_NUMBERED: usize = 2147483646;
@@ -60,37 +53,9 @@ const MOST_NUMBERED: usize = 2147483646;
 /// How many rows a search keeps at most, unless its caller says.
 pub(crate) const MOST_ROWS: usize = 1000;
 
-/// Where the first match to end ends.
-///
-/// # Examples
-///
-/// ```
-/// // [a-z]+, and \b, which looks at characters.
-/// let mut builder = Builder::new(rt.alloc());
-/// let letters = builder.plus(builder.range(b'a', b'z'))?;
-/// builder.pattern(letters)?;
-/// let boundary = builder.look(Look::WordUnicode);
-/// let program = builder.build(UnicodeWord, true, boundary)?;
-/// let mut dfa = Dfa::new(rt.alloc(), &program, 1000);
-/// assert!(rt; dfa.earliest_end(&Input::new(b"- a"))? == Answer::End(2));
-/// assert!(rt; dfa.earliest_end(&Input::new(b"--"))? == Answer::NoMatch);
-/// assert!(rt; dfa.earliest_end(&Input::new("-é".as_bytes()))? == Answer::Quit(1));
-/// ```
-#[derive(Clone, Copy, Debug, PartialEq, Eq)]
-pub enum Answer {
-    /// A match ends at the position, and none ends earlier.
-    End(usize),
-    /// No match begins where one may.
-    NoMatch,
-    /// The search has not gone past the position: an assertion looks at characters, and the byte there is the first one that isn't ASCII, from
-    /// the one directly before the span to the one directly after it. No match ends earlier.
-    Quit(usize),
-}
-
 /// A DFA of a program. It makes a row when a search first comes to it, and keeps it for later searches.
 ///
-/// A search takes time in proportion to the bytes that it reads, once the rows that it comes to are there. It ends where the first match to
-/// end does, which is not where the leftmost-first match ends.
+/// A search takes time in proportion to the bytes that it reads, once the rows that it comes to are there.
 ///
 /// # Examples
 ///
@@ -106,10 +71,12 @@ pub enum Answer {
 pub struct Dfa<'p, W: WordClass> {
     alloc: Global,
     plan: Plan<'p, W>,
-    table: Table,
     passes: PassTable,
     // For each position of the last match the row of the backward pass there, from its end on.
     log: Vec<u32>,
+    walk: Walk,
+    // Where the last forward pass stopped.
+    stopped: usize,
     // What each match has, if that is known, and whether it was looked for.
     needed: Option<Needed>,
     is_sought: bool,
@@ -121,9 +88,10 @@ impl<W: WordClass> Drop for Dfa<'_, W> {
         let Dfa {
             alloc: _,
             plan: _,
-            table: _,
             passes: _,
             log: _,
+            walk: _,
+            stopped: _,
             needed: _,
             is_sought: _,
         } = self;
@@ -132,10 +100,9 @@ impl<W: WordClass> Drop for Dfa<'_, W> {
 
 impl<'p, W: WordClass> Model for Dfa<'p, W> {
     ghost use Rattle.rsc_engine.specs.Searches.{Compiled};
-    ghost use Rattle.std.specs.Prelude.{◌≡◌, true, IfSome};
+    ghost use Rattle.std.specs.Prelude.{IfSome};
     ghost use Rattle.rsc_engine.specs.NeededLayout.{NeedsPair};
-    ghost use Rattle.rsc_engine.specs.RowsLayout.{machine, IsPlan, IsNeverEntered};
-    ghost use Rattle.rsc_engine.specs.TablesLayout.{IsExact};
+    ghost use Rattle.rsc_engine.specs.RowsLayout.{machine, IsPlan};
     ghost use Rattle.rsc_engine.specs.PassTableLayout.{IsPassTable};
 
     ghost Value = { Compiled W };
@@ -143,8 +110,6 @@ impl<'p, W: WordClass> Model for Dfa<'p, W> {
     ghost view = { λ d. d.plan.program.now };
 
     ghost invariant = { λ d. IsPlan (machine W.word_chars d.plan.program.now) d.plan.classes d.plan.width d.plan.unicode
-        × (d.plan.is_start_never_entered ≡ true → IsNeverEntered (machine W.word_chars d.plan.program.now))
-        × IsExact (machine W.word_chars d.plan.program.now) d.plan.classes d.plan.width d.table.rows.items d.table.leads.items
         × IsPassTable (machine W.word_chars d.plan.program.now) d.plan.classes d.plan.width d.plan.most_rows d.passes.rows.items d.passes.leads.items
         × IfSome d.needed (λ n. NeedsPair (machine W.word_chars d.plan.program.now) n.first n.second) };
 }
@@ -158,9 +123,10 @@ impl<'p, W: WordClass + AsciiWordClass> Dfa<'p, W> {
         Dfa {
             alloc,
             plan: Plan::new(program, most_rows),
-            table: Table::new(alloc),
             passes: PassTable::new(alloc),
             log: Vec::new(alloc),
+            walk: Walk::new(alloc),
+            stopped: 0,
             needed: None,
             is_sought: false,
         }
@@ -173,24 +139,6 @@ impl<'p, W: WordClass + AsciiWordClass> Dfa<'p, W> {
         if !self.is_sought {
             self.is_sought = true;
             self.needed = Needed::of(self.plan.program);
-        }
-    }
-
-    // Whether a walk finds a match in the first bytes of a first long span, which takes less time than to make the first rows.
-    fn begins_near(&self, input: &Input<'_>) -> bool
-        ensures { result ≡ true → ¬ (HasNone (search_in W.word_chars self.now input.now)) }
-    {
-        if self.is_sought || !is_long(input) {
-            return false;
-        }
-        let start = input.start();
-        let near = Input::new(input.haystack()).span(Span {
-            start,
-            end: start + NEAR,
-        });
-        match is_match_by_walk(self.alloc, self.plan.program, &near) {
-            Ok(found) => found,
-            Err(_) => false,
         }
     }
 
@@ -209,45 +157,36 @@ impl<'p, W: WordClass + AsciiWordClass> Dfa<'p, W> {
         needed.are_missing(self.plan.program, input)
     }
 
-    /// The least position in the input's span at which a match ends, among the matches that begin where one may.
+    /// The least position in the input's span at which a match ends, among the matches that begin where one may; `None` if none begins there.
     ///
     /// # Errors
     ///
     /// Out of memory. The next search is answered all the same.
-    pub fn earliest_end(&mut self, input: &Input<'_>) -> Result<Answer, Error>
-        ensures program { self.new ≡ self.old }
-        ensures answer { IfOk result (IsAnswer (search_in W.word_chars self.old input.now)) }
-        ensures memory { IfErr result (λ e. e ≡ OutOfMemory) }
-    {
-        if self.lacks_needed(input) {
-            return Ok(Answer::NoMatch);
-        }
-        Ok(search(self.alloc, &self.plan, &mut self.table, input, false)?.0)
-    }
-
-    /// A position in the span before which no match begins, at best the last one at which no match can have begun earlier and still go on;
-    /// `None` only if no match begins where one may.
     ///
-    /// # Errors
+    /// # Examples
     ///
-    /// Out of memory.
-    pub(crate) fn begin(&mut self, input: &Input<'_>) -> Result<Option<usize>, Error>
+    /// ```
+    /// // [a-z]+, and \b, which looks at characters.
+    /// let mut builder = Builder::new(rt.alloc());
+    /// let letters = builder.plus(builder.range(b'a', b'z'))?;
+    /// builder.pattern(letters)?;
+    /// let boundary = builder.look(Look::WordUnicode);
+    /// let program = builder.build(UnicodeWord, true, boundary)?;
+    /// let mut dfa = Dfa::new(rt.alloc(), &program, 1000);
+    /// assert!(rt; dfa.earliest_end(&Input::new(b"- a"))? == Some(2));
+    /// assert!(rt; dfa.earliest_end(&Input::new(b"--"))? == None);
+    /// assert!(rt; dfa.earliest_end(&Input::new("-é".as_bytes()))? == Some(1));
+    /// ```
+    pub fn earliest_end(&mut self, input: &Input<'_>) -> Result<Option<usize>, Error>
         ensures program { self.new ≡ self.old }
+        ensures found { IfOk result (λ found. IfSome found (IsEarliestEnd (search_in W.word_chars self.old input.now))) }
         ensures none { IfOk result (λ found. IfNone found (HasNone (search_in W.word_chars self.old input.now))) }
-        ensures begin { IfOk result (λ found. IfSome found (BeginsFrom (search_in W.word_chars self.old input.now))) }
-        ensures memory { IfErr result (λ e. e ≡ OutOfMemory) }
+        ensures refused { IfErr result (λ e. e ≡ OutOfMemory) }
     {
-        if self.begins_near(input) {
-            return Ok(Some(input.start()));
+        match self.end_of(input, true)? {
+            None => Ok(None),
+            Some(first) => Ok(Some(first.1)),
         }
-        if self.lacks_needed(input) {
-            return Ok(None);
-        }
-        let (answer, begin) = search(self.alloc, &self.plan, &mut self.table, input, true)?;
-        if let Answer::NoMatch = answer {
-            return Ok(None);
-        }
-        Ok(Some(begin))
     }
 
     /// Whether a match begins where one may, in the span of the input.
@@ -261,13 +200,9 @@ impl<'p, W: WordClass + AsciiWordClass> Dfa<'p, W> {
         ensures none { IfOk result (λ found. found ≡ false → HasNone (search_in W.word_chars self.old input.now)) }
         ensures refused { IfErr result (λ e. e ≡ OutOfMemory) }
     {
-        if self.begins_near(input) {
-            return Ok(true);
-        }
         match self.earliest_end(input)? {
-            Answer::End(_) => Ok(true),
-            Answer::NoMatch => Ok(false),
-            Answer::Quit(_) => has_match(self.alloc, &self.plan, &mut self.passes, input),
+            None => Ok(false),
+            Some(_) => Ok(true),
         }
     }
 
@@ -293,26 +228,20 @@ impl<'p, W: WordClass + AsciiWordClass> Dfa<'p, W> {
         ensures refused { IfErr result (FailsFor (search_in W.word_chars self.old input.now)) }
     {
         captures.clear();
-        let Some(last) = self.end_of(input)? else {
+        let Some(last) = self.end_of(input, false)? else {
             return Ok(None);
         };
         if self.plan.program.len() > MOST_NUMBERED {
             // Only states that have numbers are gone back through.
-            return find_from(
-                self.alloc,
-                self.plan.program,
-                input,
-                captures,
-                input.start(),
-            );
+            return find_by_walk(self.alloc, self.plan.program, input, captures);
         }
         let most_rows = self.plan.most_rows;
         // No row is dropped that the log names.
         self.plan.most_rows = usize::MAX;
         let found = match_along(
-            self.alloc,
             &self.plan,
             &mut self.passes,
+            &mut self.walk,
             &mut self.log,
             input,
             last.0,
@@ -324,17 +253,29 @@ impl<'p, W: WordClass + AsciiWordClass> Dfa<'p, W> {
         Ok(Some(found?))
     }
 
-    // The pattern of the leftmost-first match, and where it ends; `None` if no match begins where one may.
-    fn end_of(&mut self, input: &Input<'_>) -> Result<Option<(PatternID, usize)>, Error>
+    // The pattern of the leftmost-first match, and where it ends, or of the first match to end; `None` if no match begins where one may.
+    fn end_of(
+        &mut self,
+        input: &Input<'_>,
+        earliest: bool,
+    ) -> Result<Option<(PatternID, usize)>, Error>
         ensures program { self.new ≡ self.old }
-        ensures some { IfOk result (λ found. IfSome found (λ f. IsEndOf (search_in W.word_chars self.old input.now) f.0 f.1)) }
+        ensures some { earliest ≡ false → IfOk result (λ found. IfSome found (λ f. IsEndOf (search_in W.word_chars self.old input.now) f.0 f.1)) }
+        ensures earliest { earliest ≡ true → IfOk result (λ found. IfSome found (λ f. IsEarliestEnd (search_in W.word_chars self.old input.now) f.1)) }
         ensures none { IfOk result (λ found. IfNone found (HasNone (search_in W.word_chars self.old input.now))) }
         ensures memory { IfErr result (λ e. e ≡ OutOfMemory) }
     {
         if self.lacks_needed(input) {
             return Ok(None);
         }
-        first_end(self.alloc, &self.plan, &mut self.passes, input)
+        let (found, stopped) = first_end(&self.plan, &mut self.passes, input, earliest)?;
+        self.stopped = stopped;
+        Ok(found)
+    }
+
+    /// The position at which the last forward pass stopped.
+    pub(crate) fn stopped(&self) -> usize {
+        self.stopped
     }
 
     /// The position at which the leftmost-first match in an input's span ends; `None` if no match begins where one may.
@@ -348,15 +289,15 @@ impl<'p, W: WordClass + AsciiWordClass> Dfa<'p, W> {
         ensures none { IfOk result (λ found. IfNone found (HasNone (search_in W.word_chars self.old input.now))) }
         ensures refused { IfErr result (λ e. e ≡ OutOfMemory) }
     {
-        match self.end_of(input)? {
+        match self.end_of(input, false)? {
             None => Ok(None),
             Some(last) => Ok(Some(last.1)),
         }
     }
 }
 
-/// Whether an input's span is long, and a match may begin anywhere in it.
-pub(crate) fn is_long(input: &Input<'_>) -> bool
+// Whether an input's span is long, and a match may begin anywhere in it.
+fn is_long(input: &Input<'_>) -> bool
     ensures long { result ≡ true → input.now.span.start + LONG ≤ input.now.span.end }
     ensures anywhere { result ≡ true → input.now.anchored ≡ No }
 {

@@ -1,12 +1,11 @@
-//! The first match, where it ends, and whether there is one.
-ghost use Rattle.std.specs.Prelude.{◌≡◌, ◌≤◌, IfOk, IfErr, IfSome, IfNone, OnErr, true, false, length};
+//! The first match.
+ghost use Rattle.std.specs.Prelude.{◌≡◌, IfOk, IfErr, IfSome, IfNone, OnErr, length};
 ghost use Rattle.rsc_engine.specs.Searches.{search_in, FailsFor};
 ghost use Rattle.rsc_engine.specs.Preferred.{IsLeftmostFirst, IsFirstMatch, HasNone, IsCleared, IsInSpan};
-ghost use Rattle.rsc_engine.specs.Ends.{BeginsFrom};
 ghost use Rattle.rsc_engine.specs.TrailsLayout.{run_of};
 
 use crate::backtrack::Walk;
-use crate::dfa::{MOST_ROWS, is_long};
+use crate::dfa::MOST_ROWS;
 use crate::groups::write_match;
 use crate::numbers::flags_needed;
 use crate::starts::Starts;
@@ -54,22 +53,17 @@ pub fn find<W: WordClass + AsciiWordClass>(
     ensures within { IfOk result (λ found. IfSome found (IsInSpan input.now)) }
     ensures refused { IfErr result (FailsFor (search_in W.word_chars program.now input.now)) }
 {
-    if is_long(input) {
-        let mut dfa = Dfa::new(alloc, program, MOST_ROWS);
-        return dfa.find(input, captures);
-    }
-    find_from(alloc, program, input, captures, input.start())
+    let mut dfa = Dfa::new(alloc, program, MOST_ROWS);
+    dfa.find(input, captures)
 }
 
-/// The same, where no match begins before a position in the span.
-pub(crate) fn find_from<W: WordClass>(
+/// The same by a walk, which also goes through states that have no number.
+pub(crate) fn find_by_walk<W: WordClass>(
     alloc: Global,
     program: &Program<W>,
     input: &Input<'_>,
     captures: &mut Captures,
-    from: usize,
 ) -> Result<Option<Match>, Error>
-    requires { BeginsFrom (search_in W.word_chars program.now input.now) from }
     ensures found { IfOk result (λ found. IfSome found (IsFirstMatch (search_in W.word_chars program.now input.now) captures.new)) }
     ensures none { IfOk result (λ found. IfNone found (HasNone (search_in W.word_chars program.now input.now))) }
     ensures groups { captures.new.groups ≡ captures.old.groups }
@@ -80,38 +74,18 @@ pub(crate) fn find_from<W: WordClass>(
     ensures refused { IfErr result (FailsFor (search_in W.word_chars program.now input.now)) }
 {
     captures.clear();
-    match first_run(alloc, program, input, from)? {
+    match first_run(alloc, program, input)? {
         None => Ok(None),
         Some(walk) => Ok(Some(write_match(program, input, walk.trail.as_slice(), captures))),
     }
 }
 
-/// Whether a match begins where one may.
-pub(crate) fn is_match_by_walk<W: WordClass>(
-    alloc: Global,
-    program: &Program<W>,
-    input: &Input<'_>,
-) -> Result<bool, Error>
-    ensures some { IfOk result (λ found. found ≡ true → ¬ (HasNone (search_in W.word_chars program.now input.now))) }
-    ensures none { IfOk result (λ found. found ≡ false → HasNone (search_in W.word_chars program.now input.now)) }
-    ensures refused { IfErr result (FailsFor (search_in W.word_chars program.now input.now)) }
-{
-    crate::laws::there_is_one_first_match();
-    let Some(_) = first_run(alloc, program, input, input.start())? else {
-        return Ok(false);
-    };
-    Ok(true)
-}
-
-// A walk that has the leftmost-first run in the input's span, in which no match begins before a position; `None` if no match begins where one
-// may.
+// A walk that has the leftmost-first run in the input's span; `None` if no match begins where one may.
 fn first_run<W: WordClass>(
     alloc: Global,
     program: &Program<W>,
     input: &Input<'_>,
-    from: usize,
 ) -> Result<Option<Walk>, Error>
-    requires { BeginsFrom (search_in W.word_chars program.now input.now) from }
     ensures found { IfOk result (λ found. IfSome found (λ walk.
         IsLeftmostFirst (search_in W.word_chars program.now input.now) (run_of program.now.automaton.states walk.trail.items))) }
     ensures none { IfOk result (λ found. IfNone found (HasNone (search_in W.word_chars program.now input.now))) }
@@ -120,7 +94,7 @@ fn first_run<W: WordClass>(
     let starts = Starts::new(alloc, program)?;
     let mut walk = Walk::new(alloc, program.start());
     walk.open(alloc, flags_needed(program, input)?)?;
-    if !walk.search(program, input, &starts, from)? {
+    if !walk.search(program, input, &starts)? {
         return Ok(None);
     }
     Ok(Some(walk))

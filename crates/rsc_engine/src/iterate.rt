@@ -5,12 +5,10 @@ ghost use Rattle.rsc_search.specs.declared.anchored.Anchored.TheVariants.{No};
 ghost use Rattle.rsc_primitives.specs.Decoding.{IsCharBoundary};
 ghost use Rattle.rsc_engine.specs.declared.error.Error.TheVariants.{OutOfMemory, TooLarge};
 ghost use Rattle.rsc_engine.specs.Searches.{search_in, FailsFor};
-ghost use Rattle.rsc_engine.specs.Preferred.{IsLeftmostFirst, IsOf, HasNone, IsCleared, IsInSpan};
-ghost use Rattle.rsc_engine.specs.NextMatches.{IsNext, IsOver, IsNextMatch, from_start};
-ghost use Rattle.rsc_engine.specs.Ends.{BeginsFrom};
+ghost use Rattle.rsc_engine.specs.Preferred.{IsFirstMatch, HasNone, IsCleared, IsInSpan};
+ghost use Rattle.rsc_engine.specs.NextMatches.{IsOver, IsNextMatch, from_start};
 ghost use Rattle.rsc_engine.specs.StartsLayout.{AreStarts};
 ghost use Rattle.rsc_engine.specs.WalksLayout.{AreEnough, IsClosed, is_flagged};
-ghost use Rattle.rsc_engine.specs.TrailsLayout.{run_of};
 
 use crate::backtrack::Walk;
 use crate::groups::write_match;
@@ -23,12 +21,19 @@ use rsc_search::{Input, Match};
 use std::alloc::Global;
 use std::marker::Model;
 
-// Where more bytes than these lie before a match, the DFA looks for the next one.
-const FAR: usize = 64;
+// So many bytes the passes may read behind the ends of matches at first, and this many more for each byte that an iteration goes on.
+const SPARE: usize = 4096;
+
+const SPARE_FOR_A_BYTE: usize = 4;
+
+// A walk that needs more flags than these, 128 MiB, is made only if there are no bytes to spare.
+const FLAGS: usize = 1073741824;
 
 /// The matches in an input that are left, in order.
 ///
-/// One walk serves all searches: a state is tried at a position again only where a match ended.
+/// After a match that lay further from the one before than it is long, the passes of a [`Dfa`] find the next one, as long as what they read behind the ends of
+/// matches is little beside what the iteration has gone past. One walk serves all other searches: a state is tried at a position again only where a match
+/// ended.
 ///
 /// # Examples
 ///
@@ -103,6 +108,7 @@ impl<'p, 'h, W: WordClass + AsciiWordClass> Matches<'p, 'h, W> {
                 starts,
                 dfa,
                 is_far: true,
+                spare: SPARE,
                 walk,
                 flag_count,
                 last_end: None,
@@ -158,8 +164,10 @@ struct Rest<'p, 'h, W: WordClass> {
     input: Input<'h>,
     starts: Starts,
     dfa: Dfa<'p, W>,
-    // Whether the last match began far from where it was looked for; true before the first one.
+    // Whether more bytes lay before the last match than it has; true before the first one.
     is_far: bool,
+    // How many bytes the passes may yet read behind the ends of matches. When there is none to spare, the walk finds all matches that are left.
+    spare: usize,
     // It has no flags before it is first needed, and then as many as a walk needs.
     walk: Walk,
     flag_count: usize,
@@ -174,12 +182,8 @@ struct Rest<'p, 'h, W: WordClass> {
 impl<'p, 'h, W: WordClass + AsciiWordClass> Rest<'p, 'h, W> {
     // The next match.
     fn next(&mut self, captures: &mut Captures) -> Result<Option<Match>, Error>
-        ensures next { IfOk result (λ found. IfSome found (λ m.
-            IsNext (search_in W.word_chars self.old.program.now self.old.input) self.old.last_end
-            (run_of self.old.program.now.automaton.states self.new.walk.trail.items))) }
-        ensures is_of { IfOk result (λ found. IfSome found (λ m.
-            IsOf (search_in W.word_chars self.old.program.now self.old.input)
-            (run_of self.old.program.now.automaton.states self.new.walk.trail.items) m captures.new)) }
+        ensures found { IfOk result (λ found. IfSome found
+            (IsNextMatch (search_in W.word_chars self.old.program.now self.old.input) self.old.last_end captures.new)) }
         ensures none { IfOk result (λ found. IfNone found (IsOver (search_in W.word_chars self.old.program.now self.old.input) self.old.last_end)) }
         ensures on { IfOk result (λ found. IfSome found (λ m. self.new.input ≡ from_start self.old.input m.span.end)) }
         ensures over { IfOk result (λ found. IfNone found (self.new.input ≡ from_start self.old.input (self.old.input.span.end + 1))) }
@@ -225,12 +229,50 @@ impl<'p, 'h, W: WordClass + AsciiWordClass> Rest<'p, 'h, W> {
 
     // The leftmost-first match from the input's start on. The next one is looked for from its end on.
     fn advance(&mut self, captures: &mut Captures) -> Result<Option<Match>, Error>
-        ensures first { IfOk result (λ found. IfSome found (λ m.
-            IsLeftmostFirst (search_in W.word_chars self.old.program.now self.old.input)
-            (run_of self.old.program.now.automaton.states self.new.walk.trail.items))) }
-        ensures is_of { IfOk result (λ found. IfSome found (λ m.
-            IsOf (search_in W.word_chars self.old.program.now self.old.input)
-            (run_of self.old.program.now.automaton.states self.new.walk.trail.items) m captures.new)) }
+        ensures found { IfOk result (λ found. IfSome found (IsFirstMatch (search_in W.word_chars self.old.program.now self.old.input) captures.new)) }
+        ensures none { IfOk result (λ found. IfNone found (HasNone (search_in W.word_chars self.old.program.now self.old.input))) }
+        ensures within { IfOk result (λ found. IfSome found (IsInSpan self.old.input)) }
+        ensures on { IfOk result (λ found. IfSome found (λ m. self.new.input ≡ from_start self.old.input m.span.end)) }
+        ensures over { IfOk result (λ found. IfNone found (self.new.input ≡ self.old.input)) }
+        ensures kept { OnErr result (self.new.input ≡ self.old.input) }
+        ensures forgets { OnErr result ((n : ℕ) → slice_index_or self.new.walk.visited n false ≡ false) }
+        ensures flag_count { self.new.flag_count ≡ self.old.flag_count }
+        ensures program { self.new.program ≡ self.old.program }
+        ensures memory { IfErr result (λ e. e ≡ OutOfMemory) }
+        ensures last { self.new.last_end ≡ self.old.last_end }
+        ensures groups { captures.new.groups ≡ captures.old.groups }
+        ensures slots { length captures.new.offsets ≡ length captures.old.offsets }
+        ensures unset { IfOk result (λ found. IfNone found (IsCleared captures.old captures.new)) }
+        ensures failed { OnErr result (IsCleared captures.old captures.new) }
+    {
+        if self.spare == 0 || self.is_for_a_walk() {
+            return self.walk_on(captures);
+        }
+        let start = self.input.start();
+        match self.dfa.find(&self.input, captures) {
+            // Not too large: there are numbers for the flags of a walk.
+            Err(_) => {
+                self.walk.visited.clear();
+                Err(Error::OutOfMemory)
+            }
+            Ok(None) => Ok(None),
+            Ok(Some(found)) => {
+                self.spare = spare_after(self.spare, start, found.end(), self.dfa.stopped());
+                self.is_far = found.len() < found.start().saturating_sub(start);
+                self.input.set_start(found.end());
+                Ok(Some(found))
+            }
+        }
+    }
+
+    // Whether a walk takes less time than the passes, and its flags take little memory.
+    fn is_for_a_walk(&self) -> bool {
+        !self.is_far && self.flag_count <= FLAGS
+    }
+
+    // The same by the walk.
+    fn walk_on(&mut self, captures: &mut Captures) -> Result<Option<Match>, Error>
+        ensures found { IfOk result (λ found. IfSome found (IsFirstMatch (search_in W.word_chars self.old.program.now self.old.input) captures.new)) }
         ensures none { IfOk result (λ found. IfNone found (HasNone (search_in W.word_chars self.old.program.now self.old.input))) }
         ensures within { IfOk result (λ found. IfSome found (IsInSpan self.old.input)) }
         ensures on { IfOk result (λ found. IfSome found (λ m. self.new.input ≡ from_start self.old.input m.span.end)) }
@@ -248,14 +290,8 @@ impl<'p, 'h, W: WordClass + AsciiWordClass> Rest<'p, 'h, W> {
     {
         captures.clear();
         let start = self.input.start();
-        let Some(from) = begin_of(&mut self.dfa, self.is_far, &self.input) else {
-            return Ok(None);
-        };
         self.walk.open(self.alloc, self.flag_count)?;
-        if !self
-            .walk
-            .search(self.program, &self.input, &self.starts, from)?
-        {
+        if !self.walk.search(self.program, &self.input, &self.starts)? {
             return Ok(None);
         }
         let found = write_match(
@@ -264,7 +300,7 @@ impl<'p, 'h, W: WordClass + AsciiWordClass> Rest<'p, 'h, W> {
             self.walk.trail.as_slice(),
             captures,
         );
-        self.is_far = FAR < found.start().saturating_sub(start);
+        self.is_far = found.len() < found.start().saturating_sub(start);
         self.input.set_start(found.end());
         Ok(Some(found))
     }
@@ -303,24 +339,10 @@ impl<'p, 'h, W: WordClass + AsciiWordClass> Rest<'p, 'h, W> {
     }
 }
 
-// A position before which no match begins; `None` only if none begins where one may. After a far match the DFA tells the position; if it is out of
-// memory, the backtracker looks from the start on.
-fn begin_of<W: WordClass + AsciiWordClass>(
-    dfa: &mut Dfa<'_, W>,
-    is_far: bool,
-    input: &Input<'_>,
-) -> Option<usize>
-    ensures program { dfa.new ≡ dfa.old }
-    ensures none { IfNone result (HasNone (search_in W.word_chars dfa.old input.now)) }
-    ensures begin { IfSome result (BeginsFrom (search_in W.word_chars dfa.old input.now)) }
-{
-    let start = input.start();
-    if !is_far {
-        return Some(start);
-    }
-    match dfa.begin(input) {
-        Ok(Some(begin)) => Some(begin),
-        Ok(None) => None,
-        Err(_) => Some(start),
-    }
+// How many bytes are to spare after a search from a position, whose match ends at another and whose pass stopped at a third.
+fn spare_after(spare: usize, start: usize, end: usize, stopped: usize) -> usize {
+    let gone = end.saturating_sub(start).saturating_add(1);
+    let gained = gone.saturating_mul(SPARE_FOR_A_BYTE);
+    let read_behind = stopped.saturating_sub(end);
+    spare.saturating_add(gained).saturating_sub(read_behind)
 }

@@ -16,7 +16,6 @@ ghost use Rattle.rsc_engine.specs.NextMatches.{IsNext, IsOver, IsNextMatch, IsOp
 ghost use Rattle.rsc_engine.specs.Ends.{IsEarliestEnd, IsLeftmostEnd};
 ghost use Rattle.rsc_engine.specs.GroupEnds.{RecordsEnds};
 ghost use Rattle.rsc_engine.specs.GroupOrder.{ClosesGroups};
-ghost use Rattle.rsc_engine.specs.declared.dfa.Answer.{Answer};
 ghost use Rattle.rsc_engine.specs.PatternOrder.{PrefersLesser, PrefersFirstEnds, RecordsWays, RecordsFirstWays, RecordsPreferredWays};
 ghost use Rattle.rsc_engine.specs.FirstEnds.{loops_take_bytes, IsFirstEnd};
 ghost use Rattle.rsc_engine.specs.Ways.{Mark, last_in, GoesWith};
@@ -25,7 +24,6 @@ ghost use Rattle.rsc_engine.specs.GroupNumbers.{IsGroupOf, as_whole};
 ghost use Rattle.rsc_engine.specs.PreferredWays.{IsPreferredWay};
 ghost use Rattle.rsc_engine.specs.PatternMatches.{HoldRecords, recorded_span, IsFirstOf, IsNextOfAll, IsOverOf};
 
-use crate::Answer;
 use rsc_look::WordClass;
 
 pub mod one_pattern;
@@ -361,15 +359,4 @@ pub fn a_group_spans_what_its_way_records()
     ensures { (lists : GroupLists) (captures : Captured) (m : Matched) (records : List (ℕ × ℕ)) (group : ℕ) → captures.groups ≡ lists →
         HoldRecords captures m records → group < group_count lists m.pattern → slot_number lists m.pattern group + 1 < length captures.offsets →
         group_span captures group ≡ recorded_span records (slot_number lists m.pattern group) }
-{}
-
-/// A clone of an answer is that answer, and none is refused.
-pub fn clones_are_their_sources()
-    ensures answer { (a b : Answer) → ⟦<Answer as Clone>⟧.is_clone a b → b ≡ a }
-    ensures accepted { (a : Answer) → ⟦<Answer as Clone>⟧.is_infallible a }
-{}
-
-/// Two answers are equal exactly if they are of one kind, with one position.
-pub fn equality_is_of_all_parts()
-    ensures { (a b : Answer) → (⟦<Answer as PartialEq>⟧.eq a b ≡ true) ↔ (a ≡ b) }
 {}

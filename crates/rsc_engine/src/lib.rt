@@ -2,10 +2,10 @@
 //!
 //! [`find`] returns the leftmost-first match of a [`Program`] in an input, and [`Matches`] all of them, one after the other; [`Lines`] the lines that have one.
 //!
-//! `builder` makes parts and compiles them to the automaton of a `program`. `first`, `iterate` and `cache` have the searches: `starts` and `dfa` tell where no
-//! match begins, `backtrack` follows runs by the `moves` of states and the `turns` of loops, over the `flags` of places and a `trail`, and `groups` writes the
-//! match that a run makes. `numbers` has the numbers of flags, `word_class` which word predicates a search takes, `error` why there is no answer.
-//! `find` stands above `dfa`, the rest of `first` below it.
+//! `builder` makes parts and compiles them to the automaton of a `program`. `first`, `iterate` and `cache` have the searches. `dfa` finds matches by the rows
+//! of a table. Where an iteration doesn't ask it, `backtrack` follows runs by the `moves` of states and the `turns` of loops, from where `starts` says that a
+//! match may begin, over the `flags` of places and a `trail`, and `groups` writes the match that a run makes. `numbers` has the numbers of flags, `word_class`
+//! which word predicates a search takes, `error` why there is no answer. `find` stands above `dfa`, the rest of `first` below it.
 #![tactic(auto)]
 
 mod backtrack;
@@ -30,7 +30,7 @@ mod word_class;
 
 pub use builder::{Builder, Part};
 pub use cache::Cache;
-pub use dfa::{Answer, Dfa};
+pub use dfa::Dfa;
 pub use error::Error;
 pub use first::find;
 pub use iterate::Matches;

@@ -6,7 +6,7 @@ ghost use Rattle.rsc_engine.specs.Preferred.{HasNone};
 ghost use Rattle.rsc_engine.specs.Lines.{BeginsLine, IsLine, NoLine, HasMatchIn, IsNextLine, HasNoLine, after_line};
 ghost use Rattle.rsc_engine.specs.LinesLayout.{IsCandidate, EndsFrom, search_from};
 
-use crate::{Answer, AsciiWordClass, Dfa, Error};
+use crate::{AsciiWordClass, Dfa, Error};
 use rsc_look::WordClass;
 use rsc_search::{Input, Span};
 use std::marker::Model;
@@ -172,9 +172,8 @@ fn end_bound<W: WordClass + AsciiWordClass>(
         end: haystack.len(),
     });
     match dfa.earliest_end(&rest)? {
-        Answer::NoMatch => Ok(None),
-        Answer::End(at) => Ok(Some(at)),
-        Answer::Quit(at) => Ok(Some(at)),
+        None => Ok(None),
+        Some(at) => Ok(Some(at)),
     }
 }
 

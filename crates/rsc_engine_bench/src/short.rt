@@ -1,8 +1,8 @@
-//! All short texts by the DFA, the backtracker and a slow reader of the definition.
+//! All short texts by `find`, a DFA and a slow reader of the definition.
 
 use crate::timed::Fail;
 use rsc_captures::Captures;
-use rsc_engine::{Answer, Builder, Dfa, Error, Part, Program, find};
+use rsc_engine::{Builder, Dfa, Error, Part, Program, find};
 use rsc_look::{Look, LookSet, UnicodeWord};
 use rsc_nfa::State;
 use rsc_primitives::StateID;
@@ -89,14 +89,10 @@ fn agree(
         return Ok(false);
     }
     match dfa.earliest_end(&input)? {
-        Answer::NoMatch => Ok(found.is_none()),
-        Answer::End(end) => Ok(
+        None => Ok(found.is_none()),
+        Some(end) => Ok(
             ends_by(alloc, program, text, end, captures)?
                 && !ends_before(alloc, program, text, end, captures)?,
-        ),
-        Answer::Quit(at) => Ok(
-            text.get(at).is_some_and(|byte| *byte >= 0x80)
-                && !ends_before(alloc, program, text, at, captures)?,
         ),
     }
 }

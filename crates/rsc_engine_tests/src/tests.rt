@@ -8,3 +8,4 @@ mod matches;
 mod model;
 mod programs;
 mod sizes;
+mod slow;

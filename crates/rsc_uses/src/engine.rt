@@ -30,7 +30,7 @@ pub fn first_span<W: WordClass + AsciiWordClass>(
     }
 }
 
-/// Whether an input has a match, by a DFA and by the backtracker: they never differ.
+/// Whether an input has a match, by a DFA and by `find`: they never differ.
 pub fn has_match_twice<W: WordClass + AsciiWordClass>(
     alloc: Global,
     program: &Program<W>,
@@ -51,7 +51,7 @@ pub fn has_match_twice<W: WordClass + AsciiWordClass>(
     }
 }
 
-/// Where the leftmost match ends, by a DFA and by the backtracker: they never differ.
+/// Where the leftmost match ends, by a DFA and by `find`: they never differ.
 pub fn leftmost_end_twice<W: WordClass + AsciiWordClass>(
     alloc: Global,
     program: &Program<W>,

@@ -5,7 +5,6 @@ ghost use Rattle.rsc_captures.specs.Captured.{group_span};
 ghost use Rattle.rsc_captures.specs.Groups.{all_groups};
 ghost use Rattle.rsc_look.specs.declared.assertion.Look.{Look};
 ghost use Rattle.rsc_engine.specs.Features.{asks};
-ghost use Rattle.rsc_engine.specs.declared.dfa.Answer.TheVariants.{End, NoMatch, Quit};
 ghost use Rattle.rsc_engine.specs.declared.error.Error.TheVariants.{OutOfMemory};
 ghost use Rattle.rsc_engine.specs.Patterns.{Goes, Then, Either, Literal, Group, may_be_empty};
 ghost use Rattle.rsc_engine.specs.FirstEnds.{loops_take_bytes, IsFirstEnd};
@@ -15,7 +14,7 @@ ghost use Rattle.rsc_engine.specs.Refusals.{FailsToBuild, RepeatsName, has_a_rev
 ghost use Rattle.rsc_uses.specs.Texts.{text_of, GoesNowhere, GoesNowhereBefore, GoesNowhereIn, HoldsFirstWay, HoldsPreferredWay, EndsPreferredWay};
 
 use rsc_captures::Captures;
-use rsc_engine::{Answer, AsciiWordClass, Builder, Dfa, Error, Matches, Part, Program, find, laws};
+use rsc_engine::{AsciiWordClass, Builder, Dfa, Error, Matches, Part, Program, find, laws};
 use rsc_look::{LookSet, WordClass};
 use rsc_search::{Input, Match, Span};
 use std::alloc::Global;
@@ -241,17 +240,16 @@ pub fn first_in_text<W: WordClass + AsciiWordClass>(
     }
 }
 
-/// A position to which a part goes, by a DFA: the earliest end. It quits before it at a byte above 7F, if an assertion of the part looks at characters.
+/// A position to which a part goes, by a DFA: the earliest end.
 pub fn earliest_end_of_part<W: WordClass + AsciiWordClass>(
     alloc: Global,
     word_class: W,
     part: Part<'_>,
     haystack: &[u8],
-) -> Result<Answer, Error>
-    ensures end { IfOk result (λ answer. (end : ℕ) → answer ≡ End end →
-        (i : ℕ) × Goes (text_of haystack.now (W.word_chars word_class)) (pattern_of part.entry) i end) }
-    ensures none { IfOk result (λ answer. answer ≡ NoMatch → GoesNowhere (text_of haystack.now (W.word_chars word_class)) (pattern_of part.entry)) }
-    ensures quit { IfOk result (λ answer. (at : ℕ) → answer ≡ Quit at → (at < length haystack.now) × (128 ≤ slice_index haystack.now at)) }
+) -> Result<Option<usize>, Error>
+    ensures end { IfOk result (λ found. IfSome found (λ end.
+        (i : ℕ) × Goes (text_of haystack.now (W.word_chars word_class)) (pattern_of part.entry) i end)) }
+    ensures none { IfOk result (λ found. IfNone found (GoesNowhere (text_of haystack.now (W.word_chars word_class)) (pattern_of part.entry))) }
     ensures refused { IfErr result (FailsToBuild (pattern_of part.entry ∷ []) (groups_of_pattern part.entry ∷ [])) }
 {
     laws::an_earliest_end_is_of_a_pattern::<W>();
@@ -259,8 +257,10 @@ pub fn earliest_end_of_part<W: WordClass + AsciiWordClass>(
     let program = Builder::new(alloc).build(word_class, true, part)?;
     let input = Input::new(haystack);
     let mut dfa = Dfa::new(alloc, &program, 100);
-    let answer = dfa.earliest_end(&input)?;
-    Ok(answer)
+    match dfa.earliest_end(&input)? {
+        None => Ok(None),
+        Some(end) => Ok(Some(end)),
+    }
 }
 
 /// The position to which the first match of a part goes: from the first position from which it goes anywhere, to the first end if its loops take bytes.

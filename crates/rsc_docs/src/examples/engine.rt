@@ -1,5 +1,5 @@
 use rsc_captures::GroupInfo;
-use rsc_engine::{Answer, Builder, Cache, Dfa, Error, Lines, Matches, Program, find};
+use rsc_engine::{Builder, Cache, Dfa, Error, Lines, Matches, Program, find};
 use rsc_look::{AsciiWord, Look, LookMatcher, UnicodeWord};
 use rsc_nfa::{Nfa, State};
 use rsc_primitives::{PatternID, StateID};
@@ -182,8 +182,8 @@ fn dfa(rt: HostRuntime) -> Result<(), Fail> {
 }
 
 #[test]
-fn answers(rt: HostRuntime) -> Result<(), Fail> {
-    // `Answer`
+fn ends(rt: HostRuntime) -> Result<(), Fail> {
+    // `Dfa::earliest_end`
     // [a-z]+, and \b, which looks at characters.
     let mut builder = Builder::new(rt.alloc());
     let letters = builder.plus(builder.range(b'a', b'z'))?;
@@ -191,9 +191,9 @@ fn answers(rt: HostRuntime) -> Result<(), Fail> {
     let boundary = builder.look(Look::WordUnicode);
     let program = builder.build(UnicodeWord, true, boundary)?;
     let mut dfa = Dfa::new(rt.alloc(), &program, 1000);
-    assert!(rt; dfa.earliest_end(&Input::new(b"- a"))? == Answer::End(2));
-    assert!(rt; dfa.earliest_end(&Input::new(b"--"))? == Answer::NoMatch);
-    assert!(rt; dfa.earliest_end(&Input::new("-é".as_bytes()))? == Answer::Quit(1));
+    assert!(rt; dfa.earliest_end(&Input::new(b"- a"))? == Some(2));
+    assert!(rt; dfa.earliest_end(&Input::new(b"--"))? == None);
+    assert!(rt; dfa.earliest_end(&Input::new("-é".as_bytes()))? == Some(1));
     Ok(())
 }
 

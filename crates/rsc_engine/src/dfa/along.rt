@@ -34,9 +34,9 @@ use std::alloc::Global;
 
 /// The leftmost-first match, which is of a pattern and ends at a position. Its groups are in the captures afterwards, which are empty before.
 pub(crate) fn match_along<W: WordClass>(
-    alloc: Global,
     plan: &Plan<'_, W>,
     table: &mut PassTable,
+    walk: &mut Walk,
     log: &mut Vec<u32>,
     input: &Input<'_>,
     pattern: PatternID,
@@ -59,10 +59,10 @@ pub(crate) fn match_along<W: WordClass>(
     ensures failed { OnErr result (IsCleared captures.old captures.new) }
     ensures memory { IfErr result (λ e. e ≡ OutOfMemory) }
 {
-    let start = first_start(alloc, plan, table, input, pattern, end, log)?;
+    let start = first_start(plan, table, input, pattern, end, log)?;
     let span = Span { start, end };
     let recorded = record_along(
-        alloc,
+        walk,
         plan.program,
         input,
         table,
@@ -85,7 +85,7 @@ pub(crate) fn match_along<W: WordClass>(
 
 // Writes what the leftmost-first run records into slots that are empty.
 fn record_along<W: WordClass>(
-    alloc: Global,
+    walk: &mut Walk,
     program: &Program<W>,
     input: &Input<'_>,
     table: &PassTable,
@@ -104,7 +104,7 @@ fn record_along<W: WordClass>(
 {
     // For the prover: positions up to the input's end, plus one, fit.
     let _end = input.end();
-    let mut walk = Walk::new(alloc, program.len())?;
+    walk.open(program.len())?;
     let mut at = span.start;
     let mut sid = program.start();
     'positions: loop {
@@ -130,29 +130,66 @@ impl PassTable {
     }
 }
 
-// What the pass has in memory.
+/// What the pass has in memory.
 #[derive(Drop)]
-struct Walk {
-    // For each state one more than the position at which it was seen last, or 0.
+pub(crate) struct Walk {
+    alloc: Global,
+    // For each state the stamp of the position at which it was seen last, or 0. Each position that is gone through has a stamp of its own.
     seen: Vec<usize>,
+    stamp: usize,
     // Where to go on at a position, the preferred way last: a state, and how many states the trail has before it.
     stack: Vec<(StateID, usize)>,
     // The states gone through at a position.
     trail: Vec<StateID>,
+    ghost below: { AreBelow (stamp + 1) seen.items },
 }
 
 impl Walk {
-    // Memory for that many states, none of which was seen.
-    fn new(alloc: Global, count: usize) -> Result<Walk, Error>
-        ensures len { IfOk result (λ walk. length walk.seen.items ≡ count) }
-        ensures unseen { IfOk result (λ walk. AreBelow 1 walk.seen.items) }
-        ensures memory { IfErr result (λ e. e ≡ OutOfMemory) }
-    {
-        Ok(Walk {
-            seen: vec![in alloc; 0usize; count]?,
+    /// Memory for no states.
+    pub(crate) fn new(alloc: Global) -> Walk {
+        Walk {
+            alloc,
+            seen: Vec::new(alloc),
+            stamp: 0,
             stack: Vec::new(alloc),
             trail: Vec::new(alloc),
-        })
+        }
+    }
+
+    // Memory for that many states.
+    fn open(&mut self, count: usize) -> Result<(), Error>
+        ensures len { OnOk result (length self.new.seen.items ≡ count) }
+        ensures memory { IfErr result (λ e. e ≡ OutOfMemory) }
+    {
+        if self.seen.len() == count {
+            return Ok(());
+        }
+        self.renew(count)
+    }
+
+    // Memory for that many states, none of which was seen.
+    fn renew(&mut self, count: usize) -> Result<(), Error>
+        ensures len { OnOk result (length self.new.seen.items ≡ count) }
+        ensures stamp { OnOk result (self.new.stamp ≡ 0) }
+        ensures memory { IfErr result (λ e. e ≡ OutOfMemory) }
+    {
+        self.seen = vec![in self.alloc; 0usize; count]?;
+        self.stamp = 0;
+        Ok(())
+    }
+
+    // Takes a stamp with which no state was seen.
+    fn take_stamp(&mut self) -> Result<(), Error>
+        ensures len { OnOk result (length self.new.seen.items ≡ length self.old.seen.items) }
+        ensures unseen { OnOk result (AreBelow self.new.stamp self.new.seen.items) }
+        ensures memory { IfErr result (λ e. e ≡ OutOfMemory) }
+    {
+        if self.stamp == usize::MAX {
+            let count = self.seen.len();
+            self.renew(count)?;
+        }
+        self.stamp += 1;
+        Ok(())
     }
 
     // Goes through a position from a state on, and writes what is recorded there: the state after the byte, or `None` at the run's end.
@@ -169,9 +206,7 @@ impl Walk {
         requires end { at ≤ input.now.span.end }
         requires sid { sid < length program.now.automaton.states }
         requires len { length self.old.seen.items ≡ length program.now.automaton.states }
-        requires unseen { AreBelow (at + 1) self.old.seen.items }
-        ensures len { length self.new.seen.items ≡ length program.now.automaton.states }
-        ensures unseen { AreBelow (at + 2) self.new.seen.items }
+        ensures len { OnOk result (length self.new.seen.items ≡ length program.now.automaton.states) }
         ensures there { IfOk result (λ next. IfSome next (λ to. to < length program.now.automaton.states)) }
         ensures on { IfOk result (λ next. (p from j : ℕ) (run : List (ℕ × ℕ))
             → IsSought (search_in W.word_chars program.now input.now) p from j run
@@ -183,16 +218,17 @@ impl Walk {
     {
         // For the prover: positions up to the input's end, plus one, fit.
         let _end = input.end();
+        self.take_stamp()?;
         self.stack.clear();
         self.trail.clear();
         self.stack.push((sid, 0))?;
         'stack: while let Some(top) = self.stack.pop() {
             let sid = top.0;
             self.trail.truncate(top.1);
-            if self.seen[sid.as_usize()] == at + 1 {
+            if self.seen[sid.as_usize()] == self.stamp {
                 continue 'stack;
             }
-            self.seen[sid.as_usize()] = at + 1;
+            self.seen[sid.as_usize()] = self.stamp;
             match way_of(program, input, at, sid) {
                 Way::Stuck => {}
                 Way::One(to) => {

@@ -13,19 +13,16 @@ ghost use Rattle.rsc_engine.specs.BackwardLayout.{IsStartOf};
 ghost use Rattle.rsc_engine.specs.LogLayout.{IsLogged};
 ghost use Rattle.rsc_engine.specs.declared.error.Error.TheVariants.{OutOfMemory};
 
-use super::pass_table::{PassRow, PassTable};
+use super::pass_table::PassTable;
 use super::plan::{Plan, after_of};
-use super::retreat::accepting;
 use crate::Error;
 use rsc_look::WordClass;
 use rsc_primitives::PatternID;
-use rsc_search::{Anchored, Input};
-use std::alloc::Global;
+use rsc_search::Input;
 
 /// Where the leftmost-first match in an input's span begins, which is of a pattern and ends at a position. The log names the rows of the positions from the
 /// match's end back, at least to where it begins; no row is dropped.
 pub(crate) fn first_start<W: WordClass>(
-    alloc: Global,
     plan: &Plan<'_, W>,
     table: &mut PassTable,
     input: &Input<'_>,
@@ -47,16 +44,7 @@ pub(crate) fn first_start<W: WordClass>(
 {
     let start = input.start();
     let after = after_of(input.haystack(), end);
-    let list = accepting(alloc, plan.program, pattern)?;
-    let first_row = PassRow {
-        backward: true,
-        mode: Anchored::No,
-        begins: false,
-        found: None,
-        read: after,
-        list,
-    };
-    let mut row = table.row_of(plan, first_row)?.0;
+    let mut row = table.last_row(plan, pattern, after)?;
     log.clear();
     add_to_log(log, row)?;
     let mut at = end;

@@ -143,7 +143,7 @@ impl PassTable {
     {
         steps_are_lawful();
         let unit = before_of(input.haystack(), at);
-        if plan.quits_at(unit) || plan.quits_at(self.rows[row].read) {
+        if plan.is_beyond(unit) || plan.is_beyond(self.rows[row].read) {
             return self.make_back(plan, input, row, at);
         }
         match self.look_up(plan, row, unit) {

@@ -1,8 +1,8 @@
-//! The entries of the table of a DFA.
+//! The entries of the table of both passes, and what they are compared by.
 ghost use Rattle.std.specs.Prelude.{◌≡◌, ◌+◌, ◌*◌, ◌<◌, ◌≤◌, ◌⊎◌, ℕ, IfErr, IfSome, OnOk, Some, None, true, length, slice_index_or};
 ghost use Rattle.rsc_engine.specs.declared.error.Error.TheVariants.{OutOfMemory};
 ghost use Rattle.rsc_engine.specs.RowsLayout.{Alike, IsPlan, machine};
-ghost use Rattle.rsc_engine.specs.TablesLayout.{step_of, column};
+ghost use Rattle.rsc_engine.specs.PassTableLayout.{column};
 ghost use Rattle.rsc_engine.specs.declared.dfa.entries.Lead.TheVariants.{Unknown};
 
 use super::plan::Plan;
@@ -18,53 +18,10 @@ use std::alloc::Global;
 pub(crate) enum Lead {
     /// It isn't known.
     Unknown,
-    /// A match ends before the unit.
-    Match,
     /// The unit leads to the row.
     To(u32),
     /// The unit leads to the row, which has no state: a search ends there.
     Last(u32),
-}
-
-/// Where a unit leads from a row.
-#[derive(Clone, Copy)]
-pub(crate) enum Step {
-    /// A match ends before the unit.
-    Matches,
-    /// The unit leads to the row.
-    Goes(usize),
-    /// The unit is a byte that isn't ASCII, and an assertion looks at characters.
-    Quits,
-}
-
-/// What an entry says.
-#[inline(always)]
-pub(crate) fn read(lead: Lead) -> Option<Step>
-    ensures { result ≡ step_of lead }
-{
-    match lead {
-        Lead::Unknown => None,
-        Lead::Match => Some(Step::Matches),
-        Lead::To(row) | Lead::Last(row) => Some(Step::Goes(row as usize)),
-    }
-}
-
-/// The entry that says the step, or nothing. A row that is `is_last` has no state.
-pub(crate) fn written(step: Step, is_last: bool) -> Lead
-    ensures { (step_of result ≡ None) ⊎ (step_of result ≡ Some step) }
-{
-    match step {
-        Step::Matches => Lead::Match,
-        Step::Goes(row) => match u32::try_from(row) {
-            Ok(row) => if is_last {
-                Lead::Last(row)
-            } else {
-                Lead::To(row)
-            },
-            Err(_) => Lead::Unknown,
-        },
-        Step::Quits => Lead::Unknown,
-    }
 }
 
 /// Where the entry of a row and a unit is, in a table of that many rows and entries.

@@ -1,11 +1,11 @@
 //! The steps of the forward pass along the rows of the table: the known ones, and the others, which are made and kept where they serve other
 //! positions.
-ghost use Rattle.std.specs.Prelude.{◌≡◌, ◌+◌, ◌<◌, ◌≤◌, [], IfOk, IfErr, Some, true, false, length, slice_get};
+ghost use Rattle.std.specs.Prelude.{◌≡◌, ◌+◌, ◌<◌, ◌≤◌, [], IfOk, IfErr, Some, None, true, false, length, slice_get};
 ghost use Rattle.rsc_engine.specs.declared.error.Error.TheVariants.{OutOfMemory};
 ghost use Rattle.rsc_engine.specs.Searches.{search_in};
 ghost use Rattle.rsc_engine.specs.RowsLayout.{machine, IsPlan};
 ghost use Rattle.rsc_engine.specs.PassTableLayout.{IsPassTable};
-ghost use Rattle.rsc_engine.specs.ForwardLayout.{StandsForward, GoesForward, pattern_in, last_with};
+ghost use Rattle.rsc_engine.specs.ForwardLayout.{StandsInEach, GoesInEach, pattern_in, last_with};
 ghost use Rattle.rsc_engine.specs.declared.dfa.pass_table.PassRow.{PassRow};
 
 use super::lawful::steps_are_lawful;
@@ -28,16 +28,18 @@ impl PassTable {
         row: usize,
         at: usize,
         last: Option<(PatternID, usize)>,
+        earliest: bool,
     ) -> (usize, usize, Option<(PatternID, usize)>)
         requires plan { IsPlan (machine W.word_chars plan.now.program.now) plan.now.classes plan.now.width plan.now.unicode }
         requires exact { IsPassTable (machine W.word_chars plan.now.program.now) plan.now.classes plan.now.width plan.now.most_rows
             self.now.rows.items self.now.leads.items }
-        requires on { StandsForward (search_in W.word_chars plan.now.program.now input.now) plan.now.classes self.now.rows.items row at last }
+        requires on { StandsInEach (search_in W.word_chars plan.now.program.now input.now) plan.now.classes self.now.rows.items row at last }
         requires start { input.now.span.start ≤ at }
         requires end { at ≤ input.now.span.end }
-        ensures on { StandsForward (search_in W.word_chars plan.now.program.now input.now) plan.now.classes self.now.rows.items result.0 result.1 result.2 }
+        ensures on { StandsInEach (search_in W.word_chars plan.now.program.now input.now) plan.now.classes self.now.rows.items result.0 result.1 result.2 }
         ensures further { at ≤ result.1 }
         ensures end { result.1 ≤ input.now.span.end }
+        ensures none { earliest ≡ true → result.2 ≡ last }
     {
         steps_are_lawful();
         let haystack = input.haystack();
@@ -47,6 +49,9 @@ impl PassTable {
         'bytes: for position in at..end {
             match self.known_row(plan, here, byte_at(haystack, position)) {
                 Some(next) => {
+                    if earliest && self.has_found(next) {
+                        return (here, position, found);
+                    }
                     here = next;
                     found = self.found_with(next, position, found);
                 }
@@ -54,6 +59,21 @@ impl PassTable {
             }
         }
         (here, end, found)
+    }
+
+    /// Whether a look that leads to the row finds a match.
+    #[inline(always)]
+    pub(crate) fn has_found(&self, row: usize) -> bool
+        ensures some { result ≡ true → ¬ (pattern_in (slice_get self.now.rows.items row) ≡ None) }
+        ensures none { result ≡ false → pattern_in (slice_get self.now.rows.items row) ≡ None }
+    {
+        if row >= self.rows.len() {
+            return false;
+        }
+        match self.rows[row].found {
+            Some(_) => true,
+            None => false,
+        }
     }
 
     /// The last match found, after a look at a position that leads to the row.
@@ -99,13 +119,14 @@ impl PassTable {
         requires plan { IsPlan (machine W.word_chars plan.now.program.now) plan.now.classes plan.now.width plan.now.unicode }
         requires exact { IsPassTable (machine W.word_chars plan.now.program.now) plan.now.classes plan.now.width plan.now.most_rows
             self.old.rows.items self.old.leads.items }
-        requires on { StandsForward (search_in W.word_chars plan.now.program.now input.now) plan.now.classes self.old.rows.items row at last }
+        requires on { StandsInEach (search_in W.word_chars plan.now.program.now input.now) plan.now.classes self.old.rows.items row at last }
         requires start { input.now.span.start ≤ at }
         requires end { at ≤ input.now.span.end }
         ensures exact { IsPassTable (machine W.word_chars plan.now.program.now) plan.now.classes plan.now.width plan.now.most_rows
             self.new.rows.items self.new.leads.items }
         ensures on { IfOk result (λ r.
-            StandsForward (search_in W.word_chars plan.now.program.now input.now) plan.now.classes self.new.rows.items r.0 (at + 1) r.1) }
+            StandsInEach (search_in W.word_chars plan.now.program.now input.now) plan.now.classes self.new.rows.items r.0 (at + 1) r.1) }
+        ensures found { IfOk result (λ r. r.1 ≡ last_with (pattern_in (slice_get self.new.rows.items r.0)) at last) }
         ensures memory { IfErr result (λ e. e ≡ OutOfMemory) }
     {
         let next = self.next_row(plan, input, row, at)?;
@@ -128,13 +149,13 @@ impl PassTable {
         requires end { at ≤ input.now.span.end }
         ensures exact { IsPassTable (machine W.word_chars plan.now.program.now) plan.now.classes plan.now.width plan.now.most_rows
             self.new.rows.items self.new.leads.items }
-        ensures goes { IfOk result (GoesForward (search_in W.word_chars plan.now.program.now input.now) plan.now.classes
+        ensures goes { IfOk result (GoesInEach (search_in W.word_chars plan.now.program.now input.now) plan.now.classes
             self.old.rows.items self.new.rows.items row at) }
         ensures memory { IfErr result (λ e. e ≡ OutOfMemory) }
     {
         steps_are_lawful();
         let unit = after_of(input.haystack(), at);
-        if plan.quits_at(unit) || plan.quits_at(self.rows[row].read) {
+        if plan.is_beyond(unit) || plan.is_beyond(self.rows[row].read) {
             return self.make_here(plan, input, row, at);
         }
         match self.look_up(plan, row, unit) {
@@ -160,17 +181,19 @@ impl PassTable {
         requires end { at ≤ input.now.span.end }
         ensures exact { IsPassTable (machine W.word_chars plan.now.program.now) plan.now.classes plan.now.width plan.now.most_rows
             self.new.rows.items self.new.leads.items }
-        ensures goes { IfOk result (GoesForward (search_in W.word_chars plan.now.program.now input.now) plan.now.classes
+        ensures goes { IfOk result (GoesInEach (search_in W.word_chars plan.now.program.now input.now) plan.now.classes
             self.old.rows.items self.new.rows.items row at) }
         ensures memory { IfErr result (λ e. e ≡ OutOfMemory) }
     {
-        let unit = after_of(input.haystack(), at);
+        let haystack = input.haystack();
+        let unit = after_of(haystack, at);
         let mode = input.get_anchored();
+        let whole = Input::new(haystack).anchored(mode);
         let from = &self.rows[row];
         let (found, begins, list) = advance(
             self.alloc,
             plan.program,
-            input,
+            &whole,
             at,
             from.begins,
             from.list.as_slice(),

@@ -9,7 +9,7 @@ ghost use Rattle.rsc_engine.specs.ForwardLayout.{beside, IsAdvanced};
 ghost use Rattle.rsc_engine.specs.declared.error.Error.TheVariants.{OutOfMemory};
 ghost use Rattle.rsc_engine.specs.OrderedLayout.{IsWayOn, IsThere, IsLooked};
 
-use super::successor::near_of;
+use super::near::near_of;
 use crate::{Error, Program};
 use rsc_look::WordClass;
 use rsc_nfa::State;

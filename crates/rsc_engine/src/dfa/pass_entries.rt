@@ -16,7 +16,7 @@ pub(crate) fn led_to(lead: Lead) -> Option<usize>
 {
     match lead {
         Lead::To(row) | Lead::Last(row) => Some(row as usize),
-        Lead::Unknown | Lead::Match => None,
+        Lead::Unknown => None,
     }
 }
 

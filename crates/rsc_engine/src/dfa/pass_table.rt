@@ -5,6 +5,7 @@ ghost use Rattle.rsc_engine.specs.RowsLayout.{Machine, machine, AreStates, IsPla
 ghost use Rattle.rsc_engine.specs.PassTableLayout.{IsPassTable, IsPassRow, IsPassStep, IsPassTo, IsSoundPassRow, IsPassGrown, AreFew};
 ghost use Rattle.rsc_engine.specs.declared.dfa.pass_table.PassRow.{PassRow};
 
+use super::begin_rows::REMEMBERED;
 use super::entries::{Lead, are_alike, are_same, entry_index, is_byte, widen};
 use super::ordered::advance_beside;
 use super::pass_entries::{is_same_pattern, lead_to, led_to, pass_key};
@@ -27,7 +28,7 @@ pub(crate) struct PassRow {
     pub(crate) mode: Anchored,
     /// Forward: whether matches may begin later. Backward: whether the match that is sought may begin at the position looked at last.
     pub(crate) begins: bool,
-    /// Forward: the pattern of a match that ends before the byte read last. Backward there is none.
+    /// Forward: the pattern of a match that ends before the byte read last. Backward: the pattern whose accepting states the list has, where a pass begins.
     pub(crate) found: Option<PatternID>,
     /// A byte of the class of the byte that was read last: forward the one before the position, backward the one after it.
     pub(crate) read: Option<u8>,
@@ -44,6 +45,9 @@ pub(crate) struct PassTable {
     pub(crate) leads: Vec<Lead>,
     // For each row's key the row. No clause speaks of it, since the row that is found is compared.
     known: BTreeMap<Vec<u32>, usize>,
+    // The rows in which passes began. No clause speaks of them either.
+    pub(crate) first_rows: [u32; REMEMBERED],
+    pub(crate) last_rows: [u32; REMEMBERED],
 }
 
 impl PassTable {
@@ -57,6 +61,8 @@ impl PassTable {
             rows: Vec::new(alloc),
             leads: Vec::new(alloc),
             known: BTreeMap::new(alloc),
+            first_rows: [0; REMEMBERED],
+            last_rows: [0; REMEMBERED],
         }
     }
 
@@ -78,7 +84,7 @@ impl PassTable {
         let entry = entry_index(plan, row, Some(byte), self.rows.len(), self.leads.len());
         match self.leads[entry] {
             Lead::To(next) => Some(next as usize),
-            Lead::Unknown | Lead::Match | Lead::Last(_) => None,
+            Lead::Unknown | Lead::Last(_) => None,
         }
     }
 
@@ -283,6 +289,7 @@ fn step_beside<W: WordClass>(
     ensures step { IfOk result (λ r. IsPassStep (machine W.word_chars program.now) from.now.mode from.now.backward from.now.read from.now.begins
         from.now.list.items unit r.0 r.1 r.2.items) }
     ensures states { IfOk result (λ r. AreStates (length program.now.automaton.states) r.2.items) }
+    ensures back { from.now.backward ≡ true → IfOk result (λ r. r.0 ≡ None) }
     ensures memory { IfErr result (λ e. e ≡ OutOfMemory) }
 {
     let list = from.list.as_slice();

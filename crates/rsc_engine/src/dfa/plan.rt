@@ -2,15 +2,12 @@
 ghost use Rattle.std.specs.Prelude.{◌≡◌, ℕ, ◌<◌, ◌≤◌, IfSome, Some, true, false, length};
 ghost use Rattle.std.specs.FinSet as sets;
 ghost use Rattle.rsc_look.specs.Holds.{byte_before, byte_after};
-ghost use Rattle.rsc_engine.specs.RowsLayout.{IsPlan, IsPlainUnit, IsNeverEntered, machine};
-ghost use Rattle.rsc_nfa.specs.declared.state.State.TheVariants.{ByteRange};
-ghost use Rattle.rsc_engine.specs.TablesLayout.{IsBeyond, column};
+ghost use Rattle.rsc_engine.specs.RowsLayout.{IsPlan, IsPlainUnit, machine};
+ghost use Rattle.rsc_engine.specs.PassTableLayout.{column};
 
 use crate::{AsciiWordClass, Program};
 use rsc_alphabet::{ByteClassSet, ByteClasses};
 use rsc_look::WordClass;
-use rsc_nfa::State;
-use rsc_primitives::StateID;
 
 /// The first byte that is not ASCII.
 const PAST_ASCII: u8 = 0x80;
@@ -26,8 +23,6 @@ pub(crate) struct Plan<'p, W: WordClass> {
     pub(crate) width: usize,
     /// Whether an assertion looks at characters.
     pub(crate) unicode: bool,
-    /// Whether no byte leads to the start state, so that a search is there only where a match may begin.
-    pub(crate) is_start_never_entered: bool,
     /// How many rows are kept at most.
     pub(crate) most_rows: usize,
 }
@@ -37,7 +32,6 @@ impl<'p, W: WordClass + AsciiWordClass> Plan<'p, W> {
     pub(crate) fn new(program: &'p Program<W>, most_rows: usize) -> Plan<'p, W>
         ensures program { result.program.now ≡ program.now }
         ensures plan { IsPlan (machine W.word_chars program.now) result.classes result.width result.unicode }
-        ensures never_entered { result.is_start_never_entered ≡ true → IsNeverEntered (machine W.word_chars program.now) }
     {
         W::agrees_with_ascii();
         // For the prover: what these calls promise of the program.
@@ -52,7 +46,6 @@ impl<'p, W: WordClass + AsciiWordClass> Plan<'p, W> {
             classes,
             width,
             unicode,
-            is_start_never_entered: is_never_entered(program),
             most_rows,
         }
     }
@@ -72,39 +65,15 @@ impl<'p, W: WordClass> Plan<'p, W> {
         }
     }
 
-    /// Whether a search quits at a unit.
-    pub(crate) fn quits_at(&self, unit: Option<u8>) -> bool
+    /// Whether an assertion looks at characters and the unit is a byte above 7F, so that a step beside it serves its position alone.
+    pub(crate) fn is_beyond(&self, unit: Option<u8>) -> bool
         requires { IsPlan (machine W.word_chars self.now.program.now) self.now.classes self.now.width self.now.unicode }
-        ensures yes { result ≡ true → IsBeyond (machine W.word_chars self.now.program.now) unit }
-        ensures no { result ≡ false → IsPlainUnit (machine W.word_chars self.now.program.now) unit }
+        ensures { result ≡ false → IsPlainUnit (machine W.word_chars self.now.program.now) unit }
     {
         match unit {
             Some(byte) => self.unicode && byte >= PAST_ASCII,
             None => false,
         }
-    }
-}
-
-// Whether no byte leads to the start state.
-fn is_never_entered<W: WordClass>(program: &Program<W>) -> bool
-    ensures { result ≡ true → IsNeverEntered (machine W.word_chars program.now) }
-{
-    let mut is_never = true;
-    'states: for index in 0..program.len() {
-        let other = never_leads_to(program.nfa().states()[index], program.start());
-        is_never = is_never & other;
-    }
-    is_never
-}
-
-// Whether no byte leads from a state to another.
-fn never_leads_to(state: State, other: StateID) -> bool
-    ensures { result ≡ true → (a b next : ℕ) → state ≡ ByteRange a b next → ¬ (next ≡ other) }
-{
-    match state {
-        State::ByteRange { next, .. } => next != other,
-        State::Assert { .. } | State::Fork { .. } | State::Capture { .. } | State::Accept { .. } =>
-            true,
     }
 }
 

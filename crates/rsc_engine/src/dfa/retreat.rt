@@ -10,8 +10,8 @@ ghost use Rattle.rsc_engine.specs.RowsLayout.{machine, around, middle, Gathers, 
 ghost use Rattle.rsc_engine.specs.ForwardLayout.{beside};
 ghost use Rattle.rsc_engine.specs.BackwardLayout.{Lists, AreLedBack, IsShut, IsClosedBack, LeadsToMarked, IsSource, IsRetreated};
 
+use super::near::{moved, near_of};
 use super::ordered::{Way, way_of};
-use super::successor::{moved, near_of};
 use crate::{Error, Program};
 use rsc_look::WordClass;
 use rsc_nfa::State;

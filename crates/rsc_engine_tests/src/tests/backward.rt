@@ -1,6 +1,7 @@
-//! A DFA's matches beside the backtracker's, where a match begins before its end says so: in each span and mode, with any number of rows.
+//! A DFA's matches beside those of a walk that tries each way, where a match begins before its end says so: in each span and mode, with any number of rows.
+use super::slow::first_match;
 use crate::made::captures_of;
-use rsc_engine::{Builder, Dfa, Error, Part, Program, find};
+use rsc_engine::{Builder, Dfa, Error, Part, Program};
 use rsc_look::{Look, UnicodeWord};
 use rsc_primitives::PatternID;
 use rsc_search::{Anchored, Input, Span};
@@ -51,7 +52,7 @@ fn word(builder: &Builder<'static>) -> Result<Part<'static>, Error> {
     builder.then(begun, builder.look(Look::WordUnicode))
 }
 
-// Whether the DFA finds what the backtracker does, with its groups.
+// Whether the DFA finds what the walk does, with its groups.
 fn same(
     alloc: Global,
     dfa: &mut Dfa<'_, UnicodeWord>,
@@ -60,7 +61,7 @@ fn same(
 ) -> Result<bool, Fail> {
     let mut wanted = captures_of(alloc, program)?;
     let mut captures = captures_of(alloc, program)?;
-    let first = find(alloc, program, input, &mut wanted)?;
+    let first = first_match(alloc, program, input, &mut wanted)?;
     let found = dfa.find(input, &mut captures)?;
     Ok(found == first && captures.slots() == wanted.slots())
 }
@@ -108,7 +109,7 @@ fn difference(
 }
 
 #[test]
-fn begins_where_the_backtracker_does(rt: HostRuntime) -> Result<(), Fail> {
+fn begins_where_the_walk_does(rt: HostRuntime) -> Result<(), Fail> {
     for number in 0..4 {
         for rows in [1, 2, 1000] {
             let found = difference(rt.alloc(), number, rows, &Anchored::No)?;

@@ -1,8 +1,9 @@
-//! The DFA beside the backtracker, for 22 programs over all texts of up to three of six bytes.
+//! The DFA beside a walk that tries each way, for 22 programs over all texts of up to three of six bytes.
 use super::programs::program_of;
+use super::slow::{first_end, first_match};
 use crate::made::captures_of;
 use rsc_captures::Captures;
-use rsc_engine::{Answer, AsciiWordClass, Builder, Dfa, Error, Program, find};
+use rsc_engine::{Builder, Dfa, Error, Program};
 use rsc_look::{AsciiWord, Look, UnicodeWord, WordClass};
 use rsc_primitives::PatternID;
 use rsc_search::{Anchored, Input, Span};
@@ -32,48 +33,7 @@ pub(super) fn text_of(number: usize) -> ([u8; 4], usize) {
     (bytes, len)
 }
 
-// Whether the backtracker finds a match that ends at the position or before.
-fn ends_by<W: WordClass + AsciiWordClass>(
-    alloc: Global,
-    program: &Program<W>,
-    input: &Input<'_>,
-    end: usize,
-    captures: &mut Captures,
-) -> Result<bool, Error> {
-    let mut part = Input::new(input.haystack()).anchored(input.get_anchored());
-    if end > input.haystack().len() || input.start() > end + 1 {
-        return Ok(false);
-    }
-    part.set_span(Span {
-        start: input.start(),
-        end,
-    });
-    Ok(find(alloc, program, &part, captures)?.is_some())
-}
-
-// Whether the backtracker agrees with an answer.
-fn agrees<W: WordClass + AsciiWordClass>(
-    alloc: Global,
-    program: &Program<W>,
-    input: &Input<'_>,
-    answer: Answer,
-    captures: &mut Captures,
-) -> Result<bool, Error> {
-    match answer {
-        Answer::End(at) => {
-            let earlier = at > 0 && ends_by(alloc, program, input, at - 1, captures)?;
-            Ok(!earlier && ends_by(alloc, program, input, at, captures)?)
-        }
-        Answer::NoMatch => Ok(!ends_by(alloc, program, input, input.end(), captures)?),
-        Answer::Quit(at) => {
-            let earlier = at > 0 && ends_by(alloc, program, input, at - 1, captures)?;
-            let haystack = input.haystack();
-            Ok(!earlier && at < haystack.len() && haystack[at] >= 0x80)
-        }
-    }
-}
-
-// Whether the DFA and the backtracker agree in all that they answer.
+// Whether all that the DFA answers is what a look at all places finds.
 fn same(
     alloc: Global,
     dfa: &mut Dfa<'_, UnicodeWord>,
@@ -81,17 +41,17 @@ fn same(
     input: &Input<'_>,
     captures: &mut Captures,
 ) -> Result<bool, Error> {
-    let answer = dfa.earliest_end(input)?;
-    let found = find(alloc, program, input, captures)?;
+    let earliest = first_end(alloc, program, input, captures)?;
+    let found = first_match(alloc, program, input, captures)?;
     Ok(
-        agrees(alloc, program, input, answer, captures)?
+        dfa.earliest_end(input)? == earliest
             && dfa.is_match(input)? == found.is_some()
             && dfa.find(input, captures)? == found
             && dfa.leftmost_end(input)? == found.map(|m| m.end()),
     )
 }
 
-// The first text on which the DFA of a program and the backtracker differ; with at most that many rows.
+// The first text on which the DFA of a program and the walk differ; with at most that many rows.
 fn differing_text(alloc: Global, number: usize, rows: usize) -> Result<Option<usize>, Fail> {
     let program = program_of(alloc, number)?;
     let mut captures = captures_of(alloc, &program)?;
@@ -106,7 +66,7 @@ fn differing_text(alloc: Global, number: usize, rows: usize) -> Result<Option<us
     Ok(None)
 }
 
-// The first program, from one number up to another, and its first text on which the DFA and the backtracker differ.
+// The first program, from one number up to another, and its first text on which the DFA and the walk differ.
 fn difference(
     alloc: Global,
     first: usize,
@@ -166,7 +126,7 @@ fn two(alloc: Global) -> Result<Program<AsciiWord>, Error> {
     builder.build(AsciiWord, true, other)
 }
 
-// The first span of `ab ab` in which the DFA and the backtracker differ.
+// The first span of `ab ab` in which the DFA and the walk differ.
 fn differing_span(
     alloc: Global,
     dfa: &mut Dfa<'_, AsciiWord>,
@@ -179,8 +139,7 @@ fn differing_span(
             if start <= end + 1 {
                 let mut input = Input::new(b"ab ab").anchored(mode);
                 input.set_span(Span { start, end });
-                let answer = dfa.earliest_end(&input)?;
-                if !agrees(alloc, program, &input, answer, captures)? {
+                if dfa.earliest_end(&input)? != first_end(alloc, program, &input, captures)? {
                     return Ok(Some(Span { start, end }));
                 }
             }
@@ -207,7 +166,7 @@ fn agrees_in_each_span_and_mode(rt: HostRuntime) -> Result<(), Fail> {
 }
 
 // The answers of one DFA: where `a` is followed by `b` after the span, where by `-`, and where by `b` within it.
-fn answers_for_letter(dfa: &mut Dfa<'_, AsciiWord>) -> Result<[Answer; 3], Error> {
+fn answers_for_letter(dfa: &mut Dfa<'_, AsciiWord>) -> Result<[Option<usize>; 3], Error> {
     let input = Input::new(b"-ab").span(Span { start: 0, end: 2 });
     let before = dfa.earliest_end(&input)?;
     let alone = dfa.earliest_end(&Input::new(b"-a-"))?;
@@ -219,22 +178,21 @@ fn answers_for_letter(dfa: &mut Dfa<'_, AsciiWord>) -> Result<[Answer; 3], Error
 fn sees_the_byte_after_the_span(rt: HostRuntime) -> Result<(), Fail> {
     let program = two(rt.alloc())?;
     let answers = answers_for_letter(&mut Dfa::new(rt.alloc(), &program, 1000))?;
-    assert!(rt; answers == [Answer::NoMatch, Answer::End(2), Answer::End(3)]);
+    assert!(rt; answers == [None, Some(2), Some(3)]);
     Ok(())
 }
 
 // The first span in which the answer of `\bé\b` isn't as wanted.
-fn differing_quit(dfa: &mut Dfa<'_, UnicodeWord>) -> Result<Option<Span>, Error> {
+fn differing_answer(dfa: &mut Dfa<'_, UnicodeWord>) -> Result<Option<Span>, Error> {
     for (start, end, want) in [
-        (0, 5, Answer::Quit(2)),
-        (0, 2, Answer::Quit(2)),
-        (0, 1, Answer::NoMatch),
-        (2, 3, Answer::Quit(2)),
-        (3, 3, Answer::Quit(2)),
-        (4, 5, Answer::Quit(3)),
-        (5, 5, Answer::NoMatch),
+        (0, 8, Some(6)),
+        (0, 5, None),
+        (4, 6, Some(6)),
+        (3, 8, Some(6)),
+        (5, 8, None),
+        (8, 8, None),
     ] {
-        let mut input = Input::new("abéa".as_bytes());
+        let mut input = Input::new("aé é a".as_bytes());
         if start <= end && end <= input.haystack().len() {
             input.set_span(Span { start, end });
             if dfa.earliest_end(&input)? != want {
@@ -245,12 +203,12 @@ fn differing_quit(dfa: &mut Dfa<'_, UnicodeWord>) -> Result<Option<Span>, Error>
     Ok(None)
 }
 
-// The first byte that isn't ASCII, from directly before the span to directly after it, ends the search.
+// Beside a byte above 7F an assertion looks at characters, also at those before the span and after it.
 #[test]
-fn quits_at_the_first_byte_that_is_not_ascii(rt: HostRuntime) -> Result<(), Fail> {
+fn goes_past_bytes_that_are_not_ascii(rt: HostRuntime) -> Result<(), Fail> {
     let program = program_of(rt.alloc(), 19)?;
     let mut dfa = Dfa::new(rt.alloc(), &program, 1000);
-    assert_eq!(rt; differing_quit(&mut dfa)?, None);
+    assert_eq!(rt; differing_answer(&mut dfa)?, None);
     Ok(())
 }
 
@@ -272,7 +230,7 @@ fn answers_for_pair(
     alloc: Global,
     dfa: &mut Dfa<'_, AsciiWord>,
     at: usize,
-) -> Result<Option<[Answer; 2]>, Error> {
+) -> Result<Option<[Option<usize>; 2]>, Error> {
     let mut text = blanks(alloc, 5000)?;
     let end = text.len();
     if at == 0 || at >= end {
@@ -290,7 +248,7 @@ fn answers_for_pair(
 fn missed_pair(alloc: Global, dfa: &mut Dfa<'_, AsciiWord>) -> Result<Option<usize>, Error> {
     for at in [1usize, 2, 63, 64, 65, 66, 128, 129, 4095, 4096, 4999] {
         let answers = answers_for_pair(alloc, dfa, at)?;
-        if answers != Some([Answer::End(at + 1), Answer::NoMatch]) {
+        if answers != Some([Some(at + 1), None]) {
             return Ok(Some(at));
         }
     }
@@ -299,7 +257,7 @@ fn missed_pair(alloc: Global, dfa: &mut Dfa<'_, AsciiWord>) -> Result<Option<usi
 
 fn finds_nothing_in_letters(alloc: Global, dfa: &mut Dfa<'_, AsciiWord>) -> Result<bool, Error> {
     let letters: Vec<u8> = vec![in alloc; b'x'; 5000]?;
-    Ok(dfa.earliest_end(&Input::new(&letters))? == Answer::NoMatch)
+    Ok(dfa.earliest_end(&Input::new(&letters))? == None)
 }
 
 // A long text is first looked through for a letter and a digit after it.
@@ -320,7 +278,7 @@ fn found_from(dfa: &mut Dfa<'_, AsciiWord>, text: &[u8]) -> Result<Option<usize>
     for start in 0..end / 40 {
         if start <= end && end <= input.haystack().len() {
             input.set_span(Span { start, end });
-            if dfa.earliest_end(&input)? != Answer::NoMatch {
+            if dfa.earliest_end(&input)? != None {
                 return Ok(Some(start));
             }
         }

@@ -1,5 +1,6 @@
 //! A DFA's searches beside bytes above 7F, of a program that looks at characters: they answer as everywhere, with any number of rows.
-use rsc_engine::{Builder, Dfa, Error, Program, find};
+use super::slow::first_match;
+use rsc_engine::{Builder, Dfa, Error, Program};
 use rsc_look::{Look, UnicodeWord};
 use rsc_search::{Anchored, Input, Span};
 use std::alloc::Global;
@@ -28,7 +29,7 @@ fn is_first(
     let found = dfa.find(&input, &mut captures)?;
     let end = dfa.leftmost_end(&input)?;
     let is_match = dfa.is_match(&input)?;
-    let first = find(alloc, program, &input, &mut captures)?;
+    let first = first_match(alloc, program, &input, &mut captures)?;
     Ok(
         found.map(|it| (it.start(), it.end())) == wanted
             && first.map(|it| (it.start(), it.end())) == wanted

@@ -1,8 +1,9 @@
-//! Lines with a match beside a reader that asks the backtracker of each line, for 22 programs over all texts of up to three of six bytes.
+//! Lines with a match beside a reader that tries each way in each line, for 22 programs over all texts of up to three of six bytes.
 use super::dfa::{TEXTS, text_of};
 use super::programs::program_of;
+use super::slow::first_match;
 use rsc_captures::Captures;
-use rsc_engine::{AsciiWordClass, Builder, Dfa, Error, Lines, Program, find};
+use rsc_engine::{AsciiWordClass, Builder, Dfa, Error, Lines, Program};
 use rsc_look::{AsciiWord, WordClass};
 use rsc_search::{Input, Span};
 use std::alloc::Global;
@@ -18,7 +19,7 @@ fn end_of(text: &[u8], start: usize) -> usize {
     text.len()
 }
 
-// Whether the lines are those in which the backtracker finds a match.
+// Whether the lines are those in which a walk finds a match.
 fn agree<W: WordClass + AsciiWordClass>(
     alloc: Global,
     program: &Program<W>,
@@ -37,7 +38,7 @@ fn agree<W: WordClass + AsciiWordClass>(
         }
         let line = Span { start, end };
         let input = Input::new(text).span(line);
-        if find(alloc, program, &input, captures)?.is_some() && lines.next()? != Some(line) {
+        if first_match(alloc, program, &input, captures)?.is_some() && lines.next()? != Some(line) {
             return Ok(false);
         }
         start = end + 1;

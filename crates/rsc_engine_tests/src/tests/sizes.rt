@@ -12,6 +12,10 @@ use std::test::Fail;
 
 const SIZES: [usize; 9] = [1, 2, 63, 64, 65, 255, 256, 1000, 2000];
 
+// To make all rows of a pass back over a longer part takes time in proportion to its square, which is long in a program that isn't optimized. So such parts are
+// asked where they end, and more groups than that are empty.
+const FAR: usize = 256;
+
 // The first match of an input by one of four searches.
 fn first_by(
     alloc: Global,
@@ -31,11 +35,6 @@ fn first_by(
     }
 }
 
-// To make all rows for a long part takes time in proportion to its square, so only `find`, which makes none in a short text, is asked for one.
-fn searches_of(count: usize) -> usize {
-    if count > 256 { 1 } else { 4 }
-}
-
 // Whether each of these searches finds a match of the pattern in the span, with the span of a group.
 fn finds(
     alloc: Global,
@@ -43,9 +42,8 @@ fn finds(
     input: &Input<'_>,
     wanted: Match,
     group: (usize, Span),
-    searches: usize,
 ) -> Result<bool, Fail> {
-    for search in 0..searches {
+    for search in 0..4 {
         let mut captures = captures_of(alloc, program)?;
         let found = first_by(alloc, program, input, &mut captures, search)?;
         if found != Some(wanted) || captures.get_group(group.0) != Some(group.1) {
@@ -74,7 +72,16 @@ fn span_to(count: usize) -> Span
     }
 }
 
-// A literal of that many bytes; or a letter at least that many times.
+// A hyphen, a `b`, and an `a` for each byte more.
+fn letters(alloc: Global, count: usize) -> Result<Vec<u8>, Error> {
+    let mut text = text_of(alloc, b'a', count)?;
+    if text.len() > 1 {
+        text[1] = b'b';
+    }
+    Ok(text)
+}
+
+// A literal of that many bytes, the first of which is another one; or that byte, and then a letter at least as often as there are bytes left.
 fn long_part(
     alloc: Global,
     builder: &Builder<'static>,
@@ -82,46 +89,66 @@ fn long_part(
     count: usize,
 ) -> Result<Part<'static>, Error> {
     if number == 0 {
-        let text = text_of(alloc, b'a', count)?;
+        let text = letters(alloc, count)?;
         return builder.literal(text.as_slice().get(1..).unwrap_or(&[]));
     }
-    builder.repeat(builder.range(b'a', b'a'), count, None)
+    let rest = builder.repeat(builder.range(b'a', b'a'), count.saturating_sub(1), None)?;
+    builder.then(builder.range(b'b', b'b'), rest)
+}
+
+// Whether the first match is there, or ends there.
+fn ends(alloc: Global, program: &Program<AsciiWord>, text: &[u8], span: Span) -> Result<bool, Fail>
+    requires { span.start ≤ span.end }
+{
+    let input = Input::new(text);
+    if text.len() > FAR + 1 {
+        return Ok(Dfa::new(alloc, program, 1000).leftmost_end(&input)? == Some(span.end));
+    }
+    finds(alloc, program, &input, Match::must(0, span), (0, span))
 }
 
 #[test]
 fn parts_of_any_length_are_found(rt: HostRuntime) -> Result<(), Fail> {
     let alloc = rt.alloc();
     for count in SIZES {
-        let text = text_of(alloc, b'a', count)?;
+        let text = letters(alloc, count)?;
         let span = span_to(count);
         for number in 0..2 {
             let builder = Builder::new(alloc);
             let part = long_part(alloc, &builder, number, count)?;
             let program = builder.build(AsciiWord, true, part)?;
-            let wanted = Match::must(0, span);
-            assert!(rt;
-                finds(
-                    alloc,
-                    &program,
-                    &Input::new(&text),
-                    wanted,
-                    (0, span),
-                    searches_of(count)
-                )?,
-                "{number} {count}"
-            );
+            assert!(rt; ends(alloc, &program, &text, span)?, "{number} {count}");
         }
     }
     Ok(())
 }
 
-// `(a)(a)..`: that many groups.
+// `(a)(a)..`, or `()()..`: that many groups.
 fn groups(alloc: Global, builder: &Builder<'static>, count: usize) -> Result<Part<'static>, Error> {
     let mut parts = Vec::new(alloc);
     for _ in 0..count {
-        parts.push(builder.group(None, builder.range(b'a', b'a'))?)?;
+        let part = if count > FAR {
+            builder.empty()
+        } else {
+            builder.range(b'a', b'a')
+        };
+        parts.push(builder.group(None, part)?)?;
     }
     builder.concat(parts)
+}
+
+// The whole match of these groups in a text of a hyphen and then a byte for each, and the last group.
+fn spans_of(count: usize) -> (Span, Span)
+    ensures { result.0.start ≤ result.0.end }
+{
+    if count > FAR {
+        return (Span { start: 0, end: 0 }, Span { start: 0, end: 0 });
+    }
+    let last = Span {
+        start: count,
+        end: count.saturating_add(1),
+    };
+    (span_to(count), last)
 }
 
 #[test]
@@ -132,19 +159,15 @@ fn the_last_of_any_number_of_groups_is_set(rt: HostRuntime) -> Result<(), Fail> 
         let part = groups(alloc, &builder, count)?;
         let program = builder.build(AsciiWord, true, part)?;
         let text = text_of(alloc, b'a', count)?;
-        let last = Span {
-            start: count,
-            end: count.saturating_add(1),
-        };
-        let wanted = Match::must(0, span_to(count));
+        let (whole, last) = spans_of(count);
+        let input = Input::new(&text);
         assert!(rt;
             finds(
                 alloc,
                 &program,
-                &Input::new(&text),
-                wanted,
-                (count, last),
-                searches_of(count)
+                &input,
+                Match::must(0, whole),
+                (count, last)
             )?,
             "{count}"
         );
@@ -181,7 +204,7 @@ fn the_last_of_any_number_of_patterns_is_found(rt: HostRuntime) -> Result<(), Fa
         let wanted = Match::must(number, span_to(3));
         let input = Input::new(&text);
         assert!(rt;
-            finds(alloc, &program, &input, wanted, (0, span_to(3)), 4)?,
+            finds(alloc, &program, &input, wanted, (0, span_to(3)))?,
             "{count}"
         );
         let mut anchored = Input::new(&text).anchored(Anchored::Pattern(PatternID::must(number)));
@@ -214,14 +237,7 @@ fn the_last_of_any_number_of_ranges_is_found(rt: HostRuntime) -> Result<(), Fail
         let text = [last.saturating_add(1), last];
         let wanted = Match::must(0, span_to(1));
         assert!(rt;
-            finds(
-                alloc,
-                &program,
-                &Input::new(&text),
-                wanted,
-                (0, span_to(1)),
-                4
-            )?,
+            finds(alloc, &program, &Input::new(&text), wanted, (0, span_to(1)))?,
             "{count}"
         );
     }

@@ -1,5 +1,5 @@
 //! The callers of the engine, run on values.
-use rsc_engine::{Answer, Builder, Cache, Dfa, Error, Matches, Part, Program};
+use rsc_engine::{Builder, Cache, Dfa, Error, Matches, Part, Program};
 use rsc_look::{AsciiWord, Look, LookSet};
 use rsc_primitives::PatternID;
 use rsc_search::{Input, Span};
@@ -153,7 +153,7 @@ fn answers_are_of_parts(rt: HostRuntime) -> Result<(), Fail> {
     assert!(rt; first == Some((1, 2)));
     let whole = builder.range(b'a', b'z');
     let end = parts::earliest_end_of_part(rt.alloc(), AsciiWord, whole, b"-a b")?;
-    assert!(rt; end == Answer::End(2));
+    assert!(rt; end == Some(2));
     let whole = builder.plus(builder.range(b'a', b'z'))?;
     let end = parts::leftmost_end_of_part(rt.alloc(), AsciiWord, whole, b"-ab c")?;
     assert!(rt; end == Some(3));

@@ -8,7 +8,7 @@ returns-in-Ok-true-clause-found g c = λ _.
     let e = search_in g.W.WordClass.word_chars c.args.program.now c.args.input.now in
     let last = c.last_start-last.ensures in
     let high : c.starts.at ≤ c.last_start-last.result = omega (arith, c.starts-test.true) in
-    let low : c.args.input.now.span.start ≤ c.starts.at = omega (arith, c.starts.auto.at, c.requires.from.start) in
+    let low : c.args.input.now.span.start ≤ c.starts.at = omega (arith, c.starts.auto.at, c.start-at.ensures.start) in
     leftmost_first e c.starts.at c.last_start-last.result _ (c.in-Ok-true.ensures.found c.in-Ok-true.field-0-test) low high last.within last.anchored
     c.starts.invariant.none
 

@@ -5,7 +5,10 @@ pub returns-then-lacks_needed-clause-none : goal.returns-then-lacks_needed-claus
 returns-then-lacks_needed-clause-none g c = c.lacks_needed.ensures.none c.if-lacks_needed.true
 
 pub returns-clause-some : goal.returns-clause-some
-returns-clause-some g c = rw (c.self.view_is ∙ c.lacks_needed.ensures.program) at c.first_end.ensures.found
+returns-clause-some g c = rw (c.self.view_is ∙ c.lacks_needed.ensures.program) at c.in_ok-found.ensures.found
+
+pub returns-clause-earliest : goal.returns-clause-earliest
+returns-clause-earliest g c = rw (c.self.view_is ∙ c.lacks_needed.ensures.program) at c.in_ok-found.ensures.earliest
 
 pub returns-clause-none : goal.returns-clause-none
-returns-clause-none g c = rw (c.self.view_is ∙ c.lacks_needed.ensures.program) at c.first_end.ensures.none
+returns-clause-none g c = rw (c.self.view_is ∙ c.lacks_needed.ensures.program) at c.in_ok-found.ensures.none

@@ -8,7 +8,6 @@ use Rattle.rsc_engine.proofs.dfa.along.record_along.Goals as goal
 pub positions-init : goal.positions-init
 positions-init g c = record {
   len = search rules;
-  unseen = λ s. omega (arith, c.in_ok-walk.ensures.unseen s);
   there = c.start-sid.ensures.there;
   from = omega arith;
   to = start-before-end _ _ _ _ c.requires.start;
@@ -50,8 +49,7 @@ positions-preserved g c =
     (rw (c.list_at-list.ensures at.row at.there) at.at_once) (c.positions.invariant.along run sought)) in
     let sought = sought-of e c.args.pattern c.args.span.now.start c.args.span.now.end c.requires.start in
     record {
-      len = c.pass.ensures.len;
-      unseen = λ s. omega (arith, c.pass.ensures.unseen s);
+      len = c.in_ok-pass.ensures.len;
       there = rw c.in-Some.is at c.in_ok-pass.ensures.there;
       from = omega (arith, c.positions.invariant.from);
       to = along-high e c.args.pattern c.args.span.now.start c.args.span.now.end c.requires.start.run _ _ _ sought (next c.requires.start.run sought);

@@ -1,12 +1,11 @@
-use Rattle.std.proofs.Common.{◌≡◌, ◌+◌, ◌-◌, ◌<◌, ◌≤◌, ℕ, List, length}
+use Rattle.std.proofs.Common.{◌≡◌, ◌-◌, ◌<◌, ◌≤◌, ℕ, List, length}
 use Rattle.rsc_engine.specs.Searches.{search_in}
-use Rattle.rsc_engine.specs.AlongLayout.{IsSought, IsAlong, AreBelow}
+use Rattle.rsc_engine.specs.AlongLayout.{IsSought, IsAlong}
 use Rattle.rsc_engine.proofs.dfa.along.record_along.Given as goal
 
 abbrev pub invariant-positions : goal.invariant-positions
 invariant-positions g l = record {
   len : length l.walk.seen.items ≡ length l.program.automaton.states;
-  unseen : AreBelow (l.at + 1) l.walk.seen.items;
   there : l.sid < length l.program.automaton.states;
   from : l.span.start ≤ l.at;
   to : l.at ≤ l.span.end;

@@ -8,26 +8,24 @@ use Rattle.rsc_engine.proofs.BackwardLayoutLemmas.{stands-back-first}
 use Rattle.rsc_engine.proofs.LogLayoutLemmas.{logged-first, logged-grown, logged-from, back-on}
 use Rattle.rsc_engine.proofs.dfa.backward.first_start.Goals as goal
 
-pub row_of-requires-clause-sound : goal.row_of-requires-clause-sound
-row_of-requires-clause-sound g c = record { states = c.in_ok-list.ensures.states; numbered = λ _. c.requires.numbered }
-
 pub rows-init : goal.rows-init
 rows-init g c =
     let e = search_in g.W.WordClass.word_chars c.args.plan.now.program.now c.args.input.now in
     let after : c.after_of-after.result ≡ byte_after c.args.input.now.haystack c.args.end = rw c.haystack.ensures.bytes at c.after_of-after.ensures.after in
-    let going : IsGoingBack e c.args.pattern c.args.end (c.args.end + 1) c.args.end c.in_ok-list.list.items =
-    going-back-first e c.args.pattern c.args.end c.in_ok-list.list.items c.requires.end c.in_ok-list.ensures.accepting in
-    let stands = stands-back-first e c.args.plan.now.classes c.row_of.new.self.rows.items c.in_ok-row.field-0.0 c.args.pattern c.args.end _
-    c.after_of-after.result c.in_ok-list.list.items after c.in_ok-row.ensures.row going in
+    let x = c.in_ok-row.ensures.row in
+    let going : IsGoingBack e c.args.pattern c.args.end (c.args.end + 1) c.args.end x.row.list.items =
+    going-back-first e c.args.pattern c.args.end x.row.list.items c.requires.end x.accepting in
+    let stands = stands-back-first e c.args.plan.now.classes c.last_row.new.self.rows.items c.in_ok-row.row c.args.pattern c.args.end
+    c.after_of-after.result after x going in
     record {
-      exact = c.row_of.ensures.exact;
+      exact = c.last_row.ensures.exact;
       on = record {
         stands = stands;
-        logged = logged-first e c.args.pattern c.args.end c.args.plan.now.classes c.row_of.new.self.rows.items c.in_ok-row.field-0.0 c.args.end
+        logged = logged-first e c.args.pattern c.args.end c.args.plan.now.classes c.last_row.new.self.rows.items c.in_ok-row.row c.args.end
             c.add_to_log.new.log.items (end-low e c.args.pattern c.args.end c.requires.end)
-            (c.in_ok-add_to_log.ensures.adds ∙ ap (λ l. l ++ c.in_ok-row.field-0.0 ∷ []) c.clear.ensures.items) stands;
+            (c.in_ok-add_to_log.ensures.adds ∙ ap (λ l. l ++ c.in_ok-row.row ∷ []) c.clear.ensures.items) stands;
       };
-      row = slice_get_within _ _ c.in_ok-row.ensures.row.to c.in_ok-row.ensures.row.there;
+      row = slice_get_within _ _ x.row x.there;
       start = end-low e c.args.pattern c.args.end c.requires.end;
       end = end-high e c.args.pattern c.args.end c.requires.end;
       back = omega arith;

@@ -1,4 +1,4 @@
-use Rattle.rsc_engine.proofs.SuccessorLemmas.{Gathers-more}
+use Rattle.rsc_engine.proofs.OrderedLemmas.{Gathers-more}
 use Rattle.rsc_engine.proofs.dfa.ordered.add.Goals as goal
 
 pub returns-in_ok-push-clause-gathers : goal.returns-in_ok-push-clause-gathers

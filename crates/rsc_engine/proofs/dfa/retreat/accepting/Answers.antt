@@ -1,7 +1,7 @@
 use Rattle.std.proofs.Common.{◌<◌, ◌∙◌, ap, length, sym, Some, rules}
 use Rattle.std.proofs.lemmas.Option.{slice_get_within}
 use Rattle.rsc_engine.proofs.RetreatLemmas.{listed-first, listed-hit, listed-miss, listed-last}
-use Rattle.rsc_engine.proofs.TablesLayoutLemmas.{some_same}
+use Rattle.rsc_engine.proofs.PassTableLayoutLemmas.{some_same}
 use Rattle.rsc_engine.proofs.dfa.retreat.accepting.Goals as goal
 use Rattle.rsc_engine.proofs.dfa.retreat.accepting.Goals.{then-is_end_of+in_ok-push, else-is_end_of}
 

@@ -1,37 +1,28 @@
-use Rattle.std.proofs.Common.{◌≡◌, ◌≤◌, ◌-◌, ◌∙◌, ap, length, arith}
+use Rattle.std.proofs.Common.{◌≡◌, ◌≤◌, ◌∙◌, ap, arith}
 use Rattle.rsc_search.specs.Inputs.{InputParts}
-use Rattle.rsc_nfa.specs.Steps.{place}
 use Rattle.rsc_engine.specs.Searches.{search_in}
-use Rattle.rsc_engine.specs.WalksLayout.{IsClosedFrom, is_flagged}
-use Rattle.rsc_engine.specs.TrailsLayout.{run_of}
-use Rattle.rsc_engine.proofs.NumbersLemmas.{later_start, fewer_flags}
+use Rattle.rsc_engine.specs.WalksLayout.{is_flagged}
+use Rattle.rsc_engine.proofs.NumbersLemmas.{even_later, fewer_flags}
 use Rattle.rsc_engine.proofs.iterate.Rest.advance.Goals as goal
 
-pub search-requires-clause-closed : goal.search-requires-clause-closed
-search-requires-clause-closed g c =
-    let e = search_in g.W.WordClass.word_chars c.args.self.now.program.now c.args.self.now.input in
-    c.open.ensures.closed e c.args.self.now.closed
+pub returns-in-Ok-None-clause-none : goal.returns-in-Ok-None-clause-none
+returns-in-Ok-None-clause-none g c = rw (c.in-Ok-None.field-0-is, c.args.self.now.table) at c.in-Ok-None.ensures.none
 
-pub returns-then-not-branch-clause-none : goal.returns-then-not-branch-clause-none
-returns-then-not-branch-clause-none g c = c.in_ok-search.ensures.none c.if-not-branch.true
+pub returns-in-Ok-Some-clause-found : goal.returns-in-Ok-Some-clause-found
+returns-in-Ok-Some-clause-found g c = rw (c.in-Ok-Some.field-0-is, c.args.self.now.table) at c.in-Ok-Some.ensures.found
 
-pub invariant_of-self-2 : goal.invariant_of-self-2
-invariant_of-self-2 g c =
+pub invariant_of-self-in-Ok-Some : goal.invariant_of-self-in-Ok-Some
+invariant_of-self-in-Ok-Some g c =
     let e = search_in g.W.WordClass.word_chars c.args.self.now.program.now c.args.self.now.input in
-    let seen = is_flagged e c.search.new.self.visited in
-    let run = run_of c.args.self.now.program.now.automaton.states c.search.new.self.trail.items in
-    let ends = c.end.ensures.end ∙ c.write_match-found.ensures.is_of.ends.end in
-    let position : c.end.result ≡ (place run (length run - 1)).1 = rw (← c.as_slice.ensures.value) ends in
-    let up : c.args.self.now.input.span.start ≤ c.end.result = omega (arith, c.end.ensures.end, c.write_match-found.ensures.within) in
-    let start : c.set_start.new.self.span.start ≡ c.end.result = ap (λ (x : InputParts). x.span.start) c.set_start.ensures in
-    let after : IsClosedFrom e c.end.result seen = rw position (c.in_ok-search.ensures.after c.if-not-branch.false) in
+    let seen = is_flagged e c.args.self.now.walk.visited in
+    let end = c.end-in-Ok-Some.result in
+    let within = rw c.in-Ok-Some.field-0-is at c.in-Ok-Some.ensures.within in
+    let up : c.args.self.now.input.span.start ≤ end = omega (arith, c.end-in-Ok-Some.ensures.end, within) in
+    let start : c.set_start.new.self.span.start ≡ end = ap (λ (x : InputParts). x.span.start) c.set_start.ensures in
     record {
-      enough = rw c.set_start.ensures (fewer_flags e c.end.result c.args.self.now.flag_count up c.args.self.now.enough);
-      closed = rw c.set_start.ensures (later_start e c.end.result seen up after);
-      table = c.begin_of.ensures.program ∙ c.args.self.now.table;
+      enough = rw c.set_start.ensures (fewer_flags e end c.args.self.now.flag_count up c.args.self.now.enough);
+      closed = rw c.set_start.ensures (even_later e end seen up c.args.self.now.closed);
+      table = c.find.ensures.program ∙ c.args.self.now.table;
       begins = c.args.self.now.begins;
       order = λ x is. omega (arith, c.args.self.now.order x is, up, start);
     }
-
-pub returns-in_default-clause-none : goal.returns-in_default-clause-none
-returns-in_default-clause-none g c = rw (c.in_default.is, c.args.self.now.table) at c.begin_of.ensures.none

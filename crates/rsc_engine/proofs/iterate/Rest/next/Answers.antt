@@ -1,11 +1,12 @@
-use Rattle.std.proofs.Common.{◌≡◌, ◌+◌, ◌≤◌, ◌∙◌, ap, arith}
+use Rattle.std.proofs.Common.{◌≡◌, ◌+◌, ◌≤◌, ◌∙◌, sym, ap, arith}
 use Rattle.rsc_search.specs.Inputs.{InputParts}
 use Rattle.rsc_engine.specs.Searches.{search_in}
+use Rattle.rsc_engine.specs.Preferred.{IsFirstMatch}
 use Rattle.rsc_engine.specs.NextMatches.{from_start}
 use Rattle.rsc_engine.specs.WalksLayout.{is_flagged}
-use Rattle.rsc_engine.specs.TrailsLayout.{run_of}
 use Rattle.rsc_engine.proofs.NumbersLemmas.{even_later, fewer_flags}
-use Rattle.rsc_engine.proofs.NextMatchesLemmas.{turn_none, turn_next, turn_repeat, turn_split}
+use Rattle.rsc_engine.proofs.NextMatchesLemmas.{of_states, turn_none, turn_next, turn_repeat, turn_split}
+use Rattle.rsc_engine.proofs.PassTableLayoutLemmas.{some_same}
 use Rattle.rsc_engine.proofs.iterate.Rest.next.Goals as goal
 
 pub returns-in-Ok-None-clause-none : goal.returns-in-Ok-None-clause-none
@@ -14,27 +15,36 @@ returns-in-Ok-None-clause-none g c =
     turn_none g.W.WordClass.word_chars c.args.self.now.program.now c.matches.self.program.now c.args.self.now.input c.matches.self.input
     c.args.self.now.last_end c.matches.self.last_end c.matches.invariant.turn none
 
-pub returns-else-splits-clause-next : goal.returns-else-splits-clause-next
-returns-else-splits-clause-next g c =
+pub returns-else-splits-clause-found : goal.returns-else-splits-clause-found
+returns-else-splits-clause-found g c =
     let e = c.in-Ok-Some.ensures in
+    let x : IsFirstMatch (search_in g.W.WordClass.word_chars c.matches.self.program.now c.matches.self.input) c.advance.new.captures c.in-Ok-Some.found =
+    rw c.in-Ok-Some.field-0-is at e.found in
     let next = turn_next g.W.WordClass.word_chars c.args.self.now.program.now c.matches.self.program.now c.args.self.now.input c.matches.self.input
     c.args.self.now.last_end c.matches.self.last_end c.matches.invariant.turn
-    (run_of c.matches.self.program.now.automaton.states c.advance.new.self.walk.trail.items) c.in-Ok-Some.found c.advance.new.captures
-    (rw c.in-Ok-Some.field-0-is at e.first) (rw c.in-Ok-Some.field-0-is at e.is_of)
+    x.run c.in-Ok-Some.found c.advance.new.captures x.is_first x.is_of
     c.advance.new.self.input c.advance.new.self.program.now c.advance.new.self.last_end
     (rw c.in-Ok-Some.field-0-is at e.on) (ap (λ x. x.now) e.program) e.last
     (c.repeats.ensures.no c.if-repeats.false) (c.splits.ensures.no c.if-splits.false) in
-    rw c.matches.invariant.program at next
+    let same : c.matches.self.program.now ≡ c.args.self.now.program.now = ap (λ q. q.now) c.matches.invariant.program in
+    record {
+      run = x.run;
+      is_next = next;
+      is_of = of_states (search_in g.W.WordClass.word_chars c.matches.self.program.now c.matches.self.input)
+          (search_in g.W.WordClass.word_chars c.args.self.now.program.now c.args.self.now.input) x.run c.in-Ok-Some.found c.advance.new.captures
+          (ap (λ p. p.automaton.states) (sym same)) x.is_of;
+    }
 
 pub matches-preserved-then-repeats : goal.matches-preserved-then-repeats
 matches-preserved-then-repeats g c =
     let e = c.in-Ok-Some.ensures in
+    let x : IsFirstMatch (search_in g.W.WordClass.word_chars c.matches.self.program.now c.matches.self.input) c.advance.new.captures c.in-Ok-Some.found =
+    rw c.in-Ok-Some.field-0-is at e.found in
     let next : c.end-end-in-Ok-Some.result + 1 ≡ c.in-Ok-Some.found.span.end + 1 = ap (λ n. n + 1) c.end-end-in-Ok-Some.ensures.end in
     record {
       turn = turn_repeat g.W.WordClass.word_chars c.args.self.now.program.now c.matches.self.program.now c.args.self.now.input c.matches.self.input
           c.args.self.now.last_end c.matches.self.last_end c.matches.invariant.turn
-          (run_of c.matches.self.program.now.automaton.states c.advance.new.self.walk.trail.items) c.in-Ok-Some.found c.advance.new.captures
-          (rw c.in-Ok-Some.field-0-is at e.first) (rw c.in-Ok-Some.field-0-is at e.is_of)
+          x.run c.in-Ok-Some.found c.advance.new.captures x.is_first x.is_of
           c.advance.new.self.input c.advance.new.self.program.now c.advance.new.self.last_end
           (rw c.in-Ok-Some.field-0-is at e.on) (ap (λ x. x.now) e.program) e.last
           c.set_start-then-repeats.new.self (c.repeats.ensures.yes c.if-repeats.true)
@@ -48,12 +58,13 @@ matches-preserved-then-repeats g c =
 pub matches-preserved : goal.matches-preserved
 matches-preserved g c =
     let e = c.in-Ok-Some.ensures in
+    let x : IsFirstMatch (search_in g.W.WordClass.word_chars c.matches.self.program.now c.matches.self.input) c.advance.new.captures c.in-Ok-Some.found =
+    rw c.in-Ok-Some.field-0-is at e.found in
     let on : c.advance.new.self.input ≡ from_start c.matches.self.input c.in-Ok-Some.found.span.end = rw c.in-Ok-Some.field-0-is at e.on in
     record {
       turn = turn_split g.W.WordClass.word_chars c.args.self.now.program.now c.matches.self.program.now c.args.self.now.input c.matches.self.input
           c.args.self.now.last_end c.matches.self.last_end c.matches.invariant.turn
-          (run_of c.matches.self.program.now.automaton.states c.advance.new.self.walk.trail.items) c.in-Ok-Some.found c.advance.new.captures
-          (rw c.in-Ok-Some.field-0-is at e.first) (rw c.in-Ok-Some.field-0-is at e.is_of)
+          x.run c.in-Ok-Some.found c.advance.new.captures x.is_first x.is_of
           c.advance.new.self.input c.advance.new.self.program.now c.advance.new.self.last_end
           on (ap (λ x. x.now) e.program) e.last
           c.set_start-then-splits.new.self c.after_split-next.result (c.splits.ensures.yes c.if-splits.true) (c.repeats.ensures.no c.if-repeats.false)
@@ -100,4 +111,19 @@ invariant_of-self-then-repeats g c =
       table = c.advance.new.self.table;
       begins = c.advance.new.self.begins;
       order = λ x is. omega (arith, c.advance.new.self.order x is, up, start);
+    }
+
+pub invariant_of-self-else-splits : goal.invariant_of-self-else-splits
+invariant_of-self-else-splits g c =
+    let on : c.advance.new.self.input ≡ from_start c.matches.self.input c.in-Ok-Some.found.span.end =
+    rw c.in-Ok-Some.field-0-is at c.in-Ok-Some.ensures.on in
+    let at : c.advance.new.self.input.span.start ≡ c.in-Ok-Some.found.span.end = ap (λ (x : InputParts). x.span.start) on in
+    record {
+      enough = c.advance.new.self.enough;
+      closed = c.advance.new.self.closed;
+      table = c.advance.new.self.table;
+      begins = c.advance.new.self.begins;
+      order = λ x is.
+          let same : c.end-end-in-Ok-Some.result ≡ x = some_same c.end-end-in-Ok-Some.result x is in
+          omega (arith, same, at, c.end-end-in-Ok-Some.ensures.end);
     }

@@ -1,18 +1,19 @@
-use Rattle.std.proofs.Common.{◌≡◌, ◌++◌, ◌∷◌, [], refl, ap, length, arith, rules, length-append}
-use Rattle.rsc_engine.proofs.AlongLemmas.{passing-first, passing-again, passing-stuck, passing-one, passing-two, passing-over, passing-match, passing-never, found-over, found-match, top-there, was-seen, not-seen, fewer-left, below-after}
+use Rattle.std.proofs.Common.{◌≡◌, ◌∙◌, ◌++◌, ◌∷◌, [], refl, ap, length, arith, rules, length-append}
+use Rattle.rsc_engine.proofs.AlongLemmas.{passing-first, passing-again, passing-stuck, passing-one, passing-two, passing-over, passing-match, passing-never, found-over, found-match, top-there, was-seen, not-seen, fewer-left}
 use Rattle.rsc_engine.proofs.dfa.along.Walk.pass.Goals as goal
 
 pub stack-init : goal.stack-init
 stack-init g c = record {
-  passing = rw (c.in_ok-push.ensures.items, c.clear.ensures.items, c.clear-2.ensures.items) (passing-first c.requires.len c.requires.unseen c.requires.sid);
+  passing = rw (c.in_ok-push.ensures.items, c.clear.ensures.items, c.clear-2.ensures.items)
+      (passing-first (c.in_ok-take_stamp.ensures.len ∙ c.requires.len) c.in_ok-take_stamp.ensures.unseen c.requires.sid);
   same = refl;
 }
 
-pub stack-preserved-then-index-at : goal.stack-preserved-then-index-at
-stack-preserved-then-index-at g c = record {
+pub stack-preserved-then-index-self : goal.stack-preserved-then-index-self
+stack-preserved-then-index-self g c = record {
   passing = rw c.truncate.ensures.items (passing-again c.pop.new.self.items c.in-Some.top c.stack.invariant.passing c.in-Some.ensures.items
       (was-seen c.pop.new.self.items c.in-Some.top c.stack.invariant.passing c.in-Some.ensures.items _ _
-      c.as_usize.ensures.value c.index.ensures c.if-index-at.true));
+      c.as_usize.ensures.value c.index.ensures c.if-index-self.true));
   same = c.stack.invariant.same;
 }
 
@@ -33,24 +34,24 @@ stack-preserved-in-Stuck g c = record {
   passing = rw (c.as_usize-in-Some.ensures.value, c.truncate.ensures.items)
       (passing-stuck c.pop.new.self.items c.in-Some.top c.stack.invariant.passing c.in-Some.ensures.items refl c.requires.start c.requires.end
       (not-seen c.pop.new.self.items c.in-Some.top c.stack.invariant.passing c.in-Some.ensures.items _ _
-      c.as_usize.ensures.value c.index.ensures c.if-index-at.false) c.in-Stuck.ensures.way);
+      c.as_usize.ensures.value c.index.ensures c.if-index-self.false) c.in-Stuck.ensures.way);
   same = c.stack.invariant.same;
 }
 
-pub stack-preserved-in-Continue-branch-3 : goal.stack-preserved-in-Continue-branch-3
-stack-preserved-in-Continue-branch-3 g c =
+pub stack-preserved-in-Continue-branch-4 : goal.stack-preserved-in-Continue-branch-4
+stack-preserved-in-Continue-branch-4 g c =
     let deep : c.len.result ≡ length c.push-in-One.new.self.items = search rules in
     record {
       passing = rw (c.as_usize-in-Some.ensures.value, c.in_ok-push-in-One-2.ensures.items, c.in_ok-push-in-One.ensures.items, c.truncate.ensures.items)
           (passing-one c.pop.new.self.items c.in-Some.top c.stack.invariant.passing c.in-Some.ensures.items refl c.requires.start c.requires.end
           (not-seen c.pop.new.self.items c.in-Some.top c.stack.invariant.passing c.in-Some.ensures.items _ _
-          c.as_usize.ensures.value c.index.ensures c.if-index-at.false)
+          c.as_usize.ensures.value c.index.ensures c.if-index-self.false)
           c.in-One.to c.len.result (rw (c.in_ok-push-in-One.ensures.items, c.truncate.ensures.items) at deep) c.in-One.ensures.way c.in-One.ensures.there);
       same = c.stack.invariant.same;
     }
 
-pub stack-preserved-in-Continue-branch-6 : goal.stack-preserved-in-Continue-branch-6
-stack-preserved-in-Continue-branch-6 g c =
+pub stack-preserved-in-Continue-branch-7 : goal.stack-preserved-in-Continue-branch-7
+stack-preserved-in-Continue-branch-7 g c =
     let deep : c.len-in-Two.result ≡ length c.push-in-Two.new.self.items = search rules in
     let same : c.len-in-Two-2.result ≡ c.len-in-Two.result = search rules in
     record {
@@ -64,7 +65,7 @@ stack-preserved-in-Continue-branch-6 g c =
       )
           (passing-two c.pop.new.self.items c.in-Some.top c.stack.invariant.passing c.in-Some.ensures.items refl c.requires.start c.requires.end
           (not-seen c.pop.new.self.items c.in-Some.top c.stack.invariant.passing c.in-Some.ensures.items _ _
-          c.as_usize.ensures.value c.index.ensures c.if-index-at.false)
+          c.as_usize.ensures.value c.index.ensures c.if-index-self.false)
           c.in-Two.a c.in-Two.b c.len-in-Two.result (rw (c.in_ok-push-in-Two.ensures.items, c.truncate.ensures.items) at deep)
           c.in-Two.ensures.way c.in-Two.ensures.there);
       same = c.stack.invariant.same;
@@ -75,7 +76,7 @@ stack-preserved-else-has g c = record {
   passing = rw (c.as_usize-in-Some.ensures.value, c.truncate.ensures.items)
       (passing-over c.pop.new.self.items c.in-Some.top c.stack.invariant.passing c.in-Some.ensures.items refl c.requires.start c.requires.end
       (not-seen c.pop.new.self.items c.in-Some.top c.stack.invariant.passing c.in-Some.ensures.items _ _
-      c.as_usize.ensures.value c.index.ensures c.if-index-at.false)
+      c.as_usize.ensures.value c.index.ensures c.if-index-self.false)
       c.in-Over.to c.in-Over.ensures.way (c.has.ensures.no c.if-has.false));
   same = c.stack.invariant.same;
 }
@@ -85,7 +86,7 @@ stack-preserved g c = record {
   passing = rw (c.as_usize-in-Some.ensures.value, c.truncate.ensures.items)
       (passing-match c.pop.new.self.items c.in-Some.top c.stack.invariant.passing c.in-Some.ensures.items refl c.requires.start c.requires.end
       (not-seen c.pop.new.self.items c.in-Some.top c.stack.invariant.passing c.in-Some.ensures.items _ _
-      c.as_usize.ensures.value c.index.ensures c.if-index-at.false)
+      c.as_usize.ensures.value c.index.ensures c.if-index-self.false)
       _ c.in-Match.ensures.way (c.has-in-Match.ensures.no c.if-has-2.false));
   same = c.stack.invariant.same;
 }
@@ -94,7 +95,7 @@ pub returns-then-has-clause-on : goal.returns-then-has-clause-on
 returns-then-has-clause-on g c =
     found-over c.pop.new.self.items c.in-Some.top c.stack.invariant.passing c.in-Some.ensures.items refl c.requires.start c.requires.end
     (not-seen c.pop.new.self.items c.in-Some.top c.stack.invariant.passing c.in-Some.ensures.items _ _
-    c.as_usize.ensures.value c.index.ensures c.if-index-at.false)
+    c.as_usize.ensures.value c.index.ensures c.if-index-self.false)
     c.record.new.slots (c.has.ensures.yes c.if-has.true)
     (rw (c.as_slice.ensures.value, c.truncate.ensures.items, c.stack.invariant.same) at c.record.ensures) c.in-Over.to c.in-Over.ensures.way
 
@@ -102,7 +103,7 @@ pub returns-then-has-2-clause-on : goal.returns-then-has-2-clause-on
 returns-then-has-2-clause-on g c =
     found-match c.pop.new.self.items c.in-Some.top c.stack.invariant.passing c.in-Some.ensures.items refl c.requires.start c.requires.end
     (not-seen c.pop.new.self.items c.in-Some.top c.stack.invariant.passing c.in-Some.ensures.items _ _
-    c.as_usize.ensures.value c.index.ensures c.if-index-at.false)
+    c.as_usize.ensures.value c.index.ensures c.if-index-self.false)
     c.record-then-has-2.new.slots (c.has-in-Match.ensures.yes c.if-has-2.true)
     (rw (c.as_slice-then-has-2.ensures.value, c.truncate.ensures.items, c.stack.invariant.same) at c.record-then-has-2.ensures) _ c.in-Match.ensures.way
 
@@ -110,18 +111,11 @@ pub returns-clause-on : goal.returns-clause-on
 returns-clause-on g c = λ p from j run sought lists a. absurd (passing-never c.stack.self.stack.items c.stack.invariant.passing
     (let e = (rw c.in_default.is at c.pop.ensures.cases).0 in omega (arith, e, c.stack.self.stack.ok)) p from j run sought lists a)
 
-pub returns-in_err-push-in-Two-3-clause-unseen : goal.returns-in_err-push-in-Two-3-clause-unseen
-returns-in_err-push-in-Two-3-clause-unseen g c =
-    rw c.as_usize-in-Some.ensures.value (below-after c.pop.new.self.items c.in-Some.top c.stack.invariant.passing c.in-Some.ensures.items
-    refl c.requires.start c.requires.end
-    (not-seen c.pop.new.self.items c.in-Some.top c.stack.invariant.passing c.in-Some.ensures.items _ _
-    c.as_usize.ensures.value c.index.ensures c.if-index-at.false))
-
-pub stack-smaller-in-Continue-branch-3 : goal.stack-smaller-in-Continue-branch-3
-stack-smaller-in-Continue-branch-3 g c =
+pub stack-smaller-in-Continue-branch-4 : goal.stack-smaller-in-Continue-branch-4
+stack-smaller-in-Continue-branch-4 g c =
     let less = fewer-left c.pop.new.self.items c.in-Some.top c.stack.invariant.passing c.in-Some.ensures.items
     (not-seen c.pop.new.self.items c.in-Some.top c.stack.invariant.passing c.in-Some.ensures.items _ _
-    c.as_usize.ensures.value c.index.ensures c.if-index-at.false) in
+    c.as_usize.ensures.value c.index.ensures c.if-index-self.false) in
     rw (c.as_usize-in-Some.ensures.value, c.in_ok-push-in-One-2.ensures.items)
     (omega (
       arith,
@@ -131,11 +125,11 @@ stack-smaller-in-Continue-branch-3 g c =
       length-append c.pop.new.self.items ((c.in-One.to, c.len.result) ∷ []),
     ))
 
-pub stack-smaller-in-Continue-branch-6 : goal.stack-smaller-in-Continue-branch-6
-stack-smaller-in-Continue-branch-6 g c =
+pub stack-smaller-in-Continue-branch-7 : goal.stack-smaller-in-Continue-branch-7
+stack-smaller-in-Continue-branch-7 g c =
     let less = fewer-left c.pop.new.self.items c.in-Some.top c.stack.invariant.passing c.in-Some.ensures.items
     (not-seen c.pop.new.self.items c.in-Some.top c.stack.invariant.passing c.in-Some.ensures.items _ _
-    c.as_usize.ensures.value c.index.ensures c.if-index-at.false) in
+    c.as_usize.ensures.value c.index.ensures c.if-index-self.false) in
     rw (c.as_usize-in-Some.ensures.value, c.in_ok-push-in-Two-3.ensures.items, c.in_ok-push-in-Two-2.ensures.items)
     (omega (
       arith,

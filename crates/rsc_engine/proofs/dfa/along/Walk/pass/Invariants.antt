@@ -5,10 +5,10 @@ use Rattle.rsc_engine.proofs.dfa.along.Walk.pass.Given as goal
 
 abbrev pub invariant-stack : goal.invariant-stack
 invariant-stack g l = record {
-  passing : IsPassing (search_in g.W.WordClass.word_chars l.program l.input) (length l.program.automaton.states) l.at l.fn.sid l.list l.fn.slots
+  passing : IsPassing (search_in g.W.WordClass.word_chars l.program l.input) (length l.program.automaton.states) l.at l.self.stamp l.fn.sid l.list l.fn.slots
       l.self.seen.items l.self.stack.items l.self.trail.items;
   same : l.slots ≡ l.fn.slots;
 }
 
 abbrev pub decreases-stack : goal.decreases-stack
-decreases-stack g l = 2 * count_by (λ (v : ℕ). not (v == l.at + 1)) l.self.seen.items + length l.self.stack.items
+decreases-stack g l = 2 * count_by (λ (v : ℕ). not (v == l.self.stamp)) l.self.seen.items + length l.self.stack.items

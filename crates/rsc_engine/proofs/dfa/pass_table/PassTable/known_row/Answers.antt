@@ -1,7 +1,7 @@
 use Rattle.std.proofs.Common.{◌≡◌, ◌<◌, ◌+◌, ◌*◌, ◌∙◌, sym, get_or, length, Some, rules}
 use Rattle.std.proofs.lemmas.List.{get_or_read}
 use Rattle.rsc_engine.specs.declared.dfa.entries.Lead.TheVariants.{Unknown, To}
-use Rattle.rsc_engine.specs.TablesLayout.{column}
+use Rattle.rsc_engine.specs.PassTableLayout.{column}
 use Rattle.rsc_engine.proofs.dfa.pass_table.PassTable.known_row.Goals as goal
 
 pub returns-in-To : goal.returns-in-To

@@ -12,7 +12,7 @@ retreat-requires-clause-list g c =
     (slice_get_read _ (length c.args.self.now.rows.items) _ _ refl c.requires.row c.index-from.ensures)).states
 
 pub row_of-requires-clause-sound : goal.row_of-requires-clause-sound
-row_of-requires-clause-sound g c = record { states = c.in_ok-begins.ensures.states; numbered = λ _. c.requires.numbered }
+row_of-requires-clause-sound g c = record { states = c.in_ok-begins.ensures.states; numbered = λ _. c.requires.numbered; accepting = λ _. tt }
 
 pub returns-clause-row : goal.returns-clause-row
 returns-clause-row g c = slice_get_within _ _ c.in_ok-row_of.ensures.row.to c.in_ok-row_of.ensures.row.there

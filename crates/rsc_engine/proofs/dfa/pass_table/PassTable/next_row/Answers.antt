@@ -3,17 +3,17 @@ use Rattle.rsc_look.specs.Holds.{byte_after}
 use Rattle.rsc_engine.specs.Searches.{search_in}
 use Rattle.rsc_engine.specs.RowsLayout.{machine}
 use Rattle.rsc_engine.specs.PassTableLayout.{IsPassTo}
-use Rattle.rsc_engine.specs.ForwardLayout.{GoesForward}
-use Rattle.rsc_engine.proofs.ForwardLayoutLemmas.{goes-forward, map_ok}
+use Rattle.rsc_engine.specs.ForwardLayout.{GoesInEach}
+use Rattle.rsc_engine.proofs.ForwardLayoutLemmas.{each-forward, map_ok}
 use Rattle.rsc_engine.proofs.dfa.pass_table.PassTable.next_row.Goals as goal
 
 pub returns-in-Some-clause-goes : goal.returns-in-Some-clause-goes
 returns-in-Some-clause-goes g c =
     let unit : c.after_of-unit.result ≡ byte_after c.args.input.now.haystack c.args.at = rw c.haystack.ensures.bytes at c.after_of-unit.ensures.after in
-    goes-forward (search_in g.W.WordClass.word_chars c.args.plan.now.program.now c.args.input.now) c.args.plan.now.classes
+    each-forward (search_in g.W.WordClass.word_chars c.args.plan.now.program.now c.args.input.now) c.args.plan.now.classes
     c.args.plan.now.width c.args.plan.now.unicode
     record { laws = c.steps_are_lawful.ensures; plan = c.requires.plan; within = c.haystack.ensures.within }
-    c.args.self.now.rows.items c.args.self.now.rows.items c.args.row c.args.at c.in-Some.next c.requires.end (rw unit at c.in-Some.ensures)
+    c.args.self.now.rows.items c.args.self.now.rows.items c.args.row c.args.at c.in-Some.next (rw unit at c.in-Some.ensures)
 
 pub returns-in-None-clause-goes : goal.returns-in-None-clause-goes
 returns-in-None-clause-goes g c =
@@ -24,7 +24,7 @@ returns-in-None-clause-goes g c =
     map_ok c.make.result
     (IsPassTo (machine g.W.WordClass.word_chars c.args.plan.now.program.now) c.args.plan.now.classes old new c.args.row
     (byte_after c.args.input.now.haystack c.args.at))
-    (GoesForward e c.args.plan.now.classes old new c.args.row c.args.at)
-    (λ next made. goes-forward e c.args.plan.now.classes c.args.plan.now.width c.args.plan.now.unicode
+    (GoesInEach e c.args.plan.now.classes old new c.args.row c.args.at)
+    (λ next made. each-forward e c.args.plan.now.classes c.args.plan.now.width c.args.plan.now.unicode
     record { laws = c.steps_are_lawful.ensures; plan = c.requires.plan; within = c.haystack.ensures.within }
-    old new c.args.row c.args.at next c.requires.end made) (rw unit at c.make.ensures.step)
+    old new c.args.row c.args.at next made) (rw unit at c.make.ensures.step)
