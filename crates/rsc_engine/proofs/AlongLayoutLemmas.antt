@@ -43,7 +43,7 @@ find_place p (q ∷ run) = go (same_or_apart q p) (find_place p run)
         all zero l = apart
         all (suc k) l = none k (omega (arith, l))
 
-last-drop : (run : List (ℕ × ℕ)) (k : ℕ) → k < length run → last_of (drop k run) ≡ last_of run
+pub last-drop : (run : List (ℕ × ℕ)) (k : ℕ) → k < length run → last_of (drop k run) ≡ last_of run
 last-drop run k l =
     let same : k + (length (drop k run) - 1) ≡ length run - 1 = omega (arith, l, length-drop k run) in
     get_or-drop k run (length (drop k run) - 1) (0, 0) ∙ ap (λ (h : ℕ). place run h) same

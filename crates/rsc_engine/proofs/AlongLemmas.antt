@@ -28,11 +28,11 @@ use Rattle.rsc_engine.proofs.ArrivalsLayoutLemmas.{arrives-low, first-arrives}
 
 -- ---- what a run records before a place
 
-or_none : (o : Option ℕ) → or_earlier o None ≡ o
+pub or_none : (o : Option ℕ) → or_earlier o None ≡ o
 or_none None = refl
 or_none (Some i) = refl
 
-or_or : (a b c : Option ℕ) → or_earlier (or_earlier a b) c ≡ or_earlier a (or_earlier b c)
+pub or_or : (a b c : Option ℕ) → or_earlier (or_earlier a b) c ≡ or_earlier a (or_earlier b c)
 or_or None b c = refl
 or_or (Some i) b c = refl
 

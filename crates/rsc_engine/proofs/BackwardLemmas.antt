@@ -7,6 +7,7 @@ use Rattle.rsc_nfa.specs.declared.state.State.TheVariants.{Accept}
 use Rattle.rsc_nfa.specs.Steps.{place}
 use Rattle.rsc_search.specs.Modes.{pattern_of_mode}
 use Rattle.rsc_search.specs.declared.anchored.Anchored.{Anchored}
+use Rattle.rsc_search.specs.declared.anchored.Anchored.TheVariants.{No}
 use Rattle.rsc_engine.specs.Searches.{Search}
 use Rattle.rsc_engine.specs.Runs.{Leads, IsPlace, is_accepting}
 use Rattle.rsc_engine.specs.LawfulLayout.{Lawful}
@@ -188,6 +189,16 @@ arrives-from e p j s i a = omega (
   ap (λ (q : ℕ × ℕ). q.1) a.is_match.begins,
   (a.is_match.is_run.places 0 a.is_match.some).1,
 )
+
+-- if a match may begin nowhere else, the span's start is the match's
+pub start-anchored : (e : Search) (p j : ℕ) → IsEndOf e p j → ¬ (e.mode ≡ No) → IsStartOf e p j e.start
+start-anchored e p j x anchored = record {
+  run = x.run;
+  is_first = x.is_first;
+  begins = x.is_first.preferred.is_match.begins ∙ ap (λ (n : ℕ). (e.start_state, n)) (x.is_first.begins.anchored anchored);
+  pattern = x.pattern;
+  end = x.end;
+}
 
 -- if no match begins before the positions that were looked at, the least of them is the start
 start-of : (e : Search) (p j b least : ℕ) (list : List ℕ) → IsEndOf e p j → IsGoingBack e p j b least list

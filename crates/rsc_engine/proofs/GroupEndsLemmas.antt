@@ -1,6 +1,6 @@
 -- What a run to a match records in the slots of the whole match, and what captures hold there.
-use Rattle.std.proofs.Common.{nat_eq, cond, ◌≡◌, ℕ, ◌+◌, ◌*◌, ◌<◌, Bool, true, false, List, length, slice_index_or, refl, sym, ◌∙◌, subst, arith, Some, None}
-use Rattle.std.proofs.lemmas.Bool.{lt-ltb}
+use Rattle.std.proofs.Common.{nat_eq, cond, ◌≡◌, ℕ, ◌+◌, ◌*◌, ◌<◌, ◌≤◌, ⊎_elim, Bool, true, false, List, length, slice_index_or, refl, sym, ap, ◌∙◌, subst, arith, Option, Some, None}
+use Rattle.std.proofs.lemmas.Bool.{lt-ltb, eq-eqb, ne_eqb, cases_eq}
 use Rattle.std.proofs.lemmas.Bool.Decides.{nat_tests}
 use Rattle.std.proofs.lemmas.Option.{slice_get_within}
 use Rattle.rsc_nfa.specs.Steps.{place, recorded}
@@ -9,13 +9,15 @@ use Rattle.rsc_search.specs.Matches.{Matched}
 use Rattle.rsc_captures.specs.Groups.{GroupLists, group_count, slot_of}
 use Rattle.rsc_captures.specs.Captured.{Captured, first_slot, group_span}
 use Rattle.rsc_engine.specs.Searches.{Search, Compiled, search_in}
-use Rattle.rsc_engine.specs.Runs.{IsMatchRun, IsMatchOf}
+use Rattle.rsc_engine.specs.Runs.{IsMatchRun, IsMatchOf, AreRecords}
 use Rattle.rsc_engine.specs.Preferred.{IsOf}
 use Rattle.rsc_engine.specs.Patterns.{Pattern, subject_of, Recognizes}
 use Rattle.rsc_engine.specs.PatternOrder.{RecordsWays}
 use Rattle.rsc_engine.specs.GroupEnds.{RecordsEnds}
+use Rattle.rsc_engine.specs.GroupsLayout.{HoldEnds}
+use Rattle.rsc_engine.specs.BackwardLayout.{IsStartOf}
 use Rattle.rsc_engine.proofs.RefusalsLemmas.{pattern_there}
-use Rattle.rsc_engine.proofs.WaysLemmas.{whole-records}
+use Rattle.rsc_engine.proofs.WaysLemmas.{whole-records, whole-others}
 
 -- a run goes on a way of its pattern, which records its ends
 pub RecordsEnds-built : {W : Type 0} (chars : W → ℕ → Bool) (program : Compiled W) (patterns : List Pattern) → Recognizes chars program patterns
@@ -23,6 +25,12 @@ pub RecordsEnds-built : {W : Type 0} (chars : W → ℕ → Bool) (program : Com
 RecordsEnds-built chars program patterns r ways same = record {
   start = λ input run found m f. (ends input run found m f).0;
   end = λ input run found m f. (ends input run found m f).1;
+  others = λ input run found slot m f l first second.
+      let its = (r.exactly input found).0 (record { run = run; is_match = m; makes = f }) in
+      let w = ways.way input run found its.pattern m f its.its in
+      w.2 slot
+      ∙ whole-others (subject_of (search_in chars program input)) program.automaton.groups found.pattern its.pattern found.span.start found.span.end slot w.0 l
+      first second w.1;
 }
   where
     ends : (input : InputParts) (run : List (ℕ × ℕ)) (found : Matched)
@@ -36,6 +44,35 @@ RecordsEnds-built chars program patterns r ways same = record {
         let both = whole-records (subject_of (search_in chars program input)) program.automaton.groups found.pattern its.pattern found.span.start
         found.span.end w.0 (omega (arith, there, same)) w.1 in
         (w.2 (2 * found.pattern) ∙ both.0, w.2 (2 * found.pattern + 1) ∙ both.1)
+
+-- where there are no slots but those of first groups, the ends are all that is recorded
+pub ends-records : {W : Type 0} (chars : W → ℕ → Bool) (program : Compiled W) (input : InputParts) (p from j : ℕ) (slots : List (Option ℕ))
+    → RecordsEnds chars program → (x : IsStartOf (search_in chars program input) p j from) → length slots ≤ 2 * length program.automaton.groups
+    → HoldEnds p (record { start = from; end = j }) slots → AreRecords (search_in chars program input) x.run slots
+ends-records chars program input p from j slots r x few hold s l = hold s l ∙ ⊎_elim
+    (λ (second : s ≡ 2 * p + 1).
+    ap (λ (b : Bool). cond b (Some j) (cond (nat_eq (2 * p) s) (Some from) None)) (eq-eqb (2 * p + 1) s (sym second))
+    ∙ sym (subst (λ (k : ℕ). recorded program.automaton.states x.run k ≡ Some j) (sym second) (r.end input x.run found m f)))
+    (λ (not_second : (s ≡ 2 * p + 1) → ⊥).
+    ap (λ (b : Bool). cond b (Some j) (cond (nat_eq (2 * p) s) (Some from) None)) (ne_eqb (2 * p + 1) s (λ e. not_second (sym e))) ∙ ⊎_elim
+    (λ (first : s ≡ 2 * p).
+    ap (λ (b : Bool). cond b (Some from) None) (eq-eqb (2 * p) s (sym first))
+    ∙ sym (subst (λ (k : ℕ). recorded program.automaton.states x.run k ≡ Some from) (sym first) (r.start input x.run found m f)))
+    (λ (not_first : (s ≡ 2 * p) → ⊥).
+    ap (λ (b : Bool). cond b (Some from) None) (ne_eqb (2 * p) s (λ e. not_first (sym e)))
+    ∙ sym (r.others input x.run found s m f (omega (arith, l, few)) not_first not_second))
+    (cases_eq s (2 * p)))
+    (cases_eq s (2 * p + 1))
+  where
+    found : Matched
+    found = record { pattern = p; span = record { start = from; end = j } }
+
+    m : IsMatchRun (search_in chars program input) (program.start, from) x.run
+    m = subst (λ (q : ℕ × ℕ). IsMatchRun (search_in chars program input) q x.run) (sym x.is_first.preferred.is_match.begins ∙ x.begins)
+        x.is_first.preferred.is_match
+
+    f : IsMatchOf (search_in chars program input) x.run found
+    f = record { pattern = x.pattern; start = sym (ap (λ (q : ℕ × ℕ). q.1) x.begins); end = sym x.end }
 
 -- ---- the slots of captures
 

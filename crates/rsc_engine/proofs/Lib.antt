@@ -46,6 +46,7 @@ pub mod PatternOrderLemmas  -- of the matches from a position that of the patter
 pub mod PatternsLemmas  -- patterns that go where others go: bytes, classes and repetitions
 pub mod PreferredLemmas  -- there is at most one preferred match, wherever a search's start is; the leftmost one, and that there is none
 pub mod PreferredWaysLemmas  -- a pattern has one preferred way, whatever numbers its choices have
+pub mod QuietLayoutLemmas  -- a match that goes on from a quiet state records nothing more but its end; and how the loud states are found
 pub mod RefusalsLemmas  -- why there is no program
 pub mod RenamedLayoutLemmas  -- courses that are alike but for the numbers of their choices go the same ways
 pub mod RetreatLemmas  -- marks for the states that lead back to those of a list, as they grow; and lists of the states of which something is so

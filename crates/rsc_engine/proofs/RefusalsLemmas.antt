@@ -1,5 +1,5 @@
 -- Why there is no program.
-use Rattle.std.proofs.Common.{◌||◌, IfNone, IsSome, rules, ◌≡◌, ℕ, zero, suc, ◌+◌, ◌*◌, ◌<◌, ◌≤◌, ◌⊎◌, nat_eq, nat_lt, inl, inr, ⊎_elim, Bool, true, false, cond, List, [], ◌∷◌, map, take, length, Option, Some, None, Result, Ok, Err, IfOk, OnOk, refl, subst, ap, arith}
+use Rattle.std.proofs.Common.{◌||◌, ◌≡◌, ℕ, zero, suc, ◌+◌, ◌*◌, ◌<◌, ◌≤◌, ◌⊎◌, nat_eq, nat_lt, inl, inr, ⊎_elim, Bool, true, false, cond, List, [], ◌∷◌, map, take, length, Option, Some, None, Result, Ok, Err, IfOk, OnOk, refl, subst, ap, arith}
 use Rattle.std.proofs.lemmas.Bool.{cases_lt}
 use Rattle.std.proofs.lemmas.Bool.Decides.{nat_tests}
 use Rattle.std.proofs.lemmas.List.{get_or_past, length-map}
@@ -198,10 +198,6 @@ not-large limit patterns lists e =
     let states : nat_lt limit (size_of_program patterns) ≡ false = (neither _ _ e).0 in
     let groups : nat_lt max_index (2 * all_groups lists) ≡ false = (neither _ _ e).1 in
     (grind (arith, nat_tests), grind (arith, nat_tests))
-
-pub is_there : {X : Type 0} (o : Option X) (P : Type 0) → IfNone o P → (P → ⊥) → IsSome o
-is_there None P p none = absurd (none p)
-is_there (Some x) P p none = search rules
 
 pub in-short : (limit : ℕ) (patterns : List Pattern) (lists : GroupLists) (e : Error) → IsErrorOf limit patterns lists e → FailsToBuild patterns lists e
 in-short limit patterns lists e (inl m) = inl (inl (inl m))

@@ -78,7 +78,7 @@ marked-last n list marks k f past states = record {
 abbrev pub weight : Bool → ℕ
 weight b = cond (not b) 1 0
 
-fewer : (marks : List Bool) (s : ℕ) → s < length marks → get_or marks s false ≡ false → count_by not (set marks s true) + 1 ≡ count_by not marks
+pub fewer : (marks : List Bool) (s : ℕ) → s < length marks → get_or marks s false ≡ false → count_by not (set marks s true) + 1 ≡ count_by not marks
 fewer marks s l fresh =
     let sums = sum_by-set weight marks s true false l in
     let one = ap weight fresh in

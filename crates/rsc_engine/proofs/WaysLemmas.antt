@@ -107,10 +107,34 @@ keeps-end f apart g h other m = (
 
 -- ---- groups of other numbers
 
-keeps-times : (f : ℕ → ℕ) (h : ℕ) (R : Mark → Mark → Type 0) → ((m n : Mark) → R m n → Keeps f h m n) → (t : ℕ) (m n : Mark) → TimesWith R t m n
-    → Keeps f h m n
-keeps-times f h R keeps zero m n g = keeps-same f h m n (ap (λ (k : Mark). k.1) g)
-keeps-times f h R keeps (suc t) m n g = keeps-then f h m g.0 n (keeps m g.0 g.1) (keeps-times f h R keeps t g.0 n g.2)
+times-slot : (s : ℕ) (R : Mark → Mark → Type 0) → ((m n : Mark) → R m n → last_in n.1 s ≡ last_in m.1 s) → (t : ℕ) (m n : Mark) → TimesWith R t m n
+    → last_in n.1 s ≡ last_in m.1 s
+times-slot s R keeps zero m n g = ap (λ (k : Mark). last_in k.1 s) (sym g)
+times-slot s R keeps (suc t) m n g = times-slot s R keeps t g.0 n g.2 ∙ keeps m g.0 g.1
+
+-- a slot of none of the pattern's groups holds what it held
+keeps-slot : (f : ℕ → ℕ) (s : ℕ) (x : Subject) (p : Pattern) (n : ℕ)
+    → ((g : ℕ) → n ≤ g → g < n + count_groups p → ((f g ≡ s) → ⊥) × ((f g + 1 ≡ s) → ⊥)) → (m k : Mark) → GoesWith x (numbered f n p) m k
+    → last_in k.1 s ≡ last_in m.1 s
+keeps-slot f s x Empty n off m k g = ap (λ (z : Mark). last_in z.1 s) (sym g)
+keeps-slot f s x Never n off m k g = absurd g
+keeps-slot f s x (Class ranges) n off m k g = ap (λ (r : List (ℕ × ℕ)). last_in r s) (sym g.1)
+keeps-slot f s x (Literal bytes) n off m k g = ap (λ (r : List (ℕ × ℕ)). last_in r s) (sym g.1)
+keeps-slot f s x (Assertion look) n off m k g = ap (λ (r : List (ℕ × ℕ)). last_in r s) (sym g.1)
+keeps-slot f s x (Then a b) n off m k g =
+    keeps-slot f s x b (n + count_groups a) (λ h low high. off h (omega (arith, low)) (omega (arith, high))) g.0 k g.2
+    ∙ keeps-slot f s x a n (λ h low high. off h low (omega (arith, high))) m g.0 g.1
+keeps-slot f s x (Either a b) n off m k g = ⊎_elim
+    (λ (w : GoesWith x (numbered f n a) m k). keeps-slot f s x a n (λ h low high. off h low (omega (arith, high))) m k w)
+    (λ (w : GoesWith x (numbered f (n + count_groups a) b) m k).
+    keeps-slot f s x b (n + count_groups a) (λ h low high. off h (omega (arith, low)) (omega (arith, high))) m k w)
+    g
+keeps-slot f s x (Repeat min max often a) n off m k g = times-slot s (GoesWith x (numbered f n a)) (keeps-slot f s x a n off) g.0 m k g.3
+keeps-slot f s x (Group slot a) n off m k g =
+    subst (λ (z : Mark). last_in z.1 s ≡ last_in m.1 s) (sym g.2)
+    (other_slot (f n + 1) s g.0.0 g.0.1 (off n (omega arith) (omega arith)).1
+    ∙ (keeps-slot f s x a (n + 1) (λ h low high. off h (omega (arith, low)) (omega (arith, high))) (with_record (f n) m) g.0 g.1
+    ∙ other_slot (f n) s m.0 m.1 (off n (omega arith) (omega arith)).0))
 
 -- the number isn't one of the pattern's groups
 abbrev IsOutside : ℕ → ℕ → ℕ → Type 0
@@ -118,36 +142,16 @@ IsOutside n count h = (h < n) ⊎ (n + count ≤ h)
 
 keeps-others : (f : ℕ → ℕ) → AreApart f → (x : Subject) (p : Pattern) (n h : ℕ) → IsOutside n (count_groups p) h → (m k : Mark)
     → GoesWith x (numbered f n p) m k → Keeps f h m k
-keeps-others f apart x Empty n h out m k g = keeps-same f h m k (ap (λ (z : Mark). z.1) g)
-keeps-others f apart x Never n h out m k g = absurd g
-keeps-others f apart x (Class ranges) n h out m k g = keeps-same f h m k g.1
-keeps-others f apart x (Literal bytes) n h out m k g = keeps-same f h m k g.1
-keeps-others f apart x (Assertion look) n h out m k g = keeps-same f h m k g.1
-keeps-others f apart x (Then a b) n h out m k g =
-    keeps-then f h m g.0 k
-    (keeps-others f apart x a n h (⊎_elim (λ (l : h < n). inl l) (λ (l : n + (count_groups a + count_groups b) ≤ h). inr (omega (arith, l))) out) m g.0 g.1)
-    (keeps-others f apart x b (n + count_groups a) h
-    (⊎_elim (λ (l : h < n). inl (omega (arith, l))) (λ (l : n + (count_groups a + count_groups b) ≤ h). inr (omega (arith, l))) out) g.0 k g.2)
-keeps-others f apart x (Either a b) n h out m k g = ⊎_elim
-    (λ (w : GoesWith x (numbered f n a) m k).
-    keeps-others f apart x a n h (⊎_elim (λ (l : h < n). inl l) (λ (l : n + (count_groups a + count_groups b) ≤ h). inr (omega (arith, l))) out) m k w)
-    (λ (w : GoesWith x (numbered f (n + count_groups a) b) m k).
-    keeps-others f apart x b (n + count_groups a) h
-    (⊎_elim (λ (l : h < n). inl (omega (arith, l))) (λ (l : n + (count_groups a + count_groups b) ≤ h). inr (omega (arith, l))) out) m k w)
-    g
-keeps-others f apart x (Repeat min max often a) n h out m k g =
-    keeps-times f h (GoesWith x (numbered f n a)) (keeps-others f apart x a n h out) g.0 m k g.3
-keeps-others f apart x (Group slot a) n h out m k g =
-    subst (λ (z : Mark). Keeps f h m z) (sym g.2)
-    (keeps-then f h m g.0 (with_record (f n + 1) g.0)
-    (keeps-then f h m (with_record (f n) m) g.0 (keeps-start f apart n h other m) (keeps-others f apart x a (n + 1) h inner (with_record (f n) m) g.0 g.1))
-    (keeps-end f apart n h other g.0))
+keeps-others f apart x p n h out m k g = (
+  keeps-slot f (f h) x p n (λ i low high. ((apart i h (other i low high)).0, λ e. (apart h i (λ s. other i low high (sym s))).1 (sym e))) m k g,
+  keeps-slot f (f h + 1) x p n (λ i low high. ((apart i h (other i low high)).1, λ e. (apart i h (other i low high)).0 (omega (arith, e)))) m k g,
+)
   where
-    other : n ≡ h → ⊥
-    other e = ⊎_elim (λ (l : h < n). absurd (omega (arith, e, l))) (λ (l : n + (1 + count_groups a) ≤ h). absurd (omega (arith, e, l))) out
-
-    inner : IsOutside (n + 1) (count_groups a) h
-    inner = ⊎_elim (λ (l : h < n). inl (omega (arith, l))) (λ (l : n + (1 + count_groups a) ≤ h). inr (omega (arith, l))) out
+    other : (i : ℕ) → n ≤ i → i < n + count_groups p → i ≡ h → ⊥
+    other i low high same = ⊎_elim
+        (λ (l : h < n). absurd (omega (arith, l, low, same)))
+        (λ (l : n + count_groups p ≤ h). absurd (omega (arith, l, high, same)))
+        out
 
 -- ---- a group of the pattern
 
@@ -297,6 +301,16 @@ whole-records x lists m p start end records there w =
           (other_slot (2 * m + 1) (2 * m) w.0.0 w.0.1 (λ e. absurd (omega (arith, e))) ∙ (keeps.0 ∙ same_slot (2 * m) start [])),
       subst (λ (z : Mark). last_in z.1 (2 * m + 1) ≡ Some z.0) (sym w.2) (same_slot (2 * m + 1) w.0.0 w.0.1),
     )
+
+-- and those of other whole patterns hold nothing
+pub whole-others : (x : Subject) (lists : GroupLists) (m : ℕ) (p : Pattern) (start end s : ℕ) (records : List (ℕ × ℕ)) → s < 2 * length lists
+    → (s ≡ 2 * m → ⊥) → (s ≡ 2 * m + 1 → ⊥) → GoesWith x (as_whole lists m p) (start, []) (end, records) → last_in records s ≡ None
+whole-others x lists m p start end s records l first second w = keeps-slot (slot_number lists m) s x (Group 0 p) 0 off (start, []) (end, records) w
+  where
+    off : (g : ℕ) → 0 ≤ g → g < 0 + count_groups (Group 0 p) → ((slot_number lists m g ≡ s) → ⊥) × ((slot_number lists m g + 1 ≡ s) → ⊥)
+    off zero low high = (λ e. first (sym e), λ e. second (sym e))
+    off (suc g) low high =
+        let later = slot_later lists m g in (λ e. absurd (omega (arith, e, later, l)), λ e. absurd (omega (arith, e, later, l)))
 
 -- ---- the span of a group
 

@@ -17,7 +17,7 @@ pub mod ForwardLayout  -- the forward pass
 pub mod GroupEnds  -- the group of the whole match: what runs record in its slots
 pub mod GroupNumbers  -- how the groups of a pattern are numbered, and which slots they have
 pub mod GroupOrder  -- where groups begin and end
-pub mod GroupsLayout  -- slots without a match
+pub mod GroupsLayout  -- slots without a match, and with the ends of one alone
 pub mod HeadsLayout  -- the choices of a course, and which of them it may make before its first byte
 pub mod LawfulLayout  -- the laws of steps and runs that the proof of `dfa` rests on, as one record: each is a law of a library below
 pub mod Lines  -- the lines of a haystack in which a program matches, one after the other
@@ -39,6 +39,7 @@ pub mod PatternOrder  -- which match of a program's patterns is preferred
 pub mod Patterns  -- what a pattern matches, and which programs match it
 pub mod Preferred  -- which match is first
 pub mod PreferredWays  -- the courses of a pattern, and the way that it prefers
+pub mod QuietLayout  -- states from which a match records nothing but its end
 pub mod Refusals  -- why there is no program
 pub mod RenamedLayout  -- courses that are alike but for the numbers of their choices
 pub mod RowsLayout  -- the rows of a DFA, and where a byte leads from one

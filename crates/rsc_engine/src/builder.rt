@@ -400,7 +400,7 @@ impl<'n> Builder<'n> {
         let info = info_of(self.alloc, self.patterns.as_slice())?;
         let (states, first) = compile(self.alloc, &info, self.patterns.as_slice())?;
         let nfa = Nfa::new(self.alloc, info, matcher, &states)?;
-        Ok(Program::new(nfa, first, utf8).unwrap())
+        Ok(Program::of_patterns(nfa, first, utf8))
     }
 
     // The trees of parts, and the names of their groups.

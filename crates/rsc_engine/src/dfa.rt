@@ -2,9 +2,10 @@
 //!
 //! The table serves two passes: forward a row is an ordered list ([`ordered`] looks at it), and says where the leftmost-first match ends, or the first one to
 //! end ([`forward`]); backward it has the states from which a run leads to that end ([`retreat`] goes a step back), and says where the match begins
-//! ([`backward`]) and, by the rows that were come to, what it records ([`along`]). The [`plan`] has what stays the same. [`needed`] finds bytes that each match
-//! has, without which no row is looked at.
+//! ([`backward`]) and, by the rows that were come to, what it records ([`along`]), where that is more than its ends ([`whole`]), until it comes to a [`quiet`]
+//! state. The [`plan`] has what stays the same. [`needed`] finds bytes that each match has, without which no row is looked at.
 ghost use Rattle.std.specs.Prelude.{◌≡◌, ◌+◌, ◌≤◌, IfOk, IfErr, IfSome, IfNone, OnErr, true, false, length};
+ghost use Rattle.rsc_primitives.specs.Indices.{max_index};
 ghost use Rattle.rsc_search.specs.declared.anchored.Anchored.TheVariants.{No};
 ghost use Rattle.rsc_engine.specs.declared.error.Error.TheVariants.{OutOfMemory};
 ghost use Rattle.rsc_engine.specs.Searches.{search_in, FailsFor};
@@ -28,7 +29,9 @@ mod ordered;
 mod pass_entries;
 mod pass_table;
 mod plan;
+mod quiet;
 mod retreat;
+mod whole;
 
 use crate::first::find_by_walk;
 use crate::{AsciiWordClass, Error, Program};
@@ -37,12 +40,14 @@ use forward::first_end;
 use needed::Needed;
 use pass_table::PassTable;
 use plan::Plan;
+use quiet::loud_states;
 use rsc_captures::Captures;
 use rsc_look::WordClass;
 use rsc_primitives::PatternID;
 use rsc_search::{Input, Match};
 use std::alloc::Global;
 use std::marker::Model;
+use whole::is_whole;
 
 // A span of fewer bytes is a short one.
 const LONG: usize = 4096;
@@ -75,6 +80,8 @@ pub struct Dfa<'p, W: WordClass> {
     // For each position of the last match the row of the backward pass there, from its end on.
     log: Vec<u32>,
     walk: Walk,
+    // Which states are loud, once that was asked.
+    loud: Vec<bool>,
     // Where the last forward pass stopped.
     stopped: usize,
     // What each match has, if that is known, and whether it was looked for.
@@ -91,6 +98,7 @@ impl<W: WordClass> Drop for Dfa<'_, W> {
             passes: _,
             log: _,
             walk: _,
+            loud: _,
             stopped: _,
             needed: _,
             is_sought: _,
@@ -104,6 +112,7 @@ impl<'p, W: WordClass> Model for Dfa<'p, W> {
     ghost use Rattle.rsc_engine.specs.NeededLayout.{NeedsPair};
     ghost use Rattle.rsc_engine.specs.RowsLayout.{machine, IsPlan};
     ghost use Rattle.rsc_engine.specs.PassTableLayout.{IsPassTable};
+    ghost use Rattle.rsc_engine.specs.QuietLayout.{AreQuiet};
 
     ghost Value = { Compiled W };
 
@@ -111,6 +120,7 @@ impl<'p, W: WordClass> Model for Dfa<'p, W> {
 
     ghost invariant = { λ d. IsPlan (machine W.word_chars d.plan.program.now) d.plan.classes d.plan.width d.plan.unicode
         × IsPassTable (machine W.word_chars d.plan.program.now) d.plan.classes d.plan.width d.plan.most_rows d.passes.rows.items d.passes.leads.items
+        × AreQuiet d.plan.program.now.automaton.states d.loud.items
         × IfSome d.needed (λ n. NeedsPair (machine W.word_chars d.plan.program.now) n.first n.second) };
 }
 
@@ -126,6 +136,7 @@ impl<'p, W: WordClass + AsciiWordClass> Dfa<'p, W> {
             passes: PassTable::new(alloc),
             log: Vec::new(alloc),
             walk: Walk::new(alloc),
+            loud: Vec::new(alloc),
             stopped: 0,
             needed: None,
             is_sought: false,
@@ -155,6 +166,20 @@ impl<'p, W: WordClass + AsciiWordClass> Dfa<'p, W> {
             return false;
         };
         needed.are_missing(self.plan.program, input)
+    }
+
+    // Looks for the loud states, once, if the captures are for more than the ends of matches.
+    fn listen(&mut self, captures: &Captures) -> Result<(), Error>
+        requires { length self.old.automaton.states ≤ max_index }
+        ensures program { self.new ≡ self.old }
+        ensures memory { IfErr result (λ e. e ≡ OutOfMemory) }
+    {
+        let program = self.plan.program;
+        if self.loud.len() == program.len() || is_whole(program, captures) {
+            return Ok(());
+        }
+        self.loud = loud_states(self.alloc, program)?;
+        Ok(())
     }
 
     /// The least position in the input's span at which a match ends, among the matches that begin where one may; `None` if none begins there.
@@ -235,6 +260,7 @@ impl<'p, W: WordClass + AsciiWordClass> Dfa<'p, W> {
             // Only states that have numbers are gone back through.
             return find_by_walk(self.alloc, self.plan.program, input, captures);
         }
+        self.listen(captures)?;
         let most_rows = self.plan.most_rows;
         // No row is dropped that the log names.
         self.plan.most_rows = usize::MAX;
@@ -246,6 +272,7 @@ impl<'p, W: WordClass + AsciiWordClass> Dfa<'p, W> {
             input,
             last.0,
             last.1,
+            self.loud.as_slice(),
             captures,
         );
         self.plan.most_rows = most_rows;

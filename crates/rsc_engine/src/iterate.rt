@@ -26,14 +26,10 @@ const SPARE: usize = 4096;
 
 const SPARE_FOR_A_BYTE: usize = 4;
 
-// A walk that needs more flags than these, 128 MiB, is made only if there are no bytes to spare.
-const FLAGS: usize = 1073741824;
-
 /// The matches in an input that are left, in order.
 ///
-/// After a match that lay further from the one before than it is long, the passes of a [`Dfa`] find the next one, as long as what they read behind the ends of
-/// matches is little beside what the iteration has gone past. One walk serves all other searches: a state is tried at a position again only where a match
-/// ended.
+/// The passes of a [`Dfa`] find the next match, as long as what they read behind the ends of matches is little beside what the iteration has gone past. Then
+/// one walk finds all that are left: a state is tried at a position again only where a match ended.
 ///
 /// # Examples
 ///
@@ -107,7 +103,6 @@ impl<'p, 'h, W: WordClass + AsciiWordClass> Matches<'p, 'h, W> {
                 input,
                 starts,
                 dfa,
-                is_far: true,
                 spare: SPARE,
                 walk,
                 flag_count,
@@ -164,8 +159,6 @@ struct Rest<'p, 'h, W: WordClass> {
     input: Input<'h>,
     starts: Starts,
     dfa: Dfa<'p, W>,
-    // Whether more bytes lay before the last match than it has; true before the first one.
-    is_far: bool,
     // How many bytes the passes may yet read behind the ends of matches. When there is none to spare, the walk finds all matches that are left.
     spare: usize,
     // It has no flags before it is first needed, and then as many as a walk needs.
@@ -245,7 +238,7 @@ impl<'p, 'h, W: WordClass + AsciiWordClass> Rest<'p, 'h, W> {
         ensures unset { IfOk result (λ found. IfNone found (IsCleared captures.old captures.new)) }
         ensures failed { OnErr result (IsCleared captures.old captures.new) }
     {
-        if self.spare == 0 || self.is_for_a_walk() {
+        if self.spare == 0 {
             return self.walk_on(captures);
         }
         let start = self.input.start();
@@ -258,16 +251,10 @@ impl<'p, 'h, W: WordClass + AsciiWordClass> Rest<'p, 'h, W> {
             Ok(None) => Ok(None),
             Ok(Some(found)) => {
                 self.spare = spare_after(self.spare, start, found.end(), self.dfa.stopped());
-                self.is_far = found.len() < found.start().saturating_sub(start);
                 self.input.set_start(found.end());
                 Ok(Some(found))
             }
         }
-    }
-
-    // Whether a walk takes less time than the passes, and its flags take little memory.
-    fn is_for_a_walk(&self) -> bool {
-        !self.is_far && self.flag_count <= FLAGS
     }
 
     // The same by the walk.
@@ -289,7 +276,6 @@ impl<'p, 'h, W: WordClass + AsciiWordClass> Rest<'p, 'h, W> {
         ensures failed { OnErr result (IsCleared captures.old captures.new) }
     {
         captures.clear();
-        let start = self.input.start();
         self.walk.open(self.alloc, self.flag_count)?;
         if !self.walk.search(self.program, &self.input, &self.starts)? {
             return Ok(None);
@@ -300,7 +286,6 @@ impl<'p, 'h, W: WordClass + AsciiWordClass> Rest<'p, 'h, W> {
             self.walk.trail.as_slice(),
             captures,
         );
-        self.is_far = found.len() < found.start().saturating_sub(start);
         self.input.set_start(found.end());
         Ok(Some(found))
     }

@@ -1,9 +1,10 @@
 //! A program: an automaton, and where a match begins in it.
-ghost use Rattle.std.specs.Prelude.{◌≡◌, ◌*◌, ◌<◌, ◌≤◌, IfOk, IfErr, IfSome, IfNone, Some, length, slice_get};
+ghost use Rattle.std.specs.Prelude.{◌≡◌, ◌*◌, ◌<◌, ◌≤◌, IfOk, IfErr, IfSome, IfNone, Some, true, length, slice_get};
 ghost use Rattle.rsc_captures.specs.Captured.{no_offsets};
 ghost use Rattle.rsc_captures.specs.Groups.{all_groups};
 ghost use Rattle.rsc_nfa.specs.Automata.{Automaton};
 ghost use Rattle.rsc_engine.specs.declared.error.Error.TheVariants.{OutOfMemory};
+ghost use Rattle.rsc_engine.specs.GroupEnds.{RecordsEnds};
 ghost use Rattle.rsc_engine.specs.PatternMatches.{HasSlotsOf};
 ghost use Rattle.rsc_engine.specs.Searches.{Compiled, IsStateOf};
 
@@ -33,6 +34,8 @@ pub struct Program<W: WordClass> {
     nfa: Nfa<W>,
     start: StateID,
     utf8: bool,
+    // Whether it was made from patterns, so that each run of a match records the match's ends.
+    records_ends: bool,
 }
 
 impl<W: WordClass> Model for Program<W> {
@@ -40,7 +43,8 @@ impl<W: WordClass> Model for Program<W> {
 
     ghost view = { λ p. record { automaton = p.nfa; start = p.start; utf8 = p.utf8 } };
 
-    ghost invariant = { λ p. p.start < length p.nfa.states };
+    ghost invariant = { λ p. (p.start < length p.nfa.states)
+        × (p.records_ends ≡ true → RecordsEnds W.word_chars (record { automaton = p.nfa; start = p.start; utf8 = p.utf8 })) };
 }
 
 // Written out, so that a caller's proof has one step where a program is dropped.
@@ -50,6 +54,7 @@ impl<W: WordClass> Drop for Program<W> {
             nfa: _,
             start: _,
             utf8: _,
+            records_ends: _,
         } = self;
     }
 }
@@ -87,10 +92,36 @@ impl<W: WordClass> Program<W> {
         ensures none { IfNone result (length nfa.states ≤ start) }
     {
         if start.as_usize() < nfa.states().len() {
-            Some(Program { nfa, start, utf8 })
+            Some(Program {
+                nfa,
+                start,
+                utf8,
+                records_ends: false,
+            })
         } else {
             None
         }
+    }
+
+    // The program of patterns: each run of a match records the match's ends.
+    pub(crate) fn of_patterns(nfa: Nfa<W>, start: StateID, utf8: bool) -> Program<W>
+        requires there { start < length nfa.states }
+        requires ends { RecordsEnds W.word_chars (record { automaton = nfa; start = start; utf8 = utf8 }) }
+        ensures { result ≡ record { automaton = nfa; start = start; utf8 = utf8 } }
+    {
+        Program {
+            nfa,
+            start,
+            utf8,
+            records_ends: true,
+        }
+    }
+
+    // Whether each run of a match is known to record the match's ends.
+    pub(crate) fn records_ends(&self) -> bool
+        ensures { result ≡ true → RecordsEnds W.word_chars self.now }
+    {
+        self.records_ends
     }
 
     /// The automaton.

@@ -2,11 +2,13 @@
 //! With a number as its argument, it compares all texts of at most that many bytes instead.
 #![tactic(auto)]
 
+mod linear;
 mod patterns;
 mod short;
 mod timed;
 mod tokens;
 
+use linear::time_linear;
 use patterns::NAMES;
 use short::compare_all;
 use std::env;
@@ -35,7 +37,8 @@ fn time_all(rt: &HostRuntime) -> Result<(), Fail> {
     for name in NAMES {
         time_pattern(rt, name, text.as_slice())?;
     }
-    time_tokens(rt, text.as_slice())
+    time_tokens(rt, text.as_slice())?;
+    time_linear(rt)
 }
 
 fn compare(rt: &HostRuntime, argument: &str) -> Result<(), Fail> {

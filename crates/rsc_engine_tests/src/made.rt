@@ -72,6 +72,15 @@ pub fn no_captures(alloc: Global, program: &Program<AsciiWord>) -> Result<Captur
     Ok(Captures::empty(alloc, groups)?)
 }
 
+/// Captures with slots for the ends of matches alone.
+pub fn captures_of_ends<W: WordClass>(
+    alloc: Global,
+    program: &Program<W>,
+) -> Result<Captures, Fail> {
+    let groups = program.nfa().group_info().clone()?;
+    Ok(Captures::matches(alloc, groups)?)
+}
+
 /// The span between two positions, as captures give it.
 pub fn span(start: usize, end: usize) -> Option<Span> {
     Some(Span { start, end })

@@ -1,7 +1,7 @@
 //! The pass along the log of the backward pass: it writes what the leftmost-first run records.
 //!
 //! At each position it goes by steps with no byte, at a fork first the preferred way, until it comes to a state of the position's row: from there the match is
-//! reached at once, over the byte or where it ends. So it takes back no step over a byte.
+//! reached at once, over the byte or where it ends. So it takes back no step over a byte. It goes on as far as anything is recorded but the match's end.
 ghost use Rattle.std.specs.Prelude.{◌≡◌, ◌+◌, ◌-◌, ◌<◌, ◌≤◌, ◌^◌, ℕ, List, Some, None, IfOk, IfErr, IfSome, OnOk, OnErr, MatchOption, true, false, length, slice_get, slice_index_or, if◌then◌else◌};
 ghost use Rattle.std.specs.List.{Contains};
 ghost use Rattle.rsc_primitives.specs.Indices.{max_index};
@@ -18,12 +18,15 @@ ghost use Rattle.rsc_engine.specs.OrderedLayout.{IsEndOf};
 ghost use Rattle.rsc_engine.specs.PassTableLayout.{IsPassTable};
 ghost use Rattle.rsc_engine.specs.BackwardLayout.{IsStartOf, Lists};
 ghost use Rattle.rsc_engine.specs.LogLayout.{IsLogged};
+ghost use Rattle.rsc_engine.specs.QuietLayout.{AreQuiet};
 ghost use Rattle.rsc_engine.specs.AlongLayout.{IsSought, AreRecordsTo, IsAlong, AreBelow};
 
 use super::backward::first_start;
 use super::ordered::{Way, way_of};
 use super::pass_table::PassTable;
 use super::plan::Plan;
+use super::quiet::is_quiet;
+use super::whole::{is_whole, match_whole, set_slot};
 use crate::{Error, Program};
 use rsc_captures::Captures;
 use rsc_look::WordClass;
@@ -41,6 +44,7 @@ pub(crate) fn match_along<W: WordClass>(
     input: &Input<'_>,
     pattern: PatternID,
     end: usize,
+    loud: &[bool],
     captures: &mut Captures,
 ) -> Result<Match, Error>
     requires plan { IsPlan (machine W.word_chars plan.now.program.now) plan.now.classes plan.now.width plan.now.unicode }
@@ -49,6 +53,7 @@ pub(crate) fn match_along<W: WordClass>(
         table.old.rows.items table.old.leads.items }
     requires room { plan.now.most_rows ≡ usize.MAX }
     requires end { IsEndOf (search_in W.word_chars plan.now.program.now input.now) pattern end }
+    requires quiet { AreQuiet plan.now.program.now.automaton.states loud.now }
     requires cleared { IsCleared captures.old captures.old }
     ensures exact { IsPassTable (machine W.word_chars plan.now.program.now) plan.now.classes plan.now.width plan.now.most_rows
         table.new.rows.items table.new.leads.items }
@@ -59,6 +64,9 @@ pub(crate) fn match_along<W: WordClass>(
     ensures failed { OnErr result (IsCleared captures.old captures.new) }
     ensures memory { IfErr result (λ e. e ≡ OutOfMemory) }
 {
+    if is_whole(plan.program, captures) {
+        return match_whole(plan, table, log, input, pattern, end, captures);
+    }
     let start = first_start(plan, table, input, pattern, end, log)?;
     let span = Span { start, end };
     let recorded = record_along(
@@ -69,6 +77,7 @@ pub(crate) fn match_along<W: WordClass>(
         log.as_slice(),
         pattern,
         &span,
+        loud,
         captures.slots_mut(),
     );
     match recorded {
@@ -92,10 +101,12 @@ fn record_along<W: WordClass>(
     log: &[u32],
     pattern: PatternID,
     span: &Span,
+    loud: &[bool],
     slots: &mut [Option<NonMaxUsize>],
 ) -> Result<(), Error>
     requires start { IsStartOf (search_in W.word_chars program.now input.now) pattern span.now.end span.now.start }
     requires log { IsLogged (search_in W.word_chars program.now input.now) pattern span.now.end span.now.start table.now.rows.items log.now }
+    requires quiet { AreQuiet program.now.automaton.states loud.now }
     requires empty { AreEmpty slots.old }
     ensures records { OnOk result ((run : List (ℕ × ℕ))
         → IsSought (search_in W.word_chars program.now input.now) pattern span.now.start span.now.end run
@@ -112,6 +123,10 @@ fn record_along<W: WordClass>(
         match walk.pass(program, input, at, list, sid, slots)? {
             None => return Ok(()),
             Some(next) => {
+                if is_quiet(loud, next) {
+                    set_slot(slots, 2 * pattern.as_usize() + 1, span.end);
+                    return Ok(());
+                }
                 sid = next;
                 at += 1;
             }

@@ -113,8 +113,8 @@ fn marked(alloc: Global, count: usize, list: &[StateID]) -> Result<Vec<bool>, Er
     Ok(marks)
 }
 
-// Whether the state is marked.
-fn is_marked(marks: &Vec<bool>, sid: StateID) -> bool
+/// Whether the state is marked.
+pub(crate) fn is_marked(marks: &Vec<bool>, sid: StateID) -> bool
     ensures { result ≡ slice_index_or marks.now.items sid false }
 {
     let index = sid.as_usize();

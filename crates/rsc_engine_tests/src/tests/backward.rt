@@ -1,6 +1,6 @@
 //! A DFA's matches beside those of a walk that tries each way, where a match begins before its end says so: in each span and mode, with any number of rows.
 use super::slow::first_match;
-use crate::made::captures_of;
+use crate::made::{captures_of, captures_of_ends};
 use rsc_engine::{Builder, Dfa, Error, Part, Program};
 use rsc_look::{Look, UnicodeWord};
 use rsc_primitives::PatternID;
@@ -52,7 +52,7 @@ fn word(builder: &Builder<'static>) -> Result<Part<'static>, Error> {
     builder.then(begun, builder.look(Look::WordUnicode))
 }
 
-// Whether the DFA finds what the walk does, with its groups.
+// Whether the DFA finds what the walk does, with its groups, and in captures of matches alone with its ends.
 fn same(
     alloc: Global,
     dfa: &mut Dfa<'_, UnicodeWord>,
@@ -62,8 +62,11 @@ fn same(
     let mut wanted = captures_of(alloc, program)?;
     let mut captures = captures_of(alloc, program)?;
     let first = first_match(alloc, program, input, &mut wanted)?;
+    let mut ends = captures_of_ends(alloc, program)?;
     let found = dfa.find(input, &mut captures)?;
-    Ok(found == first && captures.slots() == wanted.slots())
+    let found_ends = dfa.find(input, &mut ends)?;
+    let same = found == first && captures.slots() == wanted.slots();
+    Ok(same && found_ends == first && wanted.slots().starts_with(ends.slots()))
 }
 
 // The first span of a text in which they differ.

@@ -1,8 +1,9 @@
 //! Examples of `find`.
 use crate::made::{
-    accept, assertion, byte, capture, captures_of, first, first_of_patterns, fork, program, span,
+    accept, assertion, byte, capture, captures_of, captures_of_ends, first, first_of_patterns,
+    fork, program, span,
 };
-use rsc_engine::Program;
+use rsc_engine::{Program, find};
 use rsc_look::{AsciiWord, Look};
 use rsc_nfa::State;
 use rsc_primitives::{PatternID, StateID};
@@ -164,5 +165,20 @@ fn a_program_knows_where_it_begins(rt: HostRuntime) -> Result<(), Fail> {
     let program = two_patterns(rt.alloc())?;
     assert!(rt; program.start() == StateID::ZERO && program.len() == 10 && program.is_utf8());
     assert!(rt; program.state(StateID::must(9)) == accept(1));
+    Ok(())
+}
+
+// Slots for the ends of matches alone say what the automaton records, not where the match is.
+#[test]
+fn a_match_that_records_nothing_sets_no_slot(rt: HostRuntime) -> Result<(), Fail> {
+    let states = [byte(b'a', 1), accept(0)];
+    let program = program(rt.alloc(), &states, false)?;
+    let mut captures = captures_of_ends(rt.alloc(), &program)?;
+    let found = find(rt.alloc(), &program, &Input::new(b"ba"), &mut captures)?;
+    assert!(rt; found.map(|it| (it.start(), it.end())) == Some((1, 2)));
+    assert!(rt; captures.pattern() == Some(PatternID::ZERO));
+    for slot in captures.slots() {
+        assert!(rt; slot.is_none());
+    }
     Ok(())
 }

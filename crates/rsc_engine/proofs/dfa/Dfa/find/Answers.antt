@@ -6,8 +6,8 @@ returns-then-len-gt-MOST_NUMBERED-clause-none g c = rw (c.self.view_is ∙ c.end
 
 pub invariant_of-self : goal.invariant_of-self
 invariant_of-self g c =
-    (c.self.invariant.0, c.keep_at_most.ensures _ _ _ _ c.match_along-found.ensures.exact, c.self.invariant.2)
+    (c.self-2.invariant.0, c.keep_at_most.ensures _ _ _ _ c.match_along-found.ensures.exact, c.self-2.invariant.2, c.self-2.invariant.3)
 
 pub invariant_of-self-2 : goal.invariant_of-self-2
 invariant_of-self-2 g c =
-    (c.self.invariant.0, c.keep_at_most.ensures _ _ _ _ c.match_along-found.ensures.exact, c.self.invariant.2)
+    (c.self-2.invariant.0, c.keep_at_most.ensures _ _ _ _ c.match_along-found.ensures.exact, c.self-2.invariant.2, c.self-2.invariant.3)
