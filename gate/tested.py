@@ -7,7 +7,7 @@ The edits stand in crates/CRATE/tested-bodies.edits; gate/edits.py explains the 
                                          alone; without it all but those of cost, which take long
     snippet: memory lists_are_dropped    if there: a snippet of that crate's must-run, and its test that is run instead of the crate's
     refused: `x` does not live           if there: what the compiler must say of the snippet's test instead
-    seconds: 240                         if there: the time that each test has
+    seconds: 240                         if there: the time that each test has; it must pass within it without the edit
     runs: looks Start -- ''              instead of tests: the arguments, with \\xHH for bytes, of a plain stored run (gate/stored-runs.py), which must write
                                          something else or end with another status; or files of runs/, as `looks.txt`, or `all`: one of these runs must
     runs: refused 3: calls               or the stored run of these arguments of which the third request for memory is refused
@@ -314,6 +314,11 @@ def judge_tests(copy, crate, name, fields):
 def judge_alone(copy, crate, name, fields, pairs):
     """Tries one edit in a copy, and returns whether a test or a run fails, with a line that says which."""
     try:
+        if "seconds" in fields:
+            _, line = judge_tests(copy, crate, name, fields)
+            reset(copy, crate, fields["tests"])
+            if not line.endswith("NOTHING FAILS"):
+                return False, f"{crate}/{name}: NOT JUDGED: without an edit, {line}"
         for source, (_, after) in changed(copy, crate, fields, pairs).items():
             pathlib.Path(copy, "crates", crate, source).write_text(after, encoding="utf-8")
         if "runs" in fields:

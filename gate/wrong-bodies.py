@@ -27,7 +27,8 @@ and the name that is refused); a goal that is refused because a proof file names
 it is. A crate's first batch is tried in a copy of the crate, over the libraries that stand in out/. The others are tried side by side, each in a copy of
 that one, so what the first check kept of the functions and lemmas that stay as they are is checked once.
 
-What passed whole is kept in the crate's out/, by the checksum of all that it rests on; later runs in that clone say so instead of trying it.
+What passed whole is kept in out/ at the top, by the checksum of all that it rests on; later runs in that clone say so instead of trying it. (A crate's own
+out/ is emptied by `rt ci`.)
 
 A contract says nothing of whether memory is there, of the texts that only tests show, and of what a program reads and writes. gate/tested.py explains
 how the edits of tested-bodies.edits are tried.
@@ -283,7 +284,7 @@ def state_of(kind, crate, known, tested):
 
 def kept_file(kind, crate):
     """Returns the file that has the state in which all edits of the kind passed."""
-    return pathlib.Path(ROOT, "crates", crate, "out", f"{kind}-passed")
+    return pathlib.Path(ROOT, "out", f"{crate}-{kind}-passed")
 
 
 def try_new(kinds, wanted, names, known, tested):

@@ -1,5 +1,6 @@
 mod backward;
 mod cache;
+mod cost;
 mod dfa;
 mod first_matches;
 mod forward;
