@@ -1,443 +1,263 @@
--- Which way the leftmost-first run goes at a position, as the states on the stack are looked at.
-use Rattle.std.proofs.Common.{◌≡◌, ◌≢◌, ℕ, zero, suc, ◌+◌, ◌-◌, ◌<◌, ◌≤◌, ◌⊎◌, inl, inr, ⊎_elim, Bool, true, false, true≢false, List, [], ◌∷◌, ◌++◌, length, take, drop, get_or, refl, sym, ap, subst, ◌∙◌, arith, length-append, length-drop, slice_get, Some}
-use Rattle.std.proofs.lemmas.Bool.{cases_lt, cases_eq}
-use Rattle.std.proofs.lemmas.List.{get_or-drop, get_or-take, length-take-le, take-append-le, take_all, get_or_append_left, get_or-append_right}
-use Rattle.rsc_nfa.specs.declared.state.State.TheVariants.{Fork, Accept}
-use Rattle.rsc_nfa.specs.Steps.{place}
+-- How the preferred run goes on at a position, as the states on the stack are looked at.
+use Rattle.std.proofs.Common.{◌≡◌, ℕ, zero, suc, ◌+◌, ◌<◌, ◌≤◌, ◌==◌, ⊎_elim, inl, inr, Bool, true, false, true≢false, cond, List, [], ◌∷◌, ◌++◌, length, take, refl, sym, ap, subst, ◌∙◌, arith, length-append, append_assoc, slice_get, Option, Some, None}
+use Rattle.std.proofs.lemmas.Bool.{cases_lt, cases_eq, eq-eqb, ne_eqb}
+use Rattle.std.proofs.lemmas.List.{length-take-le, take-append-le, take_all}
+use Rattle.rsc_nfa.specs.declared.state.State.{State}
+use Rattle.rsc_nfa.specs.declared.state.State.TheVariants.{ByteRange, Assert, Fork, Capture, Accept}
 use Rattle.rsc_engine.specs.Searches.{Search}
-use Rattle.rsc_engine.specs.Runs.{Leads, IsPlace, accepts, IsMatchRun}
-use Rattle.rsc_engine.specs.Preferred.{IsOnce}
-use Rattle.rsc_engine.specs.DecidesLayout.{last_of, Avoids, IsMore}
-use Rattle.rsc_engine.specs.ArrivalsLayout.{Arrives, ArrivesAtOnce, here, over}
-use Rattle.rsc_engine.specs.AlongLayout.{IsSought, IsApart, GoesBy, IsOnTrack, goes, passes}
-use Rattle.rsc_engine.proofs.ForwardStepsLemmas.{not_true, same_place, match-before, match-drop, once-before, once-drop, avoids-one, Avoids-less}
-use Rattle.rsc_engine.proofs.WalksLayoutLemmas.{run-rises}
-use Rattle.rsc_engine.proofs.ArrivalsLayoutLemmas.{arrives-before, arrives-here}
+use Rattle.rsc_engine.specs.Runs.{Leads, IsPlace, accepts}
+use Rattle.rsc_engine.specs.Preferred.{IsPreferred}
+use Rattle.rsc_engine.specs.DecidesLayout.{IsOpenMatch, IsHopeless, IsBest, IsMore, unseen}
+use Rattle.rsc_engine.specs.PassesLayout.{IsNoFork}
+use Rattle.rsc_engine.specs.AlongLayout.{all_at, DecidesAlong}
+use Rattle.rsc_engine.proofs.ForwardStepsLemmas.{match-one, avoids-one, first_of_fork, open-more, best-less, best-before, hopeless-before, best-over, hopeless-over}
 
--- ---- a run that comes to no place twice
+all_at-more : (i : ℕ) (trail : List ℕ) (s : ℕ) → all_at i (trail ++ s ∷ []) ≡ all_at i trail ++ (s, i) ∷ []
+all_at-more i [] s = refl
+all_at-more i (t ∷ trail) s = ap (λ (l : List (ℕ × ℕ)). (t, i) ∷ l) (all_at-more i trail s)
 
-same_or_apart : (q p : ℕ × ℕ) → (q ≡ p) ⊎ (q ≢ p)
-same_or_apart q p = ⊎_elim
-    (λ (a : q.0 ≡ p.0). ⊎_elim
-    (λ (b : q.1 ≡ p.1). inl (same_place q p a b))
-    (λ (b : q.1 ≡ p.1 → ⊥). inr (λ same. b (ap (λ (r : ℕ × ℕ). r.1) same)))
-    (cases_eq q.1 p.1))
-    (λ (a : q.0 ≡ p.0 → ⊥). inr (λ same. a (ap (λ (r : ℕ × ℕ). r.0) same)))
-    (cases_eq q.0 p.0)
+-- a state more of the trail
+pub way-more : (front : List (ℕ × ℕ)) (i : ℕ) (trail : List ℕ) (s : ℕ) (run : List (ℕ × ℕ))
+    → (front ++ all_at i (trail ++ s ∷ [])) ++ run ≡ (front ++ all_at i trail) ++ (s, i) ∷ run
+way-more front i trail s run =
+    ap (λ (l : List (ℕ × ℕ)). (front ++ l) ++ run) (all_at-more i trail s)
+    ∙ ap (λ (l : List (ℕ × ℕ)). l ++ run) (sym (append_assoc front (all_at i trail) ((s, i) ∷ [])))
+    ∙ append_assoc (front ++ all_at i trail) ((s, i) ∷ []) run
 
--- the index of a place in a list
-abbrev IndexOf : ℕ × ℕ → List (ℕ × ℕ) → Type 0
-IndexOf p run = (k : ℕ) × (k < length run) × (place run k ≡ p)
-
-find_place : (p : ℕ × ℕ) (run : List (ℕ × ℕ)) → IndexOf p run ⊎ ((k : ℕ) → k < length run → place run k ≢ p)
-find_place p [] = inr (λ k l. absurd (omega (arith, l)))
-find_place p (q ∷ run) = go (same_or_apart q p) (find_place p run)
-  where
-    go : (q ≡ p) ⊎ (q ≢ p) → IndexOf p run ⊎ ((k : ℕ) → k < length run → place run k ≢ p)
-        → IndexOf p (q ∷ run) ⊎ ((k : ℕ) → k < length (q ∷ run) → place (q ∷ run) k ≢ p)
-    go (inl same) rest = inl (0, omega arith, same)
-    go (inr apart) (inl (k, l, is)) = inl (suc k, omega (arith, l), is)
-    go (inr apart) (inr none) = inr all
-      where
-        all : (k : ℕ) → k < length (q ∷ run) → place (q ∷ run) k ≢ p
-        all zero l = apart
-        all (suc k) l = none k (omega (arith, l))
-
-pub last-drop : (run : List (ℕ × ℕ)) (k : ℕ) → k < length run → last_of (drop k run) ≡ last_of run
-last-drop run k l =
-    let same : k + (length (drop k run) - 1) ≡ length run - 1 = omega (arith, l, length-drop k run) in
-    get_or-drop k run (length (drop k run) - 1) (0, 0) ∙ ap (λ (h : ℕ). place run h) same
-
--- a part of a run from its first place to its last that comes to no place twice
-record IsCut (e : Search) (q : ℕ × ℕ) (run : List (ℕ × ℕ)) : Type 0 where
-  cut : List (ℕ × ℕ)
-  is_match : IsMatchRun e q cut
-  once : IsOnce cut
-  within : (k : ℕ) → k < length cut → (h : ℕ) × (h < length run) × (place run h ≡ place cut k)
-
-cut_before : (e : Search) (q p r : ℕ × ℕ) (rest : List (ℕ × ℕ)) → IsMatchRun e q (p ∷ (r ∷ rest)) → IsCut e r (r ∷ rest) → IsCut e q (p ∷ (r ∷ rest))
-cut_before e q p r rest m c = go (find_place p c.cut)
-  where
-    go : IndexOf p c.cut ⊎ ((k : ℕ) → k < length c.cut → place c.cut k ≢ p) → IsCut e q (p ∷ (r ∷ rest))
-    go (inl (k, l, is)) = record {
-      cut = drop k c.cut;
-      is_match = subst (λ (x : ℕ × ℕ). IsMatchRun e x (drop k c.cut)) (is ∙ m.begins) (match-drop e r c.cut k c.is_match l);
-      once = once-drop c.cut k c.once;
-      within = λ h below.
-          let w = c.within (k + h) (omega (arith, below, length-drop k c.cut)) in
-          (suc w.0, omega (arith, w.1), w.2 ∙ sym (get_or-drop k c.cut h (0, 0)));
-    }
-    go (inr none) = record {
-      cut = p ∷ c.cut;
-      is_match = subst (λ (x : ℕ × ℕ). IsMatchRun e x (p ∷ c.cut)) m.begins
-          (match-before e p r c.cut (m.is_run.places 0 (omega arith)) (m.is_run.steps 0 (omega arith)) c.is_match);
-      once = once-before p c.cut c.once none;
-      within = within;
-    }
-      where
-        within : (k : ℕ) → k < length (p ∷ c.cut) → (h : ℕ) × (h < length (p ∷ (r ∷ rest))) × (place (p ∷ (r ∷ rest)) h ≡ place (p ∷ c.cut) k)
-        within zero l = (0, omega arith, refl)
-        within (suc k) l = let w = c.within k (omega (arith, l)) in (suc w.0, omega (arith, w.1), w.2)
-
-cut_of : (e : Search) (q : ℕ × ℕ) (run : List (ℕ × ℕ)) → IsMatchRun e q run → IsCut e q run
-cut_of e q [] m = absurd (omega (arith, m.some))
-cut_of e q (p ∷ []) m = record {
-  cut = p ∷ [];
-  is_match = m;
-  once = λ h k l below. absurd (omega (arith, l, below));
-  within = λ k l. (k, l, refl);
-}
-cut_of e q (p ∷ (r ∷ rest)) m = cut_before e q p r rest m (cut_of e r (r ∷ rest) (match-drop e q (p ∷ (r ∷ rest)) 1 m (omega arith)))
-
--- ---- a run that leaves another at a place
-
-module _ (e : Search) (run : List (ℕ × ℕ)) (q : ℕ) (l : q < length run) (m : List (ℕ × ℕ)) where
-  abbrev joined : List (ℕ × ℕ)
-  joined = take (q + 1) run ++ m
-
-  length-front : length (take (q + 1) run) ≡ q + 1
-  length-front = length-take-le (q + 1) run (omega (arith, l))
-
-  place-front : (k : ℕ) → k ≤ q → place joined k ≡ place run k
-  place-front k le =
-      get_or_append_left (take (q + 1) run) m (0, 0) k (omega (arith, le, length-front)) ∙ get_or-take (q + 1) run k (0, 0) (omega (arith, le))
-
-  place-back : (k : ℕ) → q < k → place joined k ≡ place m (k - (q + 1))
-  place-back k lt = get_or-append_right (take (q + 1) run) m (q + 1) k (0, 0) length-front (omega (arith, lt))
-
-  length-joined : length joined ≡ q + 1 + length m
-  length-joined = omega (arith, length-append (take (q + 1) run) m, length-front)
-
-  match-joined : (from to : ℕ × ℕ) → IsMatchRun e from run → IsMatchRun e to m → Leads e (place run q) to → IsMatchRun e from joined
-  match-joined from to r x leads = record {
-    is_run = record { places = places; steps = steps };
-    some = omega (arith, length-joined);
-    begins = place-front 0 (omega arith) ∙ r.begins;
-    ends =
-        let last : length joined - 1 - (q + 1) ≡ length m - 1 = omega (arith, length-joined) in
-        let back : q < length joined - 1 = omega (arith, length-joined, x.some) in
-        rw (place-back (length joined - 1) back, last) x.ends;
-  }
-    where
-      places : (k : ℕ) → k < length joined → IsPlace e (place joined k)
-      places k h = ⊎_elim
-          (λ (lt : q < k). rw (place-back k lt) (x.is_run.places (k - (q + 1)) (omega (arith, lt, h, length-joined))))
-          (λ (le : k ≤ q). rw (place-front k le) (r.is_run.places k (omega (arith, le, l))))
-          (cases_lt q k)
-
-      steps : (k : ℕ) → k + 1 < length joined → Leads e (place joined k) (place joined (k + 1))
-      steps k h = ⊎_elim
-          (λ (lt : q < k).
-          let on : k + 1 - (q + 1) ≡ k - (q + 1) + 1 = omega (arith, lt) in
-          rw (place-back k lt, place-back (k + 1) (omega (arith, lt)), on) (x.is_run.steps (k - (q + 1)) (omega (arith, lt, h, length-joined))))
-          (λ (le : k ≤ q). ⊎_elim
-          (λ (lt : k < q). rw (place-front k le, place-front (k + 1) (omega (arith, lt))) (r.is_run.steps k (omega (arith, lt, l))))
-          (λ (ge : q ≤ k).
-          let same : k ≡ q = omega (arith, le, ge) in
-          let none : k + 1 - (q + 1) ≡ 0 = omega (arith, same) in
-          rw (place-front k le, place-back (k + 1) (omega (arith, same)), none, same, x.begins) leads)
-          (cases_lt k q))
-          (cases_lt q k)
-
--- ---- the run that is sought
-
--- what is left of it arrives
-abbrev tail-arrives : (e : Search) (p at j : ℕ) (run : List (ℕ × ℕ)) (k s i : ℕ) → IsSought e p at j run → k < length run → place run k ≡ (s, i)
-    → Arrives e p j s i
-tail-arrives e p at j run k s i sought l is = record {
-  run = drop k run;
-  is_match = subst (λ (x : ℕ × ℕ). IsMatchRun e x (drop k run)) is (match-drop e (e.start_state, (place run 0).1) run k sought.is_first.preferred.is_match l);
-  pattern = subst (λ (x : ℕ × ℕ). slice_get e.states x.0 ≡ Some (Accept p)) (sym (last-drop run k l)) sought.pattern;
-  end = ap (λ (x : ℕ × ℕ). x.1) (last-drop run k l) ∙ sought.end;
+-- a match alone is the best run from it
+pub best-match : (e : Search) (i : ℕ) (seen : ℕ → Bool) (s : ℕ) → seen s ≡ false → IsPlace e (s, i) → accepts e (s, i) ≡ true
+    → IsBest e i seen s ((s, i) ∷ [])
+best-match e i seen s fresh there accepted = record {
+  is_open = record { is_match = match-one e (s, i) there accepted; avoids = avoids-one i seen (s, i) fresh };
+  once = λ j k l h. absurd (omega (arith, l, h));
+  first = λ other m once b. absurd (omega (arith, b.other_within));
 }
 
--- a state from which the match is reached at once isn't apart
-pub once-not-apart : (e : Search) (p j i : ℕ) (seen : ℕ → Bool) (s : ℕ) → seen s ≡ false → ArrivesAtOnce e p j s i → IsApart e p j i seen s → ⊥
-once-not-apart e p j i seen s fresh (here ends there accepted is) apart =
-    apart (arrives-here e p j s i ends there accepted is) (avoids-one i seen (s, i) fresh)
-once-not-apart e p j i seen s fresh (over t there leads a) apart = apart (arrives-before e p j s i t (i + 1) there leads a) avoids
-  where
-    avoids : Avoids i seen ((s, i) ∷ a.run)
-    avoids zero l h = fresh
-    avoids (suc k) l h = absurd (omega (
-      arith,
-      h,
-      ap (λ (x : ℕ × ℕ). x.1) a.is_match.begins,
-      run-rises e a.run 0 k a.is_match.is_run (omega arith) (omega (arith, l)),
-    ))
+-- no match is reached from a state that was seen
+pub hopeless-seen : (e : Search) (i : ℕ) (seen : ℕ → Bool) (s : ℕ) → seen s ≡ true → IsHopeless e i seen s
+hopeless-seen e i seen s is run m = true≢false
+    (sym is ∙ sym (ap (λ (q : ℕ × ℕ). seen q.0) m.is_match.begins) ∙ m.avoids 0 m.is_match.some (ap (λ (q : ℕ × ℕ). q.1) m.is_match.begins))
 
-module _ (e : Search) (p at j : ℕ) (run : List (ℕ × ℕ)) (sought : IsSought e p at j run) (n i : ℕ) where
-  abbrev from : ℕ × ℕ
-  from = (e.start_state, (place run 0).1)
+-- or of which the ways are hopeless
+pub hopeless-fork : (e : Search) (i : ℕ) (seen after : ℕ → Bool) (s a b : ℕ) → IsMore seen s after → slice_get e.states s ≡ Some (Fork a b)
+    → IsHopeless e i after a → IsHopeless e i after b → IsHopeless e i seen s
+hopeless-fork e i seen after s a b g is none other = hopeless-before e i seen after s g (rw is refl) (λ q l. (
+  (rw is at l).1,
+  ⊎_elim
+      (λ (h : q.0 ≡ a). subst (λ (n : ℕ). IsHopeless e i after n) (sym h) none)
+      (λ (h : q.0 ≡ b). subst (λ (n : ℕ). IsHopeless e i after n) (sym h) other)
+      (rw is at l).0,
+))
 
-  is_match : IsMatchRun e from run
-  is_match = sought.is_first.preferred.is_match
+-- the best run from the first way is the best from the fork, and if no match is reached by it, the best from the second
+pub best-first : (e : Search) (i : ℕ) (seen after : ℕ → Bool) (s a b : ℕ) (run : List (ℕ × ℕ)) → IsMore seen s after → seen s ≡ false → IsPlace e (s, i)
+    → slice_get e.states s ≡ Some (Fork a b) → IsBest e i after a run → IsBest e i seen s ((s, i) ∷ run)
+best-first e i seen after s a b run g fresh there is best =
+    best-before e i seen after s a run g fresh there (rw is (inl refl, refl)) (λ q l. (rw is at l).1)
+    (λ c d fork apart. absurd (apart (first_of_fork a b c d (sym is ∙ fork)))) best
 
-  -- it goes on from a state that is no match
-  goes-on : (seen : ℕ → Bool) (trail : List ℕ) (x : ℕ × ℕ) → GoesBy run n i seen trail x → accepts e (x.0, i) ≡ false
-      → (n + x.1 + 1 < length run) × Leads e (x.0, i) (place run (n + x.1 + 1))
-  goes-on seen trail x g rejected = ⊎_elim
-      (λ (more : n + x.1 + 1 < length run).
-      (more, subst (λ (y : ℕ × ℕ). Leads e y (place run (n + x.1 + 1))) g.here (is_match.is_run.steps (n + x.1) more)))
-      (λ (last : length run ≤ n + x.1 + 1).
-      let end : length run - 1 ≡ n + x.1 = omega (arith, last, g.within) in
-      absurd (true≢false (sym (rw (end, g.here) at is_match.ends) ∙ rejected)))
-      (cases_lt (n + x.1 + 1) (length run))
+pub best-second : (e : Search) (i : ℕ) (seen after : ℕ → Bool) (s a b : ℕ) (run : List (ℕ × ℕ)) → IsMore seen s after → seen s ≡ false → IsPlace e (s, i)
+    → slice_get e.states s ≡ Some (Fork a b) → IsHopeless e i after a → IsBest e i after b run → IsBest e i seen s ((s, i) ∷ run)
+best-second e i seen after s a b run g fresh there is none best =
+    best-before e i seen after s b run g fresh there (rw is (inr refl, refl)) (λ q l. (rw is at l).1)
+    (λ c d fork apart. subst (λ (n : ℕ). IsHopeless e i after n) (first_of_fork a b c d (sym is ∙ fork)) none) best
 
-  -- it doesn't go by a state from which no step leads on, and that is no match
-  pub stuck-off : (seen : ℕ → Bool) (trail : List ℕ) (x : ℕ × ℕ) → GoesBy run n i seen trail x → accepts e (x.0, i) ≡ false
-      → ((q : ℕ × ℕ) → Leads e (x.0, i) q → ⊥) → ⊥
-  stuck-off seen trail x g rejected none = let on = goes-on seen trail x g rejected in none (place run (n + x.1 + 1)) on.1
-
-  -- from a state by which it goes, over the byte, the match is reached at once
-  pub goes-over : (seen : ℕ → Bool) (trail : List ℕ) (x : ℕ × ℕ) (t : ℕ) → GoesBy run n i seen trail x → IsPlace e (x.0, i) → accepts e (x.0, i) ≡ false
-      → Leads e (x.0, i) (t, i + 1) → ((q : ℕ × ℕ) → Leads e (x.0, i) q → (q.0 ≡ t) × (q.1 ≡ i + 1))
-      → (n + x.1 + 1 < length run) × (place run (n + x.1 + 1) ≡ (t, i + 1)) × ArrivesAtOnce e p j x.0 i
-  goes-over seen trail x t g there rejected leads only =
-      let on = goes-on seen trail x g rejected in
-      let to = only (place run (n + x.1 + 1)) on.1 in
-      let is : place run (n + x.1 + 1) ≡ (t, i + 1) = same_place (place run (n + x.1 + 1)) (t, i + 1) to.0 to.1 in
-      (on.0, is, over t there leads (tail-arrives e p at j run (n + x.1 + 1) t (i + 1) sought on.0 is))
-
-  -- it ends at a match by which it goes
-  pub goes-to-end : (seen : ℕ → Bool) (trail : List ℕ) (x : ℕ × ℕ) → GoesBy run n i seen trail x → IsPlace e (x.0, i) → accepts e (x.0, i) ≡ true
-      → ((q : ℕ × ℕ) → Leads e (x.0, i) q → ⊥) → (length run ≡ n + x.1 + 1) × ArrivesAtOnce e p j x.0 i
-  goes-to-end seen trail x g there accepted stops = ⊎_elim
-      (λ (more : n + x.1 + 1 < length run).
-      absurd (stops (place run (n + x.1 + 1)) (subst (λ (y : ℕ × ℕ). Leads e y (place run (n + x.1 + 1))) g.here (is_match.is_run.steps (n + x.1) more))))
-      (λ (last : length run ≤ n + x.1 + 1).
-      let end : length run - 1 ≡ n + x.1 = omega (arith, last, g.within) in
-      let is : last_of run ≡ (x.0, i) = ap (λ (k : ℕ). place run k) end ∙ g.here in (
-        omega (arith, last, g.within),
-        here (sym (ap (λ (y : ℕ × ℕ). y.1) is) ∙ sought.end) there accepted
-            (subst (λ (y : ℕ × ℕ). slice_get e.states y.0 ≡ Some (Accept p)) is sought.pattern),
-      ))
-      (cases_lt (n + x.1 + 1) (length run))
-
-  -- ---- what stays so when one state more was seen
-
-  -- from a state that is apart a step with no byte leads to one that is
-  apart-on : (seen after : ℕ → Bool) (s t : ℕ) → IsMore seen s after → seen s ≡ false → IsPlace e (s, i) → Leads e (s, i) (t, i)
-      → IsApart e p j i seen s → IsApart e p j i after t
-  apart-on seen after s t g fresh there leads apart a avoids = apart (arrives-before e p j s i t i there leads a) all
-    where
-      all : Avoids i seen ((s, i) ∷ a.run)
-      all zero l h = fresh
-      all (suc k) l h = Avoids-less i seen after s a.run g avoids k (omega (arith, l)) h
-
-  more : (seen after : ℕ → Bool) (s : ℕ) (trail : List ℕ) (stack : List (ℕ × ℕ)) → IsMore seen s after → IsApart e p j i seen s
-      → IsOnTrack e p j run n i seen trail stack → IsOnTrack e p j run n i after trail stack
-  more seen after s trail stack g apart (goes _ x rest by) = goes trail x rest (record {
-    deep = by.deep;
-    within = by.within;
-    here = by.here;
-    passed = λ k l. ((by.passed k l).0, g.kept (get_or trail k 0) (by.passed k l).1);
-    avoids = λ k low l is. not_true (after (place run k).0) (λ now. ⊎_elim
-        (λ (same : (place run k).0 ≡ s).
-        let a : Arrives e p j s i = tail-arrives e p at j run k s i sought l (same_place (place run k) (s, i) same is) in
-        apart (tail-arrives e p at j run k s i sought l (same_place (place run k) (s, i) same is)) (λ h below h_is.
-        let there : place (drop k run) h ≡ place run (k + h) = get_or-drop k run h (0, 0) in
-        ap (λ (y : ℕ × ℕ). seen y.0) there
-        ∙ by.avoids (k + h) (omega (arith, low)) (omega (arith, below, length-drop k run)) (sym (ap (λ (y : ℕ × ℕ). y.1) there) ∙ h_is)))
-        (λ (was : seen (place run k).0 ≡ true). true≢false (sym was ∙ by.avoids k low l is))
-        (g.only (place run k).0 now));
-  })
-  more seen after s trail stack g apart (passes _ x rest deep off on) =
-      passes trail x rest deep (λ a avoids. off a (Avoids-less i seen after s a.run g avoids)) (more seen after s (take x.1 trail) rest g apart on)
+module _ (e : Search) (from i : ℕ) (front : List (ℕ × ℕ)) where
+  -- a state from which no match is reached may count as seen
+  more : (seen after : ℕ → Bool) (s : ℕ) (trail : List ℕ) (stack : List (ℕ × ℕ)) → IsMore seen s after → IsHopeless e i seen s
+      → DecidesAlong e from i seen front trail stack → DecidesAlong e from i after front trail stack
+  more seen after s trail [] g none d = d
+  more seen after s trail (x ∷ rest) g none d = (
+    d.0,
+    λ run b. d.1 run (best-less e i seen after s x.0 run g none b),
+    λ hopeless. more seen after s (take x.1 trail) rest g none (d.2 (λ run m. hopeless run (open-more e i seen after s x.0 run g none m))),
+  )
 
   -- below the top the trail may be longer
-  longer : (seen : ℕ → Bool) (trail extra : List ℕ) (stack : List (ℕ × ℕ)) → IsOnTrack e p j run n i seen trail stack
-      → IsOnTrack e p j run n i seen (trail ++ extra) stack
-  longer seen trail extra stack (goes _ x rest by) = goes (trail ++ extra) x rest (record {
-    deep = omega (arith, by.deep, length-append trail extra);
-    within = by.within;
-    here = by.here;
-    passed = λ k l.
-        let same : get_or (trail ++ extra) k 0 ≡ get_or trail k 0 = get_or_append_left trail extra 0 k (omega (arith, l, by.deep)) in
-        rw same (by.passed k l);
-    avoids = by.avoids;
-  })
-  longer seen trail extra stack (passes _ x rest deep off on) = passes (trail ++ extra) x rest (omega (arith, deep, length-append trail extra)) off
-      (subst (λ (t : List ℕ). IsOnTrack e p j run n i seen t rest) (sym (take-append-le x.1 trail extra deep)) on)
+  longer : (seen : ℕ → Bool) (trail extra : List ℕ) (stack : List (ℕ × ℕ)) → DecidesAlong e from i seen front trail stack
+      → DecidesAlong e from i seen front (trail ++ extra) stack
+  longer seen trail extra [] d = d
+  longer seen trail extra (x ∷ rest) d =
+      let same : take x.1 (trail ++ extra) ≡ take x.1 trail = take-append-le x.1 trail extra d.0 in (
+        omega (arith, d.0, length-append trail extra),
+        λ run b. rw same (d.1 run b),
+        λ hopeless. rw same (d.2 hopeless),
+      )
 
-  -- ---- the moves
+  module _ (seen after : ℕ → Bool) (trail : List ℕ) (x : ℕ × ℕ) (rest : List (ℕ × ℕ)) (d : DecidesAlong e from i seen front trail (x ∷ rest)) where
+    abbrev kept : List ℕ
+    kept = take x.1 trail
 
-  -- it goes on by a step with no byte
-  goes-single : (seen after : ℕ → Bool) (trail : List ℕ) (x : ℕ × ℕ) (t : ℕ) → IsMore seen x.0 after → GoesBy run n i seen trail x
-      → n + x.1 + 1 < length run → place run (n + x.1 + 1) ≡ (t, i) → GoesBy run n i after (take x.1 trail ++ x.0 ∷ []) (t, x.1 + 1)
-  goes-single seen after trail x t g by within is = record {
-    deep = omega (arith, length-append (take x.1 trail) (x.0 ∷ []), depth);
-    within = omega (arith, within);
-    here = let same : n + (x.1 + 1) ≡ n + x.1 + 1 = omega arith in ap (λ (k : ℕ). place run k) same ∙ is;
-    passed = passed;
-    avoids = λ k low l at. not_true (after (place run k).0) (λ now. ⊎_elim
-        (λ (same : (place run k).0 ≡ x.0).
-        sought.is_first.preferred.once (n + x.1) k (omega (arith, low)) l (by.here ∙ sym (same_place (place run k) (x.0, i) same at)))
-        (λ (was : seen (place run k).0 ≡ true). true≢false (sym was ∙ by.avoids k (omega (arith, low)) l at))
-        (g.only (place run k).0 now));
-  }
-    where
-      depth : length (take x.1 trail) ≡ x.1
-      depth = length-take-le x.1 trail by.deep
-
-      passed : (k : ℕ) → k < x.1 + 1
-          → (place run (n + k) ≡ (get_or (take x.1 trail ++ x.0 ∷ []) k 0, i)) × (after (get_or (take x.1 trail ++ x.0 ∷ []) k 0) ≡ true)
-      passed k l = ⊎_elim
-          (λ (lt : k < x.1).
-          let same : get_or (take x.1 trail ++ x.0 ∷ []) k 0 ≡ get_or trail k 0 =
-          get_or_append_left (take x.1 trail) (x.0 ∷ []) 0 k (omega (arith, lt, depth)) ∙ get_or-take x.1 trail k 0 lt in
-          rw same ((by.passed k lt).0, g.kept (get_or trail k 0) (by.passed k lt).1))
-          (λ (le : x.1 ≤ k).
-          let is_last : k ≡ x.1 = omega (arith, le, l) in
-          let none : k - x.1 ≡ 0 = omega (arith, is_last) in
-          let same : get_or (take x.1 trail ++ x.0 ∷ []) k 0 ≡ x.0 =
-          get_or-append_right (take x.1 trail) (x.0 ∷ []) x.1 k 0 depth le ∙ ap (λ (h : ℕ). get_or (x.0 ∷ []) h 0) none in
-          rw same (ap (λ (h : ℕ). place run (n + h)) is_last ∙ by.here, g.new))
-          (cases_lt k x.1)
-
-  module _ (seen after : ℕ → Bool) (trail : List ℕ) (x : ℕ × ℕ) (rest : List (ℕ × ℕ)) where
-    -- a state that was seen is passed
-    pub track-again : seen x.0 ≡ true → IsOnTrack e p j run n i seen trail (x ∷ rest) → IsOnTrack e p j run n i seen (take x.1 trail) rest
-    track-again was (goes _ _ _ by) =
-        absurd (true≢false (sym was ∙ sym (ap (λ (y : ℕ × ℕ). seen y.0) by.here)
-        ∙ by.avoids (n + x.1) (omega arith) by.within (ap (λ (y : ℕ × ℕ). y.1) by.here)))
-    track-again was (passes _ _ _ deep off on) = on
+    -- a state that was seen decides nothing
+    pub along-again : seen x.0 ≡ true → DecidesAlong e from i seen front kept rest
+    along-again is = d.2 (hopeless-seen e i seen x.0 is)
 
     module _ (g : IsMore seen x.0 after) (fresh : seen x.0 ≡ false) (there : IsPlace e (x.0, i)) where
-      below : IsApart e p j i seen x.0 → IsOnTrack e p j run n i seen (take x.1 trail) rest
-          → IsOnTrack e p j run n i after (take x.1 trail ++ x.0 ∷ []) rest
-      below off on = longer after (take x.1 trail) (x.0 ∷ []) rest (more seen after x.0 (take x.1 trail) rest g off on)
+      whole : take (x.1 + 1) (kept ++ x.0 ∷ []) ≡ kept ++ x.0 ∷ []
+      whole = take_all (x.1 + 1) (kept ++ x.0 ∷ []) (omega (arith, length-append kept (x.0 ∷ []), length-take-le x.1 trail d.0))
 
-      depth : x.1 ≤ length trail → x.1 + 1 ≤ length (take x.1 trail ++ x.0 ∷ [])
-      depth deep = omega (arith, length-append (take x.1 trail) (x.0 ∷ []), length-take-le x.1 trail deep)
+      deep : x.1 + 1 ≤ length (kept ++ x.0 ∷ [])
+      deep = omega (arith, length-append kept (x.0 ∷ []), length-take-le x.1 trail d.0)
 
-      whole : x.1 ≤ length trail → take (x.1 + 1) (take x.1 trail ++ x.0 ∷ []) ≡ take x.1 trail ++ x.0 ∷ []
-      whole deep = take_all (x.1 + 1) (take x.1 trail ++ x.0 ∷ [])
-          (omega (arith, length-append (take x.1 trail) (x.0 ∷ []), length-take-le x.1 trail deep))
+      on : (run : List (ℕ × ℕ)) → IsBest e i seen x.0 ((x.0, i) ∷ run)
+          → IsPreferred e (e.start_state, from) ((front ++ all_at i (take (x.1 + 1) (kept ++ x.0 ∷ []))) ++ run)
+      on run b = subst (λ (l : List (ℕ × ℕ)). IsPreferred e (e.start_state, from) l)
+          (sym (ap (λ (l : List ℕ). (front ++ all_at i l) ++ run) whole ∙ way-more front i kept x.0 run)) (d.1 ((x.0, i) ∷ run) b)
 
-      -- one by which the run doesn't go falls out
-      pub track-off : (GoesBy run n i seen trail x → ⊥) → IsOnTrack e p j run n i seen trail (x ∷ rest)
-          → IsOnTrack e p j run n i after (take x.1 trail) rest
-      track-off off_track (goes _ _ _ by) = absurd (off_track by)
-      track-off off_track (passes _ _ _ deep off on) = more seen after x.0 (take x.1 trail) rest g off on
+      -- nor does one from which no match is reached
+      pub along-off : IsHopeless e i seen x.0 → DecidesAlong e from i after front kept rest
+      along-off none = more seen after x.0 kept rest g none (d.2 none)
 
-      pub track-single : (t : ℕ) → accepts e (x.0, i) ≡ false → Leads e (x.0, i) (t, i) → ((q : ℕ × ℕ) → Leads e (x.0, i) q → (q.0 ≡ t) × (q.1 ≡ i))
-          → IsOnTrack e p j run n i seen trail (x ∷ rest)
-          → IsOnTrack e p j run n i after (take x.1 trail ++ x.0 ∷ []) ((t, x.1 + 1) ∷ rest)
-      track-single t rejected leads only (goes _ _ _ by) =
-          let on = goes-on seen trail x by rejected in
-          let to = only (place run (n + x.1 + 1)) on.1 in
-          goes (take x.1 trail ++ x.0 ∷ []) (t, x.1 + 1) rest
-          (goes-single seen after trail x t g by on.0 (same_place (place run (n + x.1 + 1)) (t, i) to.0 to.1))
-      track-single t rejected leads only (passes _ _ _ deep off on) =
-          passes (take x.1 trail ++ x.0 ∷ []) (t, x.1 + 1) rest (depth deep) (apart-on seen after x.0 t g fresh there leads off)
-          (subst (λ (l : List ℕ). IsOnTrack e p j run n i after l rest) (sym (whole deep)) (below off on))
+      below : IsHopeless e i seen x.0 → DecidesAlong e from i after front (take (x.1 + 1) (kept ++ x.0 ∷ [])) rest
+      below none = subst (λ (l : List ℕ). DecidesAlong e from i after front l rest) (sym whole) (longer after kept (x.0 ∷ []) rest (along-off none))
 
-      -- at a fork the run goes the first way from which a match is reached, by states that weren't seen
-      module _ (a b : ℕ) (is : slice_get e.states x.0 ≡ Some (Fork a b)) (before : (k : ℕ) → k < n → (place run k).1 < i) where
-        first-apart : GoesBy run n i seen trail x → n + x.1 + 1 < length run → (place run (n + x.1 + 1)).0 ≢ a → IsApart e p j i after a
-        first-apart by within off arrival avoids =
-            sought.is_first.preferred.first other
-            (match-joined e run (n + x.1) by.within c.cut from (a, i) is_match c.is_match (rw by.here leads))
-            (λ h k l below. once h k l below)
-            (record {
-              at = n + x.1;
-              a = a;
-              b = b;
-              within = omega (arith, length-joined e run (n + x.1) by.within c.cut, c.is_match.some);
-              other_within = within;
-              together = λ k le. place-front e run (n + x.1) by.within c.cut k le;
-              fork = ap (λ (y : ℕ × ℕ). slice_get e.states y.0) (place-front e run (n + x.1) by.within c.cut (n + x.1) (omega arith) ∙ by.here) ∙ is;
-              first =
-                  let none : n + x.1 + 1 - (n + x.1 + 1) ≡ 0 = omega arith in
-                  ap (λ (y : ℕ × ℕ). y.0) (place-back e run (n + x.1) by.within c.cut (n + x.1 + 1) (omega arith)
-                  ∙ ap (λ (k : ℕ). place c.cut k) none ∙ c.is_match.begins);
-              apart = off;
-            })
-          where
-            c : IsCut e (a, i) arrival.run
-            c = cut_of e (a, i) arrival.run arrival.is_match
+      -- one from which one step leads on with no byte passes on to where it leads
+      pub along-single : (t : ℕ) → accepts e (x.0, i) ≡ false → IsNoFork e x.0 → Leads e (x.0, i) (t, i)
+          → ((q : ℕ × ℕ) → Leads e (x.0, i) q → (q.0 ≡ t) × (q.1 ≡ i))
+          → DecidesAlong e from i after front (kept ++ x.0 ∷ []) ((t, x.1 + 1) ∷ rest)
+      along-single t rejected no_fork leads only = (
+        deep,
+        λ run best. on run (best-before e i seen after x.0 t run g fresh there leads (λ q l. (only q l).1)
+            (λ a b fork apart. absurd (no_fork a b fork)) best),
+        λ none. below (hopeless-before e i seen after x.0 g rejected (λ q l.
+            ((only q l).1, subst (λ (n : ℕ). IsHopeless e i after n) (sym (only q l).0) none))),
+      )
 
-            leads : Leads e (x.0, i) (a, i)
-            leads = rw is (inl refl, refl)
+      -- of a fork first the one way decides, then the other
+      pub along-fork : (a b : ℕ) → slice_get e.states x.0 ≡ Some (Fork a b)
+          → DecidesAlong e from i after front (kept ++ x.0 ∷ []) ((a, x.1 + 1) ∷ (b, x.1 + 1) ∷ rest)
+      along-fork a b is = (
+        deep,
+        λ run best. on run (best-first e i seen after x.0 a b run g fresh there is best),
+        λ none. subst (λ (l : List ℕ). DecidesAlong e from i after front l ((b, x.1 + 1) ∷ rest)) (sym whole) (
+          deep,
+          λ run best. on run (best-second e i seen after x.0 a b run g fresh there is none best),
+          λ other. below (hopeless-fork e i seen after x.0 a b g is none other),
+        ),
+      )
 
-            other : List (ℕ × ℕ)
-            other = take (n + x.1 + 1) run ++ c.cut
+      -- over the byte the preferred run goes on
+      pub along-over : (t : ℕ) → IsNoFork e x.0 → Leads e (x.0, i) (t, i + 1) → (run : List (ℕ × ℕ)) → IsBest e (i + 1) unseen t run
+          → IsPreferred e (e.start_state, from) (((front ++ all_at i kept) ++ (x.0, i) ∷ []) ++ run)
+      along-over t no_fork leads run best = subst (λ (l : List (ℕ × ℕ)). IsPreferred e (e.start_state, from) l)
+          (sym (append_assoc (front ++ all_at i kept) ((x.0, i) ∷ []) run))
+          (d.1 ((x.0, i) ∷ run) (best-over e i seen x.0 t run fresh there leads no_fork best))
 
-            front : (k : ℕ) → k ≤ n + x.1 → place other k ≡ place run k
-            front k le = place-front e run (n + x.1) by.within c.cut k le
+      -- or it's a match
+      pub along-match : accepts e (x.0, i) ≡ true → IsPreferred e (e.start_state, from) ((front ++ all_at i kept) ++ (x.0, i) ∷ [])
+      along-match accepted = d.1 ((x.0, i) ∷ []) (best-match e i seen x.0 fresh there accepted)
 
-            -- a place of the part that is left was not come to before
-            apart : (h k : ℕ) → h ≤ n + x.1 → k < length c.cut → place run h ≢ place c.cut k
-            apart h k le l same = ⊎_elim
-                (λ (early : h < n). omega (arith, before h early, rises, ap (λ (y : ℕ × ℕ). y.1) same))
-                (λ (late : n ≤ h). ⊎_elim
-                (λ (mid : h < n + x.1).
-                let same_h : n + (h - n) ≡ h = omega (arith, late) in
-                let w = by.passed (h - n) (omega (arith, mid, late)) in
-                let at_h : place run h ≡ (get_or trail (h - n) 0, i) = ap (λ (y : ℕ). place run y) (sym same_h) ∙ w.0 in
-                seen_before (get_or trail (h - n) 0) at_h (g.kept (get_or trail (h - n) 0) w.1))
-                (λ (end : n + x.1 ≤ h).
-                let same_h : h ≡ n + x.1 = omega (arith, end, le) in
-                seen_before x.0 (ap (λ (y : ℕ). place run y) same_h ∙ by.here) g.new)
-                (cases_lt h (n + x.1)))
-                (cases_lt h n)
-              where
-                rises : i ≤ (place c.cut k).1
-                rises = omega (
-                  arith,
-                  ap (λ (y : ℕ × ℕ). y.1) c.is_match.begins,
-                  run-rises e c.cut 0 k c.is_match.is_run (omega arith) l,
-                )
+-- ---- where no run is best, no match is reached
 
-                seen_before : (s : ℕ) → place run h ≡ (s, i) → after s ≡ true → ⊥
-                seen_before s at_h was =
-                    let w = c.within k l in
-                    let there : place arrival.run w.0 ≡ (s, i) = w.2 ∙ sym same ∙ at_h in
-                    true≢false (sym was ∙ sym (ap (λ (y : ℕ × ℕ). after y.0) there)
-                    ∙ avoids w.0 w.1 (ap (λ (y : ℕ × ℕ). y.1) there))
+-- how many of the first n states weren't seen
+left_of : ℕ → (ℕ → Bool) → ℕ
+left_of zero seen = 0
+left_of (suc n) seen = cond (seen n) 0 1 + left_of n seen
 
-            once : IsOnce other
-            once h k l below same = ⊎_elim
-                (λ (back : n + x.1 < h).
-                c.once (h - (n + x.1 + 1)) (k - (n + x.1 + 1)) (omega (arith, back, l)) (omega (arith, below, l, back, len))
-                (sym (place-back e run (n + x.1) by.within c.cut h back) ∙ same ∙ place-back e run (n + x.1) by.within c.cut k (omega (arith, back, l))))
-                (λ (le : h ≤ n + x.1). ⊎_elim
-                (λ (back : n + x.1 < k).
-                apart h (k - (n + x.1 + 1)) le (omega (arith, below, back, len))
-                (sym (front h le) ∙ same ∙ place-back e run (n + x.1) by.within c.cut k back))
-                (λ (k_le : k ≤ n + x.1).
-                sought.is_first.preferred.once h k l (omega (arith, k_le, by.within)) (sym (front h le) ∙ same ∙ front k k_le))
-                (cases_lt (n + x.1) k))
-                (cases_lt (n + x.1) h)
-              where
-                len : length other ≡ n + x.1 + 1 + length c.cut
-                len = length-joined e run (n + x.1) by.within c.cut
+one-kept : (a b : Bool) → (a ≡ true → b ≡ true) → cond b 0 1 ≤ cond a 0 1
+one-kept true b h = rw (h refl) (omega arith)
+one-kept false true h = omega arith
+one-kept false false h = omega arith
 
-        pub track-fork : accepts e (x.0, i) ≡ false → IsOnTrack e p j run n i seen trail (x ∷ rest)
-            → IsOnTrack e p j run n i after (take x.1 trail ++ x.0 ∷ []) ((a, x.1 + 1) ∷ (b, x.1 + 1) ∷ rest)
-        track-fork rejected (goes _ _ _ by) = ⊎_elim
-            (λ (same : (place run (n + x.1 + 1)).0 ≡ a).
-            goes (take x.1 trail ++ x.0 ∷ []) (a, x.1 + 1) ((b, x.1 + 1) ∷ rest)
-            (goes-single seen after trail x a g by on.0 (same_place (place run (n + x.1 + 1)) (a, i) same way.1)))
-            (λ (off : (place run (n + x.1 + 1)).0 ≡ a → ⊥).
-            let second : (place run (n + x.1 + 1)).0 ≡ b =
-            ⊎_elim (λ (h : (place run (n + x.1 + 1)).0 ≡ a). absurd (off h)) (λ (h : (place run (n + x.1 + 1)).0 ≡ b). h) way.0 in
-            passes (take x.1 trail ++ x.0 ∷ []) (a, x.1 + 1) ((b, x.1 + 1) ∷ rest) (depth by.deep) (first-apart by on.0 off)
-            (subst (λ (l : List ℕ). IsOnTrack e p j run n i after l ((b, x.1 + 1) ∷ rest)) (sym (whole by.deep))
-            (goes (take x.1 trail ++ x.0 ∷ []) (b, x.1 + 1) rest
-            (goes-single seen after trail x b g by on.0 (same_place (place run (n + x.1 + 1)) (b, i) second way.1)))))
-            (cases_eq (place run (n + x.1 + 1)).0 a)
-          where
-            on : (n + x.1 + 1 < length run) × Leads e (x.0, i) (place run (n + x.1 + 1))
-            on = goes-on seen trail x by rejected
+none-left : (b : Bool) → b ≡ true → cond b 0 1 ≤ 0
+none-left b is = rw is (omega arith)
 
-            way : (((place run (n + x.1 + 1)).0 ≡ a) ⊎ ((place run (n + x.1 + 1)).0 ≡ b)) × ((place run (n + x.1 + 1)).1 ≡ i)
-            way = rw is at on.1
-        track-fork rejected (passes _ _ _ deep off on) =
-            passes (take x.1 trail ++ x.0 ∷ []) (a, x.1 + 1) ((b, x.1 + 1) ∷ rest) (depth deep)
-            (apart-on seen after x.0 a g fresh there (rw is (inl refl, refl)) off)
-            (subst (λ (l : List ℕ). IsOnTrack e p j run n i after l ((b, x.1 + 1) ∷ rest)) (sym (whole deep))
-            (passes (take x.1 trail ++ x.0 ∷ []) (b, x.1 + 1) rest (depth deep)
-            (apart-on seen after x.0 b g fresh there (rw is (inr refl, refl)) off)
-            (subst (λ (l : List ℕ). IsOnTrack e p j run n i after l rest) (sym (whole deep)) (below off on))))
+one-left : (b : Bool) → b ≡ false → 1 ≤ cond b 0 1
+one-left b is = rw is (omega arith)
+
+left-kept : (n : ℕ) (seen after : ℕ → Bool) → ((t : ℕ) → seen t ≡ true → after t ≡ true) → left_of n after ≤ left_of n seen
+unfolding left_of
+left-kept zero seen after kept = omega arith
+left-kept (suc n) seen after kept = omega (arith, one-kept (seen n) (after n) (kept n), left-kept n seen after kept)
+
+left-fewer : (n s : ℕ) (seen after : ℕ → Bool) → IsMore seen s after → seen s ≡ false → s < n → left_of n after + 1 ≤ left_of n seen
+unfolding left_of
+left-fewer zero s seen after g fresh l = absurd (omega (arith, l))
+left-fewer (suc n) s seen after g fresh l = ⊎_elim
+    (λ (lt : s < n). omega (arith, one-kept (seen n) (after n) (g.kept n), left-fewer n s seen after g fresh lt))
+    (λ (le : n ≤ s).
+    let same : s ≡ n = omega (arith, le, l) in
+    let now = none-left (after n) (subst (λ (k : ℕ). after k ≡ true) same g.new) in
+    let was = one-left (seen n) (subst (λ (k : ℕ). seen k ≡ false) same fresh) in
+    omega (arith, now, was, left-kept n seen after g.kept))
+    (cases_lt s n)
+
+mark : (ℕ → Bool) → ℕ → ℕ → Bool
+mark seen s t = cond (t == s) true (seen t)
+
+marks : (seen : ℕ → Bool) (s : ℕ) → IsMore seen s (mark seen s)
+unfolding mark
+marks seen s = record {
+  new = ap (λ (b : Bool). cond b true (seen s)) (eq-eqb s s refl);
+  kept = λ t is. go (t == s) t is;
+  only = λ t is. ⊎_elim
+      (λ (same : t ≡ s). inl same)
+      (λ (apart : t ≡ s → ⊥). inr (sym (ap (λ (b : Bool). cond b true (seen t)) (ne_eqb t s apart)) ∙ is))
+      (cases_eq t s);
+}
+  where
+    go : (b : Bool) (t : ℕ) → seen t ≡ true → cond b true (seen t) ≡ true
+    go true t is = refl
+    go false t is = is
+
+-- no run is the best one
+abbrev HasNoBest : Search → ℕ → (ℕ → Bool) → ℕ → Type 0
+HasNoBest e i seen s = (run : List (ℕ × ℕ)) → ¬ (IsBest e i seen s run)
+
+open-there : (e : Search) (i : ℕ) (seen : ℕ → Bool) (s : ℕ) (run : List (ℕ × ℕ)) → IsOpenMatch e i seen s run → IsPlace e (s, i)
+open-there e i seen s run m = subst (λ (q : ℕ × ℕ). IsPlace e q) m.is_match.begins (m.is_match.is_run.places 0 m.is_match.some)
+
+open-fresh : (e : Search) (i : ℕ) (seen : ℕ → Bool) (s : ℕ) (run : List (ℕ × ℕ)) → IsOpenMatch e i seen s run → seen s ≡ false
+open-fresh e i seen s run m =
+    sym (ap (λ (q : ℕ × ℕ). seen q.0) m.is_match.begins) ∙ m.avoids 0 m.is_match.some (ap (λ (q : ℕ × ℕ). q.1) m.is_match.begins)
+
+module _ (e : Search) (i : ℕ) (later : (t : ℕ) → HasNoBest e (i + 1) unseen t → IsHopeless e (i + 1) unseen t) where
+  none-step : (s : ℕ) (seen after : ℕ → Bool) → IsMore seen s after → seen s ≡ false → IsPlace e (s, i)
+      → ((t : ℕ) → HasNoBest e i after t → IsHopeless e i after t) → HasNoBest e i seen s → IsHopeless e i seen s
+  none-step s seen after g fresh there on none = go (slice_get e.states s) refl
+    where
+      by : IsNoFork e s → accepts e (s, i) ≡ false → ((q : ℕ × ℕ) → Leads e (s, i) q → q.1 ≡ i) → IsHopeless e i seen s
+      by no_fork rejected stays = hopeless-before e i seen after s g rejected (λ q l. (
+        stays q l,
+        on q.0 (λ run best. none ((s, i) ∷ run) (best-before e i seen after s q.0 run g fresh there
+            (subst (λ (k : ℕ). Leads e (s, i) (q.0, k)) (stays q l) l) stays (λ a b fork apart. absurd (no_fork a b fork)) best)),
+      ))
+
+      go : (o : Option State) → slice_get e.states s ≡ o → IsHopeless e i seen s
+      go None is = hopeless-before e i seen after s g (rw is refl) (λ q l. absurd (rw is at l))
+      go (Some (ByteRange a b next)) is = hopeless-over e i seen s (rw is refl) (λ q l. (
+        (rw is at l).3,
+        later q.0 (λ run best. none ((s, i) ∷ run) (best-over e i seen s q.0 run fresh there
+            (subst (λ (k : ℕ). Leads e (s, i) (q.0, k)) (rw is at l).3 l) (λ c d fork. absurd (cc)) best)),
+      ))
+      go (Some (Assert look next)) is = by (λ c d fork. absurd (cc)) (rw is refl) (λ q l. (rw is at l).2)
+      go (Some (Capture slot next)) is = by (λ c d fork. absurd (cc)) (rw is refl) (λ q l. (rw is at l).1)
+      go (Some (Fork a b)) is =
+          let first = on a (λ run best. none ((s, i) ∷ run) (best-first e i seen after s a b run g fresh there is best)) in
+          hopeless-fork e i seen after s a b g is first
+          (on b (λ run best. none ((s, i) ∷ run) (best-second e i seen after s a b run g fresh there is first best)))
+      go (Some (Accept p)) is = at (accepts e (s, i)) refl
+        where
+          at : (b : Bool) → accepts e (s, i) ≡ b → IsHopeless e i seen s
+          at true accepted = absurd (none ((s, i) ∷ []) (best-match e i seen s fresh there accepted))
+          at false rejected = hopeless-before e i seen after s g rejected (λ q l. absurd (rw is at l))
+
+  none-here : (n s : ℕ) (seen : ℕ → Bool) → left_of (length e.states) seen ≤ n → HasNoBest e i seen s → IsHopeless e i seen s
+  none-here zero s seen few none run m = absurd (omega (
+    arith,
+    few,
+    left-fewer (length e.states) s seen (mark seen s) (marks seen s) (open-fresh e i seen s run m) (open-there e i seen s run m).0,
+  ))
+  none-here (suc n) s seen few none run m =
+      let fresh = open-fresh e i seen s run m in
+      let there = open-there e i seen s run m in
+      let fewer = left-fewer (length e.states) s seen (mark seen s) (marks seen s) fresh there.0 in
+      none-step s seen (mark seen s) (marks seen s) fresh there (λ t x. none-here n t (mark seen s) (omega (arith, few, fewer)) x) none run m
+
+none-from : (e : Search) (d i s : ℕ) → e.end < i + d → HasNoBest e i unseen s → IsHopeless e i unseen s
+none-from e zero i s past none run m = omega (arith, past, (open-there e i unseen s run m).2)
+none-from e (suc d) i s past none run m =
+    none-here e i (λ t x. none-from e d (i + 1) t (omega (arith, past)) x) (left_of (length e.states) unseen) s unseen (omega arith) none run m
+
+pub none-best : (e : Search) (i s : ℕ) → ((run : List (ℕ × ℕ)) → ¬ (IsBest e i unseen s run)) → IsHopeless e i unseen s
+none-best e i s none = none-from e (e.end + 1) i s (omega arith) none

@@ -1,9 +1,9 @@
 -- The pass along the log, as it goes through a position, and from one to the next.
-use Rattle.std.proofs.Common.{◌≡◌, ℕ, zero, suc, ◌+◌, ◌-◌, ◌<◌, ◌≤◌, ◌==◌, inl, inr, ⊎_elim, Bool, true, false, cond, not, count_by, List, [], ◌∷◌, ◌++◌, length, take, get_or, set, reverse, refl, sym, ap, subst, ◌∙◌, arith, length-append, append_assoc, slice_get, Option, Some, None, MatchOption}
+use Rattle.std.proofs.Common.{◌≡◌, ℕ, zero, suc, ◌+◌, ◌-◌, ◌<◌, ◌≤◌, ◌==◌, inl, inr, ⊎_elim, Bool, true, false, cond, not, count_by, List, [], ◌∷◌, ◌++◌, length, take, get_or, set, reverse, refl, sym, ap, subst, ◌∙◌, arith, length-append, append_assoc, append-nil, slice_get, Option, Some, None, MatchOption}
 use Rattle.std.specs.List.{All, Contains}
 use Rattle.std.proofs.lemmas.Bool.{cases_lt, cases_eq, eq-eqb, ne_eqb}
 use Rattle.std.proofs.lemmas.List.Sums.{sum_by-set}
-use Rattle.std.proofs.lemmas.List.{take_more, take_all, get_or-take, length-take-le, get_or-set_same, get_or-set_other, length-set, reverse-append, get_or_append_left, get_or-append_right, get_or_default}
+use Rattle.std.proofs.lemmas.List.{take_all, get_or-take, length-take-le, get_or-set_same, get_or-set_other, length-set, reverse-append, get_or_append_left, get_or-append_right, get_or_default}
 use Rattle.rsc_captures.specs.Captured.{Captured}
 use Rattle.rsc_search.specs.Matches.{Matched}
 use Rattle.rsc_nfa.specs.declared.state.State.{State}
@@ -12,19 +12,21 @@ use Rattle.rsc_nfa.specs.Steps.{place, StepsTo, is_capture_of, or_earlier, recor
 use Rattle.rsc_engine.specs.Searches.{Search}
 use Rattle.rsc_engine.specs.Runs.{Leads, IsPlace, AreRecords}
 use Rattle.rsc_engine.specs.RowsLayout.{AreStates}
-use Rattle.rsc_engine.specs.DecidesLayout.{IsMore}
+use Rattle.rsc_engine.specs.DecidesLayout.{last_of, IsBest, IsHopeless, IsMore, unseen}
 use Rattle.rsc_engine.specs.OrderedLayout.{IsWayOn}
 use Rattle.rsc_engine.specs.declared.dfa.ordered.Way.TheVariants.{Stuck, One, Over, Two, Match}
 use Rattle.rsc_engine.specs.GroupsLayout.{AreEmpty}
-use Rattle.rsc_engine.specs.Preferred.{IsFirstMatch}
-use Rattle.rsc_engine.specs.ArrivalsLayout.{Arrives, ArrivesAtOnce}
+use Rattle.rsc_engine.specs.Preferred.{IsPreferred, IsFirstMatch}
+use Rattle.rsc_engine.specs.ForwardLayout.{up_to}
+use Rattle.rsc_engine.specs.ArrivalsLayout.{Arrives, ArrivesOver}
 use Rattle.rsc_engine.specs.BackwardLayout.{IsStartOf, Lists}
-use Rattle.rsc_engine.specs.AlongLayout.{IsSought, AreRecordsTo, IsAlong, AreBelow, GoesBy, IsOnTrack, goes, passes}
-use Rattle.rsc_engine.proofs.GroupsLayoutLemmas.{at_place, recorded-cons}
-use Rattle.rsc_engine.proofs.AlongLayoutLemmas.{once-not-apart, stuck-off, goes-over, goes-to-end, track-again, track-off, track-single, track-fork}
+use Rattle.rsc_engine.specs.AlongLayout.{GoesTo, IsRecorded, AreRecordsTo, IsLed, AreBelow, all_at, DecidesAlong}
+use Rattle.rsc_engine.proofs.AlongLayoutLemmas.{way-more, along-again, along-off, along-single, along-fork, along-over, along-match}
+use Rattle.rsc_engine.proofs.BackwardLemmas.{first-down}
+use Rattle.rsc_engine.proofs.ForwardStepsLemmas.{run-rises, hopeless-before, hopeless-over}
 use Rattle.rsc_engine.proofs.OrderedLemmas.{states-push}
-use Rattle.rsc_engine.proofs.WalksLayoutLemmas.{run-rises}
-use Rattle.rsc_engine.proofs.ArrivalsLayoutLemmas.{arrives-low, first-arrives}
+use Rattle.rsc_engine.proofs.PreferredLemmas.{one_preferred}
+use Rattle.rsc_engine.proofs.ArrivalsLayoutLemmas.{arrives-within}
 
 -- ---- what a run records before a place
 
@@ -36,55 +38,76 @@ pub or_or : (a b c : Option ℕ) → or_earlier (or_earlier a b) c ≡ or_earlie
 or_or None b c = refl
 or_or (Some i) b c = refl
 
-recorded-last : (states : List State) (run : List (ℕ × ℕ)) (p q : ℕ × ℕ) (slot : ℕ)
-    → recorded states (run ++ p ∷ (q ∷ [])) slot ≡ or_earlier (at_place states p slot) (recorded states (run ++ p ∷ []) slot)
-recorded-last states [] p q slot = sym (or_none (at_place states p slot))
-recorded-last states (x ∷ run) p q slot =
-    recorded-cons states x (run ++ p ∷ (q ∷ [])) slot (omega (arith, length-append run (p ∷ (q ∷ []))))
-    ∙ ap (λ (o : Option ℕ). or_earlier o (at_place states x slot)) (recorded-last states run p q slot)
-    ∙ or_or (at_place states p slot) (recorded states (run ++ p ∷ []) slot) (at_place states x slot)
-    ∙ ap (λ (o : Option ℕ). or_earlier (at_place states p slot) o)
-    (sym (recorded-cons states x (run ++ p ∷ []) slot (omega (arith, length-append run (p ∷ [])))))
+-- what a state records in a slot at a position
+abbrev pub at_place : List State → ℕ × ℕ → ℕ → Option ℕ
+at_place states p slot = cond (is_capture_of slot (slice_get states p.0)) (Some p.1) None
 
--- a place more
-pub recorded-more : (states : List State) (run : List (ℕ × ℕ)) (n slot : ℕ) → n + 1 < length run
-    → recorded states (take (n + 1 + 1) run) slot ≡ or_earlier (at_place states (place run n) slot) (recorded states (take (n + 1) run) slot)
-recorded-more states run n slot l =
-    ap (λ (x : List (ℕ × ℕ)). recorded states x slot) whole
-    ∙ recorded-last states (take n run) (place run n) (place run (n + 1)) slot
-    ∙ ap (λ (x : List (ℕ × ℕ)). or_earlier (at_place states (place run n) slot) (recorded states x slot)) (sym (take_more run n (0, 0) (omega (arith, l))))
-  where
-    whole : take (n + 1 + 1) run ≡ take n run ++ place run n ∷ (place run (n + 1) ∷ [])
-    whole =
-        take_more run (n + 1) (0, 0) l
-        ∙ ap (λ (x : List (ℕ × ℕ)). x ++ place run (n + 1) ∷ []) (take_more run n (0, 0) (omega (arith, l)))
-        ∙ append_assoc (take n run) (place run n ∷ []) (place run (n + 1) ∷ [])
-
--- a state more of the trail
-pub records-more : (states : List State) (run : List (ℕ × ℕ)) (n i s : ℕ) (state : State) (old new : List (Option ℕ)) → n + 1 < length run
-    → place run n ≡ (s, i) → slice_get states s ≡ Some state → length new ≡ length old
-    → ((slot : ℕ) → slot < length new → get_or new slot None ≡ or_earlier (cond (is_capture_of slot (Some state)) (Some i) None) (get_or old slot None))
-    → AreRecordsTo states run n old → AreRecordsTo states run (n + 1) new
-records-more states run n i s state old new l at is len wrote had slot there =
-    wrote slot there
-    ∙ ap (λ (o : Option ℕ). or_earlier (cond (is_capture_of slot (Some state)) (Some i) None) o) (had slot (omega (arith, there, len)))
-    ∙ ap (λ (x : Option State). or_earlier (cond (is_capture_of slot x) (Some i) None) (recorded states (take (n + 1) run) slot)) (sym is)
-    ∙ ap (λ (x : ℕ × ℕ). or_earlier (at_place states x slot) (recorded states (take (n + 1) run) slot)) (sym at)
-    ∙ sym (recorded-more states run n slot l)
+pub recorded-cons : (states : List State) (p : ℕ × ℕ) (rest : List (ℕ × ℕ)) (slot : ℕ) → 0 < length rest
+    → recorded states (p ∷ rest) slot ≡ or_earlier (recorded states rest slot) (at_place states p slot)
+recorded-cons states p [] slot l = absurd (omega (arith, l))
+recorded-cons states p (q ∷ rest) slot l = refl
 
 -- a place whose state records nothing
-pub records-quiet : (states : List State) (run : List (ℕ × ℕ)) (n : ℕ) (slots : List (Option ℕ)) → n + 1 < length run
-    → ((slot : ℕ) → is_capture_of slot (slice_get states (place run n).0) ≡ false) → AreRecordsTo states run n slots → AreRecordsTo states run (n + 1) slots
-records-quiet states run n slots l quiet had slot there =
-    had slot there
-    ∙ ap (λ (b : Bool). or_earlier (cond b (Some (place run n).1) None) (recorded states (take (n + 1) run) slot)) (sym (quiet slot))
-    ∙ sym (recorded-more states run n slot l)
+pub recorded_quiet : (states : List State) (p : ℕ × ℕ) (rest : List (ℕ × ℕ)) (slot : ℕ) → 0 < length rest → is_capture_of slot (slice_get states p.0) ≡ false
+    → recorded states (p ∷ rest) slot ≡ recorded states rest slot
+recorded_quiet states p rest slot l quiet =
+    recorded-cons states p rest slot l
+    ∙ ap (λ (b : Bool). or_earlier (recorded states rest slot) (cond b (Some p.1) None)) quiet
+    ∙ or_none (recorded states rest slot)
 
--- the whole run
-pub records-all : (states : List State) (run : List (ℕ × ℕ)) (n : ℕ) (slots : List (Option ℕ)) → length run ≡ n + 1 → AreRecordsTo states run n slots
-    → (s : ℕ) → s < length slots → get_or slots s None ≡ recorded states run s
-records-all states run n slots len had s l =
-    had s l ∙ ap (λ (x : List (ℕ × ℕ)). recorded states x s) (take_all (n + 1) run (omega (arith, len)))
+-- a run records what its first places record, and after that what the others do
+pub recorded-append : (states : List State) (front run : List (ℕ × ℕ)) (q : ℕ × ℕ) (slot : ℕ) → 0 < length run
+    → recorded states (front ++ run) slot ≡ or_earlier (recorded states run slot) (recorded states (front ++ q ∷ []) slot)
+recorded-append states [] run q slot some = sym (or_none (recorded states run slot))
+recorded-append states (x ∷ front) run q slot some =
+    recorded-cons states x (front ++ run) slot (omega (arith, some, length-append front run))
+    ∙ ap (λ (o : Option ℕ). or_earlier o (at_place states x slot)) (recorded-append states front run q slot some)
+    ∙ or_or (recorded states run slot) (recorded states (front ++ q ∷ []) slot) (at_place states x slot)
+    ∙ ap (λ (o : Option ℕ). or_earlier (recorded states run slot) o)
+    (sym (recorded-cons states x (front ++ q ∷ []) slot (omega (arith, length-append front (q ∷ [])))))
+
+-- places before a run don't change its end
+pub last-behind : (front run : List (ℕ × ℕ)) → 0 < length run → last_of (front ++ run) ≡ last_of run
+last-behind front run some =
+    let last : length (front ++ run) - 1 ≡ length front + (length run - 1) = omega (arith, some, length-append front run) in
+    let back : length front + (length run - 1) - length front ≡ length run - 1 = omega arith in
+    ap (λ (k : ℕ). place (front ++ run) k) last
+    ∙ get_or-append_right front run (length front) (length front + (length run - 1)) (0, 0) refl (omega arith) ∙ ap (λ (k : ℕ). place run k) back
+
+-- a place more
+pub recorded-more : (states : List State) (front : List (ℕ × ℕ)) (p q : ℕ × ℕ) (slot : ℕ)
+    → recorded states ((front ++ p ∷ []) ++ q ∷ []) slot ≡ or_earlier (at_place states p slot) (recorded states (front ++ p ∷ []) slot)
+recorded-more states front p q slot =
+    ap (λ (l : List (ℕ × ℕ)). recorded states l slot) (append_assoc front (p ∷ []) (q ∷ []))
+    ∙ recorded-append states front (p ∷ (q ∷ [])) p slot (omega arith)
+
+-- no states record anything
+pub records-first : (states : List State) (front : List (ℕ × ℕ)) (i : ℕ) (slots : List (Option ℕ)) → AreRecordsTo states front slots
+    → AreRecordsTo states (front ++ all_at i []) slots
+records-first states front i slots had q s l = rw (append-nil front) (had q s l)
+
+-- a state more of the trail
+pub records-more : (states : List State) (front : List (ℕ × ℕ)) (i s : ℕ) (trail more : List ℕ) (state : State) (old new : List (Option ℕ))
+    → more ≡ trail ++ s ∷ [] → slice_get states s ≡ Some state → length new ≡ length old
+    → ((slot : ℕ) → slot < length new → get_or new slot None ≡ or_earlier (cond (is_capture_of slot (Some state)) (Some i) None) (get_or old slot None))
+    → AreRecordsTo states (front ++ all_at i trail) old → AreRecordsTo states (front ++ all_at i more) new
+records-more states front i s trail more state old new grown is len wrote had q slot there =
+    wrote slot there
+    ∙ ap (λ (o : Option ℕ). or_earlier (cond (is_capture_of slot (Some state)) (Some i) None) o) (had (s, i) slot (omega (arith, there, len)))
+    ∙ ap (λ (x : Option State). or_earlier (cond (is_capture_of slot x) (Some i) None) (recorded states ((front ++ all_at i trail) ++ (s, i) ∷ []) slot))
+    (sym is)
+    ∙ sym (recorded-more states (front ++ all_at i trail) (s, i) q slot)
+    ∙ ap (λ (l : List (ℕ × ℕ)). recorded states l slot)
+    (append_assoc (front ++ all_at i trail) ((s, i) ∷ []) (q ∷ []) ∙ sym (way-more front i trail s (q ∷ []))
+    ∙ ap (λ (l : List ℕ). (front ++ all_at i l) ++ q ∷ []) (sym grown))
+
+-- a place whose state records nothing
+pub records-quiet : (states : List State) (front : List (ℕ × ℕ)) (p : ℕ × ℕ) (slots : List (Option ℕ))
+    → ((slot : ℕ) → is_capture_of slot (slice_get states p.0) ≡ false) → AreRecordsTo states front slots → AreRecordsTo states (front ++ p ∷ []) slots
+records-quiet states front p slots quiet had q slot there =
+    had p slot there
+    ∙ ap (λ (b : Bool). or_earlier (cond b (Some p.1) None) (recorded states (front ++ p ∷ []) slot)) (sym (quiet slot))
+    ∙ sym (recorded-more states front p q slot)
 
 -- ---- what was seen at a position, by its stamp
 
@@ -114,15 +137,15 @@ below-set n seen s v l small below t = ⊎_elim
 
 -- ---- the loop
 
--- what the loop keeps: of the run that is sought the stack has the states by which it may go, from the slots as they were
+-- what the loop keeps: the stack decides how the preferred run goes on, from the slots as they were
 pub record IsPassing (e : Search) (n i stamp sid : ℕ) (list : List ℕ) (slots : List (Option ℕ)) (seen : List ℕ) (stack : List (ℕ × ℕ)) (trail : List ℕ)
     : Type 0 where
   pub len : length seen ≡ n
   pub below : AreBelow (stamp + 1) seen
   pub there : All (λ (x : ℕ × ℕ). x.0 < n) stack
   pub states : AreStates n trail
-  pub on : (p from j : ℕ) (run : List (ℕ × ℕ)) → IsSought e p from j run → Lists (λ s. ArrivesAtOnce e p j s i) list → (a : IsAlong e run sid i slots)
-      → IsOnTrack e p j run a.index i (seen_at stamp seen) trail (reverse stack)
+  pub on : (from : ℕ) → Lists (λ s. ArrivesOver e s i) list → (w : IsLed e from sid i slots)
+      → DecidesAlong e from i (seen_at stamp seen) w.front trail (reverse stack)
 
 pub passing-first : {e : Search} {n i stamp sid : ℕ} {list : List ℕ} {slots : List (Option ℕ)} {seen : List ℕ} → length seen ≡ n → AreBelow stamp seen → sid < n
     → IsPassing e n i stamp sid list slots seen ((sid, 0) ∷ []) []
@@ -131,19 +154,27 @@ passing-first {e} {n} {i} {stamp} {sid} {list} {slots} {seen} len below there = 
   below = λ s. omega (arith, below s);
   there = all;
   states = λ k d l. absurd (omega (arith, l));
-  on = λ p from j run sought lists a. goes [] (sid, 0) [] (record {
-    deep = omega arith;
-    within = omega (arith, a.within);
-    here = let same : a.index + 0 ≡ a.index = omega arith in ap (λ (k : ℕ). place run k) same ∙ a.here;
-    passed = λ k l. absurd (omega (arith, l));
-    avoids = λ k low l is. ne_eqb (get_or seen (place run k).0 0) stamp
-        (λ (h : get_or seen (place run k).0 0 ≡ stamp). omega (arith, h, below (place run k).0));
-  });
+  on = λ from lists w. (
+    omega arith,
+    λ run b. rw (append-nil w.front) (w.best run (decides-unseen run b)),
+    λ hopeless. absurd (hopeless w.arrives.run (record { is_match = w.arrives.is_match; avoids = λ k l h. none_seen (place w.arrives.run k).0 })),
+  );
 }
   where
     all : All (λ (x : ℕ × ℕ). x.0 < n) ((sid, 0) ∷ [])
     all zero d l = there
     all (suc k) d l = absurd (omega (arith, l))
+
+    none_seen : (s : ℕ) → seen_at stamp seen s ≡ false
+    none_seen s = ne_eqb (get_or seen s 0) stamp (λ (h : get_or seen s 0 ≡ stamp). omega (arith, h, below s))
+
+    -- it's no matter how it is said that nothing was seen
+    decides-unseen : (run : List (ℕ × ℕ)) → IsBest e i (seen_at stamp seen) sid run → IsBest e i unseen sid run
+    decides-unseen run b = record {
+      is_open = record { is_match = b.is_open.is_match; avoids = λ k l h. refl };
+      once = b.once;
+      first = λ other m once. b.first other (record { is_match = m.is_match; avoids = λ k l h. none_seen (place other k).0 }) once;
+    }
 
 stack-there : (n : ℕ) (stack : List (ℕ × ℕ)) (x : ℕ × ℕ) → All (λ (y : ℕ × ℕ). y.0 < n) (stack ++ x ∷ []) → x.0 < n
 stack-there n stack x all =
@@ -189,10 +220,6 @@ over-quiet e s t i slot leads = go (slice_get e.states s) leads
     go (Some (Capture c next)) x = absurd (omega (arith, x.1))
     go (Some (Accept p)) x = refl
 
--- a state that accepts leads nowhere
-stops : (e : Search) (s p : ℕ) (i : ℕ) (q : ℕ × ℕ) → slice_get e.states s ≡ Some (Accept p) → Leads e (s, i) q → ⊥
-stops e s p i q is leads = rw is at leads
-
 module _ {e : Search} {n i stamp sid : ℕ} {list : List ℕ} {slots : List (Option ℕ)} {seen : List ℕ} {before : List (ℕ × ℕ)} {trail : List ℕ}
     (stack : List (ℕ × ℕ)) (x : ℕ × ℕ) (f : IsPassing e n i stamp sid list slots seen before trail) (popped : before ≡ stack ++ x ∷ []) where
   all : All (λ (y : ℕ × ℕ). y.0 < n) (stack ++ x ∷ [])
@@ -207,10 +234,10 @@ module _ {e : Search} {n i stamp sid : ℕ} {list : List ℕ} {slots : List (Opt
   abbrev rest : List (ℕ × ℕ)
   rest = reverse stack
 
-  on : (p from j : ℕ) (run : List (ℕ × ℕ)) → IsSought e p from j run → Lists (λ s. ArrivesAtOnce e p j s i) list → (a : IsAlong e run sid i slots)
-      → IsOnTrack e p j run a.index i (seen_at stamp seen) trail (x ∷ rest)
-  on p from j run sought lists a = subst (λ (l : List (ℕ × ℕ)). IsOnTrack e p j run a.index i (seen_at stamp seen) trail l)
-      (ap reverse popped ∙ reverse-top stack x) (f.on p from j run sought lists a)
+  on : (from : ℕ) → Lists (λ s. ArrivesOver e s i) list → (w : IsLed e from sid i slots)
+      → DecidesAlong e from i (seen_at stamp seen) w.front trail (x ∷ rest)
+  on from lists w = subst (λ (l : List (ℕ × ℕ)). DecidesAlong e from i (seen_at stamp seen) w.front trail l)
+      (ap reverse popped ∙ reverse-top stack x) (f.on from lists w)
 
   pub passing-again : seen_at stamp seen x.0 ≡ true → IsPassing e n i stamp sid list slots seen stack (take x.1 trail)
   passing-again was = record {
@@ -218,8 +245,7 @@ module _ {e : Search} {n i stamp sid : ℕ} {list : List ℕ} {slots : List (Opt
     below = f.below;
     there = stack-rest n stack x all;
     states = states-take n x.1 trail f.states;
-    on = λ p from j run sought lists a.
-        track-again e p from j run sought a.index i (seen_at stamp seen) (seen_at stamp seen) trail x rest was (on p from j run sought lists a);
+    on = λ from lists w. along-again e from i w.front (seen_at stamp seen) (seen_at stamp seen) trail x rest (on from lists w) was;
   }
 
   read : (k b : ℕ) → k ≡ x.0 → b ≡ get_or seen k b → get_or seen x.0 0 ≡ b
@@ -260,30 +286,24 @@ module _ {e : Search} {n i stamp sid : ℕ} {list : List ℕ} {slots : List (Opt
     trail_after : AreStates n (take x.1 trail ++ x.0 ∷ [])
     trail_after = states-push n (take x.1 trail) x.0 (states-take n x.1 trail f.states) top-there
 
-    off : ((p from j : ℕ) (run : List (ℕ × ℕ)) → IsSought e p from j run → Lists (λ s. ArrivesAtOnce e p j s i) list → (a : IsAlong e run sid i slots)
-        → GoesBy run a.index i (seen_at stamp seen) trail x → ⊥)
+    off : (Lists (λ s. ArrivesOver e s i) list → IsHopeless e i (seen_at stamp seen) x.0)
         → IsPassing e n i stamp sid list slots after stack (take x.1 trail)
-    off never = record {
+    off none = record {
       len = len_after;
       below = below-after;
       there = stack-rest n stack x all;
       states = states-take n x.1 trail f.states;
-      on = λ p from j run sought lists a.
-          track-off e p from j run sought a.index i (seen_at stamp seen) (seen_at stamp after) trail x rest g fresh place_there
-          (never p from j run sought lists a) (on p from j run sought lists a);
+      on = λ from lists w.
+          along-off e from i w.front (seen_at stamp seen) (seen_at stamp after) trail x rest (on from lists w) g fresh place_there (none lists);
     }
 
     pub passing-stuck : IsWayOn e i x.0 Stuck → IsPassing e n i stamp sid list slots after stack (take x.1 trail)
-    passing-stuck way = off (λ p from j run sought lists a by. stuck-off e p from j run sought a.index i (seen_at stamp seen) trail x by way.0 way.1)
+    passing-stuck way = off (λ lists.
+        hopeless-before e i (seen_at stamp seen) (seen_at stamp after) x.0 g way.0 (λ q l. absurd (way.1 q l)))
 
     -- how deep the next state stands
-    deeper : (d p j k : ℕ) (run : List (ℕ × ℕ)) → d ≡ length (take x.1 trail ++ x.0 ∷ []) → IsOnTrack e p j run k i (seen_at stamp seen) trail (x ∷ rest)
-        → x.1 + 1 ≡ d
-    deeper d p j k run is t = omega (arith, is, length-append (take x.1 trail) (x.0 ∷ []), length-take-le x.1 trail (deep t))
-      where
-        deep : IsOnTrack e p j run k i (seen_at stamp seen) trail (x ∷ rest) → x.1 ≤ length trail
-        deep (goes _ _ _ by) = by.deep
-        deep (passes _ _ _ le off more) = le
+    deeper : (d : ℕ) → d ≡ length (take x.1 trail ++ x.0 ∷ []) → x.1 ≤ length trail → x.1 + 1 ≡ d
+    deeper d is deep = omega (arith, is, length-append (take x.1 trail) (x.0 ∷ []), length-take-le x.1 trail deep)
 
     pub passing-one : (t d : ℕ) → d ≡ length (take x.1 trail ++ x.0 ∷ []) → IsWayOn e i x.0 (One t) → t < n
         → IsPassing e n i stamp sid list slots after (stack ++ (t, d) ∷ []) (take x.1 trail ++ x.0 ∷ [])
@@ -292,13 +312,13 @@ module _ {e : Search} {n i stamp sid : ℕ} {list : List ℕ} {slots : List (Opt
       below = below-after;
       there = stack-more n stack (t, d) (stack-rest n stack x all) l;
       states = trail_after;
-      on = λ p from j run sought lists a.
-          let was = on p from j run sought lists a in
-          subst (λ (k : ℕ). IsOnTrack e p j run a.index i (seen_at stamp after) (take x.1 trail ++ x.0 ∷ []) (reverse (stack ++ (t, k) ∷ [])))
-          (deeper d p j a.index run is was)
-          (subst (λ (l : List (ℕ × ℕ)). IsOnTrack e p j run a.index i (seen_at stamp after) (take x.1 trail ++ x.0 ∷ []) l)
+      on = λ from lists w.
+          let was = on from lists w in
+          subst (λ (k : ℕ). DecidesAlong e from i (seen_at stamp after) w.front (take x.1 trail ++ x.0 ∷ []) (reverse (stack ++ (t, k) ∷ [])))
+          (deeper d is was.0)
+          (subst (λ (l : List (ℕ × ℕ)). DecidesAlong e from i (seen_at stamp after) w.front (take x.1 trail ++ x.0 ∷ []) l)
           (sym (reverse-top stack (t, x.1 + 1)))
-          (track-single e p from j run sought a.index i (seen_at stamp seen) (seen_at stamp after) trail x rest g fresh place_there t way.0 way.2 way.3 was));
+          (along-single e from i w.front (seen_at stamp seen) (seen_at stamp after) trail x rest was g fresh place_there t way.0 way.1 way.2 way.3));
     }
 
     pub passing-two : (a b d : ℕ) → d ≡ length (take x.1 trail ++ x.0 ∷ []) → IsWayOn e i x.0 (Two a b) → (a < n) × (b < n)
@@ -308,131 +328,111 @@ module _ {e : Search} {n i stamp sid : ℕ} {list : List ℕ} {slots : List (Opt
       below = below-after;
       there = stack-more n (stack ++ (b, d) ∷ []) (a, d) (stack-more n stack (b, d) (stack-rest n stack x all) l.1) l.0;
       states = trail_after;
-      on = λ p from j run sought lists along.
-          let was = on p from j run sought lists along in
-          subst (λ (k : ℕ). IsOnTrack e p j run along.index i (seen_at stamp after) (take x.1 trail ++ x.0 ∷ [])
+      on = λ from lists w.
+          let was = on from lists w in
+          subst (λ (k : ℕ). DecidesAlong e from i (seen_at stamp after) w.front (take x.1 trail ++ x.0 ∷ [])
           (reverse ((stack ++ (b, k) ∷ []) ++ (a, k) ∷ [])))
-          (deeper d p j along.index run is was)
-          (subst (λ (l : List (ℕ × ℕ)). IsOnTrack e p j run along.index i (seen_at stamp after) (take x.1 trail ++ x.0 ∷ []) l)
+          (deeper d is was.0)
+          (subst (λ (l : List (ℕ × ℕ)). DecidesAlong e from i (seen_at stamp after) w.front (take x.1 trail ++ x.0 ∷ []) l)
           (sym (reverse-top (stack ++ (b, x.1 + 1) ∷ []) (a, x.1 + 1) ∙ ap (λ (l : List (ℕ × ℕ)). (a, x.1 + 1) ∷ l) (reverse-top stack (b, x.1 + 1))))
-          (track-fork e p from j run sought along.index i (seen_at stamp seen) (seen_at stamp after) trail x rest g fresh place_there a b way along.before
-          (rw way refl) was));
+          (along-fork e from i w.front (seen_at stamp seen) (seen_at stamp after) trail x rest was g fresh place_there a b way));
     }
 
     -- the state isn't in the list
     pub passing-over : (t : ℕ) → IsWayOn e i x.0 (Over t) → ¬ (Contains list x.0) → IsPassing e n i stamp sid list slots after stack (take x.1 trail)
-    passing-over t way none = off (λ p from j run sought lists a by.
-        none (lists.all x.0 (goes-over e p from j run sought a.index i (seen_at stamp seen) trail x t by place_there way.0 way.2 way.3).2))
+    passing-over t way none = off (λ lists. hopeless-over e i (seen_at stamp seen) x.0 way.0 (λ q l. (
+      (way.3 q l).1,
+      λ run m. none (lists.all x.0 (record {
+        to = q.0;
+        there = place_there;
+        leads = subst (λ (k : ℕ). Leads e (x.0, i) (q.0, k)) (way.3 q l).1 l;
+        arrives = record { run = run; is_match = m.is_match };
+      })),
+    )))
 
-    pub passing-match : (q : ℕ) → IsWayOn e i x.0 (Match q) → ¬ (Contains list x.0) → IsPassing e n i stamp sid list slots after stack (take x.1 trail)
-    passing-match q way none = off (λ p from j run sought lists a by.
-        none (lists.all x.0 (goes-to-end e p from j run sought a.index i (seen_at stamp seen) trail x by place_there way.0
-        (λ r leads. stops e x.0 q i r way.1 leads)).1))
-
-    -- the state is in the list, and what the trail's states record was written
-    module _ (new : List (Option ℕ)) (has : Contains list x.0)
-        (wrote : (run : List (ℕ × ℕ)) (m : ℕ) → m + length (take x.1 trail) < length run
-        → ((k : ℕ) → k < length (take x.1 trail) → place run (m + k) ≡ (get_or (take x.1 trail) k 0, i))
-        → AreRecordsTo e.states run m slots → AreRecordsTo e.states run (m + length (take x.1 trail)) new) where
-      -- the run goes by it
-      by_it : (p from j : ℕ) (run : List (ℕ × ℕ)) → IsSought e p from j run → Lists (λ s. ArrivesAtOnce e p j s i) list → (a : IsAlong e run sid i slots)
-          → GoesBy run a.index i (seen_at stamp seen) trail x
-      by_it p from j run sought lists a = go (on p from j run sought lists a)
-        where
-          go : IsOnTrack e p j run a.index i (seen_at stamp seen) trail (x ∷ rest) → GoesBy run a.index i (seen_at stamp seen) trail x
-          go (goes _ _ _ by) = by
-          go (passes _ _ _ deep apart more) = absurd (once-not-apart e p j i (seen_at stamp seen) x.0 fresh (lists.only x.0 has) apart)
-
-      written : (p from j : ℕ) (run : List (ℕ × ℕ)) → IsSought e p from j run → Lists (λ s. ArrivesAtOnce e p j s i) list → (a : IsAlong e run sid i slots)
-          → AreRecordsTo e.states run (a.index + x.1) new
-      written p from j run sought lists a =
-          subst (λ (k : ℕ). AreRecordsTo e.states run (a.index + k) new) depth
-          (wrote run a.index (omega (arith, by.within, depth)) (λ k l.
-          let short : k < x.1 = omega (arith, l, depth) in
-          (by.passed k short).0 ∙ ap (λ (s : ℕ). (s, i)) (sym (get_or-take x.1 trail k 0 short))) a.records)
-        where
-          by : GoesBy run a.index i (seen_at stamp seen) trail x
-          by = by_it p from j run sought lists a
-
-          depth : length (take x.1 trail) ≡ x.1
-          depth = length-take-le x.1 trail by.deep
-
-      pub found-over : (t : ℕ) → IsWayOn e i x.0 (Over t) → (p from j : ℕ) (run : List (ℕ × ℕ)) → IsSought e p from j run
-          → Lists (λ s. ArrivesAtOnce e p j s i) list → IsAlong e run sid i slots → IsAlong e run t (i + 1) new
-      found-over t way p from j run sought lists a = record {
-        index = a.index + x.1 + 1;
-        within = on_way.0;
-        here = on_way.1;
-        before = early;
-        records = records-quiet e.states run (a.index + x.1) new on_way.0
-            (λ slot. rw by.here (over-quiet e x.0 t i slot way.2)) (written p from j run sought lists a);
+    -- what the trail's states record was written
+    module _ (new : List (Option ℕ))
+        (wrote : (front : List (ℕ × ℕ)) → AreRecordsTo e.states front slots → AreRecordsTo e.states (front ++ all_at i (take x.1 trail)) new) where
+      -- the state is in the list
+      pub found-over : (t : ℕ) → Contains list x.0 → IsWayOn e i x.0 (Over t) → (from : ℕ) → Lists (λ s. ArrivesOver e s i) list
+          → IsLed e from sid i slots → IsLed e from t (i + 1) new
+      found-over t has way from lists w = record {
+        front = (w.front ++ all_at i (take x.1 trail)) ++ (x.0, i) ∷ [];
+        arrives =
+            let a = lists.only x.0 has in
+            let same : a.to ≡ t = (way.3 (a.to, i + 1) a.leads).0 in
+            subst (λ (s : ℕ). Arrives e s (i + 1)) same a.arrives;
+        best = λ run b.
+            along-over e from i w.front (seen_at stamp seen) (seen_at stamp after) trail x rest (on from lists w) g fresh place_there t way.1 way.2 run b;
+        records = records-quiet e.states (w.front ++ all_at i (take x.1 trail)) (x.0, i) new (λ slot. over-quiet e x.0 t i slot way.2)
+            (wrote w.front w.records);
       }
-        where
-          by : GoesBy run a.index i (seen_at stamp seen) trail x
-          by = by_it p from j run sought lists a
 
-          on_way : (a.index + x.1 + 1 < length run) × (place run (a.index + x.1 + 1) ≡ (t, i + 1)) × ArrivesAtOnce e p j x.0 i
-          on_way = goes-over e p from j run sought a.index i (seen_at stamp seen) trail x t by place_there way.0 way.2 way.3
-
-          early : (k : ℕ) → k < a.index + x.1 + 1 → (place run k).1 < i + 1
-          early k l = ⊎_elim
-              (λ (lt : k < a.index). omega (arith, a.before k lt))
-              (λ (ge : a.index ≤ k). ⊎_elim
-              (λ (mid : k < a.index + x.1).
-              let same : a.index + (k - a.index) ≡ k = omega (arith, ge) in
-              let w = (by.passed (k - a.index) (omega (arith, mid, ge))).0 in
-              omega (arith, ap (λ (y : ℕ × ℕ). y.1) (ap (λ (h : ℕ). place run h) (sym same) ∙ w)))
-              (λ (end : a.index + x.1 ≤ k).
-              let same : k ≡ a.index + x.1 = omega (arith, end, l) in
-              omega (arith, ap (λ (y : ℕ × ℕ). y.1) (ap (λ (h : ℕ). place run h) same ∙ by.here)))
-              (cases_lt k (a.index + x.1)))
-              (cases_lt k a.index)
-
-      pub found-match : (q : ℕ) → IsWayOn e i x.0 (Match q) → (p from j : ℕ) (run : List (ℕ × ℕ)) → IsSought e p from j run
-          → Lists (λ s. ArrivesAtOnce e p j s i) list → IsAlong e run sid i slots → AreRecords e run new
-      found-match q way p from j run sought lists a =
-          records-all e.states run (a.index + x.1) new
-          (goes-to-end e p from j run sought a.index i (seen_at stamp seen) trail x (by_it p from j run sought lists a) place_there way.0
-          (λ r leads. stops e x.0 q i r way.1 leads)).0 (written p from j run sought lists a)
+      pub found-match : (q : ℕ) → IsWayOn e i x.0 (Match q) → (from : ℕ) → Lists (λ s. ArrivesOver e s i) list → IsLed e from sid i slots
+          → IsRecorded e from q i new
+      found-match q way from lists w = record {
+        goes = record {
+          run = (w.front ++ all_at i (take x.1 trail)) ++ (x.0, i) ∷ [];
+          preferred = along-match e from i w.front (seen_at stamp seen) (seen_at stamp after) trail x rest (on from lists w) g fresh place_there way.0;
+          pattern = rw (last-behind (w.front ++ all_at i (take x.1 trail)) ((x.0, i) ∷ []) (omega arith)) way.1;
+          end = ap (λ (y : ℕ × ℕ). y.1) (last-behind (w.front ++ all_at i (take x.1 trail)) ((x.0, i) ∷ []) (omega arith));
+        };
+        records = wrote w.front w.records (x.0, i);
+      }
 
 -- the stack isn't empty before the run's end
 pub passing-never : {e : Search} {n i stamp sid : ℕ} {list : List ℕ} {slots : List (Option ℕ)} {seen : List ℕ} {trail : List ℕ} (stack : List (ℕ × ℕ))
-    → IsPassing e n i stamp sid list slots seen stack trail → length stack ≡ 0 → (p from j : ℕ) (run : List (ℕ × ℕ)) → IsSought e p from j run
-    → Lists (λ s. ArrivesAtOnce e p j s i) list → IsAlong e run sid i slots → ⊥
-passing-never [] f none p from j run sought lists a = elim (f.on p from j run sought lists a) [ ]
-passing-never (x ∷ stack) f none p from j run sought lists a = omega (arith, none)
+    → IsPassing e n i stamp sid list slots seen stack trail → length stack ≡ 0 → (from : ℕ) → Lists (λ s. ArrivesOver e s i) list
+    → IsLed e from sid i slots → ⊥
+passing-never [] f none from lists w = f.on from lists w
+passing-never (x ∷ stack) f none from lists w = omega (arith, none)
 
 -- ---- from position to position
 
-pub along-first : (e : Search) (p from j : ℕ) (run : List (ℕ × ℕ)) (slots : List (Option ℕ)) → AreEmpty slots → IsSought e p from j run
-    → IsAlong e run e.start_state from slots
-along-first e p from j run slots empty sought = record {
-  index = 0;
-  within = sought.is_first.preferred.is_match.some;
-  here = sought.begins;
-  before = λ k l. absurd (omega (arith, l));
-  records = λ s l. empty s l ∙ sym (none run s);
+pub led-first : (e : Search) (from : ℕ) (slots : List (Option ℕ)) → AreEmpty slots → Arrives e e.start_state from → IsLed e from e.start_state from slots
+led-first e from slots empty a = record {
+  front = [];
+  arrives = a;
+  best = λ run b. record {
+    is_match = b.is_open.is_match;
+    once = b.once;
+    first = λ other m once. b.first other (record { is_match = m; avoids = λ k l h. refl }) once;
+  };
+  records = λ q s l. empty s l;
 }
-  where
-    none : (run : List (ℕ × ℕ)) (s : ℕ) → recorded e.states (take (0 + 1) run) s ≡ None
-    none [] s = refl
-    none (q ∷ run) s = refl
 
-pub along-high : (e : Search) (p from j : ℕ) (run : List (ℕ × ℕ)) (s i : ℕ) (slots : List (Option ℕ)) → IsSought e p from j run
-    → IsAlong e run s i slots → i ≤ j
-along-high e p from j run s i slots sought a = omega (
-  arith,
-  ap (λ (q : ℕ × ℕ). q.1) a.here,
-  run-rises e run a.index (length run - 1) sought.is_first.preferred.is_match.is_run (omega (arith, a.within)) (omega (arith, a.within)),
-  sought.end,
-)
+pub led-within : (e : Search) (from s i : ℕ) (slots : List (Option ℕ)) → IsLed e from s i slots → i ≤ e.end
+led-within e from s i slots w = (arrives-within e s i w.arrives).2
 
-pub sought-of : (e : Search) (p from j : ℕ) (x : IsStartOf e p j from) → IsSought e p from j x.run
-sought-of e p from j x = record { is_first = x.is_first; begins = x.begins; pattern = x.pattern; end = x.end }
+-- ---- the leftmost-first match
 
 pub start-before-end : (e : Search) (p from j : ℕ) → IsStartOf e p j from → from ≤ j
-start-before-end e p from j x = arrives-low e p j e.start_state from
-    (subst (λ (n : ℕ). Arrives e p j e.start_state n) (ap (λ (q : ℕ × ℕ). q.1) x.begins) (first-arrives e p j x.run x.is_first x.pattern x.end))
+start-before-end e p from j x = omega (
+  arith,
+  ap (λ (q : ℕ × ℕ). q.1) x.begins,
+  run-rises e x.run (length x.run - 1) x.is_first.preferred.is_match.is_run (omega (arith, x.is_first.preferred.is_match.some)),
+  x.end,
+)
+
+pub start-within : (e : Search) (p from j : ℕ) → IsStartOf e p j from → j ≤ e.end
+start-within e p from j x = omega (
+  arith,
+  (x.is_first.preferred.is_match.is_run.places (length x.run - 1) (omega (arith, x.is_first.preferred.is_match.some))).2,
+  x.end,
+)
+
+-- in the part of the span up to its end its run is the preferred one
+abbrev pub goes-to : (e : Search) (p from j : ℕ) → IsStartOf e p j from → GoesTo (up_to e j) from p j
+goes-to e p from j x = record {
+  run = x.run;
+  preferred = subst (λ (n : ℕ). IsPreferred (up_to e j) (e.start_state, n) x.run) (ap (λ (q : ℕ × ℕ). q.1) x.begins)
+      (first-down e j x.run (omega (arith, x.end)) (start-within e p from j x) x.is_first).preferred;
+  pattern = x.pattern;
+  end = x.end;
+}
+
+pub start-arrives : (e : Search) (p from j : ℕ) → IsStartOf e p j from → Arrives (up_to e j) e.start_state from
+start-arrives e p from j x = record { run = x.run; is_match = (goes-to e p from j x).preferred.is_match }
 
 -- the match that is sought, with what its run records
 pub first-match : (e : Search) (p from j : ℕ) (x : IsStartOf e p j from) (captures : Captured) (found : Matched) → found.pattern ≡ p → found.span.start ≡ from
@@ -450,3 +450,18 @@ first-match e p from j x captures found is_pattern is_start is_end is_set record
     records = records;
   };
 }
+
+pub goes-within : (e : Search) (from p j : ℕ) → GoesTo e from p j → j ≤ e.end
+goes-within e from p j x = omega (
+  arith,
+  (x.preferred.is_match.is_run.places (length x.run - 1) (omega (arith, x.preferred.is_match.some))).2,
+  x.end,
+)
+
+-- the pass along records what it does
+pub along-records : (e : Search) (p from j q k : ℕ) (x : IsStartOf e p j from) (slots : List (Option ℕ)) → IsRecorded (up_to e j) from q k slots
+    → AreRecords e x.run slots
+along-records e p from j q k x slots r =
+    let same : r.goes.run ≡ x.run =
+    one_preferred (up_to e j) (e.start_state, from) r.goes.run x.run r.goes.preferred (goes-to e p from j x).preferred in
+    subst (λ (run : List (ℕ × ℕ)). AreRecords e run slots) same r.records

@@ -36,7 +36,7 @@ use Rattle.rsc_engine.specs.Searches.{Search, Compiled, search_in}
 use Rattle.rsc_engine.specs.Runs.{Leads, IsMatchOf, is_accepting, is_wanted}
 use Rattle.rsc_engine.proofs.PatternOrderLemmas.{PrefersFrom-one, PrefersFrom-fork}
 use Rattle.rsc_engine.proofs.RunsLemmas.{run-before, step-within}
-use Rattle.rsc_engine.proofs.WalksLayoutLemmas.{leads-rises}
+use Rattle.rsc_engine.proofs.RunsLemmas.{leads-rises}
 
 -- ---- one pattern
 

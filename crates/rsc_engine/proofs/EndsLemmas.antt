@@ -12,8 +12,7 @@ use Rattle.rsc_engine.specs.OrderedLayout.{IsEndOf}
 use Rattle.rsc_engine.specs.RowsLayout.{IsNear}
 use Rattle.rsc_engine.specs.PassesLayout.{Status, Open, Closed, answer_of, IsFound, IsDue}
 use Rattle.rsc_engine.specs.ForwardLayout.{last_with, IsHeld, IsGoing, StandsForward, StandsInEach, up_to}
-use Rattle.rsc_engine.proofs.RunsLemmas.{match-wider}
-use Rattle.rsc_engine.proofs.WalksLayoutLemmas.{run-rises}
+use Rattle.rsc_engine.proofs.RunsLemmas.{run-rises, match-wider}
 
 -- a step within both ends
 step-to : (states : List State) (t : ℕ) (W : ℕ → Bool) (h : List ℕ) (end last : ℕ) (p q : ℕ × ℕ) → q.1 ≤ last → IsStep states t W h end p q
@@ -43,7 +42,7 @@ near-whole e i high within = record {
 }
 
 -- a match within the part up to an end
-match-down : (e : Search) (t : ℕ) (from : ℕ × ℕ) (run : List (ℕ × ℕ)) → (place run (length run - 1)).1 ≤ t → IsMatchRun e from run
+pub match-down : (e : Search) (t : ℕ) (from : ℕ × ℕ) (run : List (ℕ × ℕ)) → (place run (length run - 1)).1 ≤ t → IsMatchRun e from run
     → IsMatchRun (up_to e t) from run
 match-down e t from run high m = record {
   is_run = record {

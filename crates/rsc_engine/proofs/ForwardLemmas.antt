@@ -1,7 +1,6 @@
 -- The loop of a pass, from position to position.
 use Rattle.std.proofs.Common.{◌≡◌, ◌↔◌, IsTrue, not, ℕ, ◌+◌, ◌<◌, ◌≤◌, ◌⊎◌, inl, inr, ⊎_elim, Bool, true, false, true≢false, List, [], ◌∷◌, ◌++◌, refl, sym, ap, subst, ◌∙◌, arith, Option, Some, None}
 use Rattle.std.proofs.lemmas.Bool.{cases_lt}
-use Rattle.rsc_nfa.specs.Steps.{place}
 use Rattle.rsc_search.specs.declared.anchored.Anchored.{Anchored}
 use Rattle.rsc_search.specs.declared.anchored.Anchored.TheVariants.{No, Yes, Pattern}
 use Rattle.rsc_engine.specs.Searches.{Search}
@@ -10,9 +9,8 @@ use Rattle.rsc_engine.specs.Preferred.{HasNone, MayBegin}
 use Rattle.rsc_engine.specs.Ends.{IsLeftmostEnd}
 use Rattle.rsc_engine.specs.DecidesLayout.{unseen, Decides, IsLastPlace}
 use Rattle.rsc_engine.specs.PassesLayout.{Looks, Status, Open, Closed, later, Opens, IsLeftOver, IsDue, placed}
-use Rattle.rsc_engine.specs.RowsLayout.{AddsOne}
+use Rattle.rsc_engine.specs.RowsLayout.{AddsOne, machine_of, IsNear}
 use Rattle.rsc_engine.specs.OrderedLayout.{IsLooked, IsOfPattern, IsEndOf}
-use Rattle.rsc_engine.specs.RowsLayout.{machine_of, IsNear}
 use Rattle.rsc_engine.specs.ForwardLayout.{beside, Continues, IsAdvanced, last_with, IsHeld, IsGoing}
 use Rattle.rsc_engine.proofs.OrderedLayoutLemmas.{looks-near, looks-end}
 use Rattle.rsc_engine.proofs.DecidesLayoutLemmas.{decides-start}

@@ -1,7 +1,7 @@
-pub mod AlongLayoutLemmas  -- which way the leftmost-first run goes at a position, as the states on the stack are looked at
+pub mod AheadLayoutLemmas  -- the leftmost-first match from a position on is a match of the whole search
+pub mod AlongLayoutLemmas  -- how the preferred run goes on at a position, as the states on the stack are looked at
 pub mod AlongLemmas  -- the pass along the log, as it goes through a position, and from one to the next
-pub mod ArrivalsLayoutLemmas  -- from where a match is reached, position by position from its end back; and the least position at which it may begin
-pub mod BacktrackLemmas  -- what is known of the places that were seen, from visit to visit
+pub mod ArrivalsLayoutLemmas  -- from where a match is reached, position by position from its end back; and the least position at which one begins
 pub mod BackwardLayoutLemmas  -- the backward pass along the rows of a table
 pub mod BackwardLemmas  -- the loop of the backward pass, from position to position
 pub mod BeginsLayoutLemmas  -- the runs of a program that was built: from the state at which a pattern begins its matches are found, and no others
@@ -15,14 +15,12 @@ pub mod EnclosesLayoutLemmas  -- where the states of parts lead that are made of
 pub mod FirstEndsLemmas  -- the first end of a pattern is an end, and the only one
 pub mod FirstWaysLemmas  -- the first way of a pattern leads to its first end, depends on what is wanted alone, and is the only one; patterns with the same one
 pub mod FirstsLayoutLemmas  -- steps to a pattern's match go by its ways, and the first path by the first way of a course of it
-pub mod FlagsLayoutLemmas  -- flags, by the bits of their blocks
 pub mod ForwardLayoutLemmas  -- the forward pass along the rows of a table
 pub mod ForwardLemmas  -- the loop of a pass, from position to position
 pub mod ForwardStepsLemmas  -- runs that avoid what was seen, with a place before them, and what is left of them
 pub mod GroupEndsLemmas  -- what a run to a match records in the slots of the whole match, and what captures hold there
 pub mod GroupNumbersLemmas  -- with the slots of its groups a pattern goes as without
 pub mod GroupOrderLemmas  -- a group that begins on a way of a pattern ends there or later
-pub mod GroupsLayoutLemmas  -- what a trail's run records, from its end on
 pub mod HeadsLayoutLemmas  -- if loops take bytes, a course makes no choice twice at one position whatever way it goes; so its first way is that of its pattern
 pub mod LawfulLayoutLemmas  -- what follows from the laws of steps: the bytes on both sides, or others of their classes, stand for a position
 pub mod LawsLemmas  -- what first and next matches and ends are, of a program that recognizes patterns
@@ -33,7 +31,6 @@ pub mod LoopsLemmas  -- how lists of states grow by repetitions
 pub mod NamesLayoutLemmas  -- what the states of parts name that are made of parts, and which features they have
 pub mod NeededLayoutLemmas  -- no match is where no byte of the one range is directly after one of the other
 pub mod NextMatchesLemmas  -- which match is next, as the search's start moves on
-pub mod NumbersLemmas  -- the numbers of places: the flags that have them, and what they say where a search begins later
 pub mod OnePatternLemmas  -- the matches of a program of one pattern, by the pattern alone
 pub mod OrderedLayoutLemmas  -- a look at a list beside a small haystack is one at each position for which the small haystack stands
 pub mod OrderedLemmas  -- a look at a list, as its stack goes down
@@ -50,17 +47,11 @@ pub mod QuietLayoutLemmas  -- a match that goes on from a quiet state records no
 pub mod RefusalsLemmas  -- why there is no program
 pub mod RenamedLayoutLemmas  -- courses that are alike but for the numbers of their choices go the same ways
 pub mod RetreatLemmas  -- marks for the states that lead back to those of a list, as they grow; and lists of the states of which something is so
-pub mod RunsLemmas  -- runs with a place before them, or in a part of a span; and what a run records is between its first position and its last
+pub mod RunsLemmas  -- positions of a run; runs with a place before them, or in a part of a span; what a run records is between its first position and its last
 pub mod SizesLemmas  -- how many states copies and lists of parts have, and programs
-pub mod StartsLayoutLemmas  -- no match begins with a byte that isn't marked
 pub mod StepsLayoutLemmas  -- where steps lead
 pub mod TakesLayoutLemmas  -- the courses of parts made of parts, and the numbers of their choices
-pub mod TrailLemmas  -- where a trail begins and ends, and what its visits are
-pub mod TrailsLayoutLemmas  -- the stops of a trail, as it grows and goes back
 pub mod TreesLemmas  -- the pattern of a tree, by its variants
-pub mod TurnsLayoutLemmas  -- the flags of a loop's turns that are in the same blocks, and what such turns do
-pub mod TurnsLemmas  -- turns of a loop, one after the other
-pub mod WalksLayoutLemmas  -- a trail grows by a place and goes back to one; places that are settled, and runs that come to no place of a trail
 pub mod WaysLayoutLemmas  -- ways to a match, and their first steps
 pub mod WaysLemmas  -- what the slots of a group hold after a way of a pattern: where its part was last gone through
 pub mod WrittenLayoutLemmas  -- a course of a pattern, as a pattern, goes where the pattern goes, and first where it goes first

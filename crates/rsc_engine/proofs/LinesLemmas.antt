@@ -1,5 +1,5 @@
 -- Which lines lie where, and in which no match is.
-use Rattle.std.proofs.Common.{◌≡◌, ℕ, ◌+◌, ◌-◌, ◌<◌, ◌≤◌, ⊎_elim, List, length, slice_index, refl, sym, ap₂, subst, arith, Option, Some, None, IfSome, IfNone}
+use Rattle.std.proofs.Common.{◌≡◌, ℕ, ◌+◌, ◌-◌, ◌<◌, ◌≤◌, ⊎_elim, List, length, refl, sym, ap₂, subst, arith, Option, Some, None, IfSome, IfNone}
 use Rattle.std.proofs.lemmas.Bool.{cases_lt}
 use Rattle.rsc_nfa.specs.Steps.{place}
 use Rattle.rsc_search.specs.declared.span.Span.{Span}

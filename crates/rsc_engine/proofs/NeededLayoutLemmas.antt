@@ -1,18 +1,29 @@
 -- No match is where no byte of the one range is directly after one of the other.
-use Rattle.std.proofs.Common.{◌≡◌, ℕ, zero, suc, ◌+◌, ◌-◌, ◌<◌, ◌≤◌, ⊎_elim, Bool, true, ◌&&◌, length, slice_get, slice_index, Option, Some, None, MatchOption, refl, sym, arith, true≢false, nat_lt}
-use Rattle.std.proofs.lemmas.Bool.{lt-ltb, ltb-true}
+use Rattle.std.proofs.Common.{◌≡◌, ℕ, zero, suc, ◌+◌, ◌-◌, ◌<◌, ◌≤◌, ⊎_elim, Bool, true, false, ◌&&◌, length, slice_get, slice_index, Option, Some, None, MatchOption, IsTrue, refl, sym, arith, true≢false, nat_le, nat_lt}
+use Rattle.std.proofs.lemmas.Bool.{lt-ltb, ltb-true, leb-true}
 use Rattle.std.proofs.lemmas.Option.{get_or_from_slice_get}
 use Rattle.rsc_search.specs.Modes.{pattern_of_mode}
 use Rattle.rsc_nfa.specs.declared.state.State.{State}
 use Rattle.rsc_nfa.specs.declared.state.State.TheVariants.{ByteRange, Assert, Fork, Capture, Accept}
-use Rattle.rsc_nfa.specs.Steps.{StepsTo, place}
+use Rattle.rsc_nfa.specs.Steps.{StepsTo, place, is_between}
 use Rattle.rsc_engine.specs.Searches.{Search}
 use Rattle.rsc_engine.specs.Runs.{Leads, is_accepting, HasNoMatch}
 use Rattle.rsc_engine.specs.Preferred.{HasNone}
-use Rattle.rsc_engine.specs.RowsLayout.{machine_of}
-use Rattle.rsc_engine.specs.StartsLayout.{IsMarked}
+use Rattle.rsc_engine.specs.RowsLayout.{machine_of, IsMarked}
 use Rattle.rsc_engine.specs.NeededLayout.{is_in, HasNoPair, mark_of, NeedsPair}
-use Rattle.rsc_engine.proofs.StartsLayoutLemmas.{both, between}
+
+-- both parts of a conjunction
+both : (a b : Bool) → IsTrue (a && b) → (a ≡ true) × (b ≡ true)
+both true true t = (refl, refl)
+both true false t = absurd (true≢false (sym t))
+both false b t = absurd (true≢false (sym t))
+
+-- a byte from a to b is there
+between : (a b : ℕ) (o : Option ℕ) → IsTrue (is_between a b o) → (x : ℕ) × (o ≡ Some x) × (a ≤ x) × (x ≤ b)
+between a b None t = absurd (true≢false (sym t))
+between a b (Some x) t =
+    let parts = both (nat_le a x) (nat_le x b) t in
+    (x, refl, leb-true a x parts.0, leb-true x b parts.1)
 
 module _ (e : Search) (a b : ℕ × ℕ) (needed : NeedsPair (machine_of e) a b) (none : HasNoPair a b e.haystack e.start e.end) where
   -- whether the byte before the position is of the first range, and in the span

@@ -5,12 +5,11 @@ use Rattle.std.proofs.lemmas.List.Sums.{sum_by-set}
 use Rattle.std.proofs.lemmas.List.{get_or-set_same, get_or-set_other, length-set, reverse-append, reverse-reverse, length-reverse, get_or-reverse, length-replicate, get_or-replicate, get_or_past, get_or_default, get_or_append_left, get_or-append_right}
 use Rattle.std.specs.List.{Contains}
 use Rattle.std.proofs.lemmas.List.Elements.{Contains-get_or, Contains-append_left, Contains-push, Contains-push_cases}
-use Rattle.rsc_engine.specs.RowsLayout.{Gathers, AreStates}
+use Rattle.rsc_engine.specs.RowsLayout.{Gathers, AreStates, AddsOne}
 use Rattle.rsc_engine.specs.Searches.{Search}
 use Rattle.rsc_engine.specs.Runs.{IsPlace}
 use Rattle.rsc_engine.specs.DecidesLayout.{IsMore}
 use Rattle.rsc_engine.specs.PassesLayout.{Looks, done, again, fork, single, stuck, over, matched}
-use Rattle.rsc_engine.specs.RowsLayout.{AddsOne}
 use Rattle.rsc_engine.specs.OrderedLayout.{IsWayOn, IsLooked, seen_by}
 use Rattle.rsc_engine.specs.declared.dfa.ordered.Way.TheVariants.{Stuck, One, Over, Two, Match}
 use Rattle.rsc_engine.proofs.ForwardStepsLemmas.{same_place}

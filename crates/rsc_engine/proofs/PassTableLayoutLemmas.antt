@@ -1,5 +1,5 @@
 -- The table of both passes: what it says is so, and stays so as it grows.
-use Rattle.std.proofs.Common.{◌≡◌, ℕ, zero, suc, ◌+◌, ◌*◌, ◌<◌, ◌≤◌, ◌⊎◌, ⊎_elim, inl, inr, Bool, true, List, [], ◌∷◌, ◌++◌, length, get_or, set, slice_index_or, refl, sym, ◌∙◌, subst, arith, length-append, slice_get, Option, Some, None, IfSome}
+use Rattle.std.proofs.Common.{◌≡◌, ℕ, zero, suc, ◌+◌, ◌*◌, ◌<◌, ◌≤◌, ◌⊎◌, ⊎_elim, inl, inr, Bool, List, [], ◌∷◌, ◌++◌, length, get_or, set, slice_index_or, refl, sym, ◌∙◌, subst, arith, length-append, slice_get, Option, Some, None, IfSome}
 use Rattle.std.proofs.lemmas.Bool.{cases_eq}
 use Rattle.std.proofs.lemmas.Grind.{get_or-set_at}
 use Rattle.std.proofs.lemmas.List.{get_or-set_other, length-set}
@@ -8,16 +8,12 @@ use Rattle.std.proofs.lemmas.Option.{slice_get_within, get_or_from_slice_get}
 use Rattle.std.specs.List.{All}
 use Rattle.rsc_alphabet.specs.Partitions.{LastClassIsGreatest}
 use Rattle.rsc_alphabet.specs.Iterators.{symbol_count}
-use Rattle.rsc_nfa.specs.declared.state.State.{State}
-use Rattle.rsc_nfa.specs.declared.state.State.TheVariants.{Accept}
-use Rattle.rsc_search.specs.declared.anchored.Anchored.{Anchored}
 use Rattle.rsc_engine.specs.declared.dfa.pass_table.PassRow.{PassRow}
 use Rattle.rsc_engine.specs.declared.dfa.entries.Lead.{Lead}
 use Rattle.rsc_engine.specs.declared.dfa.entries.Lead.TheVariants.{Unknown}
 use Rattle.rsc_engine.specs.Searches.{Search}
 use Rattle.rsc_engine.specs.LawfulLayout.{Lawful}
 use Rattle.rsc_engine.specs.RowsLayout.{Machine, machine_of, Alike, IsPlan, IsPlainUnit}
-use Rattle.rsc_engine.specs.BackwardLayout.{Lists, IsLastRow}
 use Rattle.rsc_engine.specs.PassTableLayout.{column, row_of, IsPassRow, IsPassStep, IsPassLed, IsPassTo, IsSoundPassRow, AreFew, IsPassTable, IsPassGrown}
 use Rattle.rsc_engine.proofs.LawfulLayoutLemmas.{Alike-self, Alike-trans}
 
@@ -64,18 +60,6 @@ IsPassRow-last classes rows row k at byte = record {
   same_found = refl;
   alike = Alike-self classes row.read row.read refl byte;
   is_list = refl;
-}
-
--- a row of the states that accept a pattern
-pub last-row : (states : List State) (classes : List ℕ) (rows : List PassRow) (k p : ℕ) (mode : Anchored) (begins : Bool) (found : Option ℕ)
-    (after : Option ℕ) (list : List ℕ) → IsPassRow classes rows k true mode begins found after list
-    → Lists (λ s. slice_get states s ≡ Some (Accept p)) list → IsLastRow states classes rows p after k
-last-row states classes rows k p mode begins found after list r l = record {
-  row = r.to;
-  there = r.there;
-  backward = r.same_pass;
-  alike = r.alike;
-  accepting = subst (λ (x : List ℕ). Lists (λ s. slice_get states s ≡ Some (Accept p)) x) (sym r.is_list) l;
 }
 
 IsPassLed-grown : (m : Machine) (classes : List ℕ) (old new : List PassRow) (from : PassRow) (unit : Option ℕ) (next : ℕ) → IsPassGrown old new

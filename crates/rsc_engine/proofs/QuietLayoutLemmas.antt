@@ -1,36 +1,22 @@
 -- A match that goes on from a quiet state records nothing more but its end; and how the loud states are found.
-use Rattle.std.proofs.Common.{◌≡◌, ℕ, zero, suc, nat_eq, ◌+◌, ◌*◌, ◌-◌, ◌<◌, ◌≤◌, ⊎_elim, Bool, true, false, true≢false, not, cond, count_by, List, [], ◌∷◌, length, take, drop, get_or, set, refl, sym, ap, subst, ◌∙◌, arith, slice_get, Option, Some, None, MatchOption}
-use Rattle.std.proofs.lemmas.Bool.{cases_lt}
-use Rattle.std.proofs.lemmas.List.{length-take-le, length-set, get_or_past}
+use Rattle.std.proofs.Common.{◌≡◌, ℕ, nat_eq, ◌+◌, ◌*◌, ◌<◌, ◌≤◌, ⊎_elim, Bool, true, false, true≢false, not, cond, count_by, List, [], ◌∷◌, ◌++◌, length, get_or, set, refl, sym, ap, subst, ◌∙◌, arith, slice_get, Option, Some, None, MatchOption}
+use Rattle.std.proofs.lemmas.Bool.{cases_lt, cases_eq}
+use Rattle.std.proofs.lemmas.List.{length-set, get_or_past}
 use Rattle.rsc_nfa.specs.declared.state.State.{State}
 use Rattle.rsc_nfa.specs.declared.state.State.TheVariants.{ByteRange, Assert, Fork, Capture, Accept}
-use Rattle.rsc_nfa.specs.Steps.{place, StepsTo, is_capture_of, or_earlier, recorded}
+use Rattle.rsc_nfa.specs.Steps.{StepsTo, is_capture_of, or_earlier, recorded}
 use Rattle.rsc_engine.specs.Searches.{Search}
 use Rattle.rsc_engine.specs.Runs.{IsMatchRun, AreRecords}
-use Rattle.rsc_engine.specs.DecidesLayout.{last_of}
-use Rattle.rsc_engine.specs.AlongLayout.{IsSought, IsAlong}
+use Rattle.rsc_engine.specs.DecidesLayout.{last_of, IsBest, unseen}
+use Rattle.rsc_engine.specs.AlongLayout.{GoesTo, IsLed}
 use Rattle.rsc_engine.specs.QuietLayout.{IsQuiet, LeadsQuietly, AreQuiet, closing}
 use Rattle.rsc_engine.proofs.ForwardStepsLemmas.{match-drop, last-before}
-use Rattle.rsc_engine.proofs.GroupsLayoutLemmas.{at_place, recorded-cons, recorded_quiet}
 use Rattle.rsc_engine.proofs.RetreatLemmas.{fewer}
-use Rattle.rsc_engine.proofs.AlongLayoutLemmas.{last-drop}
-use Rattle.rsc_engine.proofs.AlongLemmas.{or_none, or_or}
+use Rattle.rsc_engine.proofs.PreferredLemmas.{one_preferred}
+use Rattle.rsc_engine.proofs.AlongLayoutLemmas.{none-best}
+use Rattle.rsc_engine.proofs.AlongLemmas.{recorded_quiet, recorded-append, last-behind}
 
 -- ---- along a run
-
--- a run records what it records up to a place, and after that what it records from there
-split : (states : List State) (run : List (ℕ × ℕ)) (n slot : ℕ) → n < length run
-    → recorded states run slot ≡ or_earlier (recorded states (drop n run) slot) (recorded states (take (n + 1) run) slot)
-split states [] n slot l = absurd (omega (arith, l))
-split states (x ∷ run) zero slot l = sym (or_none (recorded states (x ∷ run) slot))
-split states (x ∷ run) (suc n) slot l =
-    let same : suc (n + 1) ≡ suc n + 1 = omega arith in
-    subst (λ (k : ℕ). recorded states (x ∷ run) slot ≡ or_earlier (recorded states (drop n run) slot) (recorded states (take k (x ∷ run)) slot)) same
-    (recorded-cons states x run slot (omega (arith, l))
-    ∙ ap (λ (o : Option ℕ). or_earlier o (at_place states x slot)) (split states run n slot (omega (arith, l)))
-    ∙ or_or (recorded states (drop n run) slot) (recorded states (take (n + 1) run) slot) (at_place states x slot)
-    ∙ ap (λ (o : Option ℕ). or_earlier (recorded states (drop n run) slot) o)
-    (sym (recorded-cons states x (take (n + 1) run) slot (omega (arith, length-take-le (n + 1) run (omega (arith, l)))))))
 
 module _ (e : Search) (loud : List Bool) (quiet : AreQuiet e.states loud) (p j slot : ℕ) where
   leads : (s : ℕ) (state : State) → IsQuiet loud s → slice_get e.states s ≡ Some state → LeadsQuietly e.states loud state
@@ -89,25 +75,38 @@ cond_or : (b : Bool) (i : ℕ) (o : Option ℕ) → cond b (Some i) o ≡ or_ear
 cond_or true i o = refl
 cond_or false i o = refl
 
--- with the end written, the slots hold what the run records
-pub quiet-records : (e : Search) (p from j : ℕ) (run : List (ℕ × ℕ)) (s i : ℕ) (loud : List Bool) (slots new : List (Option ℕ)) → AreQuiet e.states loud
-    → IsQuiet loud s → IsSought e p from j run → IsAlong e run s i slots → length new ≡ length slots
-    → ((k : ℕ) → k < length new → get_or new k None ≡ cond (nat_eq (2 * p + 1) k) (Some j) (get_or slots k None)) → AreRecords e run new
-quiet-records e p from j run s i loud slots new quiet is sought a len wrote k l =
-    wrote k l
-    ∙ cond_or (nat_eq (2 * p + 1) k) j (get_or slots k None)
-    ∙ ap (λ (o : Option ℕ). or_earlier (closing p j k) o) (a.records k (omega (arith, l, len)))
-    ∙ ap (λ (o : Option ℕ). or_earlier o (recorded e.states (take (a.index + 1) run) k))
-    (sym (tail e loud quiet p j k (drop a.index run) (s, i) m is
-    (subst (λ (q : ℕ × ℕ). slice_get e.states q.0 ≡ Some (Accept p)) (sym last) sought.pattern) (ap (λ (q : ℕ × ℕ). q.1) last ∙ sought.end)))
-    ∙ sym (split e.states run a.index k a.within)
-  where
-    last : last_of (drop a.index run) ≡ last_of run
-    last = last-drop run a.index a.within
+-- what two options are said not to differ in, they are the same in
+same_option : (a b : Option ℕ) → ¬ (¬ (a ≡ b)) → a ≡ b
+same_option None None x = refl
+same_option None (Some j) x = absurd (x (λ h. absurd (cc)))
+same_option (Some i) None x = absurd (x (λ h. absurd (cc)))
+same_option (Some i) (Some j) x = ⊎_elim
+    (λ (same : i ≡ j). ap Some same)
+    (λ (apart : i ≡ j → ⊥). absurd (x (λ h. let same : i ≡ j = cc in apart same)))
+    (cases_eq i j)
 
-    m : IsMatchRun e (s, i) (drop a.index run)
-    m = subst (λ (q : ℕ × ℕ). IsMatchRun e q (drop a.index run)) a.here
-        (match-drop e (e.start_state, (place run 0).1) run a.index sought.is_first.preferred.is_match a.within)
+-- with the end written, the slots hold what the preferred run records
+pub quiet-records : (e : Search) (from p j : ℕ) (x : GoesTo e from p j) (s i : ℕ) (loud : List Bool) (slots new : List (Option ℕ)) → AreQuiet e.states loud
+    → IsQuiet loud s → IsLed e from s i slots → length new ≡ length slots
+    → ((k : ℕ) → k < length new → get_or new k None ≡ cond (nat_eq (2 * p + 1) k) (Some j) (get_or slots k None)) → AreRecords e x.run new
+quiet-records e from p j x s i loud slots new quiet is w len wrote k l =
+    same_option (get_or new k None) (recorded e.states x.run k) (λ apart.
+    none-best e i s (λ run best. apart (by run best)) w.arrives.run (record { is_match = w.arrives.is_match; avoids = λ h below at. refl }))
+  where
+    -- of the best run from there
+    by : (run : List (ℕ × ℕ)) → IsBest e i unseen s run → get_or new k None ≡ recorded e.states x.run k
+    by run best =
+        let m = best.is_open.is_match in
+        let same : w.front ++ run ≡ x.run = one_preferred e (e.start_state, from) (w.front ++ run) x.run (w.best run best) x.preferred in
+        let last : last_of run ≡ last_of x.run = sym (last-behind w.front run m.some) ∙ ap last_of same in
+        wrote k l
+        ∙ cond_or (nat_eq (2 * p + 1) k) j (get_or slots k None)
+        ∙ ap (λ (o : Option ℕ). or_earlier (closing p j k) o) (w.records (0, 0) k (omega (arith, l, len)))
+        ∙ ap (λ (o : Option ℕ). or_earlier o (recorded e.states (w.front ++ (0, 0) ∷ []) k))
+        (sym (tail e loud quiet p j k run (s, i) m is
+        (subst (λ (q : ℕ × ℕ). slice_get e.states q.0 ≡ Some (Accept p)) (sym last) x.pattern) (ap (λ (q : ℕ × ℕ). q.1) last ∙ x.end)))
+        ∙ sym (recorded-append e.states w.front run (0, 0) k m.some)
+        ∙ ap (λ (y : List (ℕ × ℕ)). recorded e.states y k) same
 
 -- ---- the loud states
 

@@ -1,5 +1,5 @@
 -- Marks for the states that lead back to those of a list, as they grow; and lists of the states of which something is so.
-use Rattle.std.proofs.Common.{◌≡◌, ℕ, ◌+◌, ◌<◌, ◌≤◌, ⊎_elim, Bool, true, false, true≢false, not, cond, count_by, List, [], ◌∷◌, ◌++◌, length, replicate, get_or, set, refl, sym, ap, subst, ◌∙◌, arith, slice_get, Option, Some, None, MatchOption}
+use Rattle.std.proofs.Common.{◌≡◌, ℕ, ◌+◌, ◌<◌, ◌≤◌, ◌⊎◌, inl, inr, ⊎_elim, Bool, true, false, true≢false, not, cond, count_by, List, [], ◌∷◌, ◌++◌, length, replicate, get_or, set, refl, sym, ap, subst, ◌∙◌, arith, slice_get, Option, Some, None, MatchOption}
 use Rattle.std.proofs.lemmas.Bool.{cases_lt, cases_eq}
 use Rattle.std.proofs.lemmas.List.{get_or-set_same, get_or-set_other, length-set, get_or_past, length-replicate, get_or-replicate, get_or_default}
 use Rattle.std.proofs.lemmas.List.Sums.{sum_by-set}
@@ -9,11 +9,10 @@ use Rattle.std.specs.List.{Contains}
 use Rattle.rsc_nfa.specs.declared.state.State.{State}
 use Rattle.rsc_nfa.specs.Steps.{StepsTo}
 use Rattle.rsc_engine.specs.Searches.{Search}
-use Rattle.rsc_engine.specs.Runs.{Leads}
-use Rattle.rsc_engine.specs.StartsLayout.{IsMarked}
-use Rattle.rsc_engine.specs.RowsLayout.{Machine, Gathers, AreStates}
+use Rattle.rsc_engine.specs.Runs.{IsPlace, accepts}
+use Rattle.rsc_engine.specs.RowsLayout.{IsMarked, Machine, Gathers, AreStates}
 use Rattle.rsc_engine.specs.ArrivalsLayout.{LeadsBack, seed, back}
-use Rattle.rsc_engine.specs.BackwardLayout.{Lists, AreLedBack, IsShut, IsClosedBack, LeadsToMarked, IsSource}
+use Rattle.rsc_engine.specs.BackwardLayout.{Lists, IsSeed, AreLedBack, IsShutAt, IsShut, IsClosedBack, LeadsToMarked, IsSource}
 
 marked_same : (marks : List Bool) (s t : ℕ) → s < length marks → t ≡ s → IsMarked (set marks s true) t
 marked_same marks s t l same = subst (λ (n : ℕ). get_or (set marks s true) n false ≡ true) (sym same) (get_or-set_same marks s true false l)
@@ -89,7 +88,7 @@ pub record IsGrown (e : Search) (i n : ℕ) (before marks : List Bool) (grew : B
   pub len : length marks ≡ n
   pub led : (list : List ℕ) → AreLedBack e i list before → AreLedBack e i list marks
   pub kept : (s : ℕ) → IsMarked before s → IsMarked marks s
-  pub shut : grew ≡ false → (s t : ℕ) → s < k → Leads e (s, i) (t, i) → IsMarked marks t → IsMarked marks s
+  pub shut : grew ≡ false → (s : ℕ) → s < k → IsShutAt e i marks s
   pub less : count_by not marks + cond grew 1 0 ≤ count_by not before
 
 pub grown-first : (e : Search) (i n : ℕ) (marks : List Bool) → length marks ≡ n → IsGrown e i n marks marks false 0
@@ -97,43 +96,50 @@ grown-first e i n marks len = record {
   len = len;
   led = λ list l. l;
   kept = λ s m. m;
-  shut = λ same s t l. absurd (omega (arith, l));
+  shut = λ same s l. absurd (omega (arith, l));
   less = omega arith;
 }
 
 module _ (e : Search) (i n : ℕ) (before marks : List Bool) (grew : Bool) (k : ℕ) (f : IsGrown e i n before marks grew k) (l : k < n) where
-  pub grown-marked : n ≡ length e.states → e.start ≤ i → i ≤ e.end → get_or marks k false ≡ false → LeadsToMarked e i marks k
-      → IsGrown e i n before (set marks k true) true (k + 1)
-  grown-marked size low high fresh to = record {
+  pub grown-marked : n ≡ length e.states → e.start ≤ i → i ≤ e.end → get_or marks k false ≡ false
+      → (accepts e (k, i) ≡ true) ⊎ LeadsToMarked e i marks k → IsGrown e i n before (set marks k true) true (k + 1)
+  grown-marked size low high fresh why = record {
     len = length-set marks k true ∙ f.len;
     led = λ list b s m. ⊎_elim
-        (λ (same : s ≡ k).
-        subst (λ (x : ℕ). LeadsBack e i (λ t. Contains list t) x) (sym same)
-        (back k to.to (omega (arith, l, size), low, high) to.leads (f.led list b to.to to.marked)))
+        (λ (same : s ≡ k). subst (λ (x : ℕ). LeadsBack e i (IsSeed e i list) x) (sym same) (led list b))
         (λ (apart : (s ≡ k) → ⊥). f.led list b s (sym (get_or-set_other marks k s true false apart) ∙ m))
         (cases_eq s k);
     kept = λ s m. marked_more marks k s (omega (arith, l, f.len)) (f.kept s m);
     shut = λ h. absurd (true≢false h);
     less = omega (arith, f.less, fewer marks k (omega (arith, l, f.len)) fresh);
   }
+    where
+      there : IsPlace e (k, i)
+      there = (omega (arith, l, size), low, high)
 
-  pub grown-same : ((t : ℕ) → Leads e (k, i) (t, i) → IsMarked marks t → IsMarked marks k) → IsGrown e i n before marks grew (k + 1)
+      led : (list : List ℕ) → AreLedBack e i list before → LeadsBack e i (IsSeed e i list) k
+      led list b = ⊎_elim
+          (λ (accepted : accepts e (k, i) ≡ true). seed k (inr (there, accepted)))
+          (λ (to : LeadsToMarked e i marks k). back k to.to there to.leads (f.led list b to.to to.marked))
+          why
+
+  pub grown-same : IsShutAt e i marks k → IsGrown e i n before marks grew (k + 1)
   grown-same miss = record {
     len = f.len;
     led = f.led;
     kept = f.kept;
-    shut = λ h s t below leads m. ⊎_elim
-        (λ (lt : s < k). f.shut h s t lt leads m)
+    shut = λ h s below. ⊎_elim
+        (λ (lt : s < k). f.shut h s lt)
         (λ (le : k ≤ s).
         let same : s ≡ k = omega (arith, le, below) in
-        subst (IsMarked marks) (sym same) (miss t (subst (λ (x : ℕ). Leads e (x, i) (t, i)) same leads) m))
+        subst (λ (x : ℕ). IsShutAt e i marks x) (sym same) miss)
         (cases_lt s k);
     less = f.less;
   }
 
 pub grown-shut : (e : Search) (i n : ℕ) (before marks : List Bool) (grew : Bool) (k : ℕ) → IsGrown e i n before marks grew k → length e.states ≤ k
     → grew ≡ false → IsShut e i marks
-grown-shut e i n before marks grew k f past h s t there leads m = f.shut h s t (omega (arith, there.0, past)) leads m
+grown-shut e i n before marks grew k f past h s there = f.shut h s (omega (arith, there.0, past))
 
 pub grown-less : (e : Search) (i n : ℕ) (before marks : List Bool) (grew : Bool) (k : ℕ) → IsGrown e i n before marks grew k → grew ≡ true
     → count_by not marks + 1 ≤ count_by not before
@@ -149,7 +155,7 @@ pub record IsClosing (e : Search) (i n : ℕ) (before marks : List Bool) : Type 
 pub closing-last : (e : Search) (i n : ℕ) (before marks : List Bool) (list : List ℕ) → IsClosing e i n before marks → IsShut e i marks → Gathers before list
     → IsClosedBack e i list marks
 closing-last e i n before marks list f shut g = record {
-  led = f.led list (λ s m. seed s (g.marked s m));
+  led = f.led list (λ s m. seed s (inl (g.marked s m)));
   kept = λ s has. f.kept s (g.listed s has).1;
   shut = shut;
 }

@@ -1,4 +1,4 @@
--- Runs with a place before them, or in a part of a span; and what a run records is between its first position and its last.
+-- Positions of a run; runs with a place before them, or in a part of a span; what a run records is between its first position and its last.
 use Rattle.std.proofs.Common.{◌≡◌, ℕ, suc, ◌+◌, ◌-◌, ◌<◌, ◌≤◌, zero, Bool, true, false, cond, List, [], ◌∷◌, length, get_or, refl, sym, ◌∙◌, arith, slice_get, Option, Some, None, MatchOption, ⊎_elim}
 use Rattle.std.proofs.lemmas.Bool.{cases_lt}
 use Rattle.std.proofs.lemmas.List.{get_or_past}
@@ -11,7 +11,36 @@ use Rattle.rsc_search.specs.Matches.{Matched}
 use Rattle.rsc_engine.specs.Searches.{Search}
 use Rattle.rsc_engine.specs.Runs.{Leads, IsPlace, IsMatchRun}
 use Rattle.rsc_engine.specs.Preferred.{IsOf}
-use Rattle.rsc_engine.proofs.WalksLayoutLemmas.{run-rises}
+
+-- ---- the positions of a run
+
+pub leads-rises : (e : Search) (p q : ℕ × ℕ) → Leads e p q → p.1 ≤ q.1
+leads-rises e p q l = go (slice_get e.states p.0) l
+  where
+    go : (o : Option State) → MatchOption o ⊥ (λ (state : State). StepsTo state e.terminator e.word_chars e.haystack e.end p.1 q) → p.1 ≤ q.1
+    go None x = absurd x
+    go (Some (ByteRange a b next)) x = omega (arith, x.3)
+    go (Some (Assert l next)) x = omega (arith, x.2)
+    go (Some (Fork a b)) x = omega (arith, x.1)
+    go (Some (Capture slot next)) x = omega (arith, x.1)
+    go (Some (Accept pattern)) x = absurd x
+
+-- the positions of a run never fall
+run_rises : (e : Search) (run : List (ℕ × ℕ)) (j m : ℕ) → IsRun e.states e.terminator e.word_chars e.haystack e.start e.end run → j + m < length run
+    → (place run j).1 ≤ (place run (j + m)).1
+run_rises e run j zero r l = let same : j + zero ≡ j = omega arith in rw same (omega arith)
+run_rises e run j (suc m) r l =
+    let same : j + suc m ≡ j + m + 1 = omega arith in
+    let step = r.steps (j + m) (omega (arith, l)) in
+    rw same (omega (arith, run_rises e run j m r (omega (arith, l)), leads-rises e (place run (j + m)) (place run (j + m + 1)) step))
+
+pub run-rises : (e : Search) (run : List (ℕ × ℕ)) (j k : ℕ) → IsRun e.states e.terminator e.word_chars e.haystack e.start e.end run → j ≤ k → k < length run
+    → (place run j).1 ≤ (place run k).1
+run-rises e run j k r le l =
+    let same : j + (k - j) ≡ k = omega (arith, le) in
+    rw same at (run_rises e run j (k - j) r (omega (arith, le, l)))
+
+-- ---- what a run records
 
 some_same : (i j : ℕ) → Some i ≡ Some j → i ≡ j
 some_same i j h = cc

@@ -9,7 +9,7 @@ use Rattle.rsc_engine.specs.Patterns.{Subject, subject_of}
 use Rattle.rsc_engine.specs.StepsLayout.{AreSteps, last_place}
 use Rattle.rsc_engine.proofs.PreferredLemmas.{same_place}
 use Rattle.rsc_engine.proofs.RunsLemmas.{run-before, step-within}
-use Rattle.rsc_engine.proofs.WalksLayoutLemmas.{leads-rises}
+use Rattle.rsc_engine.proofs.RunsLemmas.{leads-rises}
 
 -- ---- where steps lead
 

@@ -1,33 +1,43 @@
 -- The pass along the log of the backward pass. These serve the proof of `dfa`; no public contract cites them.
-use Rattle.std.specs.Prelude.{◌≡◌, ℕ, ◌+◌, ◌<◌, ◌≤◌, Bool, true, false, List, ◌∷◌, length, take, slice_get, slice_index_or, Option, Some, None}
+use Rattle.std.specs.Prelude.{◌≡◌, ℕ, ◌+◌, ◌<◌, ◌≤◌, Bool, List, [], ◌∷◌, ◌++◌, length, take, slice_get, slice_index_or, Option, Some, None}
 use Rattle.rsc_nfa.specs.declared.state.State.{State}
 use Rattle.rsc_nfa.specs.declared.state.State.TheVariants.{Accept}
-use Rattle.rsc_nfa.specs.Steps.{place, recorded}
+use Rattle.rsc_nfa.specs.Steps.{recorded}
 use Rattle.rsc_engine.specs.Searches.{Search}
-use Rattle.rsc_engine.specs.Preferred.{IsLeftmostFirst}
-use Rattle.rsc_engine.specs.DecidesLayout.{last_of, Avoids}
+use Rattle.rsc_engine.specs.Runs.{AreRecords}
+use Rattle.rsc_engine.specs.Preferred.{IsPreferred}
+use Rattle.rsc_engine.specs.DecidesLayout.{last_of, IsHopeless, IsBest, unseen}
 use Rattle.rsc_engine.specs.ArrivalsLayout.{Arrives}
 
 -- ---- from position to position
 
--- the leftmost-first run begins at the position, is of the pattern, and ends at j
-pub record IsSought (e : Search) (p at j : ℕ) (run : List (ℕ × ℕ)) : Type 0 where
-  pub is_first : IsLeftmostFirst e run
-  pub begins : place run 0 ≡ (e.start_state, at)
+-- the preferred run from where a match begins is of the pattern, and ends at j
+pub record GoesTo (e : Search) (from p j : ℕ) : Type 0 where
+  pub run : List (ℕ × ℕ)
+  pub preferred : IsPreferred e (e.start_state, from) run
   pub pattern : slice_get e.states (last_of run).0 ≡ Some (Accept p)
   pub end : (last_of run).1 ≡ j
 
--- each slot holds what the steps from the first n places record
-abbrev pub AreRecordsTo : List State → List (ℕ × ℕ) → ℕ → List (Option ℕ) → Type 0
-AreRecordsTo states run n slots = (s : ℕ) → s < length slots → slice_index_or slots s None ≡ recorded states (take (n + 1) run) s
+-- and the slots hold what it records
+pub record IsRecorded (e : Search) (from p j : ℕ) (slots : List (Option ℕ)) : Type 0 where
+  pub goes : GoesTo e from p j
+  pub records : AreRecords e goes.run slots
 
--- the run goes through the state at the position, where it comes to that position, and the slots hold what it records before
-pub record IsAlong (e : Search) (run : List (ℕ × ℕ)) (s i : ℕ) (slots : List (Option ℕ)) : Type 0 where
-  pub index : ℕ
-  pub within : index < length run
-  pub here : place run index ≡ (s, i)
-  pub before : (k : ℕ) → k < index → (place run k).1 < i
-  pub records : AreRecordsTo e.states run index slots
+-- each slot holds what steps from these places record, one after the other
+abbrev pub AreRecordsTo : List State → List (ℕ × ℕ) → List (Option ℕ) → Type 0
+AreRecordsTo states front slots = (q : ℕ × ℕ) (s : ℕ) → s < length slots → slice_index_or slots s None ≡ recorded states (front ++ q ∷ []) s
+
+-- a match is reached from the state at the position. With the best run from there the preferred one goes on, and the slots hold what it records before
+pub record IsLed (e : Search) (from s i : ℕ) (slots : List (Option ℕ)) : Type 0 where
+  pub front : List (ℕ × ℕ)
+  pub arrives : Arrives e s i
+  pub best : (run : List (ℕ × ℕ)) → IsBest e i unseen s run → IsPreferred e (e.start_state, from) (front ++ run)
+  pub records : AreRecordsTo e.states front slots
+
+-- the preferred run goes on over the byte at the position, or is a match of the pattern there
+abbrev pub LeadsAlong : Search → ℕ → ℕ → ℕ → Option ℕ → List (Option ℕ) → Type 0
+LeadsAlong e from i t None slots = IsLed e from t (i + 1) slots
+LeadsAlong e from i t (Some p) slots = IsRecorded e from p i slots
 
 -- ---- within a position
 
@@ -35,20 +45,16 @@ pub record IsAlong (e : Search) (run : List (ℕ × ℕ)) (s i : ℕ) (slots : L
 abbrev pub AreBelow : ℕ → List ℕ → Type 0
 AreBelow n seen = (s : ℕ) → slice_index_or seen s 0 < n
 
--- no run that arrives leads from the state at the position, and avoids the states seen there
-abbrev pub IsApart : Search → ℕ → ℕ → ℕ → (ℕ → Bool) → ℕ → Type 0
-IsApart e p j i seen s = (a : Arrives e p j s i) → Avoids i seen a.run → ⊥
+-- these states at the position
+abbrev pub all_at : ℕ → List ℕ → List (ℕ × ℕ)
+all_at i [] = []
+all_at i (s ∷ trail) = (s, i) ∷ all_at i trail
 
--- the run's places from index n on are the trail's states up to this depth, which were seen, and then the state; and it comes to no state that was seen
-pub record GoesBy (run : List (ℕ × ℕ)) (n i : ℕ) (seen : ℕ → Bool) (trail : List ℕ) (x : ℕ × ℕ) : Type 0 where
-  pub deep : x.1 ≤ length trail
-  pub within : n + x.1 < length run
-  pub here : place run (n + x.1) ≡ (x.0, i)
-  pub passed : (k : ℕ) → k < x.1 → (place run (n + k) ≡ (slice_index_or trail k 0, i)) × (seen (slice_index_or trail k 0) ≡ true)
-  pub avoids : (k : ℕ) → n + x.1 ≤ k → k < length run → (place run k).1 ≡ i → seen (place run k).0 ≡ false
-
--- of the states on the stack, from its top on, the run goes by one, and those above it are apart
-pub data IsOnTrack (e : Search) (p j : ℕ) (run : List (ℕ × ℕ)) (n i : ℕ) (seen : ℕ → Bool) : List ℕ → List (ℕ × ℕ) → Type 0 where
-  goes : (trail : List ℕ) (x : ℕ × ℕ) (rest : List (ℕ × ℕ)) → GoesBy run n i seen trail x → IsOnTrack e p j run n i seen trail (x ∷ rest)
-  passes : (trail : List ℕ) (x : ℕ × ℕ) (rest : List (ℕ × ℕ)) → x.1 ≤ length trail → IsApart e p j i seen x.0
-      → IsOnTrack e p j run n i seen (take x.1 trail) rest → IsOnTrack e p j run n i seen trail (x ∷ rest)
+-- of the states on the stack, from its top on, the first from which a match is reached decides how the preferred run goes on behind the places before the
+-- position and the trail's states up to this depth
+abbrev pub DecidesAlong : Search → ℕ → ℕ → (ℕ → Bool) → List (ℕ × ℕ) → List ℕ → List (ℕ × ℕ) → Type 0
+DecidesAlong e from i seen front trail [] = ⊥
+DecidesAlong e from i seen front trail (x ∷ rest) =
+    (x.1 ≤ length trail)
+    × ((run : List (ℕ × ℕ)) → IsBest e i seen x.0 run → IsPreferred e (e.start_state, from) ((front ++ all_at i (take x.1 trail)) ++ run))
+    × (IsHopeless e i seen x.0 → DecidesAlong e from i seen front (take x.1 trail) rest)

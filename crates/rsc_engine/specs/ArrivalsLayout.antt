@@ -1,21 +1,24 @@
--- From where a match is reached that ends in a pattern and at a position. These serve the proof of `dfa`; no public contract cites them.
-use Rattle.std.specs.Prelude.{◌≡◌, ℕ, ◌+◌, true, List, slice_get, Some}
-use Rattle.rsc_nfa.specs.declared.state.State.TheVariants.{Accept}
+-- From where a match is reached. These serve the proof of `dfa`; no public contract cites them.
+use Rattle.std.specs.Prelude.{◌≡◌, ℕ, ◌+◌, true, List}
 use Rattle.rsc_engine.specs.Searches.{Search}
 use Rattle.rsc_engine.specs.Runs.{Leads, IsPlace, accepts, IsMatchRun}
-use Rattle.rsc_engine.specs.DecidesLayout.{last_of}
 
--- a run from the state at the position leads to a match of the pattern that ends at j
-pub record Arrives (e : Search) (p j s i : ℕ) : Type 0 where
+-- a run leads from the state at the position to a match
+pub record Arrives (e : Search) (s i : ℕ) : Type 0 where
   pub run : List (ℕ × ℕ)
   pub is_match : IsMatchRun e (s, i) run
-  pub pattern : slice_get e.states (last_of run).0 ≡ Some (Accept p)
-  pub end : (last_of run).1 ≡ j
 
--- the same with no step, or with a first step over a byte
-pub data ArrivesAtOnce (e : Search) (p j s i : ℕ) : Type 0 where
-  here : i ≡ j → IsPlace e (s, i) → accepts e (s, i) ≡ true → slice_get e.states s ≡ Some (Accept p) → ArrivesAtOnce e p j s i
-  over : (t : ℕ) → IsPlace e (s, i) → Leads e (s, i) (t, i + 1) → Arrives e p j t (i + 1) → ArrivesAtOnce e p j s i
+-- one does whose first step is over a byte
+pub record ArrivesOver (e : Search) (s i : ℕ) : Type 0 where
+  pub to : ℕ
+  pub there : IsPlace e (s, i)
+  pub leads : Leads e (s, i) (to, i + 1)
+  pub arrives : Arrives e to (i + 1)
+
+-- the same, or the place is a match
+pub data ArrivesAtOnce (e : Search) (i s : ℕ) : Type 0 where
+  here : IsPlace e (s, i) → accepts e (s, i) ≡ true → ArrivesAtOnce e i s
+  over : ArrivesOver e s i → ArrivesAtOnce e i s
 
 -- the states from which steps with no byte lead to those of which it is so
 pub data LeadsBack (e : Search) (i : ℕ) (Seed : ℕ → Type 0) : ℕ → Type 0 where

@@ -1,6 +1,7 @@
+pub mod AheadLayout  -- where matches begin ahead
 pub mod AlongLayout  -- the pass along the log of the backward pass
-pub mod ArrivalsLayout  -- from where a match is reached that ends in a pattern and at a position
-pub mod BackwardLayout  -- the backward pass: from the end of the leftmost-first match back to where it begins
+pub mod ArrivalsLayout  -- from where a match is reached
+pub mod BackwardLayout  -- the backward pass: from the end of a span back to where a match begins in it
 pub mod BeginsLayout  -- at which state the matches of a pattern, or of several, begin
 pub mod ByWaysLayout  -- by which ways of a pattern steps lead to a match
 pub mod Courses  -- courses: patterns with their copies written out, and how they go without making a choice twice at one position
@@ -12,7 +13,6 @@ pub mod Features  -- what stands in a pattern, in parts that may be there
 pub mod FirstEnds  -- which end of a pattern is preferred
 pub mod FirstWays  -- which way of a pattern is preferred
 pub mod FirstsLayout  -- by which ways of a pattern steps lead to its match, and by which the first path does
-pub mod FlagsLayout  -- how the code holds flags: 64 to a block
 pub mod ForwardLayout  -- the forward pass
 pub mod GroupEnds  -- the group of the whole match: what runs record in its slots
 pub mod GroupNumbers  -- how the groups of a pattern are numbered, and which slots they have
@@ -24,7 +24,6 @@ pub mod Lines  -- the lines of a haystack in which a program matches, one after 
 pub mod LinesLayout  -- where the next line with a match may be
 pub mod LinksLayout  -- how the states of a part lead on
 pub mod LogLayout  -- the log of the backward pass
-pub mod MovesLayout  -- what a state does at a position
 pub mod NamesLayout  -- what the states of a part or of patterns name, and which features of patterns they have
 pub mod NeededLayout  -- two bytes that stand side by side in every match
 pub mod NextMatches  -- which match is next; `last` is where the last one ended, if there was one
@@ -44,15 +43,11 @@ pub mod Refusals  -- why there is no program
 pub mod RenamedLayout  -- courses that are alike but for the numbers of their choices
 pub mod RowsLayout  -- the rows of a DFA, and where a byte leads from one
 pub mod Runs  -- runs that are matches
-pub mod Searches  -- a program, what a search is over, and why it has no answer
+pub mod Searches  -- a program, and what a search is over
 pub mod Sizes  -- how many states a pattern has, and a program of patterns
-pub mod StartsLayout  -- the bytes with which a match may begin
 pub mod StepsLayout  -- steps from a place on
 pub mod TakesLayout  -- how paths of states take a course of a pattern
-pub mod TrailsLayout  -- a trail: which places each of its visits stands for, and which other ways are left to try there
 pub mod Trees  -- which pattern a tree is
-pub mod TurnsLayout  -- the flags of a loop's turns, and what turns do
-pub mod WalksLayout  -- what a backtracker has on hand
 pub mod Ways  -- the ways of a pattern, and what they record in the slots of groups
 pub mod WaysLayout  -- steps that lead to a match: their order, where they end, and what they record
 pub mod WrittenLayout  -- courses as patterns

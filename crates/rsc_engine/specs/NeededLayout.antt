@@ -2,8 +2,7 @@
 use Rattle.std.specs.Prelude.{◌≡◌, ℕ, ◌+◌, ◌-◌, ◌*◌, ◌<◌, ◌≤◌, ◌&&◌, nat_le, Bool, true, false, List, length, slice_get, slice_index, Some, if◌then◌else◌}
 use Rattle.rsc_nfa.specs.declared.state.State.{State}
 use Rattle.rsc_nfa.specs.declared.state.State.TheVariants.{ByteRange, Assert, Fork, Capture, Accept}
-use Rattle.rsc_engine.specs.RowsLayout.{Machine}
-use Rattle.rsc_engine.specs.StartsLayout.{IsMarked}
+use Rattle.rsc_engine.specs.RowsLayout.{Machine, IsMarked}
 
 -- the byte is of the range
 abbrev pub is_in : ℕ × ℕ → ℕ → Bool

@@ -3,13 +3,12 @@ use Rattle.std.specs.Prelude.{◌≡◌, ℕ, ◌+◌, ◌*◌, ◌<◌, ◌≤�
 use Rattle.std.specs.List.{All}
 use Rattle.rsc_primitives.specs.Indices.{max_index}
 use Rattle.rsc_search.specs.declared.anchored.Anchored.{Anchored}
-use Rattle.rsc_nfa.specs.declared.state.State.TheVariants.{Accept}
 use Rattle.rsc_engine.specs.declared.dfa.pass_table.PassRow.{PassRow}
 use Rattle.rsc_engine.specs.declared.dfa.entries.Lead.{Lead}
 use Rattle.rsc_engine.specs.declared.dfa.entries.Lead.TheVariants.{Unknown, To, Last}
 use Rattle.rsc_engine.specs.RowsLayout.{Machine, Alike, AreStates, IsPlainUnit, around, middle}
 use Rattle.rsc_engine.specs.ForwardLayout.{beside, IsAdvanced}
-use Rattle.rsc_engine.specs.BackwardLayout.{IsRetreated, Lists}
+use Rattle.rsc_engine.specs.BackwardLayout.{IsRetreated}
 
 -- the column of a byte, or of the end of the input
 abbrev pub column : List ℕ → Option ℕ → ℕ
@@ -58,11 +57,10 @@ pub record IsPassTo (m : Machine) (classes : List ℕ) (old new : List PassRow) 
   pub plain : IsPlainUnit m other
   pub leads : IsPassLed m classes new from other next
 
--- the row's list is of states; the backward pass goes through the states by their numbers, and begins with those that accept a pattern
+-- the row's list is of states; the backward pass goes through the states by their numbers
 pub record IsSoundPassRow (m : Machine) (row : PassRow) : Type 0 where
   pub states : AreStates (length m.states) row.list.items
   pub numbered : row.backward ≡ true → length m.states ≤ max_index
-  pub accepting : row.backward ≡ true → IfSome row.found (λ p. Lists (λ s. slice_get m.states s ≡ Some (Accept p)) row.list.items)
 
 -- there are at most that many, or one
 abbrev pub AreFew : ℕ → ℕ → Type 0

@@ -53,10 +53,14 @@ Moves m near at s u = IsStep m.states m.terminator m.word_chars near (length nea
 abbrev pub AreStates : ℕ → List ℕ → Type 0
 AreStates n set = All (λ s. s < n) set
 
+-- the number is marked
+abbrev pub IsMarked : List Bool → ℕ → Type 0
+IsMarked marks n = slice_index_or marks n false ≡ true
+
 -- exactly the marked states are in the list
 pub record Gathers (seen : List Bool) (list : List ℕ) : Type 0 where
-  pub marked : (s : ℕ) → slice_index_or seen s false ≡ true → Contains list s
-  pub listed : (s : ℕ) → Contains list s → (s < length seen) × (slice_index_or seen s false ≡ true)
+  pub marked : (s : ℕ) → IsMarked seen s → Contains list s
+  pub listed : (s : ℕ) → Contains list s → (s < length seen) × IsMarked seen s
 
 -- the list has one more at its end, or has it already
 abbrev pub AddsOne : List ℕ → ℕ → List ℕ → Type 0

@@ -1,11 +1,9 @@
--- A program, what a search is over, and why it has no answer.
-use Rattle.std.specs.Prelude.{◌≡◌, ℕ, ◌+◌, ◌-◌, ◌*◌, ◌^◌, ◌<◌, ◌≤◌, ◌⊎◌, Bool, List, length}
+-- A program, and what a search is over.
+use Rattle.std.specs.Prelude.{ℕ, ◌*◌, ◌<◌, Bool, List, length}
 use Rattle.rsc_captures.specs.Groups.{GroupLists, all_groups}
 use Rattle.rsc_search.specs.Inputs.{InputParts}
 use Rattle.rsc_search.specs.declared.anchored.Anchored.{Anchored}
 use Rattle.rsc_nfa.specs.Automata.{Automaton}
-use Rattle.rsc_engine.specs.declared.error.Error.{Error}
-use Rattle.rsc_engine.specs.declared.error.Error.TheVariants.{OutOfMemory, TooLarge}
 use Rattle.rsc_nfa.specs.declared.state.State.{State}
 use Rattle.rsc_nfa.specs.declared.state.State.TheVariants.{ByteRange, Assert, Fork, Capture, Accept}
 
@@ -49,7 +47,3 @@ search_in chars p input = record {
   end = input.span.end;
   mode = input.anchored;
 }
-
--- why a search fails: there was no memory for it, or it has more places, states times positions, than there are numbers of 64 bits
-abbrev pub FailsFor : Search → Error → Type 0
-FailsFor e error = (error ≡ OutOfMemory) ⊎ ((error ≡ TooLarge) × (2 ^ 64 ≤ (e.end + 1 - e.start) * length e.states))

@@ -1,12 +1,10 @@
 //! What searches by a program keep from one to the next.
-ghost use Rattle.std.specs.Prelude.{◌≡◌, ◌≤◌, IfOk, IfErr, IfSome, IfNone, OnErr, None, length};
+ghost use Rattle.std.specs.Prelude.{◌≡◌, IfOk, IfErr, IfSome, IfNone, OnErr, None, length};
 ghost use Rattle.rsc_engine.specs.declared.error.Error.TheVariants.{OutOfMemory};
-ghost use Rattle.rsc_engine.specs.Searches.{search_in, FailsFor};
+ghost use Rattle.rsc_engine.specs.Searches.{search_in};
 ghost use Rattle.rsc_engine.specs.Preferred.{HasNone, IsFirstMatch, IsCleared, IsInSpan};
 
-use crate::backtrack::Walk;
 use crate::dfa::MOST_ROWS;
-use crate::starts::Starts;
 use crate::{AsciiWordClass, Dfa, Error, Matches, Program};
 use rsc_captures::Captures;
 use rsc_look::WordClass;
@@ -14,7 +12,7 @@ use rsc_search::{Input, Match};
 use std::alloc::Global;
 use std::marker::Model;
 
-/// What searches by a program keep from one to the next: the rows of a DFA, and the memory of a walk. It serves many short haystacks,
+/// What searches by a program keep from one to the next: the rows of a DFA, and the memory of its passes. It serves many short haystacks,
 /// as the lines of a file.
 ///
 /// # Examples
@@ -34,22 +32,18 @@ use std::marker::Model;
 pub struct Cache<'p, W: WordClass> {
     pub(crate) alloc: Global,
     pub(crate) program: &'p Program<W>,
-    pub(crate) starts: Starts,
     pub(crate) dfa: Dfa<'p, W>,
-    pub(crate) walk: Walk,
 }
 
 impl<'p, W: WordClass> Model for Cache<'p, W> {
-    ghost use Rattle.std.specs.Prelude.{◌≡◌, true};
+    ghost use Rattle.std.specs.Prelude.{◌≡◌};
     ghost use Rattle.rsc_engine.specs.Searches.{Compiled};
-    ghost use Rattle.rsc_engine.specs.StartsLayout.{AreStarts};
 
     ghost Value = { Compiled W };
 
     ghost view = { λ c. c.program.now };
 
-    ghost invariant = { λ c. (c.dfa ≡ c.program.now) × (c.starts.known ≡ true →
-        AreStarts c.program.now.automaton.states c.program.now.start c.starts.marks.items c.starts.bytes.items) };
+    ghost invariant = { λ c. c.dfa ≡ c.program.now };
 }
 
 impl<'p, W: WordClass + AsciiWordClass> Cache<'p, W> {
@@ -65,9 +59,7 @@ impl<'p, W: WordClass + AsciiWordClass> Cache<'p, W> {
         Ok(Cache {
             alloc,
             program,
-            starts: Starts::new(alloc, program)?,
             dfa: Dfa::new(alloc, program, MOST_ROWS),
-            walk: Walk::new(alloc, program.start()),
         })
     }
 
@@ -75,7 +67,7 @@ impl<'p, W: WordClass + AsciiWordClass> Cache<'p, W> {
     ///
     /// # Errors
     ///
-    /// Out of memory, or `TooLarge` where the span has too many positions for the number of states. The next search is answered all the same.
+    /// Out of memory. The next search is answered all the same.
     pub fn find(
         &mut self,
         input: &Input<'_>,
@@ -89,7 +81,7 @@ impl<'p, W: WordClass + AsciiWordClass> Cache<'p, W> {
         ensures unset { IfOk result (λ found. IfNone found (IsCleared captures.old captures.new)) }
         ensures failed { OnErr result (IsCleared captures.old captures.new) }
         ensures within { IfOk result (λ found. IfSome found (IsInSpan input.now)) }
-        ensures refused { IfErr result (FailsFor (search_in W.word_chars self.old input.now)) }
+        ensures refused { IfErr result (λ e. e ≡ OutOfMemory) }
     {
         self.dfa.find(input, captures)
     }
@@ -98,7 +90,7 @@ impl<'p, W: WordClass + AsciiWordClass> Cache<'p, W> {
     ///
     /// # Errors
     ///
-    /// Out of memory, or `TooLarge` where the span has too many positions for the number of states. The cache is dropped then.
+    /// Out of memory. The cache is dropped then.
     ///
     /// # Examples
     ///
@@ -117,8 +109,8 @@ impl<'p, W: WordClass + AsciiWordClass> Cache<'p, W> {
     /// ```
     pub fn matches<'h>(self, input: Input<'h>) -> Result<Matches<'p, 'h, W>, Error>
         ensures made { IfOk result (λ m. m ≡ record { program = self.entry; input = input.entry; last = None }) }
-        ensures refused { IfErr result (FailsFor (search_in W.word_chars self.entry input.entry)) }
+        ensures refused { IfErr result (λ e. e ≡ OutOfMemory) }
     {
-        Matches::over(self, input)
+        Ok(Matches::over(self, input))
     }
 }

@@ -1,20 +1,22 @@
 //! A lazy DFA: a table of rows that searches fill as they go.
 //!
 //! The table serves two passes: forward a row is an ordered list ([`ordered`] looks at it), and says where the leftmost-first match ends, or the first one to
-//! end ([`forward`]); backward it has the states from which a run leads to that end ([`retreat`] goes a step back), and says where the match begins
-//! ([`backward`]) and, by the rows that were come to, what it records ([`along`]), where that is more than its ends ([`whole`]), until it comes to a [`quiet`]
-//! state. The [`plan`] has what stays the same. [`needed`] finds bytes that each match has, without which no row is looked at.
+//! end ([`forward`]); backward it has the states from which a match is reached ([`retreat`] goes a step back), and says where the match begins ([`backward`])
+//! and, by the rows that were come to, what it records ([`along`]), where that is more than its ends ([`whole`]), until it comes to a [`quiet`] state. One
+//! backward pass over a whole span finds all matches [`ahead`]. The [`plan`] has what stays the same. [`needed`] finds bytes that each match has, without which
+//! no row is looked at.
 ghost use Rattle.std.specs.Prelude.{◌≡◌, ◌+◌, ◌≤◌, IfOk, IfErr, IfSome, IfNone, OnErr, true, false, length};
 ghost use Rattle.rsc_primitives.specs.Indices.{max_index};
 ghost use Rattle.rsc_search.specs.declared.anchored.Anchored.TheVariants.{No};
 ghost use Rattle.rsc_engine.specs.declared.error.Error.TheVariants.{OutOfMemory};
-ghost use Rattle.rsc_engine.specs.Searches.{search_in, FailsFor};
+ghost use Rattle.rsc_engine.specs.Searches.{search_in};
 ghost use Rattle.rsc_engine.specs.Preferred.{HasNone, IsFirstMatch, IsCleared, IsInSpan};
 ghost use Rattle.rsc_engine.specs.Ends.{IsEarliestEnd, IsLeftmostEnd};
 ghost use Rattle.rsc_engine.specs.RowsLayout.{machine, IsPlan};
 ghost use Rattle.rsc_engine.specs.PassTableLayout.{IsPassTable};
 ghost use Rattle.rsc_engine.specs.OrderedLayout.{IsEndOf};
 
+mod ahead;
 mod along;
 mod backward;
 mod backward_steps;
@@ -33,8 +35,8 @@ mod quiet;
 mod retreat;
 mod whole;
 
-use crate::first::find_by_walk;
 use crate::{AsciiWordClass, Error, Program};
+pub(crate) use ahead::Ahead;
 use along::{Walk, match_along};
 use forward::first_end;
 use needed::Needed;
@@ -236,7 +238,7 @@ impl<'p, W: WordClass + AsciiWordClass> Dfa<'p, W> {
     ///
     /// # Errors
     ///
-    /// Out of memory. If the program has more states than there are numbers of states: `TooLarge` too, where the span has too many positions for them.
+    /// Out of memory; so it is, too, where a program of more states than 2,147,483,646 has a match.
     pub fn find(
         &mut self,
         input: &Input<'_>,
@@ -250,7 +252,7 @@ impl<'p, W: WordClass + AsciiWordClass> Dfa<'p, W> {
         ensures unset { IfOk result (λ found. IfNone found (IsCleared captures.old captures.new)) }
         ensures failed { OnErr result (IsCleared captures.old captures.new) }
         ensures within { IfOk result (λ found. IfSome found (IsInSpan input.now)) }
-        ensures refused { IfErr result (FailsFor (search_in W.word_chars self.old input.now)) }
+        ensures refused { IfErr result (λ e. e ≡ OutOfMemory) }
     {
         captures.clear();
         let Some(last) = self.end_of(input, false)? else {
@@ -258,7 +260,7 @@ impl<'p, W: WordClass + AsciiWordClass> Dfa<'p, W> {
         };
         if self.plan.program.len() > MOST_NUMBERED {
             // Only states that have numbers are gone back through.
-            return find_by_walk(self.alloc, self.plan.program, input, captures);
+            return Err(Error::OutOfMemory);
         }
         self.listen(captures)?;
         let most_rows = self.plan.most_rows;

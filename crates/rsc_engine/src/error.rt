@@ -27,7 +27,7 @@ pub enum Error {
     Names,
     /// A range whose first byte is above its last.
     Faulty,
-    /// More states than a builder's limit, more groups than there are slots for, or in a search more states times positions than there are numbers for.
+    /// More states than a builder's limit, or more groups than there are slots for.
     TooLarge,
 }
 

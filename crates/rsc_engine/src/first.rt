@@ -1,14 +1,10 @@
 //! The first match.
 ghost use Rattle.std.specs.Prelude.{◌≡◌, IfOk, IfErr, IfSome, IfNone, OnErr, length};
-ghost use Rattle.rsc_engine.specs.Searches.{search_in, FailsFor};
-ghost use Rattle.rsc_engine.specs.Preferred.{IsLeftmostFirst, IsFirstMatch, HasNone, IsCleared, IsInSpan};
-ghost use Rattle.rsc_engine.specs.TrailsLayout.{run_of};
+ghost use Rattle.rsc_engine.specs.declared.error.Error.TheVariants.{OutOfMemory};
+ghost use Rattle.rsc_engine.specs.Searches.{search_in};
+ghost use Rattle.rsc_engine.specs.Preferred.{IsFirstMatch, HasNone, IsCleared, IsInSpan};
 
-use crate::backtrack::Walk;
 use crate::dfa::MOST_ROWS;
-use crate::groups::write_match;
-use crate::numbers::flags_needed;
-use crate::starts::Starts;
 use crate::{AsciiWordClass, Dfa, Error, Program};
 use rsc_captures::Captures;
 use rsc_look::WordClass;
@@ -24,7 +20,7 @@ use std::alloc::Global;
 ///
 /// # Errors
 ///
-/// Out of memory, or `TooLarge` where the span has too many positions for the number of states.
+/// Out of memory.
 ///
 /// # Examples
 ///
@@ -51,51 +47,8 @@ pub fn find<W: WordClass + AsciiWordClass>(
     ensures unset { IfOk result (λ found. IfNone found (IsCleared captures.old captures.new)) }
     ensures failed { OnErr result (IsCleared captures.old captures.new) }
     ensures within { IfOk result (λ found. IfSome found (IsInSpan input.now)) }
-    ensures refused { IfErr result (FailsFor (search_in W.word_chars program.now input.now)) }
+    ensures refused { IfErr result (λ e. e ≡ OutOfMemory) }
 {
     let mut dfa = Dfa::new(alloc, program, MOST_ROWS);
     dfa.find(input, captures)
-}
-
-/// The same by a walk, which also goes through states that have no number.
-pub(crate) fn find_by_walk<W: WordClass>(
-    alloc: Global,
-    program: &Program<W>,
-    input: &Input<'_>,
-    captures: &mut Captures,
-) -> Result<Option<Match>, Error>
-    ensures found { IfOk result (λ found. IfSome found (IsFirstMatch (search_in W.word_chars program.now input.now) captures.new)) }
-    ensures none { IfOk result (λ found. IfNone found (HasNone (search_in W.word_chars program.now input.now))) }
-    ensures groups { captures.new.groups ≡ captures.old.groups }
-    ensures slots { length captures.new.offsets ≡ length captures.old.offsets }
-    ensures unset { IfOk result (λ found. IfNone found (IsCleared captures.old captures.new)) }
-    ensures failed { OnErr result (IsCleared captures.old captures.new) }
-    ensures within { IfOk result (λ found. IfSome found (IsInSpan input.now)) }
-    ensures refused { IfErr result (FailsFor (search_in W.word_chars program.now input.now)) }
-{
-    captures.clear();
-    match first_run(alloc, program, input)? {
-        None => Ok(None),
-        Some(walk) => Ok(Some(write_match(program, input, walk.trail.as_slice(), captures))),
-    }
-}
-
-// A walk that has the leftmost-first run in the input's span; `None` if no match begins where one may.
-fn first_run<W: WordClass>(
-    alloc: Global,
-    program: &Program<W>,
-    input: &Input<'_>,
-) -> Result<Option<Walk>, Error>
-    ensures found { IfOk result (λ found. IfSome found (λ walk.
-        IsLeftmostFirst (search_in W.word_chars program.now input.now) (run_of program.now.automaton.states walk.trail.items))) }
-    ensures none { IfOk result (λ found. IfNone found (HasNone (search_in W.word_chars program.now input.now))) }
-    ensures refused { IfErr result (FailsFor (search_in W.word_chars program.now input.now)) }
-{
-    let starts = Starts::new(alloc, program)?;
-    let mut walk = Walk::new(alloc, program.start());
-    walk.open(alloc, flags_needed(program, input)?)?;
-    if !walk.search(program, input, &starts)? {
-        return Ok(None);
-    }
-    Ok(Some(walk))
 }

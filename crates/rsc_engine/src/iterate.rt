@@ -1,19 +1,15 @@
 //! All matches one after the other.
-ghost use Rattle.std.specs.Prelude.{◌≡◌, ◌+◌, ◌<◌, ◌≤◌, ℕ, IfOk, IfErr, IfSome, IfNone, OnErr, MatchOption, None, Some, false, true, length, slice_index_or};
+ghost use Rattle.std.specs.Prelude.{◌≡◌, ◌+◌, ◌<◌, ◌≤◌, IfOk, IfErr, IfSome, IfNone, OnErr, MatchOption, None, Some, false, true, length};
 ghost use Rattle.std.specs.Option.{ForSome};
 ghost use Rattle.rsc_search.specs.declared.anchored.Anchored.TheVariants.{No};
 ghost use Rattle.rsc_primitives.specs.Decoding.{IsCharBoundary};
-ghost use Rattle.rsc_engine.specs.declared.error.Error.TheVariants.{OutOfMemory, TooLarge};
-ghost use Rattle.rsc_engine.specs.Searches.{search_in, FailsFor};
+ghost use Rattle.rsc_engine.specs.declared.error.Error.TheVariants.{OutOfMemory};
+ghost use Rattle.rsc_engine.specs.Searches.{search_in};
 ghost use Rattle.rsc_engine.specs.Preferred.{IsFirstMatch, HasNone, IsCleared, IsInSpan};
 ghost use Rattle.rsc_engine.specs.NextMatches.{IsOver, IsNextMatch, from_start};
-ghost use Rattle.rsc_engine.specs.StartsLayout.{AreStarts};
-ghost use Rattle.rsc_engine.specs.WalksLayout.{AreEnough, IsClosed, is_flagged};
+ghost use Rattle.rsc_engine.specs.AheadLayout.{IsRestOf};
 
-use crate::backtrack::Walk;
-use crate::groups::write_match;
-use crate::numbers::flags_needed;
-use crate::starts::Starts;
+use crate::dfa::Ahead;
 use crate::{AsciiWordClass, Cache, Dfa, Error, Program};
 use rsc_captures::Captures;
 use rsc_look::WordClass;
@@ -21,15 +17,16 @@ use rsc_search::{Input, Match};
 use std::alloc::Global;
 use std::marker::Model;
 
-// So many bytes the passes may read behind the ends of matches at first, and this many more for each byte that an iteration goes on.
+// How many bytes the passes may read behind the ends of matches at first.
 const SPARE: usize = 4096;
 
+// How many more for each byte that an iteration goes on.
 const SPARE_FOR_A_BYTE: usize = 4;
 
 /// The matches in an input that are left, in order.
 ///
 /// The passes of a [`Dfa`] find the next match, as long as what they read behind the ends of matches is little beside what the iteration has gone past. Then
-/// one walk finds all that are left: a state is tried at a position again only where a match ended.
+/// one pass back over what is left logs where matches begin, in 4 bytes for each byte, and all others are found along that log.
 ///
 /// # Examples
 ///
@@ -70,45 +67,38 @@ impl<'p, 'h, W: WordClass + AsciiWordClass> Matches<'p, 'h, W> {
     ///
     /// # Errors
     ///
-    /// Out of memory, or `TooLarge` where the span has too many positions for the number of states.
+    /// Out of memory.
     pub fn new(
         alloc: Global,
         program: &'p Program<W>,
         input: Input<'h>,
     ) -> Result<Matches<'p, 'h, W>, Error>
         ensures made { IfOk result (λ m. m ≡ record { program = program.now; input = input.entry; last = None }) }
-        ensures refused { IfErr result (FailsFor (search_in W.word_chars program.now input.entry)) }
+        ensures refused { IfErr result (λ e. e ≡ OutOfMemory) }
     {
         Cache::new(alloc, program)?.matches(input)
     }
 
     // The same over a cache.
-    pub(crate) fn over(cache: Cache<'p, W>, input: Input<'h>) -> Result<Matches<'p, 'h, W>, Error>
-        ensures made { IfOk result (λ m. m ≡ record { program = cache.entry; input = input.entry; last = None }) }
-        ensures refused { IfErr result (FailsFor (search_in W.word_chars cache.entry input.entry)) }
+    pub(crate) fn over(cache: Cache<'p, W>, input: Input<'h>) -> Matches<'p, 'h, W>
+        ensures { result ≡ record { program = cache.entry; input = input.entry; last = None } }
     {
-        let flag_count = flags_needed(cache.program, &input)?;
         let Cache {
             alloc,
             program,
-            starts,
             dfa,
-            mut walk,
         } = cache;
-        walk.reopen(alloc, 0)?;
-        Ok(Matches {
+        Matches {
             rest: Rest {
                 alloc,
                 program,
                 input,
-                starts,
                 dfa,
                 spare: SPARE,
-                walk,
-                flag_count,
+                ahead: None,
                 last_end: None,
             },
-        })
+        }
     }
 
     /// What the iteration has in memory, for the next one by the same program.
@@ -119,9 +109,7 @@ impl<'p, 'h, W: WordClass + AsciiWordClass> Matches<'p, 'h, W> {
         Cache {
             alloc: rest.alloc,
             program: rest.program,
-            starts: rest.starts,
             dfa: rest.dfa,
-            walk: rest.walk,
         }
     }
 
@@ -157,18 +145,14 @@ struct Rest<'p, 'h, W: WordClass> {
     alloc: Global,
     program: &'p Program<W>,
     input: Input<'h>,
-    starts: Starts,
     dfa: Dfa<'p, W>,
-    // How many bytes the passes may yet read behind the ends of matches. When there is none to spare, the walk finds all matches that are left.
+    // How many bytes the passes may yet read behind the ends of matches.
     spare: usize,
-    // It has no flags before it is first needed, and then as many as a walk needs.
-    walk: Walk,
-    flag_count: usize,
+    // When there is none to spare, all matches that are left.
+    ahead: Option<Ahead<'p, 'h, W>>,
     last_end: Option<usize>,
-    ghost enough: { AreEnough (search_in W.word_chars program.now input) flag_count },
-    ghost closed: { IsClosed (search_in W.word_chars program.now input) (is_flagged (search_in W.word_chars program.now input) walk.visited) },
     ghost table: { dfa ≡ program.now },
-    ghost begins: { starts.known ≡ true → AreStarts program.now.automaton.states program.now.start starts.marks.items starts.bytes.items },
+    ghost left: { ForSome ahead (λ a. IsRestOf (search_in W.word_chars a.program a.input) (search_in W.word_chars program.now input)) },
     ghost order: { ForSome last_end (λ end. end ≤ input.span.start) },
 }
 
@@ -196,6 +180,8 @@ impl<'p, 'h, W: WordClass + AsciiWordClass> Rest<'p, 'h, W> {
         'matches: loop {
             match self.advance(captures) {
                 Err(error) => {
+                    // The log may be of a later start.
+                    self.ahead = None;
                     self.input.set_start(start);
                     return Err(error);
                 }
@@ -228,8 +214,6 @@ impl<'p, 'h, W: WordClass + AsciiWordClass> Rest<'p, 'h, W> {
         ensures on { IfOk result (λ found. IfSome found (λ m. self.new.input ≡ from_start self.old.input m.span.end)) }
         ensures over { IfOk result (λ found. IfNone found (self.new.input ≡ self.old.input)) }
         ensures kept { OnErr result (self.new.input ≡ self.old.input) }
-        ensures forgets { OnErr result ((n : ℕ) → slice_index_or self.new.walk.visited n false ≡ false) }
-        ensures flag_count { self.new.flag_count ≡ self.old.flag_count }
         ensures program { self.new.program ≡ self.old.program }
         ensures memory { IfErr result (λ e. e ≡ OutOfMemory) }
         ensures last { self.new.last_end ≡ self.old.last_end }
@@ -239,34 +223,25 @@ impl<'p, 'h, W: WordClass + AsciiWordClass> Rest<'p, 'h, W> {
         ensures failed { OnErr result (IsCleared captures.old captures.new) }
     {
         if self.spare == 0 {
-            return self.walk_on(captures);
+            return self.go_ahead(captures);
         }
         let start = self.input.start();
-        match self.dfa.find(&self.input, captures) {
-            // Not too large: there are numbers for the flags of a walk.
-            Err(_) => {
-                self.walk.visited.clear();
-                Err(Error::OutOfMemory)
-            }
-            Ok(None) => Ok(None),
-            Ok(Some(found)) => {
-                self.spare = spare_after(self.spare, start, found.end(), self.dfa.stopped());
-                self.input.set_start(found.end());
-                Ok(Some(found))
-            }
-        }
+        let Some(found) = self.dfa.find(&self.input, captures)? else {
+            return Ok(None);
+        };
+        self.spare = spare_after(self.spare, start, found.end(), self.dfa.stopped());
+        self.input.set_start(found.end());
+        Ok(Some(found))
     }
 
-    // The same by the walk.
-    fn walk_on(&mut self, captures: &mut Captures) -> Result<Option<Match>, Error>
+    // The same along the log of what is left.
+    fn go_ahead(&mut self, captures: &mut Captures) -> Result<Option<Match>, Error>
         ensures found { IfOk result (λ found. IfSome found (IsFirstMatch (search_in W.word_chars self.old.program.now self.old.input) captures.new)) }
         ensures none { IfOk result (λ found. IfNone found (HasNone (search_in W.word_chars self.old.program.now self.old.input))) }
         ensures within { IfOk result (λ found. IfSome found (IsInSpan self.old.input)) }
         ensures on { IfOk result (λ found. IfSome found (λ m. self.new.input ≡ from_start self.old.input m.span.end)) }
         ensures over { IfOk result (λ found. IfNone found (self.new.input ≡ self.old.input)) }
         ensures kept { OnErr result (self.new.input ≡ self.old.input) }
-        ensures forgets { OnErr result ((n : ℕ) → slice_index_or self.new.walk.visited n false ≡ false) }
-        ensures flag_count { self.new.flag_count ≡ self.old.flag_count }
         ensures program { self.new.program ≡ self.old.program }
         ensures memory { IfErr result (λ e. e ≡ OutOfMemory) }
         ensures last { self.new.last_end ≡ self.old.last_end }
@@ -276,18 +251,32 @@ impl<'p, 'h, W: WordClass + AsciiWordClass> Rest<'p, 'h, W> {
         ensures failed { OnErr result (IsCleared captures.old captures.new) }
     {
         captures.clear();
-        self.walk.open(self.alloc, self.flag_count)?;
-        if !self.walk.search(self.program, &self.input, &self.starts)? {
+        if self.input.is_done() {
             return Ok(None);
         }
-        let found = write_match(
-            self.program,
-            &self.input,
-            self.walk.trail.as_slice(),
-            captures,
-        );
+        let mut ahead = self.take_ahead()?;
+        let found = ahead.find(self.input.start(), captures);
+        self.ahead = Some(ahead);
+        let Some(found) = found? else {
+            return Ok(None);
+        };
         self.input.set_start(found.end());
         Ok(Some(found))
+    }
+
+    // All matches that are left, taken out of this.
+    fn take_ahead(&mut self) -> Result<Ahead<'p, 'h, W>, Error>
+        requires { self.old.input.span.start ≤ self.old.input.span.end }
+        ensures left { IfOk result (λ a. IsRestOf (search_in W.word_chars a.program a.input) (search_in W.word_chars self.old.program.now self.old.input)) }
+        ensures input { self.new.input ≡ self.old.input }
+        ensures program { self.new.program ≡ self.old.program }
+        ensures last { self.new.last_end ≡ self.old.last_end }
+        ensures memory { IfErr result (λ e. e ≡ OutOfMemory) }
+    {
+        match self.ahead.take() {
+            Some(ahead) => Ok(ahead),
+            None => Ahead::of(self.alloc, self.program, &self.input),
+        }
     }
 
     // Whether a match is empty, and where the last one ended.

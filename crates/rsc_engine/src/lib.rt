@@ -3,29 +3,19 @@
 //! [`find`] returns the leftmost-first match of a [`Program`] in an input, and [`Matches`] all of them, one after the other; [`Lines`] the lines that have one.
 //!
 //! `builder` makes parts and compiles them to the automaton of a `program`. `first`, `iterate` and `cache` have the searches. `dfa` finds matches by the rows
-//! of a table. Where an iteration doesn't ask it, `backtrack` follows runs by the `moves` of states and the `turns` of loops, from where `starts` says that a
-//! match may begin, over the `flags` of places and a `trail`, and `groups` writes the match that a run makes. `numbers` has the numbers of flags, `word_class`
-//! which word predicates a search takes, `error` why there is no answer. `find` stands above `dfa`, the rest of `first` below it.
+//! of a table. `word_class` has which word predicates a search takes, `error` why there is no answer. `find` stands above `dfa`.
 #![tactic(auto)]
 
-mod backtrack;
 mod builder;
 mod cache;
 mod dfa;
 mod error;
 mod first;
-mod flags;
-mod groups;
 mod iterate;
 /// Laws that a caller can cite.
 pub mod laws;
 mod lines;
-mod moves;
-mod numbers;
 mod program;
-mod starts;
-mod trail;
-mod turns;
 mod word_class;
 
 pub use builder::{Builder, Part};

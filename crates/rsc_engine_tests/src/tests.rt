@@ -1,3 +1,4 @@
+mod ahead;
 mod backward;
 mod cache;
 mod cost;

@@ -1,17 +1,13 @@
 -- A text with all matches of one pattern replaced, said of the pattern alone.
-use Rattle.std.specs.Prelude.{◌≡◌, ℕ, ◌+◌, ◌*◌, ◌^◌, ◌≤◌, ◌⊎◌, Bool, true, List, [], ◌∷◌, length, map, Option, Some, None}
+use Rattle.std.specs.Prelude.{◌≡◌, ℕ, ◌*◌, Bool, true, List, [], ◌∷◌, length, map, Option, Some, None}
 use Rattle.std.specs.List.{range_with_len}
 use Rattle.rsc_search.specs.Inputs.{whole}
 use Rattle.rsc_captures.specs.Captured.{Captured, group_span}
 use Rattle.rsc_captures.specs.Groups.{Groups, all_groups}
-use Rattle.rsc_engine.specs.declared.error.Error.{Error}
-use Rattle.rsc_engine.specs.declared.error.Error.TheVariants.{TooLarge}
 use Rattle.rsc_engine.specs.NextMatches.{from_start}
 use Rattle.rsc_engine.specs.Patterns.{Pattern, Subject}
 use Rattle.rsc_engine.specs.Ways.{last_in}
 use Rattle.rsc_engine.specs.OnePattern.{IsWayOfOne, IsNextOfOne, IsOverOfOne}
-use Rattle.rsc_engine.specs.Refusals.{IsErrorOf}
-use Rattle.rsc_engine.specs.Sizes.{size_of_program, most_states}
 use Rattle.rsc_replace.specs.Replacements.{MatchWith, with_matches_filled}
 
 -- a text whose lines end by \n
@@ -48,9 +44,3 @@ AreAllWays x groups p last from (w ∷ rest) = IsNextWay x groups p last from w 
 abbrev pub IsPartReplaced : Subject → Groups → Pattern → List ℕ → List ℕ → Type 0
 IsPartReplaced x groups p template out =
     (all : List Way) × AreAllWays x groups p None 0 all × (out ≡ with_matches_filled x.haystack template 0 (map (match_of_way groups) all))
-
--- why nothing is replaced: there is no program of the pattern, or the text has too many positions for its number of states
-abbrev pub FailsToReplace : Pattern → Groups → List ℕ → Error → Type 0
-FailsToReplace p groups text e =
-    IsErrorOf most_states (p ∷ []) (groups ∷ []) e
-    ⊎ ((e ≡ TooLarge) × (2 ^ 64 ≤ (length text + 1) * size_of_program (p ∷ [])))

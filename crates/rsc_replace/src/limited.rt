@@ -1,7 +1,7 @@
 //! Texts with the first matches replaced, as many as a limit says.
 ghost use Rattle.std.specs.Prelude.{◌≡◌, ◌<◌, IfOk, IfErr, None};
 ghost use Rattle.rsc_search.specs.Inputs.{whole};
-ghost use Rattle.rsc_engine.specs.Searches.{search_in, FailsFor};
+ghost use Rattle.rsc_engine.specs.declared.error.Error.TheVariants.{OutOfMemory};
 ghost use Rattle.rsc_replace.specs.Replacements.{IsReplaced, IsReplacedUpTo};
 
 use crate::{expand, replace_all};
@@ -15,7 +15,7 @@ use std::alloc::Global;
 ///
 /// # Errors
 ///
-/// Out of memory, or `TooLarge` where the text has too many positions for the program's number of states.
+/// Out of memory.
 ///
 /// # Examples
 ///
@@ -37,7 +37,7 @@ pub fn replacen<W: WordClass + AsciiWordClass>(
         (record { program = program.now; input = whole text.now; last = None }) out.items) }
     ensures first { 0 < limit → IfOk result (λ out. IsReplacedUpTo W.word_chars template.now limit
         (record { program = program.now; input = whole text.now; last = None }) out.items) }
-    ensures refused { IfErr result (FailsFor (search_in W.word_chars program.now (whole text.now))) }
+    ensures refused { IfErr result (λ e. e ≡ OutOfMemory) }
 {
     if limit == 0 {
         return replace_all(alloc, program, text, template);
@@ -55,7 +55,7 @@ fn replace_first<W: WordClass + AsciiWordClass>(
 ) -> Result<Vec<u8>, Error>
     ensures replaced { IfOk result (λ out. IsReplacedUpTo W.word_chars template.now most
         (record { program = program.now; input = whole text.now; last = None }) out.items) }
-    ensures refused { IfErr result (FailsFor (search_in W.word_chars program.now (whole text.now))) }
+    ensures refused { IfErr result (λ e. e ≡ OutOfMemory) }
 {
     let mut captures = program.captures(alloc)?;
     let mut matches = Matches::new(alloc, program, Input::new(text))?;

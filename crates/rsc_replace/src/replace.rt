@@ -1,12 +1,11 @@
 //! Texts with all matches replaced.
 ghost use Rattle.std.specs.Prelude.{◌≡◌, ◌∷◌, [], IsTrue, IfOk, IfErr, OnOk, Err, None, false};
 ghost use Rattle.rsc_search.specs.Inputs.{whole};
-ghost use Rattle.rsc_engine.specs.Searches.{search_in, FailsFor};
-ghost use Rattle.rsc_engine.specs.declared.error.Error.TheVariants.{TooLarge};
+ghost use Rattle.rsc_engine.specs.declared.error.Error.TheVariants.{OutOfMemory, TooLarge};
 ghost use Rattle.rsc_engine.specs.Parts.{pattern_of, groups_of_pattern};
-ghost use Rattle.rsc_engine.specs.Refusals.{RepeatsName, are_too_large, has_a_reversed_range};
+ghost use Rattle.rsc_engine.specs.Refusals.{IsErrorOf, RepeatsName, are_too_large, has_a_reversed_range};
 ghost use Rattle.rsc_engine.specs.Sizes.{most_states};
-ghost use Rattle.rsc_replace.specs.PartReplacements.{FailsToReplace, IsPartReplaced, read_as_text};
+ghost use Rattle.rsc_replace.specs.PartReplacements.{IsPartReplaced, read_as_text};
 ghost use Rattle.rsc_replace.specs.Replacements.{IsReplaced};
 
 use crate::expand;
@@ -19,7 +18,7 @@ use std::alloc::Global;
 ///
 /// # Errors
 ///
-/// Out of memory, or `TooLarge` where the text has too many positions for the program's number of states.
+/// Out of memory.
 ///
 /// # Examples
 ///
@@ -43,7 +42,7 @@ pub fn replace_all<W: WordClass + AsciiWordClass>(
 ) -> Result<Vec<u8>, Error>
     ensures replaced { IfOk result (λ out. IsReplaced W.word_chars template.now
         (record { program = program.now; input = whole text.now; last = None }) out.items) }
-    ensures refused { IfErr result (FailsFor (search_in W.word_chars program.now (whole text.now))) }
+    ensures refused { IfErr result (λ e. e ≡ OutOfMemory) }
 {
     let mut captures = program.captures(alloc)?;
     laws::an_iteration_ends();
@@ -73,7 +72,7 @@ pub fn replace_all<W: WordClass + AsciiWordClass>(
 ///
 /// # Errors
 ///
-/// As [`Builder::build`], and `TooLarge` where the text has too many positions for the number of states.
+/// As [`Builder::build`].
 ///
 /// # Examples
 ///
@@ -99,7 +98,7 @@ pub fn replace_part<W: WordClass + AsciiWordClass>(
     ensures large { IsTrue (are_too_large most_states (pattern_of part.entry ∷ []) (groups_of_pattern part.entry ∷ [])) → result ≡ Err TooLarge }
     ensures names { OnOk result (¬ (RepeatsName (groups_of_pattern part.entry ∷ []))) }
     ensures ordered { OnOk result (has_a_reversed_range (pattern_of part.entry ∷ []) ≡ false) }
-    ensures refused { IfErr result (FailsToReplace (pattern_of part.entry) (groups_of_pattern part.entry) text.now) }
+    ensures refused { IfErr result (IsErrorOf most_states (pattern_of part.entry ∷ []) (groups_of_pattern part.entry ∷ [])) }
 {
     laws::one_pattern::a_match_of_one_pattern::<W>();
     laws::the_first_group_is_the_match::<W>();

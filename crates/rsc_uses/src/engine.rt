@@ -2,7 +2,7 @@
 ghost use Rattle.std.specs.Prelude.{◌≡◌, ◌<◌, ◌⊎◌, Some, None, true, false, IfOk, IfErr, IfSome, IfNone};
 ghost use Rattle.rsc_search.specs.Matches.{Matched};
 ghost use Rattle.rsc_engine.specs.declared.error.Error.TheVariants.{OutOfMemory};
-ghost use Rattle.rsc_engine.specs.Searches.{search_in, FailsFor};
+ghost use Rattle.rsc_engine.specs.Searches.{search_in};
 ghost use Rattle.rsc_engine.specs.NextMatches.{AreAll};
 ghost use Rattle.rsc_engine.specs.Preferred.{HasNone, IsFirstMatch};
 
@@ -22,7 +22,7 @@ pub fn first_span<W: WordClass + AsciiWordClass>(
     ensures some { IfOk result (λ found. IfSome found (λ span.
         (first : Matched) × IsFirstMatch (search_in W.word_chars program.now input.now) captures.new first × (span ≡ first.span))) }
     ensures none { IfOk result (λ found. IfNone found (HasNone (search_in W.word_chars program.now input.now))) }
-    ensures refused { IfErr result (FailsFor (search_in W.word_chars program.now input.now)) }
+    ensures refused { IfErr result (λ e. e ≡ OutOfMemory) }
 {
     match find(alloc, program, input, captures)? {
         None => Ok(None),
@@ -41,7 +41,7 @@ pub fn has_match_twice<W: WordClass + AsciiWordClass>(
     requires of_program { dfa.old ≡ program.now }
     ensures same { IfOk result (λ found. found.0 ≡ found.1) }
     ensures none { IfOk result (λ found. found.1 ≡ false → HasNone (search_in W.word_chars program.now input.now)) }
-    ensures refused { IfErr result (FailsFor (search_in W.word_chars program.now input.now)) }
+    ensures refused { IfErr result (λ e. e ≡ OutOfMemory) }
 {
     laws::there_is_one_first_match();
     let by_table = dfa.is_match(input)?;
@@ -62,7 +62,7 @@ pub fn leftmost_end_twice<W: WordClass + AsciiWordClass>(
     requires of_program { dfa.old ≡ program.now }
     ensures same { IfOk result (λ ends. ends.0 ≡ ends.1) }
     ensures none { IfOk result (λ ends. IfNone ends.1 (HasNone (search_in W.word_chars program.now input.now))) }
-    ensures refused { IfErr result (FailsFor (search_in W.word_chars program.now input.now)) }
+    ensures refused { IfErr result (λ e. e ≡ OutOfMemory) }
 {
     laws::there_is_one_first_match();
     let by_table = dfa.leftmost_end(input)?;
@@ -97,7 +97,7 @@ pub fn all_matches<W: WordClass + AsciiWordClass>(
     input: Input<'_>,
 ) -> Result<Vec<Match>, Error>
     ensures all { IfOk result (λ all. AreAll W.word_chars (record { program = program.now; input = input.entry; last = None }) all.items) }
-    ensures refused { IfErr result (FailsFor (search_in W.word_chars program.now input.entry)) }
+    ensures refused { IfErr result (λ e. e ≡ OutOfMemory) }
 {
     let mut captures = program.captures(alloc)?;
     let cache = Cache::new(alloc, program)?;
@@ -113,7 +113,7 @@ pub fn all_over<'p, 'h, W: WordClass + AsciiWordClass>(
 ) -> Result<(Vec<Match>, Cache<'p, W>), Error>
     ensures all { IfOk result (λ both. AreAll W.word_chars (record { program = cache.entry; input = input.entry; last = None }) both.0.items) }
     ensures cache { IfOk result (λ both. both.1 ≡ cache.entry) }
-    ensures refused { IfErr result (FailsFor (search_in W.word_chars cache.entry input.entry)) }
+    ensures refused { IfErr result (λ e. e ≡ OutOfMemory) }
 {
     laws::an_iteration_ends();
     let mut matches = cache.matches(input)?;
@@ -138,7 +138,7 @@ pub fn both_match<W: WordClass + AsciiWordClass>(
         HasNone (search_in W.word_chars cache.old one.now) ⊎ HasNone (search_in W.word_chars cache.old other.now)) }
     ensures both { IfOk result (λ both. both ≡ true →
         (¬ (HasNone (search_in W.word_chars cache.old one.now))) × (¬ (HasNone (search_in W.word_chars cache.old other.now)))) }
-    ensures refused { IfErr result (λ e. FailsFor (search_in W.word_chars cache.old one.now) e ⊎ FailsFor (search_in W.word_chars cache.old other.now) e) }
+    ensures refused { IfErr result (λ e. e ≡ OutOfMemory) }
 {
     laws::there_is_one_first_match();
     match cache.find(one, captures)? {

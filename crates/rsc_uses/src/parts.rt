@@ -41,7 +41,7 @@ pub fn looks_of<W: WordClass + AsciiWordClass>(
 ///
 /// # Errors
 ///
-/// As [`Builder::build`], and too large a search.
+/// As [`Builder::build`].
 pub fn find_part<W: WordClass + AsciiWordClass>(
     alloc: Global,
     word_class: W,

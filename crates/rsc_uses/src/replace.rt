@@ -2,10 +2,13 @@
 ghost use Rattle.std.specs.Prelude.{◌≡◌, ◌∷◌, [], List, IfOk, IfErr, None};
 ghost use Rattle.rsc_search.specs.Inputs.{whole};
 ghost use Rattle.rsc_search.specs.Matches.{Matched};
-ghost use Rattle.rsc_engine.specs.Searches.{search_in, FailsFor};
+ghost use Rattle.rsc_engine.specs.declared.error.Error.TheVariants.{OutOfMemory};
+ghost use Rattle.rsc_engine.specs.Searches.{search_in};
 ghost use Rattle.rsc_engine.specs.NextMatches.{AreAll};
 ghost use Rattle.rsc_engine.specs.Parts.{pattern_of, groups_of_pattern};
-ghost use Rattle.rsc_replace.specs.PartReplacements.{FailsToReplace, IsPartReplaced, read_as_text};
+ghost use Rattle.rsc_engine.specs.Refusals.{IsErrorOf};
+ghost use Rattle.rsc_engine.specs.Sizes.{most_states};
+ghost use Rattle.rsc_replace.specs.PartReplacements.{IsPartReplaced, read_as_text};
 ghost use Rattle.rsc_uses.specs.Masked.{masked, IsFirstMasked};
 
 use rsc_engine::{AsciiWordClass, Error, Part, Program};
@@ -24,7 +27,7 @@ pub fn mask_all<W: WordClass + AsciiWordClass>(
     ensures masked { IfOk result (λ out. (all : List Matched)
         × AreAll W.word_chars (record { program = program.now; input = whole text.now; last = None }) all
         × (out.items ≡ masked text.now (0x2A ∷ 0x2A ∷ 0x2A ∷ []) 0 all)) }
-    ensures refused { IfErr result (FailsFor (search_in W.word_chars program.now (whole text.now))) }
+    ensures refused { IfErr result (λ e. e ≡ OutOfMemory) }
 {
     laws::a_template_without_dollars_is_itself();
     let out = replace_all(alloc, program, text, &MASK)?;
@@ -39,7 +42,7 @@ pub fn mask_first<W: WordClass + AsciiWordClass>(
 ) -> Result<Vec<u8>, Error>
     ensures masked { IfOk result (λ out.
         IsFirstMasked (search_in W.word_chars program.now (whole text.now)) text.now (0x2A ∷ 0x2A ∷ 0x2A ∷ []) out.items) }
-    ensures refused { IfErr result (FailsFor (search_in W.word_chars program.now (whole text.now))) }
+    ensures refused { IfErr result (λ e. e ≡ OutOfMemory) }
 {
     laws::a_template_without_dollars_is_itself();
     let out = replacen(alloc, program, text, 1, &MASK)?;
@@ -55,7 +58,7 @@ pub fn blank_out<W: WordClass + AsciiWordClass>(
 ) -> Result<Vec<u8>, Error>
     ensures replaced { IfOk result (λ out. IsPartReplaced (read_as_text text.now (W.word_chars word_class))
         (groups_of_pattern part.entry) (pattern_of part.entry) (0x20 ∷ []) out.items) }
-    ensures refused { IfErr result (FailsToReplace (pattern_of part.entry) (groups_of_pattern part.entry) text.now) }
+    ensures refused { IfErr result (IsErrorOf most_states (pattern_of part.entry ∷ []) (groups_of_pattern part.entry ∷ [])) }
 {
     let out = replace_part(alloc, word_class, part, text, b" ")?;
     Ok(out)

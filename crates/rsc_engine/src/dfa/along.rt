@@ -1,27 +1,27 @@
-//! The pass along the log of the backward pass: it writes what the leftmost-first run records.
+//! The pass along the log of the backward pass: it writes what the preferred run from where a match begins records.
 //!
-//! At each position it goes by steps with no byte, at a fork first the preferred way, until it comes to a state of the position's row: from there the match is
-//! reached at once, over the byte or where it ends. So it takes back no step over a byte. It goes on as far as anything is recorded but the match's end.
-ghost use Rattle.std.specs.Prelude.{◌≡◌, ◌+◌, ◌-◌, ◌<◌, ◌≤◌, ◌^◌, ℕ, List, Some, None, IfOk, IfErr, IfSome, OnOk, OnErr, MatchOption, true, false, length, slice_get, slice_index_or, if◌then◌else◌};
+//! At each position it goes by steps with no byte, at a fork first the preferred way, until it comes to a match, or to a state of the position's row: from
+//! there a match is reached over the byte. So it takes back no step over a byte. It goes on as far as anything is recorded but the match's end, if that is
+//! known.
+ghost use Rattle.std.specs.Prelude.{◌≡◌, ◌+◌, ◌-◌, ◌<◌, ◌≤◌, ◌^◌, ◌++◌, ℕ, List, Some, None, IfOk, IfErr, IfSome, OnOk, OnErr, true, false, length, slice_get, slice_index_or, if◌then◌else◌};
 ghost use Rattle.std.specs.List.{Contains};
 ghost use Rattle.rsc_primitives.specs.Indices.{max_index};
-ghost use Rattle.rsc_nfa.specs.Steps.{place, is_capture_of, or_earlier};
+ghost use Rattle.rsc_nfa.specs.Steps.{is_capture_of, or_earlier};
 ghost use Rattle.rsc_engine.specs.declared.error.Error.TheVariants.{OutOfMemory};
 ghost use Rattle.rsc_engine.specs.declared.dfa.pass_table.PassRow.{PassRow};
 ghost use Rattle.rsc_engine.specs.Searches.{search_in};
-ghost use Rattle.rsc_engine.specs.Runs.{AreRecords};
 ghost use Rattle.rsc_engine.specs.RowsLayout.{machine, IsPlan, AreStates};
 ghost use Rattle.rsc_engine.specs.GroupsLayout.{AreEmpty};
 ghost use Rattle.rsc_engine.specs.Preferred.{IsFirstMatch, IsCleared, IsInSpan};
-ghost use Rattle.rsc_engine.specs.ArrivalsLayout.{ArrivesAtOnce};
+ghost use Rattle.rsc_engine.specs.ArrivalsLayout.{Arrives, ArrivesOver};
 ghost use Rattle.rsc_engine.specs.OrderedLayout.{IsEndOf};
 ghost use Rattle.rsc_engine.specs.PassTableLayout.{IsPassTable};
-ghost use Rattle.rsc_engine.specs.BackwardLayout.{IsStartOf, Lists};
+ghost use Rattle.rsc_engine.specs.BackwardLayout.{Lists};
 ghost use Rattle.rsc_engine.specs.LogLayout.{IsLogged};
 ghost use Rattle.rsc_engine.specs.QuietLayout.{AreQuiet};
-ghost use Rattle.rsc_engine.specs.AlongLayout.{IsSought, AreRecordsTo, IsAlong, AreBelow};
+ghost use Rattle.rsc_engine.specs.AlongLayout.{GoesTo, IsRecorded, AreRecordsTo, IsLed, LeadsAlong, AreBelow, all_at};
 
-use super::backward::first_start;
+use super::backward::{first_start, part_of};
 use super::ordered::{Way, way_of};
 use super::pass_table::PassTable;
 use super::plan::Plan;
@@ -68,22 +68,22 @@ pub(crate) fn match_along<W: WordClass>(
         return match_whole(plan, table, log, input, pattern, end, captures);
     }
     let start = first_start(plan, table, input, pattern, end, log)?;
-    let span = Span { start, end };
+    let part = part_of(input, end);
     let recorded = record_along(
         walk,
         plan.program,
-        input,
+        &part,
         table,
         log.as_slice(),
-        pattern,
-        &span,
+        start,
+        Some((pattern, end)),
         loud,
         captures.slots_mut(),
     );
     match recorded {
-        Ok(()) => {
+        Ok(_) => {
             captures.set_pattern(Some(pattern));
-            Ok(Match::new(pattern, span))
+            Ok(Match::new(pattern, Span { start, end }))
         }
         Err(error) => {
             captures.clear();
@@ -92,45 +92,46 @@ pub(crate) fn match_along<W: WordClass>(
     }
 }
 
-// Writes what the leftmost-first run records into slots that are empty.
-fn record_along<W: WordClass>(
+/// Goes along from where a match begins, and writes what the preferred run from there records into slots that are empty: its pattern, and where it ends. These
+/// may be known before.
+pub(crate) fn record_along<W: WordClass>(
     walk: &mut Walk,
     program: &Program<W>,
     input: &Input<'_>,
     table: &PassTable,
     log: &[u32],
-    pattern: PatternID,
-    span: &Span,
+    start: usize,
+    known: Option<(PatternID, usize)>,
     loud: &[bool],
     slots: &mut [Option<NonMaxUsize>],
-) -> Result<(), Error>
-    requires start { IsStartOf (search_in W.word_chars program.now input.now) pattern span.now.end span.now.start }
-    requires log { IsLogged (search_in W.word_chars program.now input.now) pattern span.now.end span.now.start table.now.rows.items log.now }
+) -> Result<(PatternID, usize), Error>
+    requires begins { Arrives (search_in W.word_chars program.now input.now) program.now.start start }
+    requires log { IsLogged (search_in W.word_chars program.now input.now) start table.now.rows.items log.now }
+    requires known { IfSome known (λ k. GoesTo (search_in W.word_chars program.now input.now) start k.0 k.1) }
     requires quiet { AreQuiet program.now.automaton.states loud.now }
     requires empty { AreEmpty slots.old }
-    ensures records { OnOk result ((run : List (ℕ × ℕ))
-        → IsSought (search_in W.word_chars program.now input.now) pattern span.now.start span.now.end run
-        → AreRecords (search_in W.word_chars program.now input.now) run slots.new) }
+    ensures recorded { IfOk result (λ r. IsRecorded (search_in W.word_chars program.now input.now) start r.0 r.1 slots.new) }
     ensures memory { IfErr result (λ e. e ≡ OutOfMemory) }
 {
     // For the prover: positions up to the input's end, plus one, fit.
-    let _end = input.end();
+    let end = input.end();
     walk.open(program.len())?;
-    let mut at = span.start;
+    let mut at = start;
     let mut sid = program.start();
     'positions: loop {
-        let list = table.list_at(log, span.end - at);
-        match walk.pass(program, input, at, list, sid, slots)? {
-            None => return Ok(()),
-            Some(next) => {
-                if is_quiet(loud, next) {
-                    set_slot(slots, 2 * pattern.as_usize() + 1, span.end);
-                    return Ok(());
-                }
-                sid = next;
-                at += 1;
+        let list = table.list_at(log, end - at);
+        let (next, found) = walk.pass(program, input, at, list, sid, slots)?;
+        if let Some(pattern) = found {
+            return Ok((pattern, at));
+        }
+        if is_quiet(loud, next) {
+            if let Some(last) = known {
+                set_slot(slots, 2 * last.0.as_usize() + 1, last.1);
+                return Ok(last);
             }
         }
+        sid = next;
+        at += 1;
     }
 }
 
@@ -207,7 +208,7 @@ impl Walk {
         Ok(())
     }
 
-    // Goes through a position from a state on, and writes what is recorded there: the state after the byte, or `None` at the run's end.
+    // Goes through a position from a state on, and writes what is recorded there: the state after the byte, or the pattern of a match.
     fn pass<W: WordClass>(
         &mut self,
         program: &Program<W>,
@@ -216,19 +217,17 @@ impl Walk {
         list: &[StateID],
         sid: StateID,
         slots: &mut [Option<NonMaxUsize>],
-    ) -> Result<Option<StateID>, Error>
+    ) -> Result<(StateID, Option<PatternID>), Error>
         requires start { input.now.span.start ≤ at }
         requires end { at ≤ input.now.span.end }
         requires sid { sid < length program.now.automaton.states }
         requires len { length self.old.seen.items ≡ length program.now.automaton.states }
         ensures len { OnOk result (length self.new.seen.items ≡ length program.now.automaton.states) }
-        ensures there { IfOk result (λ next. IfSome next (λ to. to < length program.now.automaton.states)) }
-        ensures on { IfOk result (λ next. (p from j : ℕ) (run : List (ℕ × ℕ))
-            → IsSought (search_in W.word_chars program.now input.now) p from j run
-            → Lists (λ s. ArrivesAtOnce (search_in W.word_chars program.now input.now) p j s at) list.now
-            → IsAlong (search_in W.word_chars program.now input.now) run sid at slots.old
-            → MatchOption next (AreRecords (search_in W.word_chars program.now input.now) run slots.new)
-            (λ to. IsAlong (search_in W.word_chars program.now input.now) run to (at + 1) slots.new)) }
+        ensures there { IfOk result (λ r. r.0 < length program.now.automaton.states) }
+        ensures on { IfOk result (λ r. (from : ℕ)
+            → Lists (λ s. ArrivesOver (search_in W.word_chars program.now input.now) s at) list.now
+            → IsLed (search_in W.word_chars program.now input.now) from sid at slots.old
+            → LeadsAlong (search_in W.word_chars program.now input.now) from at r.0 r.1 slots.new) }
         ensures memory { IfErr result (λ e. e ≡ OutOfMemory) }
     {
         // For the prover: positions up to the input's end, plus one, fit.
@@ -257,15 +256,16 @@ impl Walk {
                 }
                 Way::Over(to) => if has(list, sid) {
                     record(program, at, self.trail.as_slice(), slots);
-                    return Ok(Some(to));
+                    return Ok((to, None));
                 },
-                Way::Match(_) => if has(list, sid) {
+                Way::Match(pattern) => {
                     record(program, at, self.trail.as_slice(), slots);
-                    return Ok(None);
-                },
+                    return Ok((sid, Some(pattern)));
+                }
             }
         }
-        Ok(None)
+        // It never comes here.
+        Ok((sid, None))
     }
 }
 
@@ -286,10 +286,8 @@ fn record<W: WordClass>(
 )
     requires at { at + 1 < 2 ^ 64 }
     requires states { AreStates (length program.now.automaton.states) trail.now }
-    ensures { (run : List (ℕ × ℕ)) (n : ℕ) → n + length trail.now < length run
-        → ((k : ℕ) → k < length trail.now → place run (n + k) ≡ (slice_index_or trail.now k 0, at))
-        → AreRecordsTo program.now.automaton.states run n slots.old
-        → AreRecordsTo program.now.automaton.states run (n + length trail.now) slots.new }
+    ensures { (front : List (ℕ × ℕ)) → AreRecordsTo program.now.automaton.states front slots.old
+        → AreRecordsTo program.now.automaton.states (front ++ all_at at trail.now) slots.new }
 {
     'trail: for k in 0..trail.len() {
         record_one(program.state(trail[k]), at, slots);

@@ -1,16 +1,17 @@
-//! The backward pass: it finds where the leftmost-first match begins, from its end and its pattern.
+//! The backward pass: it finds where the leftmost-first match begins, from where it ends.
 //!
-//! At each position it has the states from which a run leads to that end at once: those of the end are the states that accept the pattern, and the others come
-//! from the position after them. A state that leads with no byte to one of these arrives too. So does the start state wherever such a match begins, and the
-//! least of these positions is where the leftmost-first match does.
-ghost use Rattle.std.specs.Prelude.{◌≡◌, ◌≤◌, ◌++◌, ◌∷◌, [], IfOk, IfErr, OnOk, length};
+//! At each position it has the states from which a step over the byte leads to where a match is reached, in the part of the span up to that end: none at the
+//! end, and the others come from the position after them. A state that leads with no byte to one of these arrives too, and so does a match itself. So does the
+//! start state wherever a match begins; and the least of these positions is where the leftmost-first match does.
+ghost use Rattle.std.specs.Prelude.{◌≡◌, ◌≤◌, ◌++◌, ◌∷◌, [], IfOk, IfErr, OnOk, true, false, length};
 ghost use Rattle.rsc_primitives.specs.Indices.{max_index};
 ghost use Rattle.rsc_engine.specs.Searches.{search_in};
 ghost use Rattle.rsc_engine.specs.RowsLayout.{machine, IsPlan};
 ghost use Rattle.rsc_engine.specs.PassTableLayout.{IsPassTable};
 ghost use Rattle.rsc_engine.specs.OrderedLayout.{IsEndOf};
+ghost use Rattle.rsc_engine.specs.ForwardLayout.{up_to};
 ghost use Rattle.rsc_engine.specs.BackwardLayout.{IsStartOf};
-ghost use Rattle.rsc_engine.specs.LogLayout.{IsLogged};
+ghost use Rattle.rsc_engine.specs.LogLayout.{IsLogged, IsLoggedFirst};
 ghost use Rattle.rsc_engine.specs.declared.error.Error.TheVariants.{OutOfMemory};
 
 use super::pass_table::PassTable;
@@ -18,7 +19,7 @@ use super::plan::{Plan, after_of};
 use crate::Error;
 use rsc_look::WordClass;
 use rsc_primitives::PatternID;
-use rsc_search::Input;
+use rsc_search::{Input, Span};
 
 /// Where the leftmost-first match in an input's span begins, which is of a pattern and ends at a position. The log names the rows of the positions from the
 /// match's end back, at least to where it begins; no row is dropped.
@@ -39,12 +40,60 @@ pub(crate) fn first_start<W: WordClass>(
     ensures exact { IsPassTable (machine W.word_chars plan.now.program.now) plan.now.classes plan.now.width plan.now.most_rows
         table.new.rows.items table.new.leads.items }
     ensures start { IfOk result (IsStartOf (search_in W.word_chars plan.now.program.now input.now) pattern end) }
-    ensures log { IfOk result (λ at. IsLogged (search_in W.word_chars plan.now.program.now input.now) pattern end at table.new.rows.items log.new.items) }
+    ensures log { IfOk result (λ at.
+        IsLogged (up_to (search_in W.word_chars plan.now.program.now input.now) end) at table.new.rows.items log.new.items) }
+    ensures memory { IfErr result (λ e. e ≡ OutOfMemory) }
+{
+    let part = part_of(input, end);
+    go_back(plan, table, &part, false, log)
+}
+
+/// The input up to another end of its span.
+pub(crate) fn part_of<'h>(input: &Input<'h>, end: usize) -> Input<'h>
+    requires low { input.now.span.start ≤ end }
+    requires high { end ≤ input.now.span.end }
+    ensures haystack { result.haystack ≡ input.now.haystack }
+    ensures start { result.span.start ≡ input.now.span.start }
+    ensures end { result.span.end ≡ end }
+    ensures anchored { result.anchored ≡ input.now.anchored }
+{
+    let span = Span {
+        start: input.start(),
+        end,
+    };
+    Input::new(input.haystack())
+        .anchored(input.get_anchored())
+        .span(span)
+}
+
+/// Goes back from the span's end, to its start if that is wanted, and at least as far as the leftmost-first match begins, if it ends there: where it begins
+/// then. The log names the rows of the positions that were gone back over, from the end on; no row is dropped.
+pub(crate) fn go_back<W: WordClass>(
+    plan: &Plan<'_, W>,
+    table: &mut PassTable,
+    input: &Input<'_>,
+    all: bool,
+    log: &mut Vec<u32>,
+) -> Result<usize, Error>
+    requires plan { IsPlan (machine W.word_chars plan.now.program.now) plan.now.classes plan.now.width plan.now.unicode }
+    requires numbered { length plan.now.program.now.automaton.states ≤ max_index }
+    requires exact { IsPassTable (machine W.word_chars plan.now.program.now) plan.now.classes plan.now.width plan.now.most_rows
+        table.old.rows.items table.old.leads.items }
+    requires room { plan.now.most_rows ≡ usize.MAX }
+    requires order { input.now.span.start ≤ input.now.span.end }
+    ensures exact { IsPassTable (machine W.word_chars plan.now.program.now) plan.now.classes plan.now.width plan.now.most_rows
+        table.new.rows.items table.new.leads.items }
+    ensures first { all ≡ false → IfOk result (λ at.
+        IsLoggedFirst (search_in W.word_chars plan.now.program.now input.now) at table.new.rows.items log.new.items) }
+    ensures whole { all ≡ true → IfOk result (λ _.
+        IsLogged (search_in W.word_chars plan.now.program.now input.now) input.now.span.start table.new.rows.items log.new.items) }
     ensures memory { IfErr result (λ e. e ≡ OutOfMemory) }
 {
     let start = input.start();
+    let end = input.end();
+    let mode = input.get_anchored();
     let after = after_of(input.haystack(), end);
-    let mut row = table.last_row(plan, pattern, after)?;
+    let mut row = table.last_row(plan, &mode, after)?;
     log.clear();
     add_to_log(log, row)?;
     let mut at = end;
@@ -52,13 +101,13 @@ pub(crate) fn first_start<W: WordClass>(
     'rows: loop {
         let (here, position, found) = table.follow_back(plan, input, row, at, least, log)?;
         let (next, now) = table.step_back(plan, input, here, position, found)?;
+        add_to_log(log, next)?;
         if position == start {
             return Ok(now);
         }
-        if table.is_empty(next) {
+        if table.is_done(next, all) {
             return Ok(now);
         }
-        add_to_log(log, next)?;
         row = next;
         at = position - 1;
         least = now;

@@ -1,6 +1,6 @@
 //! The steps of the backward pass along the rows of the table: the known ones, and the others, which are made and kept where they serve other
 //! positions.
-ghost use Rattle.std.specs.Prelude.{◌≡◌, ◌+◌, ◌<◌, ◌≤◌, ℕ, [], IfOk, IfErr, Some, true, length, slice_get};
+ghost use Rattle.std.specs.Prelude.{◌≡◌, ◌+◌, ◌<◌, ◌≤◌, [], IfOk, IfErr, Some, true, false, length, slice_get};
 ghost use Rattle.rsc_primitives.specs.Indices.{max_index};
 ghost use Rattle.rsc_engine.specs.declared.error.Error.TheVariants.{OutOfMemory};
 ghost use Rattle.rsc_engine.specs.Searches.{search_in};
@@ -21,7 +21,7 @@ use rsc_search::Input;
 
 impl PassTable {
     /// Follows the entries back from a row as far as they are known, at most to the span's start: the row there, its position, and the least position so far at
-    /// which the match may begin.
+    /// which a match begins.
     // Not inlined, so that the loop over known entries has registers of its own.
     #[inline(never)]
     pub(crate) fn follow_back<W: WordClass>(
@@ -39,9 +39,9 @@ impl PassTable {
         requires row { row < length self.now.rows.items }
         requires start { input.now.span.start ≤ at }
         requires end { at ≤ input.now.span.end }
-        ensures on { IfOk result (λ r. (p j : ℕ) → IsBackAt (search_in W.word_chars plan.now.program.now input.now) p j plan.now.classes
-            self.now.rows.items row at least log.old.items
-            → IsBackAt (search_in W.word_chars plan.now.program.now input.now) p j plan.now.classes self.now.rows.items r.0 r.1 r.2 log.new.items) }
+        requires on { IsBackAt (search_in W.word_chars plan.now.program.now input.now) plan.now.classes self.now.rows.items row at least log.old.items }
+        ensures on { IfOk result (λ r. IsBackAt (search_in W.word_chars plan.now.program.now input.now) plan.now.classes
+            self.now.rows.items r.0 r.1 r.2 log.new.items) }
         ensures row { IfOk result (λ r. r.0 < length self.now.rows.items) }
         ensures further { IfOk result (λ r. r.1 ≤ at) }
         ensures start { IfOk result (λ r. input.now.span.start ≤ r.1) }
@@ -67,7 +67,7 @@ impl PassTable {
         Ok((here, position, found))
     }
 
-    // The least position at which the match may begin, after a step at a position that leads to the row.
+    // The least position at which a match begins, after a step at a position that leads to the row.
     #[inline(always)]
     fn least_with(&self, row: usize, at: usize, least: usize) -> usize
         ensures { result ≡ least_with (begins_in (slice_get self.now.rows.items row)) at least }
@@ -78,10 +78,13 @@ impl PassTable {
         if self.rows[row].begins { at } else { least }
     }
 
-    /// Whether the row has no state.
-    pub(crate) fn is_empty(&self, row: usize) -> bool
-        ensures { result ≡ true → (found : PassRow) → slice_get self.now.rows.items row ≡ Some found → found.list.items ≡ [] }
+    /// Whether the row has no state, and not all positions are wanted.
+    pub(crate) fn is_done(&self, row: usize, all: bool) -> bool
+        ensures { result ≡ true → (all ≡ false) × ((found : PassRow) → slice_get self.now.rows.items row ≡ Some found → found.list.items ≡ []) }
     {
+        if all {
+            return false;
+        }
         if row < self.rows.len() {
             self.rows[row].list.is_empty()
         } else {
@@ -89,7 +92,7 @@ impl PassTable {
         }
     }
 
-    /// The row to which the byte before a position leads from the position's row, and the least position then at which the match may begin.
+    /// The row to which the byte before a position leads from the position's row, and the least position then at which a match begins.
     pub(crate) fn step_back<W: WordClass>(
         &mut self,
         plan: &Plan<'_, W>,
@@ -105,12 +108,12 @@ impl PassTable {
         requires row { row < length self.old.rows.items }
         requires start { input.now.span.start ≤ at }
         requires end { at ≤ input.now.span.end }
+        requires on { StandsBackward (search_in W.word_chars plan.now.program.now input.now) plan.now.classes self.old.rows.items row (at + 1) least }
         ensures exact { IsPassTable (machine W.word_chars plan.now.program.now) plan.now.classes plan.now.width plan.now.most_rows
             self.new.rows.items self.new.leads.items }
         ensures row { IfOk result (λ r. r.0 < length self.new.rows.items) }
-        ensures on { IfOk result (λ r. (p j : ℕ) → StandsBackward (search_in W.word_chars plan.now.program.now input.now) p j plan.now.classes
-            self.old.rows.items row (at + 1) least
-            → StandsBackward (search_in W.word_chars plan.now.program.now input.now) p j plan.now.classes self.new.rows.items r.0 at r.1) }
+        ensures on { IfOk result (λ r.
+            StandsBackward (search_in W.word_chars plan.now.program.now input.now) plan.now.classes self.new.rows.items r.0 at r.1) }
         ensures kept { IfOk result (λ _. length self.old.rows.items < plan.now.most_rows → IsPassGrown self.old.rows.items self.new.rows.items) }
         ensures memory { IfErr result (λ e. e ≡ OutOfMemory) }
     {
@@ -177,8 +180,8 @@ impl PassTable {
     {
         steps_are_lawful();
         let unit = before_of(input.haystack(), at);
+        let mode = input.get_anchored();
         let from = &self.rows[row];
-        let mode = from.mode;
         let (begins, list) = retreat(self.alloc, plan.program, input, at, from.list.as_slice())?;
         let next_row = PassRow {
             backward: true,

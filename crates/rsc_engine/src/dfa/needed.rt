@@ -8,8 +8,7 @@ ghost use Rattle.std.specs.Prelude.{◌≡◌, ◌+◌, ◌-◌, ◌<◌, ◌≤
 ghost use Rattle.rsc_engine.specs.Searches.{search_in};
 ghost use Rattle.rsc_engine.specs.Preferred.{HasNone};
 ghost use Rattle.rsc_engine.specs.NeededLayout.{HasNoPair, NeedsPair, PassesMarksOn, is_in, mark_of};
-ghost use Rattle.rsc_engine.specs.RowsLayout.{machine};
-ghost use Rattle.rsc_engine.specs.StartsLayout.{IsMarked};
+ghost use Rattle.rsc_engine.specs.RowsLayout.{machine, IsMarked};
 ghost use Rattle.rsc_nfa.specs.declared.state.State.{State};
 
 use crate::Program;

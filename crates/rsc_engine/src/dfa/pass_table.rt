@@ -26,13 +26,13 @@ pub(crate) struct PassRow {
     pub(crate) backward: bool,
     /// The search's mode.
     pub(crate) mode: Anchored,
-    /// Forward: whether matches may begin later. Backward: whether the match that is sought may begin at the position looked at last.
+    /// Forward: whether matches may begin later. Backward: whether one begins at the position looked at last.
     pub(crate) begins: bool,
-    /// Forward: the pattern of a match that ends before the byte read last. Backward: the pattern whose accepting states the list has, where a pass begins.
+    /// Forward: the pattern of a match that ends before the byte read last.
     pub(crate) found: Option<PatternID>,
     /// A byte of the class of the byte that was read last: forward the one before the position, backward the one after it.
     pub(crate) read: Option<u8>,
-    /// Forward: the states before any step with no byte, the preferred ones first. Backward: those which arrive at once.
+    /// Forward: the states before any step with no byte, the preferred ones first. Backward: those which arrive over the byte.
     pub(crate) list: Vec<StateID>,
 }
 
@@ -46,8 +46,7 @@ pub(crate) struct PassTable {
     // For each row's key the row. No clause speaks of it, since the row that is found is compared.
     known: BTreeMap<Vec<u32>, usize>,
     // The rows in which passes began. No clause speaks of them either.
-    pub(crate) first_rows: [u32; REMEMBERED],
-    pub(crate) last_rows: [u32; REMEMBERED],
+    pub(crate) begin_rows: [u32; REMEMBERED],
 }
 
 impl PassTable {
@@ -61,8 +60,7 @@ impl PassTable {
             rows: Vec::new(alloc),
             leads: Vec::new(alloc),
             known: BTreeMap::new(alloc),
-            first_rows: [0; REMEMBERED],
-            last_rows: [0; REMEMBERED],
+            begin_rows: [0; REMEMBERED],
         }
     }
 
@@ -278,7 +276,7 @@ impl PassTable {
 }
 
 // What a unit makes of a row, beside the byte read last: forward the pattern of a match before the unit, whether matches may begin later, and the next list;
-// backward whether the match may begin there, and the next list.
+// backward whether a match begins there, and the next list.
 fn step_beside<W: WordClass>(
     alloc: Global,
     program: &Program<W>,
@@ -289,7 +287,6 @@ fn step_beside<W: WordClass>(
     ensures step { IfOk result (λ r. IsPassStep (machine W.word_chars program.now) from.now.mode from.now.backward from.now.read from.now.begins
         from.now.list.items unit r.0 r.1 r.2.items) }
     ensures states { IfOk result (λ r. AreStates (length program.now.automaton.states) r.2.items) }
-    ensures back { from.now.backward ≡ true → IfOk result (λ r. r.0 ≡ None) }
     ensures memory { IfErr result (λ e. e ≡ OutOfMemory) }
 {
     let list = from.list.as_slice();

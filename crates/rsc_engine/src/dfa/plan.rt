@@ -32,6 +32,7 @@ impl<'p, W: WordClass + AsciiWordClass> Plan<'p, W> {
     pub(crate) fn new(program: &'p Program<W>, most_rows: usize) -> Plan<'p, W>
         ensures program { result.program.now ≡ program.now }
         ensures plan { IsPlan (machine W.word_chars program.now) result.classes result.width result.unicode }
+        ensures most { result.most_rows ≡ most_rows }
     {
         W::agrees_with_ascii();
         // For the prover: what these calls promise of the program.

@@ -1,25 +1,23 @@
-//! What the backward pass makes of a position's states: from which states they are led to with no byte, and over the byte before.
-ghost use Rattle.std.specs.Prelude.{◌≡◌, ◌+◌, ◌-◌, ◌<◌, ◌≤◌, ℕ, List, true, false, not, IfOk, IfErr, length, slice_get, slice_index_or, count_by, Some};
+//! What the backward pass makes of a position's states: from which states they, or a match, are led to with no byte, and over the byte before.
+ghost use Rattle.std.specs.Prelude.{◌≡◌, ◌⊎◌, ◌+◌, ◌-◌, ◌<◌, ◌≤◌, ℕ, List, true, false, not, IfOk, IfErr, length, slice_index_or, count_by};
 ghost use Rattle.rsc_primitives.specs.Indices.{max_index};
-ghost use Rattle.rsc_nfa.specs.declared.state.State.TheVariants.{Accept};
 ghost use Rattle.rsc_engine.specs.declared.error.Error.TheVariants.{OutOfMemory};
 ghost use Rattle.rsc_engine.specs.Searches.{search_in};
-ghost use Rattle.rsc_engine.specs.Runs.{Leads};
-ghost use Rattle.rsc_engine.specs.StartsLayout.{IsMarked};
-ghost use Rattle.rsc_engine.specs.RowsLayout.{machine, around, middle, Gathers, AreStates};
+ghost use Rattle.rsc_engine.specs.Runs.{accepts};
+ghost use Rattle.rsc_engine.specs.RowsLayout.{IsMarked, machine, around, middle, Gathers, AreStates};
 ghost use Rattle.rsc_engine.specs.ForwardLayout.{beside};
-ghost use Rattle.rsc_engine.specs.BackwardLayout.{Lists, AreLedBack, IsShut, IsClosedBack, LeadsToMarked, IsSource, IsRetreated};
+ghost use Rattle.rsc_engine.specs.BackwardLayout.{Lists, AreLedBack, IsShutAt, IsShut, IsClosedBack, LeadsToMarked, IsSource, IsRetreated};
 
 use super::near::{moved, near_of};
 use super::ordered::{Way, way_of};
 use crate::{Error, Program};
 use rsc_look::WordClass;
-use rsc_nfa::State;
-use rsc_primitives::{PatternID, StateID};
+use rsc_primitives::StateID;
 use rsc_search::{Anchored, Input};
 use std::alloc::Global;
 
-/// Of the states from which steps with no byte lead to those of a list: whether the start state is one, and from which states the byte before leads to one.
+/// Of the states from which steps with no byte lead to those of a list, or to a match: whether the start state is one, and from which states the byte before
+/// leads to one.
 pub(crate) fn retreat<W: WordClass>(
     alloc: Global,
     program: &Program<W>,
@@ -64,41 +62,6 @@ pub(crate) fn retreat_beside<W: WordClass>(
     retreat(alloc, program, &input, at, list)
 }
 
-/// The states that accept a pattern.
-pub(crate) fn accepting<W: WordClass>(
-    alloc: Global,
-    program: &Program<W>,
-    pattern: PatternID,
-) -> Result<Vec<StateID>, Error>
-    requires numbered { length program.now.automaton.states ≤ max_index }
-    ensures accepting { IfOk result (λ list. Lists (λ s. slice_get program.now.automaton.states s ≡ Some (Accept pattern)) list.items) }
-    ensures states { IfOk result (λ list. AreStates (length program.now.automaton.states) list.items) }
-    ensures memory { IfErr result (λ e. e ≡ OutOfMemory) }
-{
-    let mut list = Vec::new(alloc);
-    'states: for index in 0..program.len() {
-        let sid = StateID::must(index);
-        if is_end_of(program.state(sid), pattern) {
-            list.push(sid)?;
-        }
-    }
-    Ok(list)
-}
-
-// Whether the state accepts the pattern.
-fn is_end_of(state: State, pattern: PatternID) -> bool
-    ensures yes { result ≡ true → state ≡ Accept pattern }
-    ensures no { result ≡ false → ¬ (state ≡ Accept pattern) }
-{
-    match state {
-        State::Accept { pattern: one } => one == pattern,
-        State::ByteRange { .. }
-        | State::Assert { .. }
-        | State::Fork { .. }
-        | State::Capture { .. } => false,
-    }
-}
-
 // Marks for the states of a list.
 fn marked(alloc: Global, count: usize, list: &[StateID]) -> Result<Vec<bool>, Error>
     requires { AreStates count list.now }
@@ -121,7 +84,7 @@ pub(crate) fn is_marked(marks: &Vec<bool>, sid: StateID) -> bool
     index < marks.len() && marks[index]
 }
 
-// Marks the states from which steps with no byte lead to marked ones.
+// Marks the matches, and the states from which steps with no byte lead to marked ones.
 fn close<W: WordClass>(program: &Program<W>, input: &Input<'_>, at: usize, marks: &mut Vec<bool>)
     requires numbered { length program.now.automaton.states ≤ max_index }
     requires start { input.now.span.start ≤ at }
@@ -138,7 +101,7 @@ fn close<W: WordClass>(program: &Program<W>, input: &Input<'_>, at: usize, marks
     }
 }
 
-// Marks the states from which one step with no byte leads to a marked one, in one pass over all of them. Whether it marked any.
+// Marks the matches, and the states from which one step with no byte leads to a marked one, in one pass over all of them. Whether it marked any.
 fn grow<W: WordClass>(
     program: &Program<W>,
     input: &Input<'_>,
@@ -159,7 +122,7 @@ fn grow<W: WordClass>(
     let mut grew = false;
     // The builder's states lead to ones before them.
     'states: for index in 0..program.len() {
-        if leads_to_marked(program, input, at, marks, StateID::must(index)) {
+        if is_due(program, input, at, marks, StateID::must(index)) {
             marks[index] = true;
             grew = true;
         }
@@ -167,8 +130,8 @@ fn grow<W: WordClass>(
     grew
 }
 
-// Whether the state isn't marked, and a step with no byte leads from it to a marked one.
-fn leads_to_marked<W: WordClass>(
+// Whether the state isn't marked, and is a match, or a step with no byte leads from it to a marked one.
+fn is_due<W: WordClass>(
     program: &Program<W>,
     input: &Input<'_>,
     at: usize,
@@ -178,9 +141,9 @@ fn leads_to_marked<W: WordClass>(
     requires at { at ≤ input.now.span.end }
     requires sid { sid < length program.now.automaton.states }
     ensures fresh { result ≡ true → slice_index_or marks.now.items sid false ≡ false }
-    ensures yes { result ≡ true → LeadsToMarked (search_in W.word_chars program.now input.now) at marks.now.items sid }
-    ensures no { result ≡ false → (t : ℕ) → Leads (search_in W.word_chars program.now input.now) (sid, at) (t, at) → IsMarked marks.now.items t
-        → IsMarked marks.now.items sid }
+    ensures yes { result ≡ true → (accepts (search_in W.word_chars program.now input.now) (sid, at) ≡ true)
+        ⊎ LeadsToMarked (search_in W.word_chars program.now input.now) at marks.now.items sid }
+    ensures no { result ≡ false → IsShutAt (search_in W.word_chars program.now input.now) at marks.now.items sid }
 {
     if is_marked(marks, sid) {
         return false;
@@ -188,7 +151,8 @@ fn leads_to_marked<W: WordClass>(
     match way_of(program, input, at, sid) {
         Way::One(to) => is_marked(marks, to),
         Way::Two(a, b) => is_marked(marks, a) || is_marked(marks, b),
-        Way::Stuck | Way::Over(_) | Way::Match(_) => false,
+        Way::Match(_) => true,
+        Way::Stuck | Way::Over(_) => false,
     }
 }
 

@@ -21,7 +21,7 @@ fn stars_and_letter(builder: &Builder<'static>) -> Result<Part<'static>, Error> 
     builder.then(more, b)
 }
 
-// `(?:a*)*b`: a search leaves flags wherever there are `a`.
+// `(?:a*)*b`: a search goes on wherever there are `a`.
 fn program(alloc: Global) -> Result<Program<AsciiWord>, Error> {
     let builder = Builder::new(alloc);
     let whole = stars_and_letter(&builder)?;
@@ -68,7 +68,7 @@ fn six_texts() -> [(&'static [u8], Option<Span>); 6] {
 }
 
 #[test]
-fn a_search_leaves_no_flag_to_the_next(rt: HostRuntime) -> Result<(), Fail> {
+fn a_search_leaves_nothing_to_the_next(rt: HostRuntime) -> Result<(), Fail> {
     let program = program(rt.alloc())?;
     let mut captures = captures_of(rt.alloc(), &program)?;
     let mut cache = Cache::new(rt.alloc(), &program)?;

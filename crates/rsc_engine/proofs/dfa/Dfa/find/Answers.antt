@@ -1,8 +1,4 @@
-use Rattle.std.proofs.Common.{◌∙◌}
 use Rattle.rsc_engine.proofs.dfa.Dfa.find.Goals as goal
-
-pub returns-then-len-gt-MOST_NUMBERED-clause-none : goal.returns-then-len-gt-MOST_NUMBERED-clause-none
-returns-then-len-gt-MOST_NUMBERED-clause-none g c = rw (c.self.view_is ∙ c.end_of.ensures.program) at c.find_by_walk.ensures.none
 
 pub invariant_of-self : goal.invariant_of-self
 invariant_of-self g c =

@@ -1,5 +1,4 @@
 use Rattle.std.proofs.Common.{◌<◌, length, rules}
-use Rattle.std.proofs.lemmas.Option.{slice_get_within}
 use Rattle.rsc_engine.proofs.QuietLayoutLemmas.{spread-first, spread-marked, spread-same, spread-last, spread-less}
 use Rattle.rsc_engine.proofs.dfa.quiet.spread.Goals as goal
 use Rattle.rsc_engine.proofs.dfa.quiet.spread.Goals.{then-becomes_loud, else-becomes_loud}

@@ -1,7 +1,7 @@
 use Rattle.std.proofs.Common.{◌<◌, length, refl, rules}
 use Rattle.rsc_engine.proofs.RetreatLemmas.{grown-first, grown-marked, grown-same, grown-shut, grown-less}
 use Rattle.rsc_engine.proofs.dfa.retreat.grow.Goals as goal
-use Rattle.rsc_engine.proofs.dfa.retreat.grow.Goals.{then-leads_to_marked, else-leads_to_marked}
+use Rattle.rsc_engine.proofs.dfa.retreat.grow.Goals.{then-is_due, else-is_due}
 
 pub states-init : goal.states-init
 states-init g c = grown-first _ _ _ _ c.requires.len
@@ -9,13 +9,13 @@ states-init g c = grown-first _ _ _ _ c.requires.len
 pub states-preserved : goal.states-preserved
 states-preserved g c =
     let l : c.states.index < length c.args.program.now.automaton.states = search rules in
-    elim c.if-leads_to_marked.branch [
-      | then-leads_to_marked w ↦ rw (w.marks-is, w.grew-is)
+    elim c.if-is_due.branch [
+      | then-is_due w ↦ rw (w.marks-is, w.grew-is)
           (grown-marked _ _ _ _ _ _ _ c.states.invariant l refl c.requires.start c.requires.end
-          (rw c.must.ensures at (c.leads_to_marked.ensures.fresh w.if-leads_to_marked.true))
-          (rw c.must.ensures at (c.leads_to_marked.ensures.yes w.if-leads_to_marked.true)))
-      | else-leads_to_marked w ↦ rw (w.marks-is, w.grew-is)
-          (grown-same _ _ _ _ _ _ _ c.states.invariant l (rw c.must.ensures at (c.leads_to_marked.ensures.no w.if-leads_to_marked.false)))
+          (rw c.must.ensures at (c.is_due.ensures.fresh w.if-is_due.true))
+          (rw c.must.ensures at (c.is_due.ensures.yes w.if-is_due.true)))
+      | else-is_due w ↦ rw (w.marks-is, w.grew-is)
+          (grown-same _ _ _ _ _ _ _ c.states.invariant l (rw c.must.ensures at (c.is_due.ensures.no w.if-is_due.false)))
     ]
 
 pub returns-clause-shut : goal.returns-clause-shut

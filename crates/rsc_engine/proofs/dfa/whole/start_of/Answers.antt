@@ -1,7 +1,6 @@
 use Rattle.std.proofs.Common.{◌∙◌}
 use Rattle.rsc_engine.specs.Searches.{search_in}
 use Rattle.rsc_engine.proofs.BackwardLemmas.{start-anchored}
-use Rattle.rsc_engine.proofs.ForwardLemmas.{anchored_if}
 use Rattle.rsc_engine.proofs.dfa.whole.start_of.Goals as goal
 
 pub returns-then-is_anchored-clause-start : goal.returns-then-is_anchored-clause-start

@@ -3,8 +3,7 @@ use Rattle.rsc_search.specs.Inputs.{InputParts}
 use Rattle.rsc_engine.specs.Searches.{search_in}
 use Rattle.rsc_engine.specs.Preferred.{IsFirstMatch}
 use Rattle.rsc_engine.specs.NextMatches.{from_start}
-use Rattle.rsc_engine.specs.WalksLayout.{is_flagged}
-use Rattle.rsc_engine.proofs.NumbersLemmas.{even_later, fewer_flags}
+use Rattle.rsc_engine.proofs.AheadLayoutLemmas.{rest-later}
 use Rattle.rsc_engine.proofs.NextMatchesLemmas.{of_states, turn_none, turn_next, turn_repeat, turn_split}
 use Rattle.rsc_engine.proofs.PassTableLayoutLemmas.{some_same}
 use Rattle.rsc_engine.proofs.iterate.Rest.next.Goals as goal
@@ -50,7 +49,6 @@ matches-preserved-then-repeats g c =
           c.set_start-then-repeats.new.self (c.repeats.ensures.yes c.if-repeats.true)
           (c.set_start-then-repeats.ensures ∙ ap (λ n. from_start c.advance.new.self.input n) next);
       program = e.program ∙ c.matches.invariant.program;
-      flag_count = e.flag_count ∙ c.matches.invariant.flag_count;
       groups = e.groups ∙ c.matches.invariant.groups;
       slots = e.slots ∙ c.matches.invariant.slots;
     }
@@ -72,7 +70,6 @@ matches-preserved g c =
           (λ mode. c.after_split-next.ensures.free mode ∙ ap (λ n. n + 1) c.end-end-in-Ok-Some.ensures.end)
           c.set_start-then-splits.ensures;
       program = e.program ∙ c.matches.invariant.program;
-      flag_count = e.flag_count ∙ c.matches.invariant.flag_count;
       groups = e.groups ∙ c.matches.invariant.groups;
       slots = e.slots ∙ c.matches.invariant.slots;
     }
@@ -80,7 +77,6 @@ matches-preserved g c =
 pub invariant_of-self-then-splits : goal.invariant_of-self-then-splits
 invariant_of-self-then-splits g c =
     let e = search_in g.W.WordClass.word_chars c.advance.new.self.program.now c.advance.new.self.input in
-    let seen = is_flagged e c.advance.new.self.walk.visited in
     let next = c.after_split-next.result in
     let on : c.advance.new.self.input ≡ from_start c.matches.self.input c.in-Ok-Some.found.span.end =
     rw c.in-Ok-Some.field-0-is at c.in-Ok-Some.ensures.on in
@@ -88,17 +84,14 @@ invariant_of-self-then-splits g c =
     let up : c.advance.new.self.input.span.start ≤ next = omega (arith, at, c.end-end-in-Ok-Some.ensures.end, c.after_split-next.ensures.on) in
     let start : c.set_start-then-splits.new.self.span.start ≡ next = ap (λ (x : InputParts). x.span.start) c.set_start-then-splits.ensures in
     record {
-      enough = rw c.set_start-then-splits.ensures (fewer_flags e next c.advance.new.self.flag_count up c.advance.new.self.enough);
-      closed = rw c.set_start-then-splits.ensures (even_later e next seen up c.advance.new.self.closed);
       table = c.advance.new.self.table;
-      begins = c.advance.new.self.begins;
+      left = rw c.set_start-then-splits.ensures (λ a is. rest-later _ e next up (c.advance.new.self.left a is));
       order = λ x is. omega (arith, c.advance.new.self.order x is, up, start);
     }
 
 pub invariant_of-self-then-repeats : goal.invariant_of-self-then-repeats
 invariant_of-self-then-repeats g c =
     let e = search_in g.W.WordClass.word_chars c.advance.new.self.program.now c.advance.new.self.input in
-    let seen = is_flagged e c.advance.new.self.walk.visited in
     let next = c.end-end-in-Ok-Some.result + 1 in
     let on : c.advance.new.self.input ≡ from_start c.matches.self.input c.in-Ok-Some.found.span.end =
     rw c.in-Ok-Some.field-0-is at c.in-Ok-Some.ensures.on in
@@ -106,10 +99,8 @@ invariant_of-self-then-repeats g c =
     let up : c.advance.new.self.input.span.start ≤ next = omega (arith, at, c.end-end-in-Ok-Some.ensures.end) in
     let start : c.set_start-then-repeats.new.self.span.start ≡ next = ap (λ (x : InputParts). x.span.start) c.set_start-then-repeats.ensures in
     record {
-      enough = rw c.set_start-then-repeats.ensures (fewer_flags e next c.advance.new.self.flag_count up c.advance.new.self.enough);
-      closed = rw c.set_start-then-repeats.ensures (even_later e next seen up c.advance.new.self.closed);
       table = c.advance.new.self.table;
-      begins = c.advance.new.self.begins;
+      left = rw c.set_start-then-repeats.ensures (λ a is. rest-later _ e next up (c.advance.new.self.left a is));
       order = λ x is. omega (arith, c.advance.new.self.order x is, up, start);
     }
 
@@ -119,11 +110,21 @@ invariant_of-self-else-splits g c =
     rw c.in-Ok-Some.field-0-is at c.in-Ok-Some.ensures.on in
     let at : c.advance.new.self.input.span.start ≡ c.in-Ok-Some.found.span.end = ap (λ (x : InputParts). x.span.start) on in
     record {
-      enough = c.advance.new.self.enough;
-      closed = c.advance.new.self.closed;
       table = c.advance.new.self.table;
-      begins = c.advance.new.self.begins;
+      left = c.advance.new.self.left;
       order = λ x is.
           let same : c.end-end-in-Ok-Some.result ≡ x = some_same c.end-end-in-Ok-Some.result x is in
           omega (arith, same, at, c.end-end-in-Ok-Some.ensures.end);
+    }
+
+pub invariant_of-self-in-Ok-None : goal.invariant_of-self-in-Ok-None
+invariant_of-self-in-Ok-None g c =
+    let e = search_in g.W.WordClass.word_chars c.advance.new.self.program.now c.advance.new.self.input in
+    let next = c.end-end.result + 1 in
+    let up : c.advance.new.self.input.span.start ≤ next = omega (arith, c.end-end.ensures.end, c.end-end.ensures.order) in
+    let start : c.set_start-in-Ok-None.new.self.span.start ≡ next = ap (λ (x : InputParts). x.span.start) c.set_start-in-Ok-None.ensures in
+    record {
+      table = c.advance.new.self.table;
+      left = rw c.set_start-in-Ok-None.ensures (λ a is. rest-later _ e next up (c.advance.new.self.left a is));
+      order = λ x is. omega (arith, c.advance.new.self.order x is, up, start);
     }

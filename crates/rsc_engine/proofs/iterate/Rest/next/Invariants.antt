@@ -7,7 +7,6 @@ invariant-matches g l = record {
   turn : IsTurn g.W.WordClass.word_chars l.initial.self.program.now l.self.program.now l.initial.self.input l.self.input
       l.initial.self.last_end l.self.last_end;
   program : l.self.program ≡ l.initial.self.program;
-  flag_count : l.self.flag_count ≡ l.initial.self.flag_count;
   groups : l.captures.groups ≡ l.initial.captures.groups;
   slots : length l.captures.offsets ≡ length l.initial.captures.offsets;
 }

@@ -1,5 +1,5 @@
 use Rattle.std.proofs.Common.{◌≡◌, ◌∙◌, ◌++◌, ◌∷◌, [], refl, ap, length, arith, rules, length-append}
-use Rattle.rsc_engine.proofs.AlongLemmas.{passing-first, passing-again, passing-stuck, passing-one, passing-two, passing-over, passing-match, passing-never, found-over, found-match, top-there, was-seen, not-seen, fewer-left}
+use Rattle.rsc_engine.proofs.AlongLemmas.{passing-first, passing-again, passing-stuck, passing-one, passing-two, passing-over, passing-never, found-over, found-match, top-there, was-seen, not-seen, fewer-left}
 use Rattle.rsc_engine.proofs.dfa.along.Walk.pass.Goals as goal
 
 pub stack-init : goal.stack-init
@@ -71,8 +71,8 @@ stack-preserved-in-Continue-branch-7 g c =
       same = c.stack.invariant.same;
     }
 
-pub stack-preserved-else-has : goal.stack-preserved-else-has
-stack-preserved-else-has g c = record {
+pub stack-preserved : goal.stack-preserved
+stack-preserved g c = record {
   passing = rw (c.as_usize-in-Some.ensures.value, c.truncate.ensures.items)
       (passing-over c.pop.new.self.items c.in-Some.top c.stack.invariant.passing c.in-Some.ensures.items refl c.requires.start c.requires.end
       (not-seen c.pop.new.self.items c.in-Some.top c.stack.invariant.passing c.in-Some.ensures.items _ _
@@ -81,35 +81,25 @@ stack-preserved-else-has g c = record {
   same = c.stack.invariant.same;
 }
 
-pub stack-preserved : goal.stack-preserved
-stack-preserved g c = record {
-  passing = rw (c.as_usize-in-Some.ensures.value, c.truncate.ensures.items)
-      (passing-match c.pop.new.self.items c.in-Some.top c.stack.invariant.passing c.in-Some.ensures.items refl c.requires.start c.requires.end
-      (not-seen c.pop.new.self.items c.in-Some.top c.stack.invariant.passing c.in-Some.ensures.items _ _
-      c.as_usize.ensures.value c.index.ensures c.if-index-self.false)
-      _ c.in-Match.ensures.way (c.has-in-Match.ensures.no c.if-has-2.false));
-  same = c.stack.invariant.same;
-}
-
 pub returns-then-has-clause-on : goal.returns-then-has-clause-on
 returns-then-has-clause-on g c =
     found-over c.pop.new.self.items c.in-Some.top c.stack.invariant.passing c.in-Some.ensures.items refl c.requires.start c.requires.end
     (not-seen c.pop.new.self.items c.in-Some.top c.stack.invariant.passing c.in-Some.ensures.items _ _
     c.as_usize.ensures.value c.index.ensures c.if-index-self.false)
-    c.record.new.slots (c.has.ensures.yes c.if-has.true)
-    (rw (c.as_slice.ensures.value, c.truncate.ensures.items, c.stack.invariant.same) at c.record.ensures) c.in-Over.to c.in-Over.ensures.way
+    c.record.new.slots (rw (c.as_slice.ensures.value, c.truncate.ensures.items, c.stack.invariant.same) at c.record.ensures)
+    c.in-Over.to (c.has.ensures.yes c.if-has.true) c.in-Over.ensures.way
 
-pub returns-then-has-2-clause-on : goal.returns-then-has-2-clause-on
-returns-then-has-2-clause-on g c =
+pub returns-in-Match-clause-on : goal.returns-in-Match-clause-on
+returns-in-Match-clause-on g c =
     found-match c.pop.new.self.items c.in-Some.top c.stack.invariant.passing c.in-Some.ensures.items refl c.requires.start c.requires.end
     (not-seen c.pop.new.self.items c.in-Some.top c.stack.invariant.passing c.in-Some.ensures.items _ _
     c.as_usize.ensures.value c.index.ensures c.if-index-self.false)
-    c.record-then-has-2.new.slots (c.has-in-Match.ensures.yes c.if-has-2.true)
-    (rw (c.as_slice-then-has-2.ensures.value, c.truncate.ensures.items, c.stack.invariant.same) at c.record-then-has-2.ensures) _ c.in-Match.ensures.way
+    c.record-in-Match.new.slots (rw (c.as_slice-in-Match.ensures.value, c.truncate.ensures.items, c.stack.invariant.same) at c.record-in-Match.ensures)
+    c.in-Match.pattern c.in-Match.ensures.way
 
 pub returns-clause-on : goal.returns-clause-on
-returns-clause-on g c = λ p from j run sought lists a. absurd (passing-never c.stack.self.stack.items c.stack.invariant.passing
-    (let e = (rw c.in_default.is at c.pop.ensures.cases).0 in omega (arith, e, c.stack.self.stack.ok)) p from j run sought lists a)
+returns-clause-on g c = λ from lists w. absurd (passing-never c.stack.self.stack.items c.stack.invariant.passing
+    (let e = (rw c.in_default.is at c.pop.ensures.cases).0 in omega (arith, e, c.stack.self.stack.ok)) from lists w)
 
 pub stack-smaller-in-Continue-branch-4 : goal.stack-smaller-in-Continue-branch-4
 stack-smaller-in-Continue-branch-4 g c =

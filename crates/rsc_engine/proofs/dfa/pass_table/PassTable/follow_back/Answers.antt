@@ -21,14 +21,12 @@ bytes-preserved g c =
     subst (λ (u : Option ℕ). IsPassTo (machine g.W.WordClass.word_chars c.args.plan.now.program.now) c.args.plan.now.classes rows rows c.bytes.here u
     c.in-Some.next) (sym before) c.in-Some.ensures in
     record {
-      on = λ p j first.
-          let was = c.bytes.invariant.on p j first in
-          back-more e p j c.args.plan.now.classes rows c.bytes.here c.in-Some.next c.bytes.position c.bytes.found c.least_with-found.result c.bytes.log.items
-          c.add_to_log.new.log.items (omega (arith, c.bytes-test.true)) (omega (arith, c.bytes-test.true, c.start-start.ensures.start))
+      on = back-more e c.args.plan.now.classes rows c.bytes.here c.in-Some.next c.bytes.position c.bytes.found c.least_with-found.result c.bytes.log.items
+          c.add_to_log.new.log.items (omega (arith, c.bytes-test.true))
           (c.least_with-found.ensures) c.in_ok-add_to_log-in-Some.ensures.adds
           (goes-backward e c.args.plan.now.classes c.args.plan.now.width c.args.plan.now.unicode
           record { laws = c.steps_are_lawful.ensures; plan = c.requires.plan; within = c.haystack-haystack.ensures.within }
-          rows rows c.bytes.here c.bytes.position c.in-Some.next c.bytes.invariant.start high led) was;
+          rows rows c.bytes.here c.bytes.position c.in-Some.next c.bytes.invariant.start high led) c.bytes.invariant.on;
       row = slice_get_within rows c.in-Some.next led.leads.is_row.to led.leads.is_row.there;
       further = omega (arith, c.bytes.invariant.further);
       start = omega (arith, c.bytes-test.true, c.start-start.ensures.start);

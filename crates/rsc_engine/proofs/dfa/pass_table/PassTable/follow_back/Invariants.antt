@@ -1,13 +1,11 @@
-use Rattle.std.proofs.Common.{◌≤◌, ◌<◌, ℕ, length}
+use Rattle.std.proofs.Common.{◌≤◌, ◌<◌, length}
 use Rattle.rsc_engine.specs.Searches.{search_in}
 use Rattle.rsc_engine.specs.LogLayout.{IsBackAt}
 use Rattle.rsc_engine.proofs.dfa.pass_table.PassTable.follow_back.Given as goal
 
 abbrev pub invariant-bytes : goal.invariant-bytes
 invariant-bytes g l = record {
-  on : (p j : ℕ) → IsBackAt (search_in g.W.WordClass.word_chars l.plan.program.now l.input) p j l.plan.classes l.self.rows.items l.fn.row l.fn.at
-      l.fn.least l.fn.log.items
-      → IsBackAt (search_in g.W.WordClass.word_chars l.plan.program.now l.input) p j l.plan.classes l.self.rows.items l.here l.position l.found l.log.items;
+  on : IsBackAt (search_in g.W.WordClass.word_chars l.plan.program.now l.input) l.plan.classes l.self.rows.items l.here l.position l.found l.log.items;
   row : l.here < length l.self.rows.items;
   further : l.position ≤ l.fn.at;
   start : l.input.span.start ≤ l.position;

@@ -12,7 +12,6 @@ row_of-requires-clause-sound g c = record {
   states = c.in_ok-found.ensures.states;
   numbered = (sound_at _ _ _ _ c.requires.exact.sound
       (slice_get_read _ (length c.args.self.now.rows.items) _ _ refl c.requires.row c.index-from.ensures)).numbered;
-  accepting = λ is. rw (c.in_ok-found.ensures.back is) tt;
 }
 
 pub record-requires-clause-row : goal.record-requires-clause-row

@@ -26,5 +26,4 @@ pub row_of-requires-clause-sound : goal.row_of-requires-clause-sound
 row_of-requires-clause-sound g c = record {
   states = c.in_ok-found.ensures.states;
   numbered = λ is. absurd (true≢false (sym is));
-  accepting = λ is. absurd (true≢false (sym is));
 }
