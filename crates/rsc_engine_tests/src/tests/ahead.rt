@@ -42,13 +42,13 @@ fn text_of(alloc: Global, last: &[u8]) -> Result<Vec<u8>, Error> {
 }
 
 // Whether each match behind the letters is the one that a search by itself finds from where the one before ended, with its groups; and they come to the end.
-fn are_those_of_searches(alloc: Global, mode: Anchored) -> Result<bool, Fail> {
+fn are_those_of_searches(alloc: Global, mode: &Anchored) -> Result<bool, Fail> {
     let program = far_and_groups(alloc)?;
     let text = text_of(alloc, b"bcabbcaabcbb")?;
     let mut captures = captures_of(alloc, &program)?;
     let mut wanted = captures_of(alloc, &program)?;
     let mut cache = Cache::new(alloc, &program)?;
-    let whole = Input::new(text.as_slice()).anchored(mode);
+    let whole = Input::new(text.as_slice()).anchored(*mode);
     let mut matches = Matches::new(alloc, &program, whole)?;
     let mut at = 0;
     for _ in 0..text.len() {
@@ -56,7 +56,7 @@ fn are_those_of_searches(alloc: Global, mode: Anchored) -> Result<bool, Fail> {
             break;
         };
         if at >= LETTERS && at <= text.len() {
-            let mut rest = Input::new(text.as_slice()).anchored(mode);
+            let mut rest = Input::new(text.as_slice()).anchored(*mode);
             rest.set_start(at);
             let alone = cache.find(&rest, &mut wanted)?;
             if alone != Some(found) || captures.slots() != wanted.slots() {
@@ -70,8 +70,8 @@ fn are_those_of_searches(alloc: Global, mode: Anchored) -> Result<bool, Fail> {
 
 #[test]
 fn groups_are_those_of_a_search_by_itself(rt: HostRuntime) -> Result<(), Fail> {
-    assert!(rt; are_those_of_searches(rt.alloc(), Anchored::No)?);
-    assert!(rt; are_those_of_searches(rt.alloc(), Anchored::Yes)?);
+    assert!(rt; are_those_of_searches(rt.alloc(), &Anchored::No)?);
+    assert!(rt; are_those_of_searches(rt.alloc(), &Anchored::Yes)?);
     Ok(())
 }
 
