@@ -1,7 +1,8 @@
 -- How the preferred run goes on at a position, as the states on the stack are looked at.
 use Rattle.std.proofs.Common.{◌≡◌, ℕ, zero, suc, ◌+◌, ◌<◌, ◌≤◌, ◌==◌, ⊎_elim, inl, inr, Bool, true, false, true≢false, cond, List, [], ◌∷◌, ◌++◌, length, take, refl, sym, ap, subst, ◌∙◌, arith, length-append, append_assoc, slice_get, Option, Some, None}
+use Rattle.std.specs.List.{Contains}
 use Rattle.std.proofs.lemmas.Bool.{cases_lt, cases_eq, eq-eqb, ne_eqb}
-use Rattle.std.proofs.lemmas.List.{length-take-le, take-append-le, take_all}
+use Rattle.std.proofs.lemmas.List.{take-append-le, take_all}
 use Rattle.rsc_nfa.specs.declared.state.State.{State}
 use Rattle.rsc_nfa.specs.declared.state.State.TheVariants.{ByteRange, Assert, Fork, Capture, Accept}
 use Rattle.rsc_engine.specs.Searches.{Search}
@@ -9,7 +10,11 @@ use Rattle.rsc_engine.specs.Runs.{Leads, IsPlace, accepts}
 use Rattle.rsc_engine.specs.Preferred.{IsPreferred}
 use Rattle.rsc_engine.specs.DecidesLayout.{IsOpenMatch, IsHopeless, IsBest, IsMore, unseen}
 use Rattle.rsc_engine.specs.PassesLayout.{IsNoFork}
-use Rattle.rsc_engine.specs.AlongLayout.{all_at, DecidesAlong}
+use Rattle.rsc_engine.specs.ArrivalsLayout.{ArrivesOver}
+use Rattle.rsc_engine.specs.BackwardLayout.{Lists}
+use Rattle.rsc_engine.specs.OrderedLayout.{IsWayOn}
+use Rattle.rsc_engine.specs.declared.dfa.ordered.Way.TheVariants.{One, Two}
+use Rattle.rsc_engine.specs.AlongLayout.{IsInPlace, all_at, DecidesAlong}
 use Rattle.rsc_engine.proofs.ForwardStepsLemmas.{match-one, avoids-one, first_of_fork, open-more, best-less, best-before, hopeless-before, best-over, hopeless-over}
 
 all_at-more : (i : ℕ) (trail : List ℕ) (s : ℕ) → all_at i (trail ++ s ∷ []) ≡ all_at i trail ++ (s, i) ∷ []
@@ -84,68 +89,76 @@ module _ (e : Search) (from i : ℕ) (front : List (ℕ × ℕ)) where
         λ hopeless. rw same (d.2 hopeless),
       )
 
-  module _ (seen after : ℕ → Bool) (trail : List ℕ) (x : ℕ × ℕ) (rest : List (ℕ × ℕ)) (d : DecidesAlong e from i seen front trail (x ∷ rest)) where
-    abbrev kept : List ℕ
-    kept = take x.1 trail
-
-    -- a state that was seen decides nothing
-    pub along-again : seen x.0 ≡ true → DecidesAlong e from i seen front kept rest
-    along-again is = d.2 (hopeless-seen e i seen x.0 is)
-
-    module _ (g : IsMore seen x.0 after) (fresh : seen x.0 ≡ false) (there : IsPlace e (x.0, i)) where
-      whole : take (x.1 + 1) (kept ++ x.0 ∷ []) ≡ kept ++ x.0 ∷ []
-      whole = take_all (x.1 + 1) (kept ++ x.0 ∷ []) (omega (arith, length-append kept (x.0 ∷ []), length-take-le x.1 trail d.0))
-
-      deep : x.1 + 1 ≤ length (kept ++ x.0 ∷ [])
-      deep = omega (arith, length-append kept (x.0 ∷ []), length-take-le x.1 trail d.0)
-
-      on : (run : List (ℕ × ℕ)) → IsBest e i seen x.0 ((x.0, i) ∷ run)
-          → IsPreferred e (e.start_state, from) ((front ++ all_at i (take (x.1 + 1) (kept ++ x.0 ∷ []))) ++ run)
-      on run b = subst (λ (l : List (ℕ × ℕ)). IsPreferred e (e.start_state, from) l)
-          (sym (ap (λ (l : List ℕ). (front ++ all_at i l) ++ run) whole ∙ way-more front i kept x.0 run)) (d.1 ((x.0, i) ∷ run) b)
-
-      -- nor does one from which no match is reached
-      pub along-off : IsHopeless e i seen x.0 → DecidesAlong e from i after front kept rest
-      along-off none = more seen after x.0 kept rest g none (d.2 none)
-
-      below : IsHopeless e i seen x.0 → DecidesAlong e from i after front (take (x.1 + 1) (kept ++ x.0 ∷ [])) rest
-      below none = subst (λ (l : List ℕ). DecidesAlong e from i after front l rest) (sym whole) (longer after kept (x.0 ∷ []) rest (along-off none))
-
-      -- one from which one step leads on with no byte passes on to where it leads
-      pub along-single : (t : ℕ) → accepts e (x.0, i) ≡ false → IsNoFork e x.0 → Leads e (x.0, i) (t, i)
-          → ((q : ℕ × ℕ) → Leads e (x.0, i) q → (q.0 ≡ t) × (q.1 ≡ i))
-          → DecidesAlong e from i after front (kept ++ x.0 ∷ []) ((t, x.1 + 1) ∷ rest)
-      along-single t rejected no_fork leads only = (
-        deep,
-        λ run best. on run (best-before e i seen after x.0 t run g fresh there leads (λ q l. (only q l).1)
-            (λ a b fork apart. absurd (no_fork a b fork)) best),
-        λ none. below (hopeless-before e i seen after x.0 g rejected (λ q l.
-            ((only q l).1, subst (λ (n : ℕ). IsHopeless e i after n) (sym (only q l).0) none))),
+  -- back to a way that is left
+  pub along-back : (seen : ℕ → Bool) (trail : List ℕ) (s d : ℕ) (rest : List (ℕ × ℕ)) → DecidesAlong e from i seen front trail ((s, d) ∷ rest)
+      → DecidesAlong e from i seen front (take d trail) ((s, length (take d trail)) ∷ rest)
+  along-back seen trail s d rest x =
+      let whole : take (length (take d trail)) (take d trail) ≡ take d trail = take_all (length (take d trail)) (take d trail) (omega arith) in (
+        omega arith,
+        λ run b. subst (λ (l : List ℕ). IsPreferred e (e.start_state, from) ((front ++ all_at i l) ++ run)) (sym whole) (x.1 run b),
+        λ hopeless. subst (λ (l : List ℕ). DecidesAlong e from i seen front l rest) (sym whole) (x.2 hopeless),
       )
 
+  module _ (seen after : ℕ → Bool) (trail : List ℕ) (s : ℕ) (rest : List (ℕ × ℕ)) (d : DecidesAlong e from i seen front trail ((s, length trail) ∷ rest)) where
+    same : take (length trail) trail ≡ trail
+    same = take_all (length trail) trail (omega arith)
+
+    best-on : (run : List (ℕ × ℕ)) → IsBest e i seen s run → IsPreferred e (e.start_state, from) ((front ++ all_at i trail) ++ run)
+    best-on run b = subst (λ (l : List ℕ). IsPreferred e (e.start_state, from) ((front ++ all_at i l) ++ run)) same (d.1 run b)
+
+    next : IsHopeless e i seen s → DecidesAlong e from i seen front trail rest
+    next none = subst (λ (l : List ℕ). DecidesAlong e from i seen front l rest) same (d.2 none)
+
+    -- a state that was seen decides nothing
+    pub along-again : seen s ≡ true → DecidesAlong e from i seen front trail rest
+    along-again is = next (hopeless-seen e i seen s is)
+
+    module _ (g : IsMore seen s after) (fresh : seen s ≡ false) where
+      abbrev deeper : List ℕ
+      deeper = trail ++ s ∷ []
+
+      whole : take (length deeper) deeper ≡ deeper
+      whole = take_all (length deeper) deeper (omega arith)
+
+      on : (run : List (ℕ × ℕ)) → IsBest e i seen s ((s, i) ∷ run)
+          → IsPreferred e (e.start_state, from) ((front ++ all_at i (take (length deeper) deeper)) ++ run)
+      on run b = subst (λ (l : List (ℕ × ℕ)). IsPreferred e (e.start_state, from) l)
+          (sym (ap (λ (l : List ℕ). (front ++ all_at i l) ++ run) whole ∙ way-more front i trail s run)) (best-on ((s, i) ∷ run) b)
+
+      -- nor does one from which no match is reached
+      pub along-off : IsHopeless e i seen s → DecidesAlong e from i after front trail rest
+      along-off none = more seen after s trail rest g none (next none)
+
+      below : IsHopeless e i seen s → DecidesAlong e from i after front (take (length deeper) deeper) rest
+      below none = subst (λ (l : List ℕ). DecidesAlong e from i after front l rest) (sym whole) (longer after trail (s ∷ []) rest (along-off none))
+
+      -- one in place of which another may be gone on from passes on to it
+      pub along-single : (t : ℕ) → IsInPlace e i s t → DecidesAlong e from i after front deeper ((t, length deeper) ∷ rest)
+      along-single t p = (omega arith, λ run best. on run (p.best seen after g fresh run best), λ none. below (p.none seen after g none))
+
       -- of a fork first the one way decides, then the other
-      pub along-fork : (a b : ℕ) → slice_get e.states x.0 ≡ Some (Fork a b)
-          → DecidesAlong e from i after front (kept ++ x.0 ∷ []) ((a, x.1 + 1) ∷ (b, x.1 + 1) ∷ rest)
-      along-fork a b is = (
-        deep,
-        λ run best. on run (best-first e i seen after x.0 a b run g fresh there is best),
-        λ none. subst (λ (l : List ℕ). DecidesAlong e from i after front l ((b, x.1 + 1) ∷ rest)) (sym whole) (
-          deep,
-          λ run best. on run (best-second e i seen after x.0 a b run g fresh there is none best),
-          λ other. below (hopeless-fork e i seen after x.0 a b g is none other),
+      pub along-fork : (a b : ℕ) → IsPlace e (s, i) → slice_get e.states s ≡ Some (Fork a b)
+          → DecidesAlong e from i after front deeper ((a, length deeper) ∷ (b, length deeper) ∷ rest)
+      along-fork a b there is = (
+        omega arith,
+        λ run best. on run (best-first e i seen after s a b run g fresh there is best),
+        λ none. subst (λ (l : List ℕ). DecidesAlong e from i after front l ((b, length deeper) ∷ rest)) (sym whole) (
+          omega arith,
+          λ run best. on run (best-second e i seen after s a b run g fresh there is none best),
+          λ other. below (hopeless-fork e i seen after s a b g is none other),
         ),
       )
 
       -- over the byte the preferred run goes on
-      pub along-over : (t : ℕ) → IsNoFork e x.0 → Leads e (x.0, i) (t, i + 1) → (run : List (ℕ × ℕ)) → IsBest e (i + 1) unseen t run
-          → IsPreferred e (e.start_state, from) (((front ++ all_at i kept) ++ (x.0, i) ∷ []) ++ run)
-      along-over t no_fork leads run best = subst (λ (l : List (ℕ × ℕ)). IsPreferred e (e.start_state, from) l)
-          (sym (append_assoc (front ++ all_at i kept) ((x.0, i) ∷ []) run))
-          (d.1 ((x.0, i) ∷ run) (best-over e i seen x.0 t run fresh there leads no_fork best))
+      pub along-over : (t : ℕ) → IsPlace e (s, i) → IsNoFork e s → Leads e (s, i) (t, i + 1) → (run : List (ℕ × ℕ)) → IsBest e (i + 1) unseen t run
+          → IsPreferred e (e.start_state, from) (((front ++ all_at i trail) ++ (s, i) ∷ []) ++ run)
+      along-over t there no_fork leads run best = subst (λ (l : List (ℕ × ℕ)). IsPreferred e (e.start_state, from) l)
+          (sym (append_assoc (front ++ all_at i trail) ((s, i) ∷ []) run))
+          (best-on ((s, i) ∷ run) (best-over e i seen s t run fresh there leads no_fork best))
 
       -- or it's a match
-      pub along-match : accepts e (x.0, i) ≡ true → IsPreferred e (e.start_state, from) ((front ++ all_at i kept) ++ (x.0, i) ∷ [])
-      along-match accepted = d.1 ((x.0, i) ∷ []) (best-match e i seen x.0 fresh there accepted)
+      pub along-match : IsPlace e (s, i) → accepts e (s, i) ≡ true → IsPreferred e (e.start_state, from) ((front ++ all_at i trail) ++ (s, i) ∷ [])
+      along-match there accepted = best-on ((s, i) ∷ []) (best-match e i seen s fresh there accepted)
 
 -- ---- where no run is best, no match is reached
 
@@ -199,6 +212,44 @@ marks seen s = record {
     go : (b : Bool) (t : ℕ) → seen t ≡ true → cond b true (seen t) ≡ true
     go true t is = refl
     go false t is = is
+
+-- ---- what a state does, if steps that lead to no match are left out
+
+-- one step leads on, with no byte
+pub in-place-single : (e : Search) (i s t : ℕ) → IsPlace e (s, i) → IsWayOn e i s (One t) → IsInPlace e i s t
+in-place-single e i s t there way = record {
+  best = λ seen after g fresh run best. best-before e i seen after s t run g fresh there way.2 (λ q l. (way.3 q l).1)
+      (λ a b fork apart. absurd (way.1 a b fork)) best;
+  none = λ seen after g none. hopeless-before e i seen after s g way.0 (λ q l.
+      ((way.3 q l).1, subst (λ (n : ℕ). IsHopeless e i after n) (sym (way.3 q l).0) none));
+}
+
+-- from the first way of a fork no match is reached
+pub in-place-second : (e : Search) (i s a b : ℕ) → IsPlace e (s, i) → IsWayOn e i s (Two a b) → ((seen : ℕ → Bool) → IsHopeless e i seen a)
+    → IsInPlace e i s b
+in-place-second e i s a b there is none = record {
+  best = λ seen after g fresh run best. best-second e i seen after s a b run g fresh there is (none after) best;
+  none = λ seen after g other. hopeless-fork e i seen after s a b g is (none after) other;
+}
+
+-- steps lead on over the byte alone, and from none of these states a match is reached
+pub over-hopeless : (e : Search) (i s : ℕ) (list : List ℕ) → Lists (λ t. ArrivesOver e t i) list → ¬ (Contains list s) → IsPlace e (s, i)
+    → accepts e (s, i) ≡ false → ((q : ℕ × ℕ) → Leads e (s, i) q → q.1 ≡ i + 1) → (seen : ℕ → Bool) → IsHopeless e i seen s
+over-hopeless e i s list lists none there rejected over seen = hopeless-over e i seen s rejected (λ q l. (
+  over q l,
+  λ run m. none (lists.all s (record {
+    to = q.0;
+    there = there;
+    leads = subst (λ (k : ℕ). Leads e (s, i) (q.0, k)) (over q l) l;
+    arrives = record { run = run; is_match = m.is_match };
+  })),
+))
+
+-- so it is of a state that goes on over a byte
+pub byte-hopeless : (e : Search) (i s first last next : ℕ) (list : List ℕ) → Lists (λ t. ArrivesOver e t i) list → ¬ (Contains list s)
+    → IsPlace e (s, i) → slice_get e.states s ≡ Some (ByteRange first last next) → (seen : ℕ → Bool) → IsHopeless e i seen s
+byte-hopeless e i s first last next list lists none there is =
+    over-hopeless e i s list lists none there (rw is refl) (λ q l. (rw is at l).3)
 
 -- no run is the best one
 abbrev HasNoBest : Search → ℕ → (ℕ → Bool) → ℕ → Type 0

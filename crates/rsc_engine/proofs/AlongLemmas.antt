@@ -1,8 +1,7 @@
 -- The pass along the log, as it goes through a position, and from one to the next.
-use Rattle.std.proofs.Common.{◌≡◌, ℕ, zero, suc, ◌+◌, ◌-◌, ◌<◌, ◌≤◌, ◌==◌, inl, inr, ⊎_elim, Bool, true, false, cond, not, count_by, List, [], ◌∷◌, ◌++◌, length, take, get_or, set, reverse, refl, sym, ap, subst, ◌∙◌, arith, length-append, append_assoc, append-nil, slice_get, Option, Some, None, MatchOption}
-use Rattle.std.specs.List.{All, Contains}
+use Rattle.std.proofs.Common.{◌≡◌, ℕ, ◌+◌, ◌-◌, ◌<◌, ◌≤◌, ◌==◌, inl, inr, ⊎_elim, Bool, true, false, cond, List, [], ◌∷◌, ◌++◌, length, take, get_or, set, reverse, refl, sym, ap, subst, ◌∙◌, arith, length-append, append_assoc, append-nil, slice_get, Option, Some, None, MatchOption}
+use Rattle.std.specs.List.{All}
 use Rattle.std.proofs.lemmas.Bool.{cases_lt, cases_eq, eq-eqb, ne_eqb}
-use Rattle.std.proofs.lemmas.List.Sums.{sum_by-set}
 use Rattle.std.proofs.lemmas.List.{take_all, get_or-take, length-take-le, get_or-set_same, get_or-set_other, length-set, reverse-append, get_or_append_left, get_or-append_right, get_or_default}
 use Rattle.rsc_captures.specs.Captured.{Captured}
 use Rattle.rsc_search.specs.Matches.{Matched}
@@ -12,18 +11,17 @@ use Rattle.rsc_nfa.specs.Steps.{place, StepsTo, is_capture_of, or_earlier, recor
 use Rattle.rsc_engine.specs.Searches.{Search}
 use Rattle.rsc_engine.specs.Runs.{Leads, IsPlace, AreRecords}
 use Rattle.rsc_engine.specs.RowsLayout.{AreStates}
-use Rattle.rsc_engine.specs.DecidesLayout.{last_of, IsBest, IsHopeless, IsMore, unseen}
-use Rattle.rsc_engine.specs.OrderedLayout.{IsWayOn}
+use Rattle.rsc_engine.specs.DecidesLayout.{last_of, IsBest, IsMore, unseen}
 use Rattle.rsc_engine.specs.declared.dfa.ordered.Way.TheVariants.{Stuck, One, Over, Two, Match}
 use Rattle.rsc_engine.specs.GroupsLayout.{AreEmpty}
 use Rattle.rsc_engine.specs.Preferred.{IsPreferred, IsFirstMatch}
 use Rattle.rsc_engine.specs.ForwardLayout.{up_to}
 use Rattle.rsc_engine.specs.ArrivalsLayout.{Arrives, ArrivesOver}
 use Rattle.rsc_engine.specs.BackwardLayout.{IsStartOf, Lists}
-use Rattle.rsc_engine.specs.AlongLayout.{GoesTo, IsRecorded, AreRecordsTo, IsLed, AreBelow, all_at, DecidesAlong}
-use Rattle.rsc_engine.proofs.AlongLayoutLemmas.{way-more, along-again, along-off, along-single, along-fork, along-over, along-match}
+use Rattle.rsc_engine.specs.AlongLayout.{GoesTo, IsRecorded, AreRecordsTo, IsLed, AreBelow, IsWayAlong, all_at, DecidesAlong}
+use Rattle.rsc_engine.proofs.AlongLayoutLemmas.{way-more, along-back, along-again, along-off, along-single, along-fork, along-over, along-match}
 use Rattle.rsc_engine.proofs.BackwardLemmas.{first-down}
-use Rattle.rsc_engine.proofs.ForwardStepsLemmas.{run-rises, hopeless-before, hopeless-over}
+use Rattle.rsc_engine.proofs.ForwardStepsLemmas.{run-rises}
 use Rattle.rsc_engine.proofs.OrderedLemmas.{states-push}
 use Rattle.rsc_engine.proofs.PreferredLemmas.{one_preferred}
 use Rattle.rsc_engine.proofs.ArrivalsLayoutLemmas.{arrives-within}
@@ -137,8 +135,19 @@ below-set n seen s v l small below t = ⊎_elim
 
 -- ---- the loop
 
--- what the loop keeps: the stack decides how the preferred run goes on, from the slots as they were
-pub record IsPassing (e : Search) (n i stamp sid : ℕ) (list : List ℕ) (slots : List (Option ℕ)) (seen : List ℕ) (stack : List (ℕ × ℕ)) (trail : List ℕ)
+-- what the loop keeps: the state here, and then the stack, decide how the preferred run goes on, from the slots as they were
+pub record IsPassing (e : Search) (n i stamp sid here : ℕ) (list : List ℕ) (slots : List (Option ℕ)) (seen : List ℕ) (stack : List (ℕ × ℕ)) (trail : List ℕ)
+    : Type 0 where
+  pub len : length seen ≡ n
+  pub below : AreBelow (stamp + 1) seen
+  pub here_there : here < n
+  pub there : All (λ (x : ℕ × ℕ). x.0 < n) stack
+  pub states : AreStates n trail
+  pub on : (from : ℕ) → Lists (λ s. ArrivesOver e s i) list → (w : IsLed e from sid i slots)
+      → DecidesAlong e from i (seen_at stamp seen) w.front trail ((here, length trail) ∷ reverse stack)
+
+-- what it has left, once the state here decides nothing
+pub record IsLeft (e : Search) (n i stamp sid : ℕ) (list : List ℕ) (slots : List (Option ℕ)) (seen : List ℕ) (stack : List (ℕ × ℕ)) (trail : List ℕ)
     : Type 0 where
   pub len : length seen ≡ n
   pub below : AreBelow (stamp + 1) seen
@@ -148,11 +157,12 @@ pub record IsPassing (e : Search) (n i stamp sid : ℕ) (list : List ℕ) (slots
       → DecidesAlong e from i (seen_at stamp seen) w.front trail (reverse stack)
 
 pub passing-first : {e : Search} {n i stamp sid : ℕ} {list : List ℕ} {slots : List (Option ℕ)} {seen : List ℕ} → length seen ≡ n → AreBelow stamp seen → sid < n
-    → IsPassing e n i stamp sid list slots seen ((sid, 0) ∷ []) []
+    → IsPassing e n i stamp sid sid list slots seen [] []
 passing-first {e} {n} {i} {stamp} {sid} {list} {slots} {seen} len below there = record {
   len = len;
   below = λ s. omega (arith, below s);
-  there = all;
+  here_there = there;
+  there = λ k d l. absurd (omega (arith, l));
   states = λ k d l. absurd (omega (arith, l));
   on = λ from lists w. (
     omega arith,
@@ -161,10 +171,6 @@ passing-first {e} {n} {i} {stamp} {sid} {list} {slots} {seen} len below there = 
   );
 }
   where
-    all : All (λ (x : ℕ × ℕ). x.0 < n) ((sid, 0) ∷ [])
-    all zero d l = there
-    all (suc k) d l = absurd (omega (arith, l))
-
     none_seen : (s : ℕ) → seen_at stamp seen s ≡ false
     none_seen s = ne_eqb (get_or seen s 0) stamp (λ (h : get_or seen s 0 ≡ stamp). omega (arith, h, below s))
 
@@ -207,6 +213,25 @@ states-take n k trail states = ⊎_elim
 reverse-top : (stack : List (ℕ × ℕ)) (x : ℕ × ℕ) → reverse (stack ++ x ∷ []) ≡ x ∷ reverse stack
 reverse-top stack x = reverse-append stack (x ∷ [])
 
+-- back to a way that is left
+pub passing-back : {e : Search} {n i stamp sid : ℕ} {list : List ℕ} {slots : List (Option ℕ)} {seen : List ℕ} {before stack : List (ℕ × ℕ)}
+    {trail kept : List ℕ} (s d : ℕ) → IsLeft e n i stamp sid list slots seen before trail → before ≡ stack ++ (s, d) ∷ [] → kept ≡ take d trail
+    → IsPassing e n i stamp sid s list slots seen stack kept
+passing-back {e} {n} {i} {stamp} {sid} {list} {slots} {seen} {before} {stack} {trail} {kept} s d f popped is =
+    let all : All (λ (y : ℕ × ℕ). y.0 < n) (stack ++ (s, d) ∷ []) =
+    subst (λ (l : List (ℕ × ℕ)). All (λ (y : ℕ × ℕ). y.0 < n) l) popped f.there in
+    record {
+      len = f.len;
+      below = f.below;
+      here_there = stack-there n stack (s, d) all;
+      there = stack-rest n stack (s, d) all;
+      states = subst (λ (l : List ℕ). AreStates n l) (sym is) (states-take n d trail f.states);
+      on = λ from lists w. subst (λ (l : List ℕ). DecidesAlong e from i (seen_at stamp seen) w.front l ((s, length l) ∷ reverse stack)) (sym is)
+          (along-back e from i w.front (seen_at stamp seen) trail s d (reverse stack)
+          (subst (λ (l : List (ℕ × ℕ)). DecidesAlong e from i (seen_at stamp seen) w.front trail l) (ap reverse popped ∙ reverse-top stack (s, d))
+          (f.on from lists w)));
+    }
+
 -- only over a byte a step leads to the next position, so nothing is recorded
 over-quiet : (e : Search) (s t i slot : ℕ) → Leads e (s, i) (t, i + 1) → is_capture_of slot (slice_get e.states s) ≡ false
 over-quiet e s t i slot leads = go (slice_get e.states s) leads
@@ -220,172 +245,126 @@ over-quiet e s t i slot leads = go (slice_get e.states s) leads
     go (Some (Capture c next)) x = absurd (omega (arith, x.1))
     go (Some (Accept p)) x = refl
 
-module _ {e : Search} {n i stamp sid : ℕ} {list : List ℕ} {slots : List (Option ℕ)} {seen : List ℕ} {before : List (ℕ × ℕ)} {trail : List ℕ}
-    (stack : List (ℕ × ℕ)) (x : ℕ × ℕ) (f : IsPassing e n i stamp sid list slots seen before trail) (popped : before ≡ stack ++ x ∷ []) where
-  all : All (λ (y : ℕ × ℕ). y.0 < n) (stack ++ x ∷ [])
-  all = subst (λ (l : List (ℕ × ℕ)). All (λ (y : ℕ × ℕ). y.0 < n) l) popped f.there
+module _ {e : Search} {n i stamp sid here : ℕ} {list : List ℕ} {slots : List (Option ℕ)} {seen : List ℕ} {stack : List (ℕ × ℕ)} {trail : List ℕ}
+    (f : IsPassing e n i stamp sid here list slots seen stack trail) where
+  marked : here < length seen
+  marked = omega (arith, f.here_there, f.len)
 
-  pub top-there : x.0 < n
-  top-there = stack-there n stack x all
-
-  marked : x.0 < length seen
-  marked = omega (arith, top-there, f.len)
-
-  abbrev rest : List (ℕ × ℕ)
-  rest = reverse stack
-
-  on : (from : ℕ) → Lists (λ s. ArrivesOver e s i) list → (w : IsLed e from sid i slots)
-      → DecidesAlong e from i (seen_at stamp seen) w.front trail (x ∷ rest)
-  on from lists w = subst (λ (l : List (ℕ × ℕ)). DecidesAlong e from i (seen_at stamp seen) w.front trail l)
-      (ap reverse popped ∙ reverse-top stack x) (f.on from lists w)
-
-  pub passing-again : seen_at stamp seen x.0 ≡ true → IsPassing e n i stamp sid list slots seen stack (take x.1 trail)
+  pub passing-again : seen_at stamp seen here ≡ true → IsLeft e n i stamp sid list slots seen stack trail
   passing-again was = record {
     len = f.len;
     below = f.below;
-    there = stack-rest n stack x all;
-    states = states-take n x.1 trail f.states;
-    on = λ from lists w. along-again e from i w.front (seen_at stamp seen) (seen_at stamp seen) trail x rest (on from lists w) was;
+    there = f.there;
+    states = f.states;
+    on = λ from lists w.
+        along-again e from i w.front (seen_at stamp seen) (seen_at stamp seen) trail here (reverse stack) (f.on from lists w) was;
   }
 
-  read : (k b : ℕ) → k ≡ x.0 → b ≡ get_or seen k b → get_or seen x.0 0 ≡ b
-  read k b same got = get_or_default seen x.0 0 b marked ∙ ap (λ (h : ℕ). get_or seen h b) (sym same) ∙ sym got
+  read : (k b : ℕ) → k ≡ here → b ≡ get_or seen k b → get_or seen here 0 ≡ b
+  read k b same got = get_or_default seen here 0 b marked ∙ ap (λ (h : ℕ). get_or seen h b) (sym same) ∙ sym got
 
-  pub was-seen : (k b : ℕ) → k ≡ x.0 → b ≡ get_or seen k b → b ≡ stamp → seen_at stamp seen x.0 ≡ true
-  was-seen k b same got is = eq-eqb (get_or seen x.0 0) stamp (read k b same got ∙ is)
+  pub was-seen : (k b : ℕ) → k ≡ here → b ≡ get_or seen k b → b ≡ stamp → seen_at stamp seen here ≡ true
+  was-seen k b same got is = eq-eqb (get_or seen here 0) stamp (read k b same got ∙ is)
 
-  pub not-seen : (k b : ℕ) → k ≡ x.0 → b ≡ get_or seen k b → (b ≡ stamp → ⊥) → seen_at stamp seen x.0 ≡ false
-  not-seen k b same got apart = ne_eqb (get_or seen x.0 0) stamp (λ is. apart (sym (read k b same got) ∙ is))
+  pub not-seen : (k b : ℕ) → k ≡ here → b ≡ get_or seen k b → (b ≡ stamp → ⊥) → seen_at stamp seen here ≡ false
+  not-seen k b same got apart = ne_eqb (get_or seen here 0) stamp (λ is. apart (sym (read k b same got) ∙ is))
 
   abbrev after : List ℕ
-  after = set seen x.0 stamp
+  after = set seen here stamp
 
-  abbrev pub left_at : ℕ → ℕ
-  left_at v = cond (not (v == stamp)) 1 0
+  pub below-after : AreBelow (stamp + 1) after
+  below-after = below-set (stamp + 1) seen here stamp marked (omega arith) f.below
 
-  pub fewer-left : seen_at stamp seen x.0 ≡ false → count_by (λ (v : ℕ). not (v == stamp)) after + 1 ≡ count_by (λ (v : ℕ). not (v == stamp)) seen
-  fewer-left fresh =
-      let sums = sum_by-set left_at seen x.0 stamp 0 marked in
-      let one : left_at (get_or seen x.0 0) ≡ 1 = ap (λ (b : Bool). cond (not b) 1 0) fresh in
-      let none : left_at stamp ≡ 0 = ap (λ (b : Bool). cond (not b) 1 0) (eq-eqb stamp stamp refl) in
-      omega (arith, sums, one, none)
+  module _ (size : n ≡ length e.states) (low : e.start ≤ i) (high : i ≤ e.end) (fresh : seen_at stamp seen here ≡ false) where
+    place_there : IsPlace e (here, i)
+    place_there = (omega (arith, f.here_there, size), low, high)
 
-  module _ (size : n ≡ length e.states) (low : e.start ≤ i) (high : i ≤ e.end) (fresh : seen_at stamp seen x.0 ≡ false) where
-    place_there : IsPlace e (x.0, i)
-    place_there = (omega (arith, top-there, size), low, high)
-
-    g : IsMore (seen_at stamp seen) x.0 (seen_at stamp after)
-    g = more-seen stamp seen x.0 marked
+    g : IsMore (seen_at stamp seen) here (seen_at stamp after)
+    g = more-seen stamp seen here marked
 
     len_after : length after ≡ n
-    len_after = length-set seen x.0 stamp ∙ f.len
+    len_after = length-set seen here stamp ∙ f.len
 
-    pub below-after : AreBelow (stamp + 1) after
-    below-after = below-set (stamp + 1) seen x.0 stamp marked (omega arith) f.below
+    trail_after : AreStates n (trail ++ here ∷ [])
+    trail_after = states-push n trail here f.states f.here_there
 
-    trail_after : AreStates n (take x.1 trail ++ x.0 ∷ [])
-    trail_after = states-push n (take x.1 trail) x.0 (states-take n x.1 trail f.states) top-there
-
-    off : (Lists (λ s. ArrivesOver e s i) list → IsHopeless e i (seen_at stamp seen) x.0)
-        → IsPassing e n i stamp sid list slots after stack (take x.1 trail)
-    off none = record {
+    -- from the state no match is reached
+    pub passing-stuck : (Lists (λ s. ArrivesOver e s i) list → IsWayAlong e i here Stuck) → IsLeft e n i stamp sid list slots after stack trail
+    passing-stuck way = record {
       len = len_after;
       below = below-after;
-      there = stack-rest n stack x all;
-      states = states-take n x.1 trail f.states;
-      on = λ from lists w.
-          along-off e from i w.front (seen_at stamp seen) (seen_at stamp after) trail x rest (on from lists w) g fresh place_there (none lists);
+      there = f.there;
+      states = f.states;
+      on = λ from lists w. along-off e from i w.front (seen_at stamp seen) (seen_at stamp after) trail here (reverse stack) (f.on from lists w) g fresh
+          (way lists (seen_at stamp seen));
     }
 
-    pub passing-stuck : IsWayOn e i x.0 Stuck → IsPassing e n i stamp sid list slots after stack (take x.1 trail)
-    passing-stuck way = off (λ lists.
-        hopeless-before e i (seen_at stamp seen) (seen_at stamp after) x.0 g way.0 (λ q l. absurd (way.1 q l)))
-
-    -- how deep the next state stands
-    deeper : (d : ℕ) → d ≡ length (take x.1 trail ++ x.0 ∷ []) → x.1 ≤ length trail → x.1 + 1 ≡ d
-    deeper d is deep = omega (arith, is, length-append (take x.1 trail) (x.0 ∷ []), length-take-le x.1 trail deep)
-
-    pub passing-one : (t d : ℕ) → d ≡ length (take x.1 trail ++ x.0 ∷ []) → IsWayOn e i x.0 (One t) → t < n
-        → IsPassing e n i stamp sid list slots after (stack ++ (t, d) ∷ []) (take x.1 trail ++ x.0 ∷ [])
-    passing-one t d is way l = record {
+    pub passing-one : (t : ℕ) → (Lists (λ s. ArrivesOver e s i) list → IsWayAlong e i here (One t)) → t < n
+        → IsPassing e n i stamp sid t list slots after stack (trail ++ here ∷ [])
+    passing-one t way l = record {
       len = len_after;
       below = below-after;
-      there = stack-more n stack (t, d) (stack-rest n stack x all) l;
+      here_there = l;
+      there = f.there;
       states = trail_after;
-      on = λ from lists w.
-          let was = on from lists w in
-          subst (λ (k : ℕ). DecidesAlong e from i (seen_at stamp after) w.front (take x.1 trail ++ x.0 ∷ []) (reverse (stack ++ (t, k) ∷ [])))
-          (deeper d is was.0)
-          (subst (λ (l : List (ℕ × ℕ)). DecidesAlong e from i (seen_at stamp after) w.front (take x.1 trail ++ x.0 ∷ []) l)
-          (sym (reverse-top stack (t, x.1 + 1)))
-          (along-single e from i w.front (seen_at stamp seen) (seen_at stamp after) trail x rest was g fresh place_there t way.0 way.1 way.2 way.3));
+      on = λ from lists w. along-single e from i w.front (seen_at stamp seen) (seen_at stamp after) trail here (reverse stack) (f.on from lists w) g fresh t
+          (way lists);
     }
 
-    pub passing-two : (a b d : ℕ) → d ≡ length (take x.1 trail ++ x.0 ∷ []) → IsWayOn e i x.0 (Two a b) → (a < n) × (b < n)
-        → IsPassing e n i stamp sid list slots after ((stack ++ (b, d) ∷ []) ++ (a, d) ∷ []) (take x.1 trail ++ x.0 ∷ [])
-    passing-two a b d is way l = record {
+    pub passing-two : (a b : ℕ) → (Lists (λ s. ArrivesOver e s i) list → IsWayAlong e i here (Two a b)) → (a < n) × (b < n)
+        → IsPassing e n i stamp sid a list slots after (stack ++ (b, length (trail ++ here ∷ [])) ∷ []) (trail ++ here ∷ [])
+    passing-two a b way l = record {
       len = len_after;
       below = below-after;
-      there = stack-more n (stack ++ (b, d) ∷ []) (a, d) (stack-more n stack (b, d) (stack-rest n stack x all) l.1) l.0;
+      here_there = l.0;
+      there = stack-more n stack (b, length (trail ++ here ∷ [])) f.there l.1;
       states = trail_after;
-      on = λ from lists w.
-          let was = on from lists w in
-          subst (λ (k : ℕ). DecidesAlong e from i (seen_at stamp after) w.front (take x.1 trail ++ x.0 ∷ [])
-          (reverse ((stack ++ (b, k) ∷ []) ++ (a, k) ∷ [])))
-          (deeper d is was.0)
-          (subst (λ (l : List (ℕ × ℕ)). DecidesAlong e from i (seen_at stamp after) w.front (take x.1 trail ++ x.0 ∷ []) l)
-          (sym (reverse-top (stack ++ (b, x.1 + 1) ∷ []) (a, x.1 + 1) ∙ ap (λ (l : List (ℕ × ℕ)). (a, x.1 + 1) ∷ l) (reverse-top stack (b, x.1 + 1))))
-          (along-fork e from i w.front (seen_at stamp seen) (seen_at stamp after) trail x rest was g fresh place_there a b way));
+      on = λ from lists w. subst
+          (λ (l : List (ℕ × ℕ)). DecidesAlong e from i (seen_at stamp after) w.front (trail ++ here ∷ []) ((a, length (trail ++ here ∷ [])) ∷ l))
+          (sym (reverse-top stack (b, length (trail ++ here ∷ []))))
+          (along-fork e from i w.front (seen_at stamp seen) (seen_at stamp after) trail here (reverse stack) (f.on from lists w) g fresh a b place_there
+          (way lists));
     }
-
-    -- the state isn't in the list
-    pub passing-over : (t : ℕ) → IsWayOn e i x.0 (Over t) → ¬ (Contains list x.0) → IsPassing e n i stamp sid list slots after stack (take x.1 trail)
-    passing-over t way none = off (λ lists. hopeless-over e i (seen_at stamp seen) x.0 way.0 (λ q l. (
-      (way.3 q l).1,
-      λ run m. none (lists.all x.0 (record {
-        to = q.0;
-        there = place_there;
-        leads = subst (λ (k : ℕ). Leads e (x.0, i) (q.0, k)) (way.3 q l).1 l;
-        arrives = record { run = run; is_match = m.is_match };
-      })),
-    )))
 
     -- what the trail's states record was written
     module _ (new : List (Option ℕ))
-        (wrote : (front : List (ℕ × ℕ)) → AreRecordsTo e.states front slots → AreRecordsTo e.states (front ++ all_at i (take x.1 trail)) new) where
-      -- the state is in the list
-      pub found-over : (t : ℕ) → Contains list x.0 → IsWayOn e i x.0 (Over t) → (from : ℕ) → Lists (λ s. ArrivesOver e s i) list
-          → IsLed e from sid i slots → IsLed e from t (i + 1) new
-      found-over t has way from lists w = record {
-        front = (w.front ++ all_at i (take x.1 trail)) ++ (x.0, i) ∷ [];
-        arrives =
-            let a = lists.only x.0 has in
-            let same : a.to ≡ t = (way.3 (a.to, i + 1) a.leads).0 in
-            subst (λ (s : ℕ). Arrives e s (i + 1)) same a.arrives;
-        best = λ run b.
-            along-over e from i w.front (seen_at stamp seen) (seen_at stamp after) trail x rest (on from lists w) g fresh place_there t way.1 way.2 run b;
-        records = records-quiet e.states (w.front ++ all_at i (take x.1 trail)) (x.0, i) new (λ slot. over-quiet e x.0 t i slot way.2)
-            (wrote w.front w.records);
-      }
+        (wrote : (front : List (ℕ × ℕ)) → AreRecordsTo e.states front slots → AreRecordsTo e.states (front ++ all_at i trail) new) where
+      pub found-over : (t : ℕ) → (Lists (λ s. ArrivesOver e s i) list → IsWayAlong e i here (Over t)) → (from : ℕ)
+          → Lists (λ s. ArrivesOver e s i) list → IsLed e from sid i slots → IsLed e from t (i + 1) new
+      found-over t along from lists w =
+          let way = (along lists).0 in
+          record {
+            front = (w.front ++ all_at i trail) ++ (here, i) ∷ [];
+            arrives =
+                let a = (along lists).1 in
+                let same : a.to ≡ t = (way.3 (a.to, i + 1) a.leads).0 in
+                subst (λ (s : ℕ). Arrives e s (i + 1)) same a.arrives;
+            best = λ run b. along-over e from i w.front (seen_at stamp seen) (seen_at stamp after) trail here (reverse stack) (f.on from lists w) g fresh t
+                place_there way.1 way.2 run b;
+            records = records-quiet e.states (w.front ++ all_at i trail) (here, i) new (λ slot. over-quiet e here t i slot way.2) (wrote w.front w.records);
+          }
 
-      pub found-match : (q : ℕ) → IsWayOn e i x.0 (Match q) → (from : ℕ) → Lists (λ s. ArrivesOver e s i) list → IsLed e from sid i slots
-          → IsRecorded e from q i new
-      found-match q way from lists w = record {
-        goes = record {
-          run = (w.front ++ all_at i (take x.1 trail)) ++ (x.0, i) ∷ [];
-          preferred = along-match e from i w.front (seen_at stamp seen) (seen_at stamp after) trail x rest (on from lists w) g fresh place_there way.0;
-          pattern = rw (last-behind (w.front ++ all_at i (take x.1 trail)) ((x.0, i) ∷ []) (omega arith)) way.1;
-          end = ap (λ (y : ℕ × ℕ). y.1) (last-behind (w.front ++ all_at i (take x.1 trail)) ((x.0, i) ∷ []) (omega arith));
-        };
-        records = wrote w.front w.records (x.0, i);
-      }
+      pub found-match : (q : ℕ) → (Lists (λ s. ArrivesOver e s i) list → IsWayAlong e i here (Match q)) → (from : ℕ)
+          → Lists (λ s. ArrivesOver e s i) list → IsLed e from sid i slots → IsRecorded e from q i new
+      found-match q along from lists w =
+          let way = along lists in
+          record {
+            goes = record {
+              run = (w.front ++ all_at i trail) ++ (here, i) ∷ [];
+              preferred = along-match e from i w.front (seen_at stamp seen) (seen_at stamp after) trail here (reverse stack) (f.on from lists w) g fresh
+                  place_there way.0;
+              pattern = rw (last-behind (w.front ++ all_at i trail) ((here, i) ∷ []) (omega arith)) way.1;
+              end = ap (λ (y : ℕ × ℕ). y.1) (last-behind (w.front ++ all_at i trail) ((here, i) ∷ []) (omega arith));
+            };
+            records = wrote w.front w.records (here, i);
+          }
 
--- the stack isn't empty before the run's end
-pub passing-never : {e : Search} {n i stamp sid : ℕ} {list : List ℕ} {slots : List (Option ℕ)} {seen : List ℕ} {trail : List ℕ} (stack : List (ℕ × ℕ))
-    → IsPassing e n i stamp sid list slots seen stack trail → length stack ≡ 0 → (from : ℕ) → Lists (λ s. ArrivesOver e s i) list
+-- something is left before the run's end
+pub left-never : {e : Search} {n i stamp sid : ℕ} {list : List ℕ} {slots : List (Option ℕ)} {seen : List ℕ} {trail : List ℕ} (stack : List (ℕ × ℕ))
+    → IsLeft e n i stamp sid list slots seen stack trail → stack ≡ [] → (from : ℕ) → Lists (λ s. ArrivesOver e s i) list
     → IsLed e from sid i slots → ⊥
-passing-never [] f none from lists w = f.on from lists w
-passing-never (x ∷ stack) f none from lists w = omega (arith, none)
+left-never [] f none from lists w = f.on from lists w
+left-never (x ∷ stack) f none from lists w = absurd (cc none)
 
 -- ---- from position to position
 

@@ -1,13 +1,16 @@
 -- The pass along the log of the backward pass. These serve the proof of `dfa`; no public contract cites them.
-use Rattle.std.specs.Prelude.{◌≡◌, ℕ, ◌+◌, ◌<◌, ◌≤◌, Bool, List, [], ◌∷◌, ◌++◌, length, take, slice_get, slice_index_or, Option, Some, None}
+use Rattle.std.specs.Prelude.{◌≡◌, ℕ, ◌+◌, ◌<◌, ◌≤◌, Bool, false, List, [], ◌∷◌, ◌++◌, length, take, slice_get, slice_index_or, Option, Some, None}
 use Rattle.rsc_nfa.specs.declared.state.State.{State}
 use Rattle.rsc_nfa.specs.declared.state.State.TheVariants.{Accept}
 use Rattle.rsc_nfa.specs.Steps.{recorded}
 use Rattle.rsc_engine.specs.Searches.{Search}
 use Rattle.rsc_engine.specs.Runs.{AreRecords}
 use Rattle.rsc_engine.specs.Preferred.{IsPreferred}
-use Rattle.rsc_engine.specs.DecidesLayout.{last_of, IsHopeless, IsBest, unseen}
-use Rattle.rsc_engine.specs.ArrivalsLayout.{Arrives}
+use Rattle.rsc_engine.specs.DecidesLayout.{last_of, IsHopeless, IsBest, IsMore, unseen}
+use Rattle.rsc_engine.specs.ArrivalsLayout.{Arrives, ArrivesOver}
+use Rattle.rsc_engine.specs.OrderedLayout.{IsWayOn}
+use Rattle.rsc_engine.specs.declared.dfa.ordered.Way.{Way}
+use Rattle.rsc_engine.specs.declared.dfa.ordered.Way.TheVariants.{Stuck, One, Over, Two, Match}
 
 -- ---- from position to position
 
@@ -44,6 +47,20 @@ LeadsAlong e from i t (Some p) slots = IsRecorded e from p i slots
 -- each state's stamp is below this one: no state was seen with it
 abbrev pub AreBelow : ℕ → List ℕ → Type 0
 AreBelow n seen = (s : ℕ) → slice_index_or seen s 0 < n
+
+-- in place of the state at the position the other may be gone on from, once the one was seen: what is best from there is so behind it
+pub record IsInPlace (e : Search) (i s t : ℕ) : Type 0 where
+  pub best : (seen after : ℕ → Bool) → IsMore seen s after → seen s ≡ false → (run : List (ℕ × ℕ)) → IsBest e i after t run
+      → IsBest e i seen s ((s, i) ∷ run)
+  pub none : (seen after : ℕ → Bool) → IsMore seen s after → IsHopeless e i after t → IsHopeless e i seen s
+
+-- what the state does at the position, if steps that lead to no match are left out
+abbrev pub IsWayAlong : Search → ℕ → ℕ → Way → Type 0
+IsWayAlong e i s Stuck = (seen : ℕ → Bool) → IsHopeless e i seen s
+IsWayAlong e i s (One t) = IsInPlace e i s t
+IsWayAlong e i s (Over t) = IsWayOn e i s (Over t) × ArrivesOver e s i
+IsWayAlong e i s (Two a b) = IsWayOn e i s (Two a b)
+IsWayAlong e i s (Match p) = IsWayOn e i s (Match p)
 
 -- these states at the position
 abbrev pub all_at : ℕ → List ℕ → List (ℕ × ℕ)

@@ -3,9 +3,10 @@
 //! At each position it goes by steps with no byte, at a fork first the preferred way, until it comes to a match, or to a state of the position's row: from
 //! there a match is reached over the byte. So it takes back no step over a byte. It goes on as far as anything is recorded but the match's end, if that is
 //! known.
-ghost use Rattle.std.specs.Prelude.{◌≡◌, ◌+◌, ◌-◌, ◌<◌, ◌≤◌, ◌^◌, ◌++◌, ℕ, List, Some, None, IfOk, IfErr, IfSome, OnOk, OnErr, true, false, length, slice_get, slice_index_or, if◌then◌else◌};
+ghost use Rattle.std.specs.Prelude.{◌≡◌, ◌+◌, ◌-◌, ◌<◌, ◌≤◌, ◌^◌, ◌++◌, ◌∷◌, [], ℕ, List, Some, None, IfOk, IfErr, IfSome, IfNone, OnOk, OnErr, true, false, length, take, slice_get, slice_index_or, if◌then◌else◌};
 ghost use Rattle.std.specs.List.{Contains};
 ghost use Rattle.rsc_primitives.specs.Indices.{max_index};
+ghost use Rattle.rsc_nfa.specs.declared.state.State.TheVariants.{ByteRange};
 ghost use Rattle.rsc_nfa.specs.Steps.{is_capture_of, or_earlier};
 ghost use Rattle.rsc_engine.specs.declared.error.Error.TheVariants.{OutOfMemory};
 ghost use Rattle.rsc_engine.specs.declared.dfa.pass_table.PassRow.{PassRow};
@@ -14,12 +15,12 @@ ghost use Rattle.rsc_engine.specs.RowsLayout.{machine, IsPlan, AreStates};
 ghost use Rattle.rsc_engine.specs.GroupsLayout.{AreEmpty};
 ghost use Rattle.rsc_engine.specs.Preferred.{IsFirstMatch, IsCleared, IsInSpan};
 ghost use Rattle.rsc_engine.specs.ArrivalsLayout.{Arrives, ArrivesOver};
-ghost use Rattle.rsc_engine.specs.OrderedLayout.{IsEndOf};
+ghost use Rattle.rsc_engine.specs.OrderedLayout.{IsThere, IsEndOf};
 ghost use Rattle.rsc_engine.specs.PassTableLayout.{IsPassTable};
 ghost use Rattle.rsc_engine.specs.BackwardLayout.{Lists};
 ghost use Rattle.rsc_engine.specs.LogLayout.{IsLogged};
 ghost use Rattle.rsc_engine.specs.QuietLayout.{AreQuiet};
-ghost use Rattle.rsc_engine.specs.AlongLayout.{GoesTo, IsRecorded, AreRecordsTo, IsLed, LeadsAlong, AreBelow, all_at};
+ghost use Rattle.rsc_engine.specs.AlongLayout.{GoesTo, IsRecorded, AreRecordsTo, IsLed, IsWayAlong, LeadsAlong, AreBelow, all_at};
 
 use super::backward::{first_start, part_of};
 use super::ordered::{Way, way_of};
@@ -235,37 +236,102 @@ impl Walk {
         self.take_stamp()?;
         self.stack.clear();
         self.trail.clear();
-        self.stack.push((sid, 0))?;
-        'stack: while let Some(top) = self.stack.pop() {
-            let sid = top.0;
-            self.trail.truncate(top.1);
-            if self.seen[sid.as_usize()] == self.stamp {
-                continue 'stack;
+        let mut here = sid;
+        'states: loop {
+            if self.seen[here.as_usize()] == self.stamp {
+                match self.back() {
+                    Some(next) => here = next,
+                    // It never comes here.
+                    None => return Ok((here, None)),
+                }
+                continue 'states;
             }
-            self.seen[sid.as_usize()] = self.stamp;
-            match way_of(program, input, at, sid) {
-                Way::Stuck => {}
+            self.seen[here.as_usize()] = self.stamp;
+            match way_along(program, input, at, list, here) {
+                Way::Stuck => match self.back() {
+                    Some(next) => here = next,
+                    // Nor here.
+                    None => return Ok((here, None)),
+                },
                 Way::One(to) => {
-                    self.trail.push(sid)?;
-                    self.stack.push((to, self.trail.len()))?;
+                    self.trail.push(here)?;
+                    here = to;
                 }
                 Way::Two(a, b) => {
-                    self.trail.push(sid)?;
+                    self.trail.push(here)?;
                     self.stack.push((b, self.trail.len()))?;
-                    self.stack.push((a, self.trail.len()))?;
+                    here = a;
                 }
-                Way::Over(to) => if has(list, sid) {
+                Way::Over(to) => {
                     record(program, at, self.trail.as_slice(), slots);
                     return Ok((to, None));
-                },
+                }
                 Way::Match(pattern) => {
                     record(program, at, self.trail.as_slice(), slots);
-                    return Ok((sid, Some(pattern)));
+                    return Ok((here, Some(pattern)));
                 }
             }
         }
-        // It never comes here.
-        Ok((sid, None))
+    }
+
+    // Goes back to the last way that is left, if there is one: the state there.
+    fn back(&mut self) -> Option<StateID>
+        ensures some { IfSome result (λ s. (d : ℕ) × (self.old.stack.items ≡ self.new.stack.items ++ (s, d) ∷ [])
+            × (self.new.trail.items ≡ take d self.old.trail.items)) }
+        ensures none { IfNone result (self.old.stack.items ≡ []) }
+        ensures seen { self.new.seen ≡ self.old.seen }
+        ensures stamp { self.new.stamp ≡ self.old.stamp }
+    {
+        let top = self.stack.pop()?;
+        self.trail.truncate(top.1);
+        Some(top.0)
+    }
+}
+
+// What a state does at a position, as far as a match is reached from there: the list has the states from which one is reached over the byte.
+#[inline]
+fn way_along<W: WordClass>(
+    program: &Program<W>,
+    input: &Input<'_>,
+    at: usize,
+    list: &[StateID],
+    sid: StateID,
+) -> Way
+    requires start { input.now.span.start ≤ at }
+    requires at { at ≤ input.now.span.end }
+    requires sid { sid < length program.now.automaton.states }
+    ensures way { Lists (λ s. ArrivesOver (search_in W.word_chars program.now input.now) s at) list.now
+        → IsWayAlong (search_in W.word_chars program.now input.now) at sid result }
+    ensures there { IsThere (length program.now.automaton.states) result }
+{
+    match way_of(program, input, at, sid) {
+        Way::Over(to) => if has(list, sid) {
+            Way::Over(to)
+        } else {
+            Way::Stuck
+        },
+        Way::Two(a, b) => if is_dead(program, list, a) {
+            Way::One(b)
+        } else {
+            Way::Two(a, b)
+        },
+        Way::One(to) => Way::One(to),
+        Way::Match(pattern) => Way::Match(pattern),
+        Way::Stuck => Way::Stuck,
+    }
+}
+
+// Whether the state goes on over a byte alone, and isn't in the list.
+#[inline]
+fn is_dead<W: WordClass>(program: &Program<W>, list: &[StateID], sid: StateID) -> bool
+    requires { sid < length program.now.automaton.states }
+    ensures { result ≡ true → (¬ (Contains list.now sid))
+        × ((first last next : ℕ) × (slice_get program.now.automaton.states sid ≡ Some (ByteRange first last next))) }
+{
+    match program.state(sid) {
+        State::ByteRange { .. } => !has(list, sid),
+        State::Assert { .. } | State::Fork { .. } | State::Capture { .. } | State::Accept { .. } =>
+            false,
     }
 }
 

@@ -1,8 +1,9 @@
-//! What would take a minute, where bytes were read again for each match, or one after the other.
-use crate::made::captures_of;
-use rsc_engine::{Builder, Dfa, Error, Matches, Program};
+//! What would take a minute, where bytes were read again for each match, or one after the other, or rows were made again.
+use crate::made::{captures_of, captures_of_ends};
+use rsc_captures::Captures;
+use rsc_engine::{Builder, Cache, Dfa, Error, Matches, Program, find};
 use rsc_look::AsciiWord;
-use rsc_search::Input;
+use rsc_search::{Anchored, Input};
 use std::alloc::Global;
 use std::test::Fail;
 
@@ -52,5 +53,86 @@ fn a_text_that_lacks_what_each_match_has_is_looked_through(rt: HostRuntime) -> R
     for _ in 0..10 {
         assert!(rt; !dfa.is_match(&Input::new(text.as_slice()))?);
     }
+    Ok(())
+}
+
+// `[a-z]+([0-9])?`
+fn letters_and_group(alloc: Global) -> Result<Program<AsciiWord>, Error> {
+    let builder = Builder::new(alloc);
+    let letters = builder.plus(builder.range(b'a', b'z'))?;
+    let digit = builder.group(None, builder.range(b'0', b'9'))?;
+    let whole = builder.then(letters, builder.repeat(digit, 0, Some(1))?)?;
+    builder.build(AsciiWord, false, whole)
+}
+
+// `([A-Z])[a-z]*`
+fn group_and_letters(alloc: Global) -> Result<Program<AsciiWord>, Error> {
+    let builder = Builder::new(alloc);
+    let capital = builder.group(None, builder.range(b'A', b'Z'))?;
+    let letters = builder.star(builder.range(b'a', b'z'))?;
+    let whole = builder.then(capital, letters)?;
+    builder.build(AsciiWord, false, whole)
+}
+
+#[test]
+fn a_long_text_is_read_along_known_rows(rt: HostRuntime) -> Result<(), Fail> {
+    let program = group_and_letters(rt.alloc())?;
+    let text = vec![in rt.alloc(); b' '; 8000000]?;
+    let mut dfa = Dfa::new(rt.alloc(), &program, 1000);
+    assert!(rt; !dfa.is_match(&Input::new(text.as_slice()))?);
+    Ok(())
+}
+
+#[test]
+fn rows_serve_the_next_search(rt: HostRuntime) -> Result<(), Fail> {
+    let program = letters_and_group(rt.alloc())?;
+    let mut captures = captures_of(rt.alloc(), &program)?;
+    let mut cache = Cache::new(rt.alloc(), &program)?;
+    for _ in 0..50000 {
+        assert!(rt; cache.find(&Input::new(b"- abc1"), &mut captures)?.is_some());
+    }
+    Ok(())
+}
+
+#[test]
+fn rows_serve_the_next_iteration(rt: HostRuntime) -> Result<(), Fail> {
+    let program = letters_and_group(rt.alloc())?;
+    let mut captures = captures_of(rt.alloc(), &program)?;
+    let mut cache = Cache::new(rt.alloc(), &program)?;
+    for _ in 0..50000 {
+        let mut matches = cache.matches(Input::new(b"- abc1"))?;
+        assert!(rt; matches.next(&mut captures)?.is_some());
+        cache = matches.into_cache();
+    }
+    Ok(())
+}
+
+// Whether one match is all of a text that goes on with that many letters.
+fn is_all(
+    alloc: Global,
+    program: &Program<AsciiWord>,
+    first: u8,
+    captures: &mut Captures,
+) -> Result<bool, Fail> {
+    let mut text = vec![in alloc; b'a'; 8000000]?;
+    text[0] = first;
+    let input = Input::new(text.as_slice()).anchored(Anchored::Yes);
+    let found = find(alloc, program, &input, captures)?;
+    Ok(found.is_some_and(|it| it.len() == text.len()))
+}
+
+#[test]
+fn the_ends_of_a_long_match_are_all_that_is_looked_for(rt: HostRuntime) -> Result<(), Fail> {
+    let program = letters_and_group(rt.alloc())?;
+    let mut captures = captures_of_ends(rt.alloc(), &program)?;
+    assert!(rt; is_all(rt.alloc(), &program, b'a', &mut captures)?);
+    Ok(())
+}
+
+#[test]
+fn behind_its_last_group_a_long_match_is_not_gone_along(rt: HostRuntime) -> Result<(), Fail> {
+    let program = group_and_letters(rt.alloc())?;
+    let mut captures = captures_of(rt.alloc(), &program)?;
+    assert!(rt; is_all(rt.alloc(), &program, b'A', &mut captures)?);
     Ok(())
 }

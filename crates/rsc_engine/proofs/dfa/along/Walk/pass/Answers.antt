@@ -1,131 +1,80 @@
-use Rattle.std.proofs.Common.{◌≡◌, ◌∙◌, ◌++◌, ◌∷◌, [], refl, ap, length, arith, rules, length-append}
-use Rattle.rsc_engine.proofs.AlongLemmas.{passing-first, passing-again, passing-stuck, passing-one, passing-two, passing-over, passing-never, found-over, found-match, top-there, was-seen, not-seen, fewer-left}
+use Rattle.std.proofs.Common.{◌≡◌, ◌∙◌, ◌++◌, ◌∷◌, [], refl, length, rules}
+use Rattle.rsc_engine.proofs.AlongLemmas.{passing-first, passing-again, passing-back, passing-stuck, passing-one, passing-two, left-never, found-over, found-match, was-seen, not-seen}
 use Rattle.rsc_engine.proofs.dfa.along.Walk.pass.Goals as goal
 
-pub stack-init : goal.stack-init
-stack-init g c = record {
-  passing = rw (c.in_ok-push.ensures.items, c.clear.ensures.items, c.clear-2.ensures.items)
+pub states-init : goal.states-init
+states-init g c = record {
+  passing = rw (c.clear.ensures.items, c.clear-2.ensures.items)
       (passing-first (c.in_ok-take_stamp.ensures.len ∙ c.requires.len) c.in_ok-take_stamp.ensures.unseen c.requires.sid);
   same = refl;
 }
 
-pub stack-preserved-then-index-self : goal.stack-preserved-then-index-self
-stack-preserved-then-index-self g c = record {
-  passing = rw c.truncate.ensures.items (passing-again c.pop.new.self.items c.in-Some.top c.stack.invariant.passing c.in-Some.ensures.items
-      (was-seen c.pop.new.self.items c.in-Some.top c.stack.invariant.passing c.in-Some.ensures.items _ _
-      c.as_usize.ensures.value c.index.ensures c.if-index-self.true));
-  same = c.stack.invariant.same;
-}
-
-pub index_mut-requires : goal.index_mut-requires
-index_mut-requires g c = omega (
-  arith,
-  top-there c.pop.new.self.items c.in-Some.top c.stack.invariant.passing c.in-Some.ensures.items,
-  c.stack.invariant.passing.len,
-  c.as_usize-in-Some.ensures.value,
-  c.stack.self.seen.ok,
-)
-
-pub way_of-requires-clause-sid : goal.way_of-requires-clause-sid
-way_of-requires-clause-sid g c = top-there c.pop.new.self.items c.in-Some.top c.stack.invariant.passing c.in-Some.ensures.items
-
-pub stack-preserved-in-Stuck : goal.stack-preserved-in-Stuck
-stack-preserved-in-Stuck g c = record {
-  passing = rw (c.as_usize-in-Some.ensures.value, c.truncate.ensures.items)
-      (passing-stuck c.pop.new.self.items c.in-Some.top c.stack.invariant.passing c.in-Some.ensures.items refl c.requires.start c.requires.end
-      (not-seen c.pop.new.self.items c.in-Some.top c.stack.invariant.passing c.in-Some.ensures.items _ _
-      c.as_usize.ensures.value c.index.ensures c.if-index-self.false) c.in-Stuck.ensures.way);
-  same = c.stack.invariant.same;
-}
-
-pub stack-preserved-in-Continue-branch-4 : goal.stack-preserved-in-Continue-branch-4
-stack-preserved-in-Continue-branch-4 g c =
-    let deep : c.len.result ≡ length c.push-in-One.new.self.items = search rules in
+pub states-preserved-then-index-self : goal.states-preserved-then-index-self
+states-preserved-then-index-self g c =
+    let f = c.states.invariant.passing in
+    let way = c.in-Some.ensures.some in
     record {
-      passing = rw (c.as_usize-in-Some.ensures.value, c.in_ok-push-in-One-2.ensures.items, c.in_ok-push-in-One.ensures.items, c.truncate.ensures.items)
-          (passing-one c.pop.new.self.items c.in-Some.top c.stack.invariant.passing c.in-Some.ensures.items refl c.requires.start c.requires.end
-          (not-seen c.pop.new.self.items c.in-Some.top c.stack.invariant.passing c.in-Some.ensures.items _ _
-          c.as_usize.ensures.value c.index.ensures c.if-index-self.false)
-          c.in-One.to c.len.result (rw (c.in_ok-push-in-One.ensures.items, c.truncate.ensures.items) at deep) c.in-One.ensures.way c.in-One.ensures.there);
-      same = c.stack.invariant.same;
+      passing = rw (c.in-Some.ensures.seen, c.in-Some.ensures.stamp)
+          (passing-back c.in-Some.next way.0
+          (passing-again f (was-seen f _ _ c.as_usize.ensures.value c.index.ensures c.if-index-self.true)) way.1 way.2);
+      same = c.states.invariant.same;
     }
 
-pub stack-preserved-in-Continue-branch-7 : goal.stack-preserved-in-Continue-branch-7
-stack-preserved-in-Continue-branch-7 g c =
-    let deep : c.len-in-Two.result ≡ length c.push-in-Two.new.self.items = search rules in
-    let same : c.len-in-Two-2.result ≡ c.len-in-Two.result = search rules in
+pub returns-in-None-clause-on : goal.returns-in-None-clause-on
+returns-in-None-clause-on g c = λ from lists w.
+    let f = c.states.invariant.passing in
+    absurd (left-never _ (passing-again f (was-seen f _ _ c.as_usize.ensures.value c.index.ensures c.if-index-self.true)) c.in-None.ensures.none
+    from lists w)
+
+pub states-preserved-in-Some-back : goal.states-preserved-in-Some-back
+states-preserved-in-Some-back g c =
+    let f = c.states.invariant.passing in
+    let way = c.in-Some-back.ensures.some in
     record {
-      passing = rw (
-        c.as_usize-in-Some.ensures.value,
-        c.in_ok-push-in-Two-3.ensures.items,
-        c.in_ok-push-in-Two-2.ensures.items,
-        c.in_ok-push-in-Two.ensures.items,
-        c.truncate.ensures.items,
-        same,
-      )
-          (passing-two c.pop.new.self.items c.in-Some.top c.stack.invariant.passing c.in-Some.ensures.items refl c.requires.start c.requires.end
-          (not-seen c.pop.new.self.items c.in-Some.top c.stack.invariant.passing c.in-Some.ensures.items _ _
-          c.as_usize.ensures.value c.index.ensures c.if-index-self.false)
-          c.in-Two.a c.in-Two.b c.len-in-Two.result (rw (c.in_ok-push-in-Two.ensures.items, c.truncate.ensures.items) at deep)
-          c.in-Two.ensures.way c.in-Two.ensures.there);
-      same = c.stack.invariant.same;
+      passing = rw (c.in-Some-back.ensures.seen, c.in-Some-back.ensures.stamp, c.as_usize-in-states.ensures.value)
+          (passing-back c.in-Some-back.next way.0
+          (passing-stuck f refl c.requires.start c.requires.end
+          (not-seen f _ _ c.as_usize.ensures.value c.index.ensures c.if-index-self.false) c.in-Stuck.ensures.way) way.1 way.2);
+      same = c.states.invariant.same;
     }
 
-pub stack-preserved : goal.stack-preserved
-stack-preserved g c = record {
-  passing = rw (c.as_usize-in-Some.ensures.value, c.truncate.ensures.items)
-      (passing-over c.pop.new.self.items c.in-Some.top c.stack.invariant.passing c.in-Some.ensures.items refl c.requires.start c.requires.end
-      (not-seen c.pop.new.self.items c.in-Some.top c.stack.invariant.passing c.in-Some.ensures.items _ _
-      c.as_usize.ensures.value c.index.ensures c.if-index-self.false)
-      c.in-Over.to c.in-Over.ensures.way (c.has.ensures.no c.if-has.false));
-  same = c.stack.invariant.same;
-}
+pub returns-in-None-back-clause-on : goal.returns-in-None-back-clause-on
+returns-in-None-back-clause-on g c = λ from lists w.
+    let f = c.states.invariant.passing in
+    absurd (left-never _ (passing-stuck f refl c.requires.start c.requires.end
+    (not-seen f _ _ c.as_usize.ensures.value c.index.ensures c.if-index-self.false) c.in-Stuck.ensures.way) c.in-None-back.ensures.none from lists w)
 
-pub returns-then-has-clause-on : goal.returns-then-has-clause-on
-returns-then-has-clause-on g c =
-    found-over c.pop.new.self.items c.in-Some.top c.stack.invariant.passing c.in-Some.ensures.items refl c.requires.start c.requires.end
-    (not-seen c.pop.new.self.items c.in-Some.top c.stack.invariant.passing c.in-Some.ensures.items _ _
-    c.as_usize.ensures.value c.index.ensures c.if-index-self.false)
-    c.record.new.slots (rw (c.as_slice.ensures.value, c.truncate.ensures.items, c.stack.invariant.same) at c.record.ensures)
-    c.in-Over.to (c.has.ensures.yes c.if-has.true) c.in-Over.ensures.way
+pub states-preserved-in-One : goal.states-preserved-in-One
+states-preserved-in-One g c =
+    let f = c.states.invariant.passing in
+    record {
+      passing = rw (c.as_usize-in-states.ensures.value, c.in_ok-push-in-One.ensures.items)
+          (passing-one f refl c.requires.start c.requires.end
+          (not-seen f _ _ c.as_usize.ensures.value c.index.ensures c.if-index-self.false) c.in-One.to c.in-One.ensures.way c.in-One.ensures.there);
+      same = c.states.invariant.same;
+    }
+
+pub states-preserved : goal.states-preserved
+states-preserved g c =
+    let f = c.states.invariant.passing in
+    let deep : c.len.result ≡ length (c.states.self.trail.items ++ c.states.here ∷ []) = search rules in
+    record {
+      passing = rw (c.as_usize-in-states.ensures.value, c.in_ok-push-in-Two-2.ensures.items, c.in_ok-push-in-Two.ensures.items, deep)
+          (passing-two f refl c.requires.start c.requires.end
+          (not-seen f _ _ c.as_usize.ensures.value c.index.ensures c.if-index-self.false) c.in-Two.a c.in-Two.b c.in-Two.ensures.way c.in-Two.ensures.there);
+      same = c.states.invariant.same;
+    }
+
+pub returns-in-Over-clause-on : goal.returns-in-Over-clause-on
+returns-in-Over-clause-on g c =
+    let f = c.states.invariant.passing in
+    found-over f refl c.requires.start c.requires.end
+    (not-seen f _ _ c.as_usize.ensures.value c.index.ensures c.if-index-self.false) c.record.new.slots
+    (rw (c.as_slice.ensures.value, c.states.invariant.same) at c.record.ensures) c.in-Over.to c.in-Over.ensures.way
 
 pub returns-in-Match-clause-on : goal.returns-in-Match-clause-on
 returns-in-Match-clause-on g c =
-    found-match c.pop.new.self.items c.in-Some.top c.stack.invariant.passing c.in-Some.ensures.items refl c.requires.start c.requires.end
-    (not-seen c.pop.new.self.items c.in-Some.top c.stack.invariant.passing c.in-Some.ensures.items _ _
-    c.as_usize.ensures.value c.index.ensures c.if-index-self.false)
-    c.record-in-Match.new.slots (rw (c.as_slice-in-Match.ensures.value, c.truncate.ensures.items, c.stack.invariant.same) at c.record-in-Match.ensures)
-    c.in-Match.pattern c.in-Match.ensures.way
-
-pub returns-clause-on : goal.returns-clause-on
-returns-clause-on g c = λ from lists w. absurd (passing-never c.stack.self.stack.items c.stack.invariant.passing
-    (let e = (rw c.in_default.is at c.pop.ensures.cases).0 in omega (arith, e, c.stack.self.stack.ok)) from lists w)
-
-pub stack-smaller-in-Continue-branch-4 : goal.stack-smaller-in-Continue-branch-4
-stack-smaller-in-Continue-branch-4 g c =
-    let less = fewer-left c.pop.new.self.items c.in-Some.top c.stack.invariant.passing c.in-Some.ensures.items
-    (not-seen c.pop.new.self.items c.in-Some.top c.stack.invariant.passing c.in-Some.ensures.items _ _
-    c.as_usize.ensures.value c.index.ensures c.if-index-self.false) in
-    rw (c.as_usize-in-Some.ensures.value, c.in_ok-push-in-One-2.ensures.items)
-    (omega (
-      arith,
-      less,
-      ap length c.in-Some.ensures.items,
-      length-append c.pop.new.self.items (c.in-Some.top ∷ []),
-      length-append c.pop.new.self.items ((c.in-One.to, c.len.result) ∷ []),
-    ))
-
-pub stack-smaller-in-Continue-branch-7 : goal.stack-smaller-in-Continue-branch-7
-stack-smaller-in-Continue-branch-7 g c =
-    let less = fewer-left c.pop.new.self.items c.in-Some.top c.stack.invariant.passing c.in-Some.ensures.items
-    (not-seen c.pop.new.self.items c.in-Some.top c.stack.invariant.passing c.in-Some.ensures.items _ _
-    c.as_usize.ensures.value c.index.ensures c.if-index-self.false) in
-    rw (c.as_usize-in-Some.ensures.value, c.in_ok-push-in-Two-3.ensures.items, c.in_ok-push-in-Two-2.ensures.items)
-    (omega (
-      arith,
-      less,
-      ap length c.in-Some.ensures.items,
-      length-append c.pop.new.self.items (c.in-Some.top ∷ []),
-      length-append c.pop.new.self.items ((c.in-Two.b, c.len-in-Two.result) ∷ []),
-      length-append (c.pop.new.self.items ++ (c.in-Two.b, c.len-in-Two.result) ∷ []) ((c.in-Two.a, c.len-in-Two-2.result) ∷ []),
-    ))
+    let f = c.states.invariant.passing in
+    found-match f refl c.requires.start c.requires.end
+    (not-seen f _ _ c.as_usize.ensures.value c.index.ensures c.if-index-self.false) c.record-in-Match.new.slots
+    (rw (c.as_slice-in-Match.ensures.value, c.states.invariant.same) at c.record-in-Match.ensures) c.in-Match.pattern c.in-Match.ensures.way
