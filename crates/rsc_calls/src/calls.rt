@@ -58,7 +58,7 @@ fn all_matches(alloc: Global, program: &Program<AsciiWord>, text: &[u8]) -> Resu
     Ok(found)
 }
 
-// The matches in a text of that many bytes, each with the spans of its groups.
+// The matches in a text of that many bytes, each with the spans of its groups. Where memory is refused, a search is made once more.
 fn push_matches(
     found: &mut String,
     matches: &mut Matches<'_, '_, AsciiWord>,
@@ -66,7 +66,12 @@ fn push_matches(
     len: usize,
 ) -> Result<(), Error> {
     for _ in 0..=len {
-        if matches.next(captures)?.is_none() {
+        let next = match matches.next(captures) {
+            Ok(next) => next,
+            // Out of memory: the next call looks for the same match.
+            Err(_) => matches.next(captures)?,
+        };
+        if next.is_none() {
             break;
         }
         push_spans(found, captures)?;

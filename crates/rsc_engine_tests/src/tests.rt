@@ -6,6 +6,7 @@ mod dfa;
 mod first_matches;
 mod forward;
 mod lines;
+mod many;
 mod matches;
 mod model;
 mod programs;

@@ -134,3 +134,48 @@ fn too_large_comes_before_names_and_these_before_ranges(rt: HostRuntime) -> Resu
     assert!(rt; matches!(builder.build(AsciiWord, true, whole), Err(Error::Faulty)));
     Ok(())
 }
+
+#[test]
+fn more_than_65536_patterns_are_built(rt: HostRuntime) -> Result<(), Fail> {
+    let mut builder = Builder::new(rt.alloc());
+    for _ in 1..70000 {
+        let part = builder.range(b'a', b'a');
+        builder.pattern(part)?;
+    }
+    let last = builder.range(b'b', b'b');
+    let program = builder.build(AsciiWord, false, last)?;
+    assert!(rt; program.nfa().group_info().pattern_len() == 70000);
+    Ok(())
+}
+
+#[test]
+fn more_than_65536_groups_are_built(rt: HostRuntime) -> Result<(), Fail> {
+    let builder = Builder::new(rt.alloc());
+    let mut parts = Vec::new(rt.alloc());
+    for _ in 0..70000 {
+        parts.push(builder.group(None, builder.empty())?)?;
+    }
+    let whole = builder.concat(parts)?;
+    assert!(rt; builder.build(AsciiWord, false, whole)?.len() == 140003);
+    Ok(())
+}
+
+#[test]
+fn a_long_literal_is_built_in_time(rt: HostRuntime) -> Result<(), Fail> {
+    let builder = Builder::new(rt.alloc());
+    let text = vec![in rt.alloc(); b'b'; 500000]?;
+    let long = builder.literal(text.as_slice())?;
+    assert!(rt; builder.build(AsciiWord, false, long)?.len() == 500003);
+    Ok(())
+}
+
+#[test]
+fn a_part_of_many_levels_is_measured_once(rt: HostRuntime) -> Result<(), Fail> {
+    let builder = Builder::new(rt.alloc());
+    let mut part = builder.range(b'a', b'a');
+    for _ in 0..64 {
+        part = builder.optional(part)?;
+    }
+    assert!(rt; builder.build(AsciiWord, false, part)?.len() == 68);
+    Ok(())
+}

@@ -16,10 +16,13 @@ fn far_or_near(alloc: Global) -> Result<Program<AsciiWord>, Error> {
     builder.build(AsciiWord, false, whole)
 }
 
-// How many matches are found in that many letters.
-fn matches_in(alloc: Global, count: usize) -> Result<usize, Fail> {
+// How many matches are found in that many letters, and a hyphen behind them.
+fn matches_in(alloc: Global, count: usize, hyphen: bool) -> Result<usize, Fail> {
     let program = far_or_near(alloc)?;
-    let text = vec![in alloc; b'a'; count]?;
+    let mut text = vec![in alloc; b'a'; count]?;
+    if hyphen {
+        text.push(b'-')?;
+    }
     let mut captures = captures_of(alloc, &program)?;
     let mut matches = Matches::new(alloc, &program, Input::new(text.as_slice()))?;
     let mut found = 0_usize;
@@ -33,7 +36,13 @@ fn matches_in(alloc: Global, count: usize) -> Result<usize, Fail> {
 
 #[test]
 fn an_iteration_reads_no_text_for_each_match(rt: HostRuntime) -> Result<(), Fail> {
-    assert!(rt; matches_in(rt.alloc(), 60000)? == 60000);
+    assert!(rt; matches_in(rt.alloc(), 60000, false)? == 60000);
+    Ok(())
+}
+
+#[test]
+fn an_iteration_reads_no_word_for_each_match(rt: HostRuntime) -> Result<(), Fail> {
+    assert!(rt; matches_in(rt.alloc(), 60000, true)? == 60000);
     Ok(())
 }
 
@@ -56,20 +65,37 @@ fn a_text_that_lacks_what_each_match_has_is_looked_through(rt: HostRuntime) -> R
     Ok(())
 }
 
-// `[a-z]+([0-9])?`
+// Twelve ranges, each behind a fork.
+const RANGES: [(u8, u8); 12] = [
+    (b'a', b'a'),
+    (b'c', b'c'),
+    (b'e', b'e'),
+    (b'g', b'g'),
+    (b'i', b'i'),
+    (b'k', b'k'),
+    (b'm', b'm'),
+    (b'o', b'o'),
+    (b'q', b'q'),
+    (b's', b's'),
+    (b'u', b'u'),
+    (b'w', b'w'),
+];
+
+// `[aceg..w]+([0-9])?`
 fn letters_and_group(alloc: Global) -> Result<Program<AsciiWord>, Error> {
     let builder = Builder::new(alloc);
-    let letters = builder.plus(builder.range(b'a', b'z'))?;
+    let letters = builder.plus(builder.class(&RANGES)?)?;
     let digit = builder.group(None, builder.range(b'0', b'9'))?;
-    let whole = builder.then(letters, builder.repeat(digit, 0, Some(1))?)?;
+    let digit = builder.repeat(digit, 0, Some(1))?;
+    let whole = builder.then(letters, digit)?;
     builder.build(AsciiWord, false, whole)
 }
 
-// `([A-Z])[a-z]*`
+// `([A-Z])[aceg..w]*`
 fn group_and_letters(alloc: Global) -> Result<Program<AsciiWord>, Error> {
     let builder = Builder::new(alloc);
     let capital = builder.group(None, builder.range(b'A', b'Z'))?;
-    let letters = builder.star(builder.range(b'a', b'z'))?;
+    let letters = builder.star(builder.class(&RANGES)?)?;
     let whole = builder.then(capital, letters)?;
     builder.build(AsciiWord, false, whole)
 }
@@ -77,30 +103,41 @@ fn group_and_letters(alloc: Global) -> Result<Program<AsciiWord>, Error> {
 #[test]
 fn a_long_text_is_read_along_known_rows(rt: HostRuntime) -> Result<(), Fail> {
     let program = group_and_letters(rt.alloc())?;
-    let text = vec![in rt.alloc(); b' '; 8000000]?;
+    let text = vec![in rt.alloc(); b' '; 1000000]?;
     let mut dfa = Dfa::new(rt.alloc(), &program, 1000);
     assert!(rt; !dfa.is_match(&Input::new(text.as_slice()))?);
     Ok(())
 }
 
+// `[a-z]{1,60}`
+fn many_states(alloc: Global) -> Result<Program<AsciiWord>, Error> {
+    let builder = Builder::new(alloc);
+    let letters = builder.repeat(builder.range(b'a', b'z'), 1, Some(60))?;
+    builder.build(AsciiWord, false, letters)
+}
+
 #[test]
 fn rows_serve_the_next_search(rt: HostRuntime) -> Result<(), Fail> {
-    let program = letters_and_group(rt.alloc())?;
+    let program = many_states(rt.alloc())?;
     let mut captures = captures_of(rt.alloc(), &program)?;
     let mut cache = Cache::new(rt.alloc(), &program)?;
-    for _ in 0..50000 {
-        assert!(rt; cache.find(&Input::new(b"- abc1"), &mut captures)?.is_some());
+    for _ in 0..20000 {
+        assert!(rt;
+            cache
+                .find(&Input::new(b"- abc -"), &mut captures)?
+                .is_some()
+        );
     }
     Ok(())
 }
 
 #[test]
 fn rows_serve_the_next_iteration(rt: HostRuntime) -> Result<(), Fail> {
-    let program = letters_and_group(rt.alloc())?;
+    let program = many_states(rt.alloc())?;
     let mut captures = captures_of(rt.alloc(), &program)?;
     let mut cache = Cache::new(rt.alloc(), &program)?;
-    for _ in 0..50000 {
-        let mut matches = cache.matches(Input::new(b"- abc1"))?;
+    for _ in 0..20000 {
+        let mut matches = cache.matches(Input::new(b"- abc -"))?;
         assert!(rt; matches.next(&mut captures)?.is_some());
         cache = matches.into_cache();
     }
@@ -114,7 +151,7 @@ fn is_all(
     first: u8,
     captures: &mut Captures,
 ) -> Result<bool, Fail> {
-    let mut text = vec![in alloc; b'a'; 8000000]?;
+    let mut text = vec![in alloc; b'w'; 1000000]?;
     text[0] = first;
     let input = Input::new(text.as_slice()).anchored(Anchored::Yes);
     let found = find(alloc, program, &input, captures)?;
@@ -125,7 +162,7 @@ fn is_all(
 fn the_ends_of_a_long_match_are_all_that_is_looked_for(rt: HostRuntime) -> Result<(), Fail> {
     let program = letters_and_group(rt.alloc())?;
     let mut captures = captures_of_ends(rt.alloc(), &program)?;
-    assert!(rt; is_all(rt.alloc(), &program, b'a', &mut captures)?);
+    assert!(rt; is_all(rt.alloc(), &program, b'w', &mut captures)?);
     Ok(())
 }
 

@@ -101,3 +101,20 @@ fn a_match_over_two_lines_is_in_none(rt: HostRuntime) -> Result<(), Fail> {
     assert!(rt; lines.next()? == None);
     Ok(())
 }
+
+#[test]
+fn lines_before_a_far_match_are_read_once(rt: HostRuntime) -> Result<(), Fail> {
+    let builder = Builder::new(rt.alloc());
+    let whole = builder.range(b'x', b'x');
+    let program = builder.build(AsciiWord, false, whole)?;
+    let mut text = vec![in rt.alloc(); b'\n'; 100000]?;
+    text.push(b'x')?;
+    let dfa = Dfa::new(rt.alloc(), &program, 1000);
+    let mut lines = Lines::new(dfa, text.as_slice());
+    let last = Span {
+        start: 100000,
+        end: 100001,
+    };
+    assert!(rt; lines.next()? == Some(last));
+    Ok(())
+}
