@@ -2,12 +2,14 @@
 //! With a number as its argument, it compares all texts of at most that many bytes instead.
 #![tactic(auto)]
 
+mod characters;
 mod linear;
 mod patterns;
 mod short;
 mod timed;
 mod tokens;
 
+use characters::time_characters;
 use linear::time_linear;
 use patterns::NAMES;
 use short::compare_all;
@@ -15,7 +17,7 @@ use std::env;
 use std::io::Read;
 use std::process::ExitCode;
 use timed::{Fail, time_pattern};
-use tokens::time_tokens;
+use tokens::{time_builds, time_tokens};
 
 fn main(rt: HostRuntime) -> ExitCode {
     match time_all(&rt) {
@@ -37,7 +39,9 @@ fn time_all(rt: &HostRuntime) -> Result<(), Fail> {
     for name in NAMES {
         time_pattern(rt, name, text.as_slice())?;
     }
+    time_characters(rt, text.as_slice())?;
     time_tokens(rt, text.as_slice())?;
+    time_builds(rt)?;
     time_linear(rt)
 }
 

@@ -39,3 +39,28 @@ fn make(alloc: Global, keywords: u8) -> Result<Program<AsciiWord>, Error> {
     let other = builder.range(0, 0xFF);
     builder.build(AsciiWord, false, other)
 }
+
+/// Times the building of one program of 10, 100 and 1,000 literals of five bytes.
+pub fn time_builds(rt: &HostRuntime) -> Result<(), Fail> {
+    for count in [10, 100, 1000] {
+        let from = rt.thread_cpu_time()?;
+        let program = literals(rt.alloc(), count)?;
+        let to = rt.thread_cpu_time()?;
+        let micros = to.saturating_sub(from).as_micros();
+        eprintln!(rt; "{count} literals build {micros}")?;
+        println!(rt; "{count} literals {} states", program.len())?;
+    }
+    Ok(())
+}
+
+fn literals(alloc: Global, count: usize) -> Result<Program<AsciiWord>, Error> {
+    let builder = Builder::new(alloc);
+    let mut parts = Vec::new(alloc);
+    for number in 0..count {
+        let mut text = String::new(alloc);
+        write!(text, "w{number:04}")?;
+        parts.push(builder.literal(text.as_str().as_bytes())?)?;
+    }
+    let whole = builder.one_of(parts)?;
+    builder.build(AsciiWord, false, whole)
+}
