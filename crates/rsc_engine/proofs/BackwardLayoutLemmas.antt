@@ -1,13 +1,13 @@
 -- The backward pass along the rows of a table.
-use Rattle.std.proofs.Common.{◌≡◌, ℕ, zero, suc, ◌+◌, ◌-◌, ◌<◌, ◌≤◌, Bool, true, false, List, [], refl, sym, ap, subst, ◌∙◌, arith, slice_get, Option, Some, None, IfSome}
+use Rattle.std.proofs.Common.{◌≡◌, ℕ, zero, suc, ◌+◌, ◌-◌, ◌<◌, ◌≤◌, Bool, true, false, List, [], refl, sym, ap, subst, ◌∙◌, arith, slice_get, Option, None}
 use Rattle.rsc_look.specs.Holds.{byte_before, byte_after}
 use Rattle.rsc_search.specs.declared.anchored.Anchored.{Anchored}
 use Rattle.rsc_engine.specs.declared.dfa.pass_table.PassRow.{PassRow}
 use Rattle.rsc_engine.specs.Searches.{Search}
 use Rattle.rsc_engine.specs.RowsLayout.{machine_of, Alike, IsNear, around, middle}
 use Rattle.rsc_engine.specs.BackwardLayout.{IsRetreated, least_with, IsBegun, AreBefore, IsLeastFrom, begins_in, StandsBackward, GoesBackward}
-use Rattle.rsc_engine.specs.PassTableLayout.{IsPassRow, IsPassStep, IsPassTo}
-use Rattle.rsc_engine.proofs.LawfulLayoutLemmas.{IsNear-from, Alike-self, Alike-trans, SameBefore-from, around-least}
+use Rattle.rsc_engine.specs.PassTableLayout.{IsPassRow, IsPassStep, IsPassTo, IsPassStepAt, unit_at, IsBeyondAt}
+use Rattle.rsc_engine.proofs.LawfulLayoutLemmas.{IsNear-from, Alike-self, Alike-trans, SameBefore-from, around-least, follows-holding, SameBefore-same}
 use Rattle.rsc_engine.proofs.PassTableLayoutLemmas.{some_same, plain_alike, IsSearched}
 use Rattle.rsc_engine.proofs.BackwardLemmas.{begun-back, before-back, least-back, retreated-near, before-end, begun-end, least-end}
 
@@ -65,16 +65,25 @@ module _ (e : Search) (classes : List ℕ) where
         (begun-back e i least row.list.items begins list s.laws s.within low high was a)
         (least-back e i least row.list.items begins list s.laws s.within low high was a least_was)
 
-    -- made from the haystack itself
-    pub goes-back-here : (old new : List PassRow) (k i next : ℕ) (row : PassRow) (begins : Bool) (list : List ℕ) → e.start ≤ i → i ≤ e.end
-        → slice_get old k ≡ Some row → IfSome (byte_before e.haystack i) (λ b. b < 256)
-        → IsPassRow classes new next true e.mode begins None (byte_before e.haystack i) list → IsRetreated e i row.list.items begins list
-        → GoesBackward e classes old new k i next
-    goes-back-here old new k i next row begins list low high there byte r a = λ least on.
-        let same : on.row ≡ row = some_same on.row row (sym on.there ∙ there) in
-        next-stands new next i least row None begins list (byte_before e.haystack i) low high
-        (subst (λ (x : PassRow). AreBefore e (i + 1) x.list.items) same on.before) on.is_least
-        (Alike-self classes (byte_before e.haystack i) (byte_before e.haystack i) refl byte) r a
+    -- made at a position with this byte and these assertions
+    pub goes-back-beyond : (old new : List PassRow) (k i next : ℕ) → e.start ≤ i → i ≤ e.end
+        → IsBeyondAt (machine_of e) classes old new k e.haystack i next → GoesBackward e classes old new k i next
+    goes-back-beyond old new k i next low high x = λ least on.
+        let a = x.to in
+        let same : on.row ≡ a.from = some_same on.row a.from (sym on.there ∙ a.there) in
+        let back : a.from.backward ≡ true = subst (λ (r : PassRow). r.backward ≡ true) same on.backward in
+        let mode : a.from.mode ≡ e.mode = subst (λ (r : PassRow). r.mode ≡ e.mode) same on.same_mode in
+        let read : byte_before e.haystack i ≡ x.unit = subst (λ (b : Bool). unit_at b e.haystack i ≡ x.unit) back x.read in
+        let other : byte_before a.haystack a.at ≡ x.unit = subst (λ (b : Bool). unit_at b a.haystack a.at ≡ x.unit) back a.read in
+        let before = SameBefore-same s.laws e i a.haystack a.at (omega (arith, high, s.within)) a.within (read ∙ sym other) in
+        next-stands new next i least a.from a.found a.after a.list x.unit low high
+        (subst (λ (r : PassRow). AreBefore e (i + 1) r.list.items) same on.before) on.is_least
+        (Alike-self classes (byte_before e.haystack i) x.unit (sym read) a.byte)
+        (subst (λ (m : Anchored). IsPassRow classes new next true m a.after a.found x.unit a.list) mode
+        (subst (λ (b : Bool). IsPassRow classes new next b a.from.mode a.after a.found x.unit a.list) back a.is_row))
+        (retreated-near e i a.from.mode a.haystack a.at (follows-holding e i a.haystack a.at x.looks x.holding a.holding) low high a.within
+        a.from.list.items a.after a.list mode before.some before.moves
+        (subst (λ (b : Bool). IsPassStepAt (machine_of e) a.from.mode b a.haystack a.at a.from.begins a.from.list.items a.found a.after a.list) back a.step))
 
     -- made beside two bytes of these classes
     pub goes-backward : (old new : List PassRow) (k i next : ℕ) → e.start ≤ i → i ≤ e.end
@@ -95,7 +104,7 @@ module _ (e : Search) (classes : List ℕ) where
         (subst (λ (x : PassRow). AreBefore e (i + 1) x.list.items) same on.before) on.is_least a.alike
         (subst (λ (m : Anchored). IsPassRow classes new next true m a.leads.after a.leads.found a.other a.leads.list) mode
         (subst (λ (b : Bool). IsPassRow classes new next b a.from.mode a.leads.after a.leads.found a.other a.leads.list) back a.leads.is_row))
-        (retreated-near e i a.from.mode (around a.other a.from.read) (middle a.other) near low high (around-least a.other a.from.read)
+        (retreated-near e i a.from.mode (around a.other a.from.read) (middle a.other) near.follows low high (around-least a.other a.from.read)
         a.from.list.items a.leads.after a.leads.list mode before.some before.moves
         (subst (λ (b : Bool). IsPassStep (machine_of e) a.from.mode b a.from.read a.from.begins a.from.list.items a.other a.leads.found a.leads.after
         a.leads.list) back a.leads.step))

@@ -2,7 +2,7 @@
 use Rattle.std.proofs.Common.{◌≡◌, ◌↔◌, ℕ, ◌+◌, ◌-◌, ◌<◌, ◌≤◌, inl, inr, ⊎_elim, Bool, true, false, true≢false, List, [], length, get_or, refl, sym, ap, subst, ◌∙◌, arith}
 use Rattle.std.proofs.lemmas.Bool.{cases_lt}
 use Rattle.std.specs.List.{Contains}
-use Rattle.rsc_nfa.specs.Steps.{place}
+use Rattle.rsc_nfa.specs.Steps.{IsStep, place}
 use Rattle.rsc_search.specs.declared.anchored.Anchored.{Anchored}
 use Rattle.rsc_search.specs.declared.anchored.Anchored.TheVariants.{No}
 use Rattle.rsc_engine.specs.Searches.{Search}
@@ -11,7 +11,7 @@ use Rattle.rsc_engine.specs.Preferred.{IsLeftmostFirst}
 use Rattle.rsc_engine.specs.DecidesLayout.{last_of}
 use Rattle.rsc_engine.specs.LawfulLayout.{Lawful}
 use Rattle.rsc_engine.specs.OrderedLayout.{IsEndOf}
-use Rattle.rsc_engine.specs.RowsLayout.{IsMarked, machine_of, Moves, IsNear}
+use Rattle.rsc_engine.specs.RowsLayout.{IsMarked, machine_of, Follows, Moves}
 use Rattle.rsc_engine.specs.ForwardLayout.{beside, up_to}
 use Rattle.rsc_engine.specs.ArrivalsLayout.{Arrives, ArrivesOver, ArrivesAtOnce, here, over, LeadsBack, seed, back}
 use Rattle.rsc_engine.specs.BackwardLayout.{IsStartOf, Lists, IsSeed, IsClosedBack, IsSource, IsRetreated, IsBegun, AreBefore, least_with, IsLeastFrom}
@@ -113,15 +113,16 @@ module _ (e : Search) (i least : ℕ) (list : List ℕ) (begins : Bool) (next : 
 
 -- ---- a step beside a small haystack
 
-module _ (e : Search) (i : ℕ) (mode : Anchored) (near : List ℕ) (at : ℕ) (n : IsNear e i near at) (low : e.start ≤ i) (high : i ≤ e.end)
-    (least : at ≤ length near) where
+module _ (e : Search) (i : ℕ) (mode : Anchored) (near : List ℕ) (at : ℕ)
+    (follows : (s u : ℕ) → IsStep e.states e.terminator e.word_chars e.haystack e.end (s, i) (u, i) ↔ Follows (machine_of e) near at s u)
+    (low : e.start ≤ i) (high : i ≤ e.end) (least : at ≤ length near) where
   abbrev pub small : Search
   small = beside (machine_of e) mode near
 
   led-near : (list : List ℕ) (s : ℕ) → mode ≡ e.mode → LeadsBack small at (IsSeed small at list) s → LeadsBack e i (IsSeed e i list) s
   led-near list s same (seed _ (inl has)) = seed s (inl has)
   led-near list s same (seed _ (inr x)) = seed s (inr ((x.0.0, low, high), rw (sym same) x.1))
-  led-near list s same (back _ t there leads b) = back s t (there.0, low, high) ((n.follows s t).1 leads) (led-near list t same b)
+  led-near list s same (back _ t there leads b) = back s t (there.0, low, high) ((follows s t).1 leads) (led-near list t same b)
 
   pub retreated-near : (list : List ℕ) (begins : Bool) (next : List ℕ) → mode ≡ e.mode → (0 < i) ↔ (0 < at)
       → ((s t : ℕ) → 0 < i → Moves (machine_of e) e.haystack (i - 1) s t ↔ Moves (machine_of e) near (at - 1) s t)
@@ -133,7 +134,7 @@ module _ (e : Search) (i : ℕ) (mode : Anchored) (near : List ℕ) (at : ℕ) (
       kept = r.closed.kept;
       shut = λ s there.
           let shut = r.closed.shut s (there.0, omega arith, least) in
-          (λ accepted. shut.0 (rw same accepted), λ t leads m. shut.1 t ((n.follows s t).0 leads) m);
+          (λ accepted. shut.0 (rw same accepted), λ t leads m. shut.1 t ((follows s t).0 leads) m);
     };
     at_start = r.at_start;
     sources = record {

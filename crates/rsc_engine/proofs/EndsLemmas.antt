@@ -9,7 +9,6 @@ use Rattle.rsc_engine.specs.Runs.{IsMatchRun}
 use Rattle.rsc_engine.specs.Preferred.{HasNone}
 use Rattle.rsc_engine.specs.Ends.{IsMatchEnd, IsEarliestEnd}
 use Rattle.rsc_engine.specs.OrderedLayout.{IsEndOf}
-use Rattle.rsc_engine.specs.RowsLayout.{IsNear}
 use Rattle.rsc_engine.specs.PassesLayout.{Status, Open, Closed, answer_of, IsFound, IsDue}
 use Rattle.rsc_engine.specs.ForwardLayout.{last_with, IsHeld, IsGoing, StandsForward, StandsInEach, up_to}
 use Rattle.rsc_engine.proofs.RunsLemmas.{run-rises, match-wider}
@@ -27,19 +26,6 @@ step-to states t W h end last p q high step = go (slice_get states p.0) step
     go (Some (Fork a b)) x = x
     go (Some (Capture slot next)) x = x
     go (Some (Accept pattern)) x = x
-
--- the whole haystack stands for each position of the span
-pub near-whole : (e : Search) (i : ℕ) → i ≤ e.end → e.end ≤ length e.haystack → IsNear e i e.haystack i
-near-whole e i high within = record {
-  follows = λ s u. (
-    step-to e.states e.terminator e.word_chars e.haystack e.end (length e.haystack) (s, i) (u, i) (omega (arith, high, within)),
-    step-to e.states e.terminator e.word_chars e.haystack (length e.haystack) e.end (s, i) (u, i) high,
-  );
-  moves = λ s u l. (
-    step-to e.states e.terminator e.word_chars e.haystack e.end (length e.haystack) (s, i) (u, i + 1) (omega (arith, l, within)),
-    step-to e.states e.terminator e.word_chars e.haystack (length e.haystack) e.end (s, i) (u, i + 1) (omega (arith, l)),
-  );
-}
 
 -- a match within the part up to an end
 pub match-down : (e : Search) (t : ℕ) (from : ℕ × ℕ) (run : List (ℕ × ℕ)) → (place run (length run - 1)).1 ≤ t → IsMatchRun e from run

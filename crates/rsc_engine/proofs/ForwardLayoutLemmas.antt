@@ -1,5 +1,5 @@
 -- The forward pass along the rows of a table.
-use Rattle.std.proofs.Common.{◌≡◌, ℕ, suc, ◌+◌, ◌<◌, ◌≤◌, Bool, true, false, List, [], ◌∷◌, length, refl, sym, ◌∙◌, subst, arith, slice_get, Option, Some, None, Result, Ok, Err, IfSome, IfOk}
+use Rattle.std.proofs.Common.{◌≡◌, ℕ, suc, ◌+◌, ◌≤◌, Bool, true, false, List, [], ◌∷◌, length, sym, ◌∙◌, subst, arith, slice_get, Option, None, Result, Ok, Err, IfOk}
 use Rattle.rsc_look.specs.Holds.{byte_before, byte_after}
 use Rattle.rsc_search.specs.declared.anchored.Anchored.{Anchored}
 use Rattle.rsc_search.specs.declared.anchored.Anchored.TheVariants.{No}
@@ -7,11 +7,11 @@ use Rattle.rsc_engine.specs.declared.dfa.pass_table.PassRow.{PassRow}
 use Rattle.rsc_engine.specs.Searches.{Search}
 use Rattle.rsc_engine.specs.RowsLayout.{machine_of, Alike, IsNear, around, middle}
 use Rattle.rsc_engine.specs.ForwardLayout.{beside, IsAdvanced, last_with, IsGoing, pattern_in, StandsForward, StandsInEach, GoesForward, GoesInEach, up_to}
-use Rattle.rsc_engine.specs.PassTableLayout.{IsPassRow, IsPassStep, IsPassTo}
-use Rattle.rsc_engine.proofs.LawfulLayoutLemmas.{IsNear-from, Alike-self, Alike-trans}
+use Rattle.rsc_engine.specs.LawfulLayout.{Lawful}
+use Rattle.rsc_engine.specs.PassTableLayout.{IsPassRow, IsPassStep, IsPassTo, IsPassStepAt, unit_at, IsBeyondAt}
+use Rattle.rsc_engine.proofs.LawfulLayoutLemmas.{IsNear-from, IsNear-holding, Alike-self, Alike-trans}
 use Rattle.rsc_engine.proofs.PassTableLayoutLemmas.{some_same, plain_alike, IsSearched}
 use Rattle.rsc_engine.proofs.ForwardLemmas.{going-near, going-first}
-use Rattle.rsc_engine.proofs.EndsLemmas.{near-whole}
 
 module _ (e : Search) (classes : List ℕ) where
   -- the row that is next stands for the next position
@@ -71,18 +71,25 @@ module _ (e : Search) (classes : List ℕ) where
 -- ---- in the search up to each end
 
 module _ (e : Search) (classes : List ℕ) where
-  -- made from the haystack itself
-  pub each-here : (old new : List PassRow) (k i next : ℕ) (row : PassRow) (found : Option ℕ) (after : Bool) (list : List ℕ) → e.end ≤ length e.haystack
-      → slice_get old k ≡ Some row → IfSome (byte_after e.haystack i) (λ b. b < 256)
-      → IsPassRow classes new next false e.mode after found (byte_after e.haystack i) list
-      → IsAdvanced (beside (machine_of e) e.mode e.haystack) i row.begins row.list.items found after list → GoesInEach e classes old new k i next
-  each-here old new k i next row found after list within there byte r a = λ t low high last on.
-      let same : on.row ≡ row = some_same on.row row (sym on.there ∙ there) in
-      let near : IsNear (up_to e t) i e.haystack i = near-whole (up_to e t) i low (omega (arith, high, within)) in
-      let alike = Alike-self classes (byte_after e.haystack i) (byte_after e.haystack i) refl byte in
-      stands (up_to e t) classes old new next i last found after list (byte_after e.haystack i) alike r
-      (going-near (up_to e t) i e.haystack i row.begins last row.list.items found after list near
-      (subst (λ (x : PassRow). IsGoing (up_to e t) i x.begins last x.list.items) same on.going) low a)
+  -- made at a position with this byte and these assertions
+  pub each-beyond : Lawful → (old new : List PassRow) (k i next : ℕ) → e.end ≤ length e.haystack
+      → IsBeyondAt (machine_of e) classes old new k e.haystack i next → GoesInEach e classes old new k i next
+  each-beyond w old new k i next within x = λ t low high last on.
+      let a = x.to in
+      let same : on.row ≡ a.from = some_same on.row a.from (sym on.there ∙ a.there) in
+      let back : a.from.backward ≡ false = subst (λ (r : PassRow). r.backward ≡ false) same on.forward in
+      let mode : a.from.mode ≡ e.mode = subst (λ (r : PassRow). r.mode ≡ e.mode) same on.same_mode in
+      let read : byte_after e.haystack i ≡ x.unit = subst (λ (b : Bool). unit_at b e.haystack i ≡ x.unit) back x.read in
+      let other : byte_after a.haystack a.at ≡ x.unit = subst (λ (b : Bool). unit_at b a.haystack a.at ≡ x.unit) back a.read in
+      let near : IsNear (up_to e t) i a.haystack a.at =
+      IsNear-holding w (up_to e t) i a.haystack a.at x.looks (omega (arith, high, within)) (read ∙ sym other) x.holding a.holding in
+      stands (up_to e t) classes old new next i last a.found a.after a.list x.unit (Alike-self classes (byte_after e.haystack i) x.unit (sym read) a.byte)
+      (subst (λ (m : Anchored). IsPassRow classes new next false m a.after a.found x.unit a.list) mode
+      (subst (λ (b : Bool). IsPassRow classes new next b a.from.mode a.after a.found x.unit a.list) back a.is_row))
+      (going-near (up_to e t) i a.haystack a.at a.from.begins last a.from.list.items a.found a.after a.list near
+      (subst (λ (r : PassRow). IsGoing (up_to e t) i r.begins last r.list.items) same on.going) low
+      (subst (λ (m : Anchored). IsAdvanced (beside (machine_of e) m a.haystack) a.at a.from.begins a.from.list.items a.found a.after a.list) mode
+      (subst (λ (b : Bool). IsPassStepAt (machine_of e) a.from.mode b a.haystack a.at a.from.begins a.from.list.items a.found a.after a.list) back a.step)))
 
   -- made beside two bytes of these classes
   pub each-forward : (width : ℕ) (unicode : Bool) → IsSearched e classes width unicode → (old new : List PassRow) (k i next : ℕ)

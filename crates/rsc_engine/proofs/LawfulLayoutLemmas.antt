@@ -2,11 +2,13 @@
 use Rattle.std.proofs.Common.{⊎_elim, ◌≡◌, ◌↔◌, ℕ, zero, suc, ◌+◌, ◌-◌, ◌<◌, ◌≤◌, Bool, true, false, true≢false, List, [], ◌∷◌, length, slice_index, refl, sym, ap, ◌∙◌, subst, arith, slice_get, Option, Some, None, MatchOption, MatchBool, IsTrue, IfSome}
 use Rattle.std.proofs.lemmas.List.Elements.{All-nil, All-cons}
 use Rattle.std.proofs.lemmas.Bool.{cases_lt}
+use Rattle.std.proofs.lemmas.Option.{slice_get_within}
 use Rattle.rsc_alphabet.specs.Partitions.{class_map}
 use Rattle.rsc_alphabet.specs.PartitionsLaws.{class_map-together}
 use Rattle.rsc_look.specs.declared.assertion.Look.{Look}
 use Rattle.rsc_look.specs.declared.assertion.Look.TheVariants.{Start, End, StartLF, EndLF, StartCRLF, EndCRLF, WordAscii, WordAsciiNegate, WordUnicode, WordUnicodeNegate, WordStartAscii, WordEndAscii, WordStartUnicode, WordEndUnicode, WordStartHalfAscii, WordEndHalfAscii, WordStartHalfUnicode, WordEndHalfUnicode}
 use Rattle.rsc_look.specs.Looks.{is_unicode, ascii_of}
+use Rattle.rsc_look.specs.LookSets.{Looks}
 use Rattle.rsc_look.specs.Holds.{Holds, HoldsAtSides, holds_at_bytes, byte_before, byte_after}
 use Rattle.rsc_nfa.specs.declared.state.State.{State}
 use Rattle.rsc_nfa.specs.declared.state.State.TheVariants.{ByteRange, Assert, Fork, Capture, Accept}
@@ -15,6 +17,7 @@ use Rattle.rsc_nfa.specs.Steps.{IsStep, StepsTo}
 use Rattle.rsc_engine.specs.Searches.{Search}
 use Rattle.rsc_engine.specs.LawfulLayout.{Lawful}
 use Rattle.rsc_engine.specs.RowsLayout.{Machine, machine_of, around, middle, Follows, Moves, IsNear, Alike, IsPlainUnit, IsPlan}
+use Rattle.rsc_engine.specs.PassTableLayout.{AreHolding}
 
 -- ---- the small haystack
 
@@ -340,6 +343,63 @@ SameBefore-from w classes e width unicode (suc i) (Some q) o plan within low a p
 
     first : IsPlainUnit (machine_of e) (byte_after (around (Some q) o) 0)
     first = subst (IsPlainUnit (machine_of e)) (sym (around-first q o)) pq
+
+-- ---- a position with the same byte and the same assertions stands for another
+
+holds-same : (m : Machine) (h k : List ℕ) (i j : ℕ) (looks : Looks) → AreHolding m h i looks → AreHolding m k j looks
+    → (l : Look) → Holds l m.terminator m.word_chars h i → Holds l m.terminator m.word_chars k j
+holds-same m h k i j looks a b l x = (b l).0 ((a l).1 x)
+
+pub follows-holding : (e : Search) (i : ℕ) (near : List ℕ) (at : ℕ) (looks : Looks) → AreHolding (machine_of e) e.haystack i looks
+    → AreHolding (machine_of e) near at looks
+    → (s u : ℕ) → IsStep e.states e.terminator e.word_chars e.haystack e.end (s, i) (u, i) ↔ Follows (machine_of e) near at s u
+follows-holding e i near at looks a b s u = (
+  λ x. IsStep-stay e.states e.terminator e.word_chars e.haystack near e.end (length near) i at s u
+      (holds-same (machine_of e) e.haystack near i at looks a b) x,
+  λ x. IsStep-stay e.states e.terminator e.word_chars near e.haystack (length near) e.end at i s u
+      (holds-same (machine_of e) near e.haystack at i looks b a) x,
+)
+
+in-both : (h k : List ℕ) (i j : ℕ) → byte_after h i ≡ byte_after k j → i < length h → j < length k
+in-both [] k i j e l = absurd (omega (arith, l))
+in-both (x ∷ h) k zero j e l = slice_get_within k j x (sym e)
+in-both (x ∷ h) k (suc i) j e l = in-both h k i j e (omega (arith, l))
+
+pub IsNear-holding : Lawful → (e : Search) (i : ℕ) (near : List ℕ) (at : ℕ) (looks : Looks) → e.end ≤ length e.haystack
+    → byte_after e.haystack i ≡ byte_after near at → AreHolding (machine_of e) e.haystack i looks → AreHolding (machine_of e) near at looks
+    → IsNear e i near at
+IsNear-holding w e i near at looks within same a b = record {
+  follows = follows-holding e i near at looks a b;
+  moves = λ s u l. (
+    λ x. w.advances e.states e.terminator e.word_chars e.haystack near e.end (length near) i at s u same
+        (λ _. in-both e.haystack near i at same (omega (arith, l, within))) x,
+    λ x. w.advances e.states e.terminator e.word_chars near e.haystack (length near) e.end at i s u (sym same) (λ _. l) x,
+  );
+}
+
+pub SameBefore-same : Lawful → (e : Search) (i : ℕ) (near : List ℕ) (at : ℕ) → i ≤ length e.haystack → at ≤ length near
+    → byte_before e.haystack i ≡ byte_before near at → SameBefore e i near at
+SameBefore-same w e zero near zero low high same = record {
+  some = (λ l. absurd (omega (arith, l)), λ l. absurd (omega (arith, l)));
+  moves = λ s u l. absurd (omega (arith, l));
+}
+SameBefore-same w e zero near (suc at) low high same =
+    absurd (some_at [] near at (omega (arith, high)) (subst (λ (b : Option ℕ). Alike [] b None) same tt))
+SameBefore-same w e (suc i) near zero low high same =
+    absurd (some_at [] e.haystack i (omega (arith, low)) (subst (λ (b : Option ℕ). Alike [] b None) (sym same) tt))
+SameBefore-same w e (suc i) near (suc at) low high same = record {
+  some = (λ l. omega arith, λ l. omega arith);
+  moves = λ s u l.
+      let here : i ≡ suc i - 1 = omega arith in
+      let there : at ≡ suc at - 1 = omega arith in
+      subst (λ (k : ℕ). Moves (machine_of e) e.haystack k s u ↔ Moves (machine_of e) near (suc at - 1) s u) here
+      (subst (λ (k : ℕ). Moves (machine_of e) e.haystack i s u ↔ Moves (machine_of e) near k s u) there (
+        λ x. w.advances e.states e.terminator e.word_chars e.haystack near (length e.haystack) (length near) i at s u same
+            (λ _. omega (arith, high)) x,
+        λ x. w.advances e.states e.terminator e.word_chars near e.haystack (length near) (length e.haystack) at i s u (sym same)
+            (λ _. omega (arith, low)) x,
+      ));
+}
 
 -- ---- the classes of a plan
 

@@ -1,5 +1,5 @@
 -- The table of both passes: what it says is so, and stays so as it grows.
-use Rattle.std.proofs.Common.{◌≡◌, ℕ, zero, suc, ◌+◌, ◌*◌, ◌<◌, ◌≤◌, ◌⊎◌, ⊎_elim, inl, inr, Bool, List, [], ◌∷◌, ◌++◌, length, get_or, set, slice_index_or, refl, sym, ◌∙◌, subst, arith, length-append, slice_get, Option, Some, None, IfSome}
+use Rattle.std.proofs.Common.{◌≡◌, ℕ, zero, suc, ◌+◌, ◌*◌, ◌<◌, ◌≤◌, ◌⊎◌, ⊎_elim, inl, inr, Bool, false, true, List, [], ◌∷◌, ◌++◌, length, get_or, set, slice_index_or, refl, sym, ◌∙◌, subst, arith, length-append, slice_get, Option, Some, None, IfSome}
 use Rattle.std.proofs.lemmas.Bool.{cases_eq}
 use Rattle.std.proofs.lemmas.Grind.{get_or-set_at}
 use Rattle.std.proofs.lemmas.List.{get_or-set_other, length-set}
@@ -8,13 +8,18 @@ use Rattle.std.proofs.lemmas.Option.{slice_get_within, get_or_from_slice_get}
 use Rattle.std.specs.List.{All}
 use Rattle.rsc_alphabet.specs.Partitions.{LastClassIsGreatest}
 use Rattle.rsc_alphabet.specs.Iterators.{symbol_count}
+use Rattle.rsc_look.specs.LookSets.{Looks}
+use Rattle.rsc_search.specs.declared.anchored.Anchored.{Anchored}
 use Rattle.rsc_engine.specs.declared.dfa.pass_table.PassRow.{PassRow}
+use Rattle.rsc_engine.specs.declared.dfa.beyond.BeyondStep.{BeyondStep}
 use Rattle.rsc_engine.specs.declared.dfa.entries.Lead.{Lead}
-use Rattle.rsc_engine.specs.declared.dfa.entries.Lead.TheVariants.{Unknown}
+use Rattle.rsc_engine.specs.declared.dfa.entries.Lead.TheVariants.{Unknown, To, Marked, Last}
 use Rattle.rsc_engine.specs.Searches.{Search}
 use Rattle.rsc_engine.specs.LawfulLayout.{Lawful}
 use Rattle.rsc_engine.specs.RowsLayout.{Machine, machine_of, Alike, IsPlan, IsPlainUnit}
-use Rattle.rsc_engine.specs.PassTableLayout.{column, row_of, IsPassRow, IsPassStep, IsPassLed, IsPassTo, IsSoundPassRow, AreFew, IsPassTable, IsPassGrown}
+use Rattle.rsc_engine.specs.ForwardLayout.{pattern_in}
+use Rattle.rsc_engine.specs.BackwardLayout.{begins_in}
+use Rattle.rsc_engine.specs.PassTableLayout.{column, row_of, plain_row_of, IsPassRow, IsPassStep, IsPassLed, IsPassTo, IsSoundPassRow, IsUnmarked, IsPassStepAt, AreHolding, unit_at, IsBeyondTo, IsBeyondStep, IsBeyondAt, AreFew, IsPassTable, IsPassGrown}
 use Rattle.rsc_engine.proofs.LawfulLayoutLemmas.{Alike-self, Alike-trans}
 
 -- ---- a search
@@ -62,22 +67,27 @@ IsPassRow-last classes rows row k at byte = record {
   is_list = refl;
 }
 
+IsPassRow-grown : (classes : List ℕ) (old new : List PassRow) (k : ℕ) (backward : Bool) (mode : Anchored) (begins : Bool) (found read : Option ℕ)
+    (list : List ℕ) → IsPassGrown old new → IsPassRow classes old k backward mode begins found read list
+    → IsPassRow classes new k backward mode begins found read list
+IsPassRow-grown classes old new k backward mode begins found read list g x = record {
+  to = x.to;
+  there = g.kept k x.to x.there;
+  same_pass = x.same_pass;
+  same_mode = x.same_mode;
+  same_begins = x.same_begins;
+  same_found = x.same_found;
+  alike = x.alike;
+  is_list = x.is_list;
+}
+
 IsPassLed-grown : (m : Machine) (classes : List ℕ) (old new : List PassRow) (from : PassRow) (unit : Option ℕ) (next : ℕ) → IsPassGrown old new
     → IsPassLed m classes old from unit next → IsPassLed m classes new from unit next
 IsPassLed-grown m classes old new from unit next g x = record {
   found = x.found;
   after = x.after;
   list = x.list;
-  is_row = record {
-    to = x.is_row.to;
-    there = g.kept next x.is_row.to x.is_row.there;
-    same_pass = x.is_row.same_pass;
-    same_mode = x.is_row.same_mode;
-    same_begins = x.is_row.same_begins;
-    same_found = x.is_row.same_found;
-    alike = x.is_row.alike;
-    is_list = x.is_row.is_list;
-  };
+  is_row = IsPassRow-grown classes old new next from.backward from.mode x.after x.found unit x.list g x.is_row;
   step = x.step;
 }
 
@@ -118,6 +128,43 @@ IsPassTo-alike m classes old new row unit other next a x = record {
   leads = x.leads;
 }
 
+-- the same of a step beside a byte above 7F
+pub IsBeyondTo-kept : (m : Machine) (classes : List ℕ) (old new : List PassRow) (row : ℕ) (unit : Option ℕ) (looks : Looks) (next : ℕ) → IsPassGrown old new
+    → IsBeyondTo m classes old new row unit looks next → IsBeyondTo m classes new new row unit looks next
+IsBeyondTo-kept m classes old new row unit looks next g x = record {
+  from = x.from;
+  there = g.kept row x.from x.there;
+  haystack = x.haystack;
+  at = x.at;
+  within = x.within;
+  read = x.read;
+  byte = x.byte;
+  holding = x.holding;
+  found = x.found;
+  after = x.after;
+  list = x.list;
+  is_row = x.is_row;
+  step = x.step;
+}
+
+IsBeyondTo-grown : (m : Machine) (classes : List ℕ) (old new : List PassRow) (row : ℕ) (unit : Option ℕ) (looks : Looks) (next : ℕ) → IsPassGrown old new
+    → IsBeyondTo m classes old old row unit looks next → IsBeyondTo m classes new new row unit looks next
+IsBeyondTo-grown m classes old new row unit looks next g x = IsBeyondTo-kept m classes old new row unit looks next g (record {
+  from = x.from;
+  there = x.there;
+  haystack = x.haystack;
+  at = x.at;
+  within = x.within;
+  read = x.read;
+  byte = x.byte;
+  holding = x.holding;
+  found = x.found;
+  after = x.after;
+  list = x.list;
+  is_row = IsPassRow-grown classes old new next x.from.backward x.from.mode x.after x.found unit x.list g x.is_row;
+  step = x.step;
+})
+
 -- ---- entries
 
 pub column_below : (classes : List ℕ) (width : ℕ) (unit : Option ℕ) → width ≡ symbol_count classes → LastClassIsGreatest classes
@@ -150,46 +197,78 @@ written_so (Some y) step P (inr e) x = let same : step ≡ y = cc in subst P sam
 pub few-pushed : (most : ℕ) (rows : List PassRow) (row : PassRow) → AreFew most (length rows + 1) → AreFew most (length (rows ++ row ∷ []))
 few-pushed most rows row f = rw (length-append rows (row ∷ [])) f
 
-pub empty-table : (m : Machine) (classes : List ℕ) (width most : ℕ) (rows : List PassRow) (leads : List Lead) → rows ≡ [] → leads ≡ []
-    → IsPassTable m classes width most rows leads
-empty-table m classes width most rows leads none nothing = rw (none, nothing) (record {
+pub empty-table : (m : Machine) (classes : List ℕ) (width most : ℕ) (rows : List PassRow) (leads : List Lead) (beyond : List (Option BeyondStep))
+    → rows ≡ [] → leads ≡ [] → beyond ≡ [] → IsPassTable m classes width most rows leads beyond
+empty-table m classes width most rows leads beyond none nothing no_step = rw (none, nothing, no_step) (record {
   few = inr (omega arith);
   sound = All-nil (IsSoundPassRow m);
   room = omega arith;
   each = λ k unit b. tt;
+  plain = λ k unit b. tt;
+  steps = λ i. tt;
 })
 
-pub IsPassTable-wider : (m : Machine) (classes : List ℕ) (width most : ℕ) (rows : List PassRow) (leads wider : List Lead)
-    → IsPassTable m classes width most rows leads → ((i : ℕ) → slice_index_or wider i Unknown ≡ slice_index_or leads i Unknown)
-    → length leads ≤ length wider → IsPassTable m classes width most rows wider
-IsPassTable-wider m classes width most rows leads wider x same longer = record {
+-- an entry that leads to a row that isn't marked does so when the rows have grown
+plain-push : (m : Machine) (classes : List ℕ) (rows : List PassRow) (row : PassRow) (k : ℕ) (unit : Option ℕ) (lead : Lead)
+    → IfSome (row_of lead) (IsPassTo m classes rows rows k unit) → IfSome (plain_row_of lead) (λ next. IsUnmarked (slice_get rows next))
+    → IfSome (plain_row_of lead) (λ next. IsUnmarked (slice_get (rows ++ row ∷ []) next))
+plain-push m classes rows row k unit Unknown to x = tt
+plain-push m classes rows row k unit (To next) to x = subst (λ (o : Option PassRow). IsUnmarked o)
+    (to.leads.is_row.there ∙ sym (get_before rows row to.leads.is_row.to next to.leads.is_row.there)) x
+plain-push m classes rows row k unit (Marked next) to x = tt
+plain-push m classes rows row k unit (Last next) to x = tt
+
+pub plain-made : (rows : List PassRow) (next : ℕ) (marked : Bool) (o : Option ℕ) → (marked ≡ false → IsUnmarked (slice_get rows next))
+    → IfSome o (λ n. (n ≡ next) × (marked ≡ false)) → IfSome o (λ n. IsUnmarked (slice_get rows n))
+plain-made rows next marked None none x = tt
+plain-made rows next marked (Some n) none x = subst (λ (k : ℕ). IsUnmarked (slice_get rows k)) (sym x.0) (none x.1)
+
+pub IsPassTable-wider : (m : Machine) (classes : List ℕ) (width most : ℕ) (rows : List PassRow) (leads wider : List Lead) (beyond : List (Option BeyondStep))
+    → IsPassTable m classes width most rows leads beyond → ((i : ℕ) → slice_index_or wider i Unknown ≡ slice_index_or leads i Unknown)
+    → length leads ≤ length wider → IsPassTable m classes width most rows wider beyond
+IsPassTable-wider m classes width most rows leads wider beyond x same longer = record {
   few = x.few;
   sound = x.sound;
   room = omega (arith, x.room, longer);
   each = λ k unit b. rw (same (k * width + column classes unit)) (x.each k unit b);
+  plain = λ k unit b. rw (same (k * width + column classes unit)) (x.plain k unit b);
+  steps = x.steps;
 }
 
-pub IsPassTable-push : (m : Machine) (classes : List ℕ) (width most : ℕ) (rows : List PassRow) (leads : List Lead) (row : PassRow)
-    → IsPassTable m classes width most rows leads → AreFew most (length rows + 1) → IsSoundPassRow m row
-    → length rows * width + width ≤ length leads → IsPassTable m classes width most (rows ++ row ∷ []) leads
-IsPassTable-push m classes width most rows leads row x few sound room = record {
+pub IsPassTable-push : (m : Machine) (classes : List ℕ) (width most : ℕ) (rows : List PassRow) (leads : List Lead) (beyond : List (Option BeyondStep))
+    (row : PassRow) → IsPassTable m classes width most rows leads beyond → AreFew most (length rows + 1) → IsSoundPassRow m row
+    → length rows * width + width ≤ length leads → IsPassTable m classes width most (rows ++ row ∷ []) leads beyond
+IsPassTable-push m classes width most rows leads beyond row x few sound room = record {
   few = few-pushed most rows row few;
   sound = All-push (IsSoundPassRow m) rows row x.sound sound;
   room = rw (length-append rows (row ∷ [])) (omega (arith, room));
   each = λ k unit b. map_some (row_of (slice_index_or leads (k * width + column classes unit) Unknown)) (IsPassTo m classes rows rows k unit)
       (IsPassTo m classes (rows ++ row ∷ []) (rows ++ row ∷ []) k unit)
       (λ next s. IsPassTo-grown m classes rows (rows ++ row ∷ []) k unit next (IsPassGrown-push rows row) s) (x.each k unit b);
+  plain = λ k unit b. plain-push m classes rows row k unit (slice_index_or leads (k * width + column classes unit) Unknown) (x.each k unit b)
+      (x.plain k unit b);
+  steps = λ i. map_some (slice_index_or beyond i None) (IsBeyondStep m classes rows) (IsBeyondStep m classes (rows ++ row ∷ []))
+      (λ step s. IsBeyondTo-grown m classes rows (rows ++ row ∷ []) step.row step.unit step.looks step.next (IsPassGrown-push rows row) s) (x.steps i);
 }
 
-pub IsPassTable-set : (law : AreApart) (m : Machine) (classes : List ℕ) (width most : ℕ) (rows : List PassRow) (leads : List Lead) (row entry : ℕ)
-    (unit : Option ℕ) (next : ℕ) (lead : Lead) → IsPassTable m classes width most rows leads → width ≡ symbol_count classes → LastClassIsGreatest classes
+pub IsPassTable-set : (law : AreApart) (m : Machine) (classes : List ℕ) (width most : ℕ) (rows : List PassRow) (leads : List Lead)
+    (beyond : List (Option BeyondStep)) (row entry : ℕ) (unit : Option ℕ) (next : ℕ) (lead : Lead) → IsPassTable m classes width most rows leads beyond
+    → width ≡ symbol_count classes → LastClassIsGreatest classes
     → IfSome unit (λ b. b < 256) → IsPassTo m classes rows rows row unit next → (row_of lead ≡ None) ⊎ (row_of lead ≡ Some next)
-    → entry ≡ row * width + column classes unit → entry < length leads → IsPassTable m classes width most rows (set leads entry lead)
-IsPassTable-set law m classes width most rows leads row entry unit next lead x columns bounded byte s says at below = record {
+    → IfSome (plain_row_of lead) (λ n. IsUnmarked (slice_get rows n))
+    → entry ≡ row * width + column classes unit → entry < length leads → IsPassTable m classes width most rows (set leads entry lead) beyond
+IsPassTable-set law m classes width most rows leads beyond row entry unit next lead x columns bounded byte s says unmarked at below = record {
   few = x.few;
   sound = x.sound;
   room = rw (length-set leads entry lead) x.room;
   each = each;
+  plain = λ k u b. ⊎_elim
+      (λ (same : k * width + column classes u ≡ entry).
+      rw (get_or-set_at leads entry (k * width + column classes u) lead Unknown same below) unmarked)
+      (λ (apart : (k * width + column classes u ≡ entry) → ⊥).
+      rw (get_or-set_other leads entry (k * width + column classes u) lead Unknown apart) (x.plain k u b))
+      (cases_eq (k * width + column classes u) entry);
+  steps = x.steps;
 }
   where
     each : (k : ℕ) (u : Option ℕ) → IfSome u (λ b. b < 256)
@@ -208,6 +287,27 @@ IsPassTable-set law m classes width most rows leads row entry unit next lead x c
 
 -- ---- what is made
 
+pub beyond_made : (m : Machine) (classes : List ℕ) (old new : List PassRow) (row next : ℕ) (from : PassRow) (unit : Option ℕ) (looks : Looks)
+    (h : List ℕ) (i : ℕ) (found : Option ℕ) (after : Bool) (list : List ℕ) → slice_get old row ≡ Some from → i ≤ length h
+    → ((any : PassRow) → slice_get old row ≡ Some any → unit_at any.backward h i ≡ unit) → IfSome unit (λ b. b < 256) → AreHolding m h i looks
+    → IsPassRow classes new next from.backward from.mode after found unit list
+    → IsPassStepAt m from.mode from.backward h i from.begins from.list.items found after list → IsBeyondTo m classes old new row unit looks next
+beyond_made m classes old new row next from unit looks h i found after list there within read byte holding r x = record {
+  from = from;
+  there = there;
+  haystack = h;
+  at = i;
+  within = within;
+  read = read from there;
+  byte = byte;
+  holding = holding;
+  found = found;
+  after = after;
+  list = list;
+  is_row = r;
+  step = x;
+}
+
 pub pass_made : (m : Machine) (classes : List ℕ) (old new : List PassRow) (row next : ℕ) (from : PassRow) (unit : Option ℕ) (found : Option ℕ)
     (after : Bool) (list : List ℕ) → slice_get old row ≡ Some from → IfSome unit (λ b. b < 256) → IsPlainUnit m from.read → IsPlainUnit m unit
     → IsPassRow classes new next from.backward from.mode after found unit list
@@ -223,6 +323,17 @@ pass_made m classes old new row next from unit found after list there byte plain
   leads = record { found = found; after = after; list = list; is_row = r; step = x };
 }
 
+pub beyond-here : (m : Machine) (classes : List ℕ) (old new : List PassRow) (row : ℕ) (h : List ℕ) (i next : ℕ) (from : PassRow) (unit : Option ℕ)
+    (looks : Looks) → slice_get old row ≡ Some from → unit ≡ unit_at from.backward h i → AreHolding m h i looks
+    → IsBeyondTo m classes old new row unit looks next → IsBeyondAt m classes old new row h i next
+beyond-here m classes old new row h i next from unit looks there is holding x = record {
+  unit = unit;
+  looks = looks;
+  holding = holding;
+  to = x;
+  read = subst (λ (r : PassRow). unit_at r.backward h i ≡ unit) (some_same from x.from (sym there ∙ x.there)) (sym is);
+}
+
 pub sound_at : (m : Machine) (rows : List PassRow) (k : ℕ) (row : PassRow) → All (IsSoundPassRow m) rows → slice_get rows k ≡ Some row
     → IsSoundPassRow m row
 sound_at m rows k row all there =
@@ -232,3 +343,15 @@ sound_at m rows k row all there =
 pub led-there : (m : Machine) (classes : List ℕ) (old new : List PassRow) (row : ℕ) (unit : Option ℕ) (next : ℕ) → IsPassTo m classes old new row unit next
     → next < length new
 led-there m classes old new row unit next x = slice_get_within new next x.leads.is_row.to x.leads.is_row.there
+
+-- ---- a row that isn't marked
+
+pub unmarked-none : (o : Option PassRow) → IsUnmarked o → pattern_in o ≡ None
+unmarked-none None x = refl
+unmarked-none (Some row) x = x.0
+
+pub unmarked-begins : (o : Option PassRow) (row : PassRow) → o ≡ Some row → row.backward ≡ true → IsUnmarked o → begins_in o ≡ false
+unmarked-begins None row is back x = refl
+unmarked-begins (Some other) row is back x =
+    let same : other ≡ row = some_same other row is in
+    x.1 (subst (λ (r : PassRow). r.backward ≡ true) (sym same) back)

@@ -21,6 +21,7 @@ mod along;
 mod backward;
 mod backward_steps;
 mod begin_rows;
+mod beyond;
 mod entries;
 mod forward;
 mod forward_steps;
@@ -78,6 +79,8 @@ pub(crate) const MOST_ROWS: usize = 1000;
 pub struct Dfa<'p, W: WordClass> {
     alloc: Global,
     plan: Plan<'p, W>,
+    // As many rows as are kept between searches.
+    most_rows: usize,
     passes: PassTable,
     // For each position of the last match the row of the backward pass there, from its end on.
     log: Vec<u32>,
@@ -97,6 +100,7 @@ impl<W: WordClass> Drop for Dfa<'_, W> {
         let Dfa {
             alloc: _,
             plan: _,
+            most_rows: _,
             passes: _,
             log: _,
             walk: _,
@@ -110,7 +114,7 @@ impl<W: WordClass> Drop for Dfa<'_, W> {
 
 impl<'p, W: WordClass> Model for Dfa<'p, W> {
     ghost use Rattle.rsc_engine.specs.Searches.{Compiled};
-    ghost use Rattle.std.specs.Prelude.{IfSome};
+    ghost use Rattle.std.specs.Prelude.{◌≡◌, IfSome};
     ghost use Rattle.rsc_engine.specs.NeededLayout.{NeedsPair};
     ghost use Rattle.rsc_engine.specs.RowsLayout.{machine, IsPlan};
     ghost use Rattle.rsc_engine.specs.PassTableLayout.{IsPassTable};
@@ -122,8 +126,10 @@ impl<'p, W: WordClass> Model for Dfa<'p, W> {
 
     ghost invariant = { λ d. IsPlan (machine W.word_chars d.plan.program.now) d.plan.classes d.plan.width d.plan.unicode
         × IsPassTable (machine W.word_chars d.plan.program.now) d.plan.classes d.plan.width d.plan.most_rows d.passes.rows.items d.passes.leads.items
+        d.passes.beyond.items
         × AreQuiet d.plan.program.now.automaton.states d.loud.items
-        × IfSome d.needed (λ n. NeedsPair (machine W.word_chars d.plan.program.now) n.first n.second) };
+        × IfSome d.needed (λ n. NeedsPair (machine W.word_chars d.plan.program.now) n.first n.second)
+        × (d.plan.most_rows ≡ d.most_rows) };
 }
 
 impl<'p, W: WordClass + AsciiWordClass> Dfa<'p, W> {
@@ -135,6 +141,7 @@ impl<'p, W: WordClass + AsciiWordClass> Dfa<'p, W> {
         Dfa {
             alloc,
             plan: Plan::new(program, most_rows),
+            most_rows,
             passes: PassTable::new(alloc),
             log: Vec::new(alloc),
             walk: Walk::new(alloc),
@@ -263,7 +270,6 @@ impl<'p, W: WordClass + AsciiWordClass> Dfa<'p, W> {
             return Err(Error::OutOfMemory);
         }
         self.listen(captures)?;
-        let most_rows = self.plan.most_rows;
         // No row is dropped that the log names.
         self.plan.most_rows = usize::MAX;
         let found = match_along(
@@ -277,8 +283,8 @@ impl<'p, W: WordClass + AsciiWordClass> Dfa<'p, W> {
             self.loud.as_slice(),
             captures,
         );
-        self.plan.most_rows = most_rows;
-        self.passes.keep_at_most(most_rows);
+        self.plan.most_rows = self.most_rows;
+        self.passes.keep_at_most(self.most_rows);
         Ok(Some(found?))
     }
 

@@ -1,5 +1,5 @@
 //! All matches one after the other.
-ghost use Rattle.std.specs.Prelude.{◌≡◌, ◌+◌, ◌<◌, ◌≤◌, IfOk, IfErr, IfSome, IfNone, OnErr, MatchOption, None, Some, false, true, length};
+ghost use Rattle.std.specs.Prelude.{◌≡◌, ◌+◌, ◌-◌, ◌*◌, ◌^◌, ◌<◌, ◌≤◌, IfOk, IfErr, IfSome, IfNone, OnErr, MatchOption, None, Some, false, true, length};
 ghost use Rattle.std.specs.Option.{ForSome};
 ghost use Rattle.rsc_search.specs.declared.anchored.Anchored.TheVariants.{No};
 ghost use Rattle.rsc_primitives.specs.Decoding.{IsCharBoundary};
@@ -314,7 +314,10 @@ impl<'p, 'h, W: WordClass + AsciiWordClass> Rest<'p, 'h, W> {
 }
 
 // How many bytes are to spare after a search from a position, whose match ends at another and whose pass stopped at a third.
-fn spare_after(spare: usize, start: usize, end: usize, stopped: usize) -> usize {
+fn spare_after(spare: usize, start: usize, end: usize, stopped: usize) -> usize
+    ensures { spare + SPARE_FOR_A_BYTE * (end - start + 1) < 2 ^ 64
+        → result ≡ spare + SPARE_FOR_A_BYTE * (end - start + 1) - (stopped - end) }
+{
     let gone = end.saturating_sub(start).saturating_add(1);
     let gained = gone.saturating_mul(SPARE_FOR_A_BYTE);
     let read_behind = stopped.saturating_sub(end);

@@ -34,11 +34,11 @@ pub(crate) fn first_start<W: WordClass>(
     requires plan { IsPlan (machine W.word_chars plan.now.program.now) plan.now.classes plan.now.width plan.now.unicode }
     requires numbered { length plan.now.program.now.automaton.states ≤ max_index }
     requires exact { IsPassTable (machine W.word_chars plan.now.program.now) plan.now.classes plan.now.width plan.now.most_rows
-        table.old.rows.items table.old.leads.items }
+        table.old.rows.items table.old.leads.items table.old.beyond.items }
     requires end { IsEndOf (search_in W.word_chars plan.now.program.now input.now) pattern end }
     requires room { plan.now.most_rows ≡ usize.MAX }
     ensures exact { IsPassTable (machine W.word_chars plan.now.program.now) plan.now.classes plan.now.width plan.now.most_rows
-        table.new.rows.items table.new.leads.items }
+        table.new.rows.items table.new.leads.items table.new.beyond.items }
     ensures start { IfOk result (IsStartOf (search_in W.word_chars plan.now.program.now input.now) pattern end) }
     ensures log { IfOk result (λ at.
         IsLogged (up_to (search_in W.word_chars plan.now.program.now input.now) end) at table.new.rows.items log.new.items) }
@@ -78,11 +78,11 @@ pub(crate) fn go_back<W: WordClass>(
     requires plan { IsPlan (machine W.word_chars plan.now.program.now) plan.now.classes plan.now.width plan.now.unicode }
     requires numbered { length plan.now.program.now.automaton.states ≤ max_index }
     requires exact { IsPassTable (machine W.word_chars plan.now.program.now) plan.now.classes plan.now.width plan.now.most_rows
-        table.old.rows.items table.old.leads.items }
+        table.old.rows.items table.old.leads.items table.old.beyond.items }
     requires room { plan.now.most_rows ≡ usize.MAX }
     requires order { input.now.span.start ≤ input.now.span.end }
     ensures exact { IsPassTable (machine W.word_chars plan.now.program.now) plan.now.classes plan.now.width plan.now.most_rows
-        table.new.rows.items table.new.leads.items }
+        table.new.rows.items table.new.leads.items table.new.beyond.items }
     ensures first { all ≡ false → IfOk result (λ at.
         IsLoggedFirst (search_in W.word_chars plan.now.program.now input.now) at table.new.rows.items log.new.items) }
     ensures whole { all ≡ true → IfOk result (λ _.

@@ -11,10 +11,10 @@ ghost use Rattle.rsc_engine.specs.BackwardLayout.{StandsBackward, GoesBackward, 
 ghost use Rattle.rsc_engine.specs.declared.dfa.pass_table.PassRow.{PassRow};
 
 use super::backward::add_to_log;
+use super::entries::Lead;
 use super::lawful::steps_are_lawful;
-use super::pass_table::{PassRow, PassTable};
+use super::pass_table::PassTable;
 use super::plan::{Plan, before_of, byte_at};
-use super::retreat::retreat;
 use crate::Error;
 use rsc_look::WordClass;
 use rsc_search::Input;
@@ -35,7 +35,7 @@ impl PassTable {
     ) -> Result<(usize, usize, usize), Error>
         requires plan { IsPlan (machine W.word_chars plan.now.program.now) plan.now.classes plan.now.width plan.now.unicode }
         requires exact { IsPassTable (machine W.word_chars plan.now.program.now) plan.now.classes plan.now.width plan.now.most_rows
-            self.now.rows.items self.now.leads.items }
+            self.now.rows.items self.now.leads.items self.now.beyond.items }
         requires row { row < length self.now.rows.items }
         requires start { input.now.span.start ≤ at }
         requires end { at ≤ input.now.span.end }
@@ -54,14 +54,19 @@ impl PassTable {
         let mut position = at;
         let mut found = least;
         'bytes: while position > start {
-            match self.known_row(plan, here, byte_at(haystack, position - 1)) {
-                Some(next) => {
-                    here = next;
-                    found = self.least_with(next, position, found);
+            match self.lead_of(plan, here, byte_at(haystack, position - 1)) {
+                Lead::To(next) => {
+                    here = next as usize;
                     position -= 1;
-                    add_to_log(log, next)?;
+                    add_to_log(log, here)?;
                 }
-                None => return Ok((here, position, found)),
+                Lead::Marked(next) => {
+                    here = next as usize;
+                    found = self.least_with(here, position, found);
+                    position -= 1;
+                    add_to_log(log, here)?;
+                }
+                Lead::Unknown | Lead::Last(_) => return Ok((here, position, found)),
             }
         }
         Ok((here, position, found))
@@ -104,13 +109,13 @@ impl PassTable {
         requires plan { IsPlan (machine W.word_chars plan.now.program.now) plan.now.classes plan.now.width plan.now.unicode }
         requires numbered { length plan.now.program.now.automaton.states ≤ max_index }
         requires exact { IsPassTable (machine W.word_chars plan.now.program.now) plan.now.classes plan.now.width plan.now.most_rows
-            self.old.rows.items self.old.leads.items }
+            self.old.rows.items self.old.leads.items self.old.beyond.items }
         requires row { row < length self.old.rows.items }
         requires start { input.now.span.start ≤ at }
         requires end { at ≤ input.now.span.end }
         requires on { StandsBackward (search_in W.word_chars plan.now.program.now input.now) plan.now.classes self.old.rows.items row (at + 1) least }
         ensures exact { IsPassTable (machine W.word_chars plan.now.program.now) plan.now.classes plan.now.width plan.now.most_rows
-            self.new.rows.items self.new.leads.items }
+            self.new.rows.items self.new.leads.items self.new.beyond.items }
         ensures row { IfOk result (λ r. r.0 < length self.new.rows.items) }
         ensures on { IfOk result (λ r.
             StandsBackward (search_in W.word_chars plan.now.program.now input.now) plan.now.classes self.new.rows.items r.0 at r.1) }
@@ -132,12 +137,12 @@ impl PassTable {
         requires plan { IsPlan (machine W.word_chars plan.now.program.now) plan.now.classes plan.now.width plan.now.unicode }
         requires numbered { length plan.now.program.now.automaton.states ≤ max_index }
         requires exact { IsPassTable (machine W.word_chars plan.now.program.now) plan.now.classes plan.now.width plan.now.most_rows
-            self.old.rows.items self.old.leads.items }
+            self.old.rows.items self.old.leads.items self.old.beyond.items }
         requires row { row < length self.old.rows.items }
         requires start { input.now.span.start ≤ at }
         requires end { at ≤ input.now.span.end }
         ensures exact { IsPassTable (machine W.word_chars plan.now.program.now) plan.now.classes plan.now.width plan.now.most_rows
-            self.new.rows.items self.new.leads.items }
+            self.new.rows.items self.new.leads.items self.new.beyond.items }
         ensures row { IfOk result (λ next. next < length self.new.rows.items) }
         ensures goes { IfOk result (GoesBackward (search_in W.word_chars plan.now.program.now input.now) plan.now.classes
             self.old.rows.items self.new.rows.items row at) }
@@ -147,50 +152,11 @@ impl PassTable {
         steps_are_lawful();
         let unit = before_of(input.haystack(), at);
         if plan.is_beyond(unit) || plan.is_beyond(self.rows[row].read) {
-            return self.make_back(plan, input, row, at);
+            return self.step_beyond(plan, input.haystack(), at, row);
         }
         match self.look_up(plan, row, unit) {
             Some(next) => Ok(next),
             None => self.make(plan, row, unit),
         }
-    }
-
-    // The same, made from the haystack itself, where an assertion may look at a byte above 7F: it serves this position alone, so it isn't kept.
-    fn make_back<W: WordClass>(
-        &mut self,
-        plan: &Plan<'_, W>,
-        input: &Input<'_>,
-        row: usize,
-        at: usize,
-    ) -> Result<usize, Error>
-        requires plan { IsPlan (machine W.word_chars plan.now.program.now) plan.now.classes plan.now.width plan.now.unicode }
-        requires numbered { length plan.now.program.now.automaton.states ≤ max_index }
-        requires exact { IsPassTable (machine W.word_chars plan.now.program.now) plan.now.classes plan.now.width plan.now.most_rows
-            self.old.rows.items self.old.leads.items }
-        requires row { row < length self.old.rows.items }
-        requires start { input.now.span.start ≤ at }
-        requires end { at ≤ input.now.span.end }
-        ensures exact { IsPassTable (machine W.word_chars plan.now.program.now) plan.now.classes plan.now.width plan.now.most_rows
-            self.new.rows.items self.new.leads.items }
-        ensures row { IfOk result (λ next. next < length self.new.rows.items) }
-        ensures goes { IfOk result (GoesBackward (search_in W.word_chars plan.now.program.now input.now) plan.now.classes
-            self.old.rows.items self.new.rows.items row at) }
-        ensures kept { IfOk result (λ _. length self.old.rows.items < plan.now.most_rows → IsPassGrown self.old.rows.items self.new.rows.items) }
-        ensures memory { IfErr result (λ e. e ≡ OutOfMemory) }
-    {
-        steps_are_lawful();
-        let unit = before_of(input.haystack(), at);
-        let mode = input.get_anchored();
-        let from = &self.rows[row];
-        let (begins, list) = retreat(self.alloc, plan.program, input, at, from.list.as_slice())?;
-        let next_row = PassRow {
-            backward: true,
-            mode,
-            begins,
-            found: None,
-            read: unit,
-            list,
-        };
-        Ok(self.row_of(plan, next_row)?.0)
     }
 }

@@ -29,9 +29,9 @@ impl PassTable {
     ) -> Result<usize, Error>
         requires plan { IsPlan (machine W.word_chars plan.now.program.now) plan.now.classes plan.now.width plan.now.unicode }
         requires exact { IsPassTable (machine W.word_chars plan.now.program.now) plan.now.classes plan.now.width plan.now.most_rows
-            self.old.rows.items self.old.leads.items }
+            self.old.rows.items self.old.leads.items self.old.beyond.items }
         ensures exact { IsPassTable (machine W.word_chars plan.now.program.now) plan.now.classes plan.now.width plan.now.most_rows
-            self.new.rows.items self.new.leads.items }
+            self.new.rows.items self.new.leads.items self.new.beyond.items }
         ensures row { IfOk result (λ row. IsPassRow plan.now.classes self.new.rows.items row false mode.now begins None before
             (plan.now.program.now.start ∷ [])) }
         ensures memory { IfErr result (λ e. e ≡ OutOfMemory) }
@@ -50,9 +50,9 @@ impl PassTable {
         requires plan { IsPlan (machine W.word_chars plan.now.program.now) plan.now.classes plan.now.width plan.now.unicode }
         requires numbered { length plan.now.program.now.automaton.states ≤ max_index }
         requires exact { IsPassTable (machine W.word_chars plan.now.program.now) plan.now.classes plan.now.width plan.now.most_rows
-            self.old.rows.items self.old.leads.items }
+            self.old.rows.items self.old.leads.items self.old.beyond.items }
         ensures exact { IsPassTable (machine W.word_chars plan.now.program.now) plan.now.classes plan.now.width plan.now.most_rows
-            self.new.rows.items self.new.leads.items }
+            self.new.rows.items self.new.leads.items self.new.beyond.items }
         ensures row { IfOk result (λ row. IsPassRow plan.now.classes self.new.rows.items row true mode.now false None after []) }
         ensures memory { IfErr result (λ e. e ≡ OutOfMemory) }
     {
@@ -73,9 +73,9 @@ impl PassTable {
         requires numbered { backward ≡ true → length plan.now.program.now.automaton.states ≤ max_index }
         requires states { AreStates (length plan.now.program.now.automaton.states) list.now }
         requires exact { IsPassTable (machine W.word_chars plan.now.program.now) plan.now.classes plan.now.width plan.now.most_rows
-            self.old.rows.items self.old.leads.items }
+            self.old.rows.items self.old.leads.items self.old.beyond.items }
         ensures exact { IsPassTable (machine W.word_chars plan.now.program.now) plan.now.classes plan.now.width plan.now.most_rows
-            self.new.rows.items self.new.leads.items }
+            self.new.rows.items self.new.leads.items self.new.beyond.items }
         ensures row { IfOk result (λ row. IsPassRow plan.now.classes self.new.rows.items row backward mode.now begins None read list.now) }
         ensures memory { IfErr result (λ e. e ≡ OutOfMemory) }
     {

@@ -18,8 +18,10 @@ use std::alloc::Global;
 pub(crate) enum Lead {
     /// It isn't known.
     Unknown,
-    /// The unit leads to the row.
+    /// The unit leads to the row, which isn't marked.
     To(u32),
+    /// The unit leads to the row, which may be marked.
+    Marked(u32),
     /// The unit leads to the row, which has no state: a search ends there.
     Last(u32),
 }

@@ -30,9 +30,9 @@ pub(crate) fn first_end<W: WordClass>(
 ) -> Result<(Option<(PatternID, usize)>, usize), Error>
     requires plan { IsPlan (machine W.word_chars plan.now.program.now) plan.now.classes plan.now.width plan.now.unicode }
     requires exact { IsPassTable (machine W.word_chars plan.now.program.now) plan.now.classes plan.now.width plan.now.most_rows
-        table.old.rows.items table.old.leads.items }
+        table.old.rows.items table.old.leads.items table.old.beyond.items }
     ensures exact { IsPassTable (machine W.word_chars plan.now.program.now) plan.now.classes plan.now.width plan.now.most_rows
-        table.new.rows.items table.new.leads.items }
+        table.new.rows.items table.new.leads.items table.new.beyond.items }
     ensures found { earliest ≡ false → IfOk result (λ r. IfSome r.0 (λ f. IsEndOf (search_in W.word_chars plan.now.program.now input.now) f.0 f.1)) }
     ensures earliest { earliest ≡ true → IfOk result (λ r. IfSome r.0 (λ f. IsEarliestEnd (search_in W.word_chars plan.now.program.now input.now) f.1)) }
     ensures none { IfOk result (λ r. IfNone r.0 (HasNone (search_in W.word_chars plan.now.program.now input.now))) }

@@ -8,9 +8,9 @@ ghost use Rattle.rsc_engine.specs.PassTableLayout.{IsPassTable};
 ghost use Rattle.rsc_engine.specs.ForwardLayout.{StandsInEach, GoesInEach, pattern_in, last_with};
 ghost use Rattle.rsc_engine.specs.declared.dfa.pass_table.PassRow.{PassRow};
 
+use super::entries::Lead;
 use super::lawful::steps_are_lawful;
-use super::ordered::advance;
-use super::pass_table::{PassRow, PassTable};
+use super::pass_table::PassTable;
 use super::plan::{Plan, after_of, byte_at};
 use crate::Error;
 use rsc_look::WordClass;
@@ -32,7 +32,7 @@ impl PassTable {
     ) -> (usize, usize, Option<(PatternID, usize)>)
         requires plan { IsPlan (machine W.word_chars plan.now.program.now) plan.now.classes plan.now.width plan.now.unicode }
         requires exact { IsPassTable (machine W.word_chars plan.now.program.now) plan.now.classes plan.now.width plan.now.most_rows
-            self.now.rows.items self.now.leads.items }
+            self.now.rows.items self.now.leads.items self.now.beyond.items }
         requires on { StandsInEach (search_in W.word_chars plan.now.program.now input.now) plan.now.classes self.now.rows.items row at last }
         requires start { input.now.span.start ≤ at }
         requires end { at ≤ input.now.span.end }
@@ -47,15 +47,17 @@ impl PassTable {
         let mut here = row;
         let mut found = last;
         'bytes: for position in at..end {
-            match self.known_row(plan, here, byte_at(haystack, position)) {
-                Some(next) => {
+            match self.lead_of(plan, here, byte_at(haystack, position)) {
+                Lead::To(next) => here = next as usize,
+                Lead::Marked(next) => {
+                    let next = next as usize;
                     if earliest && self.has_found(next) {
                         return (here, position, found);
                     }
                     here = next;
                     found = self.found_with(next, position, found);
                 }
-                None => return (here, position, found),
+                Lead::Unknown | Lead::Last(_) => return (here, position, found),
             }
         }
         (here, end, found)
@@ -118,12 +120,12 @@ impl PassTable {
     ) -> Result<(usize, Option<(PatternID, usize)>), Error>
         requires plan { IsPlan (machine W.word_chars plan.now.program.now) plan.now.classes plan.now.width plan.now.unicode }
         requires exact { IsPassTable (machine W.word_chars plan.now.program.now) plan.now.classes plan.now.width plan.now.most_rows
-            self.old.rows.items self.old.leads.items }
+            self.old.rows.items self.old.leads.items self.old.beyond.items }
         requires on { StandsInEach (search_in W.word_chars plan.now.program.now input.now) plan.now.classes self.old.rows.items row at last }
         requires start { input.now.span.start ≤ at }
         requires end { at ≤ input.now.span.end }
         ensures exact { IsPassTable (machine W.word_chars plan.now.program.now) plan.now.classes plan.now.width plan.now.most_rows
-            self.new.rows.items self.new.leads.items }
+            self.new.rows.items self.new.leads.items self.new.beyond.items }
         ensures on { IfOk result (λ r.
             StandsInEach (search_in W.word_chars plan.now.program.now input.now) plan.now.classes self.new.rows.items r.0 (at + 1) r.1) }
         ensures found { IfOk result (λ r. r.1 ≡ last_with (pattern_in (slice_get self.new.rows.items r.0)) at last) }
@@ -143,12 +145,12 @@ impl PassTable {
     ) -> Result<usize, Error>
         requires plan { IsPlan (machine W.word_chars plan.now.program.now) plan.now.classes plan.now.width plan.now.unicode }
         requires exact { IsPassTable (machine W.word_chars plan.now.program.now) plan.now.classes plan.now.width plan.now.most_rows
-            self.old.rows.items self.old.leads.items }
+            self.old.rows.items self.old.leads.items self.old.beyond.items }
         requires row { row < length self.old.rows.items }
         requires start { input.now.span.start ≤ at }
         requires end { at ≤ input.now.span.end }
         ensures exact { IsPassTable (machine W.word_chars plan.now.program.now) plan.now.classes plan.now.width plan.now.most_rows
-            self.new.rows.items self.new.leads.items }
+            self.new.rows.items self.new.leads.items self.new.beyond.items }
         ensures goes { IfOk result (GoesInEach (search_in W.word_chars plan.now.program.now input.now) plan.now.classes
             self.old.rows.items self.new.rows.items row at) }
         ensures memory { IfErr result (λ e. e ≡ OutOfMemory) }
@@ -156,56 +158,11 @@ impl PassTable {
         steps_are_lawful();
         let unit = after_of(input.haystack(), at);
         if plan.is_beyond(unit) || plan.is_beyond(self.rows[row].read) {
-            return self.make_here(plan, input, row, at);
+            return self.step_beyond(plan, input.haystack(), at, row);
         }
         match self.look_up(plan, row, unit) {
             Some(next) => Ok(next),
             None => self.make(plan, row, unit),
         }
-    }
-
-    // Where the unit at a position leads from its row, made from the haystack itself, where an assertion may look at a byte above 7F: it serves this position
-    // alone, so it isn't kept.
-    fn make_here<W: WordClass>(
-        &mut self,
-        plan: &Plan<'_, W>,
-        input: &Input<'_>,
-        row: usize,
-        at: usize,
-    ) -> Result<usize, Error>
-        requires plan { IsPlan (machine W.word_chars plan.now.program.now) plan.now.classes plan.now.width plan.now.unicode }
-        requires exact { IsPassTable (machine W.word_chars plan.now.program.now) plan.now.classes plan.now.width plan.now.most_rows
-            self.old.rows.items self.old.leads.items }
-        requires row { row < length self.old.rows.items }
-        requires start { input.now.span.start ≤ at }
-        requires end { at ≤ input.now.span.end }
-        ensures exact { IsPassTable (machine W.word_chars plan.now.program.now) plan.now.classes plan.now.width plan.now.most_rows
-            self.new.rows.items self.new.leads.items }
-        ensures goes { IfOk result (GoesInEach (search_in W.word_chars plan.now.program.now input.now) plan.now.classes
-            self.old.rows.items self.new.rows.items row at) }
-        ensures memory { IfErr result (λ e. e ≡ OutOfMemory) }
-    {
-        let haystack = input.haystack();
-        let unit = after_of(haystack, at);
-        let mode = input.get_anchored();
-        let whole = Input::new(haystack).anchored(mode);
-        let from = &self.rows[row];
-        let (found, begins, list) = advance(
-            self.alloc,
-            plan.program,
-            &whole,
-            at,
-            from.begins,
-            from.list.as_slice(),
-        )?;
-        let next_row = PassRow {
-            backward: false,
-            mode,
-            begins,
-            found,
-            read: unit,
-            list,
-        };
-        Ok(self.row_of(plan, next_row)?.0)
     }
 }

@@ -4,17 +4,16 @@ ghost use Rattle.rsc_search.specs.Modes.{pattern_of_mode};
 ghost use Rattle.rsc_engine.specs.Runs.{is_wanted};
 ghost use Rattle.rsc_engine.specs.Searches.{search_in};
 ghost use Rattle.std.specs.List.{Contains};
-ghost use Rattle.rsc_engine.specs.RowsLayout.{machine, around, middle, Gathers, AddsOne, AreStates};
-ghost use Rattle.rsc_engine.specs.ForwardLayout.{beside, IsAdvanced};
+ghost use Rattle.rsc_engine.specs.RowsLayout.{Gathers, AddsOne, AreStates};
+ghost use Rattle.rsc_engine.specs.ForwardLayout.{IsAdvanced};
 ghost use Rattle.rsc_engine.specs.declared.error.Error.TheVariants.{OutOfMemory};
 ghost use Rattle.rsc_engine.specs.OrderedLayout.{IsWayOn, IsThere, IsLooked};
 
-use super::near::near_of;
 use crate::{Error, Program};
 use rsc_look::WordClass;
 use rsc_nfa::State;
 use rsc_primitives::{PatternID, StateID};
-use rsc_search::{Anchored, Input};
+use rsc_search::Input;
 use std::alloc::Global;
 
 /// What a state does at a position.
@@ -173,28 +172,6 @@ pub(crate) fn advance<W: WordClass>(
         return Ok((found, false, next));
     }
     Ok((None, true, with_start(program, next)?))
-}
-
-/// The same beside two bytes, or fewer, which stand for each position between such bytes.
-pub(crate) fn advance_beside<W: WordClass>(
-    alloc: Global,
-    program: &Program<W>,
-    mode: &Anchored,
-    before: Option<u8>,
-    after: Option<u8>,
-    begins: bool,
-    list: &[StateID],
-) -> Result<(Option<PatternID>, bool, Vec<StateID>), Error>
-    requires { AreStates (length program.now.automaton.states) list.now }
-    ensures advanced { IfOk result (λ r. IsAdvanced (beside (machine W.word_chars program.now) mode.now (around before after)) (middle before)
-        begins list.now r.0 r.1 r.2.items) }
-    ensures states { IfOk result (λ r. AreStates (length program.now.automaton.states) r.2.items) }
-    ensures memory { IfErr result (λ e. e ≡ OutOfMemory) }
-{
-    let near = near_of(alloc, before, after)?;
-    let input = Input::new(near.as_slice()).anchored(*mode);
-    let at = usize::from(before.is_some());
-    advance(alloc, program, &input, at, begins, list)
 }
 
 // The list with the start state last, unless it is there.

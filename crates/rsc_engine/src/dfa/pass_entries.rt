@@ -1,7 +1,7 @@
 //! The entries of the table of both passes, and what its rows are found by.
-ghost use Rattle.std.specs.Prelude.{◌≡◌, ◌⊎◌, IfErr, Some, None, true};
+ghost use Rattle.std.specs.Prelude.{◌≡◌, ◌⊎◌, IfErr, IfSome, Some, None, true, false};
 ghost use Rattle.rsc_engine.specs.declared.error.Error.TheVariants.{OutOfMemory};
-ghost use Rattle.rsc_engine.specs.PassTableLayout.{row_of};
+ghost use Rattle.rsc_engine.specs.PassTableLayout.{row_of, plain_row_of};
 
 use super::entries::{Lead, key_of};
 use super::pass_table::PassRow;
@@ -15,18 +15,21 @@ pub(crate) fn led_to(lead: Lead) -> Option<usize>
     ensures { result ≡ row_of lead }
 {
     match lead {
-        Lead::To(row) | Lead::Last(row) => Some(row as usize),
+        Lead::To(row) | Lead::Marked(row) | Lead::Last(row) => Some(row as usize),
         Lead::Unknown => None,
     }
 }
 
 /// The entry that leads to the row, or says nothing. A row that is `is_last` ends a search.
-pub(crate) fn lead_to(row: usize, is_last: bool) -> Lead
-    ensures { (row_of result ≡ None) ⊎ (row_of result ≡ Some row) }
+pub(crate) fn lead_to(row: usize, is_last: bool, is_marked: bool) -> Lead
+    ensures row { (row_of result ≡ None) ⊎ (row_of result ≡ Some row) }
+    ensures plain { IfSome (plain_row_of result) (λ next. (next ≡ row) × (is_marked ≡ false)) }
 {
     match u32::try_from(row) {
         Ok(row) => if is_last {
             Lead::Last(row)
+        } else if is_marked {
+            Lead::Marked(row)
         } else {
             Lead::To(row)
         },

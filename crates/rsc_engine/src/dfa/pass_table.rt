@@ -1,16 +1,17 @@
 //! The table of both passes: a row for a list of states and what is known beside it, with an entry for each class and the end of the input.
-ghost use Rattle.std.specs.Prelude.{◌≡◌, ◌+◌, ◌*◌, ◌<◌, ◌≤◌, ℕ, List, [], IfOk, IfErr, IfSome, true, length, slice_get, Some};
+ghost use Rattle.std.specs.Prelude.{◌≡◌, ◌+◌, ◌*◌, ◌<◌, ◌≤◌, ℕ, List, [], IfOk, IfErr, IfSome, true, false, length, slice_get, Some};
+ghost use Rattle.std.specs.BTreeMap.{IsEmpty};
 ghost use Rattle.rsc_engine.specs.declared.error.Error.TheVariants.{OutOfMemory};
 ghost use Rattle.rsc_engine.specs.RowsLayout.{Machine, machine, AreStates, IsPlan, IsPlainUnit};
-ghost use Rattle.rsc_engine.specs.PassTableLayout.{IsPassTable, IsPassRow, IsPassStep, IsPassTo, IsSoundPassRow, IsPassGrown, AreFew};
+ghost use Rattle.rsc_engine.specs.PassTableLayout.{IsPassTable, IsPassRow, IsPassStep, IsPassTo, IsSoundPassRow, IsPassGrown, IsUnmarked, AreFew, row_of, plain_row_of};
 ghost use Rattle.rsc_engine.specs.declared.dfa.pass_table.PassRow.{PassRow};
 
 use super::begin_rows::REMEMBERED;
+use super::beyond::{BeyondStep, step_at};
 use super::entries::{Lead, are_alike, are_same, entry_index, is_byte, widen};
-use super::ordered::advance_beside;
+use super::near::near_of;
 use super::pass_entries::{is_same_pattern, lead_to, led_to, pass_key};
 use super::plan::Plan;
-use super::retreat::retreat_beside;
 use crate::{Error, Program};
 use rsc_alphabet::laws::entries_of_a_table_are_apart;
 use rsc_look::WordClass;
@@ -43,6 +44,8 @@ pub(crate) struct PassTable {
     pub(crate) rows: Vec<PassRow>,
     // For each row and column where it leads.
     pub(crate) leads: Vec<Lead>,
+    // Steps beside bytes above 7F, each where its number says.
+    pub(crate) beyond: Vec<Option<BeyondStep>>,
     // For each row's key the row. No clause speaks of it, since the row that is found is compared.
     known: BTreeMap<Vec<u32>, usize>,
     // The rows in which passes began. No clause speaks of them either.
@@ -54,36 +57,31 @@ impl PassTable {
     pub(crate) fn new(alloc: Global) -> PassTable
         ensures rows { result.rows.items ≡ [] }
         ensures leads { result.leads.items ≡ [] }
+        ensures beyond { result.beyond.items ≡ [] }
     {
         PassTable {
             alloc,
             rows: Vec::new(alloc),
             leads: Vec::new(alloc),
+            beyond: Vec::new(alloc),
             known: BTreeMap::new(alloc),
             begin_rows: [0; REMEMBERED],
         }
     }
 
-    /// The row to which a byte leads from a row, if it is known and doesn't end a search.
+    /// Where a byte leads from a row, if it is known.
     #[inline(always)]
-    pub(crate) fn known_row<W: WordClass>(
-        &self,
-        plan: &Plan<'_, W>,
-        row: usize,
-        byte: u8,
-    ) -> Option<usize>
+    pub(crate) fn lead_of<W: WordClass>(&self, plan: &Plan<'_, W>, row: usize, byte: u8) -> Lead
         requires plan { IsPlan (machine W.word_chars plan.now.program.now) plan.now.classes plan.now.width plan.now.unicode }
         requires exact { IsPassTable (machine W.word_chars plan.now.program.now) plan.now.classes plan.now.width plan.now.most_rows
-            self.now.rows.items self.now.leads.items }
+            self.now.rows.items self.now.leads.items self.now.beyond.items }
         requires row { row < length self.now.rows.items }
-        ensures { IfSome result (IsPassTo (machine W.word_chars plan.now.program.now) plan.now.classes self.now.rows.items self.now.rows.items row
-            (Some byte)) }
+        ensures row { IfSome (row_of result) (IsPassTo (machine W.word_chars plan.now.program.now) plan.now.classes
+            self.now.rows.items self.now.rows.items row (Some byte)) }
+        ensures plain { IfSome (plain_row_of result) (λ next. IsUnmarked (slice_get self.now.rows.items next)) }
     {
         let entry = entry_index(plan, row, Some(byte), self.rows.len(), self.leads.len());
-        match self.leads[entry] {
-            Lead::To(next) => Some(next as usize),
-            Lead::Unknown | Lead::Last(_) => None,
-        }
+        self.leads[entry]
     }
 
     /// What is known of a row and a unit.
@@ -95,7 +93,7 @@ impl PassTable {
     ) -> Option<usize>
         requires plan { IsPlan (machine W.word_chars plan.now.program.now) plan.now.classes plan.now.width plan.now.unicode }
         requires exact { IsPassTable (machine W.word_chars plan.now.program.now) plan.now.classes plan.now.width plan.now.most_rows
-            self.now.rows.items self.now.leads.items }
+            self.now.rows.items self.now.leads.items self.now.beyond.items }
         requires row { row < length self.now.rows.items }
         ensures { IfSome result (IsPassTo (machine W.word_chars plan.now.program.now) plan.now.classes self.now.rows.items self.now.rows.items row unit) }
     {
@@ -113,12 +111,12 @@ impl PassTable {
     ) -> Result<usize, Error>
         requires plan { IsPlan (machine W.word_chars plan.now.program.now) plan.now.classes plan.now.width plan.now.unicode }
         requires exact { IsPassTable (machine W.word_chars plan.now.program.now) plan.now.classes plan.now.width plan.now.most_rows
-            self.old.rows.items self.old.leads.items }
+            self.old.rows.items self.old.leads.items self.old.beyond.items }
         requires row { row < length self.old.rows.items }
         requires read { (from : PassRow) → slice_get self.old.rows.items row ≡ Some from → IsPlainUnit (machine W.word_chars plan.now.program.now) from.read }
         requires plain { IsPlainUnit (machine W.word_chars plan.now.program.now) unit }
         ensures exact { IsPassTable (machine W.word_chars plan.now.program.now) plan.now.classes plan.now.width plan.now.most_rows
-            self.new.rows.items self.new.leads.items }
+            self.new.rows.items self.new.leads.items self.new.beyond.items }
         ensures step { IfOk result (IsPassTo (machine W.word_chars plan.now.program.now) plan.now.classes
             self.old.rows.items self.new.rows.items row unit) }
         ensures kept { IfOk result (λ _. length self.old.rows.items < plan.now.most_rows → IsPassGrown self.old.rows.items self.new.rows.items) }
@@ -157,17 +155,34 @@ impl PassTable {
     )
         requires plan { IsPlan (machine W.word_chars plan.now.program.now) plan.now.classes plan.now.width plan.now.unicode }
         requires exact { IsPassTable (machine W.word_chars plan.now.program.now) plan.now.classes plan.now.width plan.now.most_rows
-            self.old.rows.items self.old.leads.items }
+            self.old.rows.items self.old.leads.items self.old.beyond.items }
         requires row { row < length self.old.rows.items }
         requires step { IsPassTo (machine W.word_chars plan.now.program.now) plan.now.classes self.old.rows.items self.old.rows.items row unit next }
         ensures exact { IsPassTable (machine W.word_chars plan.now.program.now) plan.now.classes plan.now.width plan.now.most_rows
-            self.new.rows.items self.new.leads.items }
+            self.new.rows.items self.new.leads.items self.new.beyond.items }
         ensures rows { self.new.rows.items ≡ self.old.rows.items }
     {
         entries_of_a_table_are_apart();
         is_byte(unit);
         let entry = entry_index(plan, row, unit, self.rows.len(), self.leads.len());
-        self.leads[entry] = lead_to(next, is_last);
+        self.leads[entry] = lead_to(next, is_last, self.is_marked(next));
+    }
+
+    // Whether a row knows of a match that ends before the byte read last, or in the backward pass begins after it.
+    fn is_marked(&self, row: usize) -> bool
+        ensures { result ≡ false → IsUnmarked (slice_get self.now.rows.items row) }
+    {
+        if row >= self.rows.len() {
+            return false;
+        }
+        let there = &self.rows[row];
+        if there.backward && there.begins {
+            return true;
+        }
+        match there.found {
+            Some(_) => true,
+            None => false,
+        }
     }
 
     /// Where a row is: one that is there, or this new one. The second part is false if the table was cleared.
@@ -177,10 +192,10 @@ impl PassTable {
         row: PassRow,
     ) -> Result<(usize, bool), Error>
         requires exact { IsPassTable (machine W.word_chars plan.now.program.now) plan.now.classes plan.now.width plan.now.most_rows
-            self.old.rows.items self.old.leads.items }
+            self.old.rows.items self.old.leads.items self.old.beyond.items }
         requires sound { IsSoundPassRow (machine W.word_chars plan.now.program.now) row }
         ensures exact { IsPassTable (machine W.word_chars plan.now.program.now) plan.now.classes plan.now.width plan.now.most_rows
-            self.new.rows.items self.new.leads.items }
+            self.new.rows.items self.new.leads.items self.new.beyond.items }
         ensures row { IfOk result (λ made. IsPassRow plan.now.classes self.new.rows.items made.0 row.backward row.mode row.begins
             row.found row.read row.list.items) }
         ensures grows { IfOk result (λ made. made.1 ≡ true → IsPassGrown self.old.rows.items self.new.rows.items) }
@@ -230,8 +245,9 @@ impl PassTable {
 
     /// Takes all rows out, if there are more than that many.
     pub(crate) fn keep_at_most(&mut self, most_rows: usize)
-        ensures { (m : Machine) (classes : List ℕ) (width most : ℕ) → IsPassTable m classes width most self.old.rows.items self.old.leads.items
-            → IsPassTable m classes width most_rows self.new.rows.items self.new.leads.items }
+        ensures { (m : Machine) (classes : List ℕ) (width most : ℕ)
+            → IsPassTable m classes width most self.old.rows.items self.old.leads.items self.old.beyond.items
+            → IsPassTable m classes width most_rows self.new.rows.items self.new.leads.items self.new.beyond.items }
     {
         if self.rows.len() > most_rows {
             self.clear();
@@ -242,9 +258,12 @@ impl PassTable {
     fn clear(&mut self)
         ensures rows { self.new.rows.items ≡ [] }
         ensures leads { self.new.leads.items ≡ [] }
+        ensures beyond { self.new.beyond.items ≡ [] }
+        ensures known { IsEmpty self.new.known }
     {
         self.rows.clear();
         self.leads.clear();
+        self.beyond.clear();
         self.known.clear();
     }
 
@@ -256,11 +275,11 @@ impl PassTable {
         row: PassRow,
     ) -> Result<usize, Error>
         requires exact { IsPassTable (machine W.word_chars plan.now.program.now) plan.now.classes plan.now.width plan.now.most_rows
-            self.old.rows.items self.old.leads.items }
+            self.old.rows.items self.old.leads.items self.old.beyond.items }
         requires room { AreFew plan.now.most_rows (length self.old.rows.items + 1) }
         requires sound { IsSoundPassRow (machine W.word_chars plan.now.program.now) row }
         ensures exact { IsPassTable (machine W.word_chars plan.now.program.now) plan.now.classes plan.now.width plan.now.most_rows
-            self.new.rows.items self.new.leads.items }
+            self.new.rows.items self.new.leads.items self.new.beyond.items }
         ensures row { IfOk result (λ index. IsPassRow plan.now.classes self.new.rows.items index row.backward row.mode row.begins
             row.found row.read row.list.items) }
         ensures grows { IsPassGrown self.old.rows.items self.new.rows.items }
@@ -289,18 +308,12 @@ fn step_beside<W: WordClass>(
     ensures states { IfOk result (λ r. AreStates (length program.now.automaton.states) r.2.items) }
     ensures memory { IfErr result (λ e. e ≡ OutOfMemory) }
 {
-    let list = from.list.as_slice();
     if from.backward {
-        let (begins, next) = retreat_beside(alloc, program, &from.mode, unit, from.read, list)?;
-        return Ok((None, begins, next));
+        let near = near_of(alloc, unit, from.read)?;
+        let at = usize::from(unit.is_some());
+        return step_at(alloc, program, from, near.as_slice(), at);
     }
-    advance_beside(
-        alloc,
-        program,
-        &from.mode,
-        from.read,
-        unit,
-        from.begins,
-        list,
-    )
+    let near = near_of(alloc, from.read, unit)?;
+    let at = usize::from(from.read.is_some());
+    step_at(alloc, program, from, near.as_slice(), at)
 }

@@ -66,10 +66,11 @@ impl<'p, W: WordClass> Plan<'p, W> {
         }
     }
 
-    /// Whether an assertion looks at characters and the unit is a byte above 7F, so that a step beside it serves its position alone.
+    /// Whether an assertion looks at characters and the unit is a byte above 7F, so that a step beside it goes by the assertions that hold there too.
     pub(crate) fn is_beyond(&self, unit: Option<u8>) -> bool
         requires { IsPlan (machine W.word_chars self.now.program.now) self.now.classes self.now.width self.now.unicode }
-        ensures { result ≡ false → IsPlainUnit (machine W.word_chars self.now.program.now) unit }
+        ensures plain { result ≡ false → IsPlainUnit (machine W.word_chars self.now.program.now) unit }
+        ensures unicode { result ≡ true → self.now.unicode ≡ true }
     {
         match unit {
             Some(byte) => self.unicode && byte >= PAST_ASCII,

@@ -4,16 +4,15 @@ ghost use Rattle.rsc_primitives.specs.Indices.{max_index};
 ghost use Rattle.rsc_engine.specs.declared.error.Error.TheVariants.{OutOfMemory};
 ghost use Rattle.rsc_engine.specs.Searches.{search_in};
 ghost use Rattle.rsc_engine.specs.Runs.{accepts};
-ghost use Rattle.rsc_engine.specs.RowsLayout.{IsMarked, machine, around, middle, Gathers, AreStates};
-ghost use Rattle.rsc_engine.specs.ForwardLayout.{beside};
+ghost use Rattle.rsc_engine.specs.RowsLayout.{IsMarked, machine, Gathers, AreStates};
 ghost use Rattle.rsc_engine.specs.BackwardLayout.{Lists, AreLedBack, IsShutAt, IsShut, IsClosedBack, LeadsToMarked, IsSource, IsRetreated};
 
-use super::near::{moved, near_of};
+use super::near::moved;
 use super::ordered::{Way, way_of};
 use crate::{Error, Program};
 use rsc_look::WordClass;
 use rsc_primitives::StateID;
-use rsc_search::{Anchored, Input};
+use rsc_search::Input;
 use std::alloc::Global;
 
 /// Of the states from which steps with no byte lead to those of a list, or to a match: whether the start state is one, and from which states the byte before
@@ -38,28 +37,6 @@ pub(crate) fn retreat<W: WordClass>(
     let begins = is_marked(&marks, program.start());
     let next = sources(alloc, program, input, at, &marks)?;
     Ok((begins, next))
-}
-
-/// The same beside two bytes, or fewer, which stand for each position between such bytes.
-pub(crate) fn retreat_beside<W: WordClass>(
-    alloc: Global,
-    program: &Program<W>,
-    mode: &Anchored,
-    before: Option<u8>,
-    after: Option<u8>,
-    list: &[StateID],
-) -> Result<(bool, Vec<StateID>), Error>
-    requires numbered { length program.now.automaton.states ≤ max_index }
-    requires list { AreStates (length program.now.automaton.states) list.now }
-    ensures retreated { IfOk result (λ r. IsRetreated (beside (machine W.word_chars program.now) mode.now (around before after)) (middle before)
-        list.now r.0 r.1.items) }
-    ensures states { IfOk result (λ r. AreStates (length program.now.automaton.states) r.1.items) }
-    ensures memory { IfErr result (λ e. e ≡ OutOfMemory) }
-{
-    let near = near_of(alloc, before, after)?;
-    let input = Input::new(near.as_slice()).anchored(*mode);
-    let at = usize::from(before.is_some());
-    retreat(alloc, program, &input, at, list)
 }
 
 // Marks for the states of a list.

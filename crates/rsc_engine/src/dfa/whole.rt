@@ -42,14 +42,14 @@ pub(crate) fn match_whole<W: WordClass>(
     requires plan { IsPlan (machine W.word_chars plan.now.program.now) plan.now.classes plan.now.width plan.now.unicode }
     requires numbered { length plan.now.program.now.automaton.states ≤ max_index }
     requires exact { IsPassTable (machine W.word_chars plan.now.program.now) plan.now.classes plan.now.width plan.now.most_rows
-        table.old.rows.items table.old.leads.items }
+        table.old.rows.items table.old.leads.items table.old.beyond.items }
     requires room { plan.now.most_rows ≡ usize.MAX }
     requires end { IsEndOf (search_in W.word_chars plan.now.program.now input.now) pattern end }
     requires ends { RecordsEnds W.word_chars plan.now.program.now }
     requires few { length captures.old.offsets ≤ 2 * length plan.now.program.now.automaton.groups }
     requires cleared { IsCleared captures.old captures.old }
     ensures exact { IsPassTable (machine W.word_chars plan.now.program.now) plan.now.classes plan.now.width plan.now.most_rows
-        table.new.rows.items table.new.leads.items }
+        table.new.rows.items table.new.leads.items table.new.beyond.items }
     ensures found { IfOk result (IsFirstMatch (search_in W.word_chars plan.now.program.now input.now) captures.new) }
     ensures within { IfOk result (IsInSpan input.now) }
     ensures groups { captures.new.groups ≡ captures.old.groups }
@@ -78,11 +78,11 @@ fn start_of<W: WordClass>(
     requires plan { IsPlan (machine W.word_chars plan.now.program.now) plan.now.classes plan.now.width plan.now.unicode }
     requires numbered { length plan.now.program.now.automaton.states ≤ max_index }
     requires exact { IsPassTable (machine W.word_chars plan.now.program.now) plan.now.classes plan.now.width plan.now.most_rows
-        table.old.rows.items table.old.leads.items }
+        table.old.rows.items table.old.leads.items table.old.beyond.items }
     requires end { IsEndOf (search_in W.word_chars plan.now.program.now input.now) pattern end }
     requires room { plan.now.most_rows ≡ usize.MAX }
     ensures exact { IsPassTable (machine W.word_chars plan.now.program.now) plan.now.classes plan.now.width plan.now.most_rows
-        table.new.rows.items table.new.leads.items }
+        table.new.rows.items table.new.leads.items table.new.beyond.items }
     ensures start { IfOk result (IsStartOf (search_in W.word_chars plan.now.program.now input.now) pattern end) }
     ensures memory { IfErr result (λ e. e ≡ OutOfMemory) }
 {

@@ -8,7 +8,7 @@ use Rattle.rsc_engine.proofs.dfa.backward.go_back.Given as goal
 abbrev pub invariant-rows : goal.invariant-rows
 invariant-rows g l = record {
   exact : IsPassTable (machine g.W.WordClass.word_chars l.plan.program.now) l.plan.classes l.plan.width l.plan.most_rows l.table.rows.items
-      l.table.leads.items;
+      l.table.leads.items l.table.beyond.items;
   on : IsBackAt (search_in g.W.WordClass.word_chars l.plan.program.now l.input) l.plan.classes l.table.rows.items l.row l.at l.least l.log.items;
   row : l.row < length l.table.rows.items;
   start : l.input.span.start ≤ l.at;

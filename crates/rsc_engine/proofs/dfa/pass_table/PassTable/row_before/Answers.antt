@@ -1,12 +1,14 @@
-use Rattle.std.proofs.Common.{◌≡◌, ◌<◌, length}
+use Rattle.std.proofs.Common.{◌≡◌, ◌<◌, ◌∙◌, refl, sym, subst, length}
+use Rattle.std.proofs.lemmas.Option.{slice_get_read}
 use Rattle.rsc_look.specs.Holds.{byte_before}
 use Rattle.rsc_engine.specs.Searches.{search_in}
-use Rattle.rsc_engine.specs.RowsLayout.{machine}
-use Rattle.rsc_engine.specs.PassTableLayout.{IsPassTo}
+use Rattle.rsc_engine.specs.declared.dfa.pass_table.PassRow.{PassRow}
+use Rattle.rsc_engine.specs.RowsLayout.{machine, IsPlainUnit}
+use Rattle.rsc_engine.specs.PassTableLayout.{IsPassTo, IsBeyondAt}
 use Rattle.rsc_engine.specs.BackwardLayout.{GoesBackward}
 use Rattle.rsc_engine.proofs.ForwardLayoutLemmas.{map_ok}
-use Rattle.rsc_engine.proofs.PassTableLayoutLemmas.{led-there}
-use Rattle.rsc_engine.proofs.BackwardLayoutLemmas.{goes-backward}
+use Rattle.rsc_engine.proofs.PassTableLayoutLemmas.{some_same, led-there}
+use Rattle.rsc_engine.proofs.BackwardLayoutLemmas.{goes-backward, goes-back-beyond}
 use Rattle.rsc_engine.proofs.dfa.pass_table.PassTable.row_before.Goals as goal
 
 pub returns-in-Some-clause-row : goal.returns-in-Some-clause-row
@@ -40,3 +42,24 @@ returns-in-None-clause-goes g c =
     (λ next made. goes-backward e c.args.plan.now.classes c.args.plan.now.width c.args.plan.now.unicode
     record { laws = c.steps_are_lawful.ensures; plan = c.requires.plan; within = c.haystack.ensures.within }
     old new c.args.row c.args.at next c.requires.start c.requires.end made) (rw unit at c.make.ensures.step)
+
+pub make-requires-clause-read : goal.make-requires-clause-read
+make-requires-clause-read g c = λ from there.
+    subst (λ (r : PassRow). IsPlainUnit (machine g.W.WordClass.word_chars c.args.plan.now.program.now) r.read)
+    (some_same c.index.result.now from
+    (sym (slice_get_read _ (length c.args.self.now.rows.items) _ _ refl c.requires.row c.index.ensures) ∙ there))
+    (c.is_beyond-else-is_beyond.ensures.plain c.if-is_beyond-2.false)
+
+pub returns-then-is_beyond-clause-goes : goal.returns-then-is_beyond-clause-goes
+returns-then-is_beyond-clause-goes g c =
+    let e = search_in g.W.WordClass.word_chars c.args.plan.now.program.now c.args.input.now in
+    let old = c.args.self.now.rows.items in
+    let new = c.step_beyond.new.self.rows.items in
+    map_ok c.step_beyond.result
+    (IsBeyondAt (machine g.W.WordClass.word_chars c.args.plan.now.program.now) c.args.plan.now.classes old new c.args.row
+    c.args.input.now.haystack c.args.at)
+    (GoesBackward e c.args.plan.now.classes old new c.args.row c.args.at)
+    (λ next made. goes-back-beyond e c.args.plan.now.classes c.args.plan.now.width c.args.plan.now.unicode
+    record { laws = c.steps_are_lawful.ensures; plan = c.requires.plan; within = c.haystack.ensures.within }
+    old new c.args.row c.args.at next c.requires.start c.requires.end made)
+    (rw c.haystack-then-is_beyond.ensures.bytes at c.step_beyond.ensures.step)
