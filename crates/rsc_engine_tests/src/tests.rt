@@ -8,6 +8,7 @@ mod forward;
 mod lines;
 mod many;
 mod matches;
+mod memory;
 mod model;
 mod programs;
 mod sizes;

@@ -46,22 +46,24 @@ fn an_iteration_reads_no_word_for_each_match(rt: HostRuntime) -> Result<(), Fail
     Ok(())
 }
 
-// `[a-z]+[0-9]`
+// `[a-z]{1,20}[0-9]`
 fn letters_and_digit(alloc: Global) -> Result<Program<AsciiWord>, Error> {
     let builder = Builder::new(alloc);
-    let letters = builder.plus(builder.range(b'a', b'z'))?;
+    let letters = builder.repeat(builder.range(b'a', b'z'), 1, Some(20))?;
     let whole = builder.then(letters, builder.range(b'0', b'9'))?;
     builder.build(AsciiWord, false, whole)
 }
 
+// Without a table each step of the text would be made.
 #[test]
 fn a_text_that_lacks_what_each_match_has_is_looked_through(rt: HostRuntime) -> Result<(), Fail> {
     let program = letters_and_digit(rt.alloc())?;
-    let text = vec![in rt.alloc(); b' '; 4000000]?;
-    let mut dfa = Dfa::new(rt.alloc(), &program, 1000);
-    for _ in 0..10 {
-        assert!(rt; !dfa.is_match(&Input::new(text.as_slice()))?);
+    let mut text = Vec::new(rt.alloc());
+    for _ in 0..10000 {
+        text.extend_from_slice(b"abcdefghijklmnopqrs ")?;
     }
+    let mut dfa = Dfa::new(rt.alloc(), &program, 0);
+    assert!(rt; !dfa.is_match(&Input::new(text.as_slice()))?);
     Ok(())
 }
 

@@ -1,7 +1,7 @@
 //! Many states, rows, patterns and searches: what would take a minute, or be refused, where something was made again for each of them.
 use crate::made::captures_of;
 use rsc_engine::{Builder, Cache, Dfa, Error, Program, find};
-use rsc_look::AsciiWord;
+use rsc_look::{AsciiWord, Look, UnicodeWord};
 use rsc_primitives::PatternID;
 use rsc_search::{Anchored, Input};
 use std::alloc::Global;
@@ -58,6 +58,29 @@ fn a_cache_keeps_the_rows_of_two_bytes_in_turn(rt: HostRuntime) -> Result<(), Fa
 fn bytes_above_7f_take_as_long_as_others(rt: HostRuntime) -> Result<(), Fail> {
     let program = long_or_letter(rt.alloc(), 20000)?;
     let text = vec![in rt.alloc(); 0xC3; 400000]?;
+    let mut dfa = Dfa::new(rt.alloc(), &program, 1000);
+    assert!(rt; !dfa.is_match(&Input::new(text.as_slice()))?);
+    Ok(())
+}
+
+// That many times `b`, or an `a` beside a word's boundary, for which characters are looked at.
+fn long_or_word(alloc: Global, count: usize) -> Result<Program<UnicodeWord>, Error> {
+    let builder = Builder::new(alloc);
+    let text = vec![in alloc; b'b'; count]?;
+    let long = builder.literal(text.as_slice())?;
+    let boundary = builder.look(Look::WordUnicode);
+    let word = builder.then(boundary, builder.range(b'a', b'a'))?;
+    let whole = builder.either(long, word)?;
+    builder.build(UnicodeWord, false, whole)
+}
+
+#[test]
+fn steps_beside_bytes_above_7f_are_kept(rt: HostRuntime) -> Result<(), Fail> {
+    let program = long_or_word(rt.alloc(), 20000)?;
+    let mut text = Vec::new(rt.alloc());
+    for _ in 0..50000 {
+        text.extend_from_slice("яд".as_bytes())?;
+    }
     let mut dfa = Dfa::new(rt.alloc(), &program, 1000);
     assert!(rt; !dfa.is_match(&Input::new(text.as_slice()))?);
     Ok(())
