@@ -1,48 +1,20 @@
 //! Words of Cyrillic letters timed, with an assertion that looks at characters.
 
-use crate::timed::{Fail, report};
+use crate::timed::{Fail, all_of_ours, all_of_theirs};
 use regex::bytes::Regex;
-use rsc_engine::{Builder, Error, Matches, Part, Program};
+use rsc_engine::{Builder, Error, Part, Program};
 use rsc_look::{Look, UnicodeWord};
-use rsc_search::Input;
 use std::alloc::Global;
-use std::time::CpuClock;
 
 /// Times `\b\w+\b` in a text whose small letters are made Cyrillic ones.
 pub fn time_characters(rt: &HostRuntime, text: &[u8]) -> Result<(), Fail> {
     let text = cyrillic(rt.alloc(), text)?;
     let program = make(rt.alloc())?;
-    let from = rt.thread_cpu_time()?;
-    let ours = count(rt, &program, text.as_slice())?;
-    report(rt, "characters", "matches engine", from)?;
+    let ours = all_of_ours(rt, "characters", &program, text.as_slice())?;
     let regex = Regex::new(rt.alloc(), r"\b\w+\b")?;
-    let mut matcher = regex.matcher(rt.alloc())?;
-    let mut locations = regex.capture_locations(rt.alloc())?;
-    let from = rt.thread_cpu_time()?;
-    let mut theirs = 0_usize;
-    let mut all = matcher.captures_iter(text.as_slice());
-    for _ in 0..=text.len() {
-        if all.next_read(&mut locations).is_none() {
-            break;
-        }
-        theirs = theirs.saturating_add(1);
-    }
-    report(rt, "characters", "matches regex", from)?;
+    let theirs = all_of_theirs(rt, "characters", &regex, text.as_slice())?;
     println!(rt; "characters {ours} {theirs}")?;
     Ok(())
-}
-
-fn count(rt: &HostRuntime, program: &Program<UnicodeWord>, text: &[u8]) -> Result<usize, Fail> {
-    let mut captures = program.captures(rt.alloc())?;
-    let mut matches = Matches::new(rt.alloc(), program, Input::new(text))?;
-    let mut count = 0_usize;
-    for _ in 0..=text.len() {
-        if matches.next(&mut captures)?.is_none() {
-            break;
-        }
-        count = count.saturating_add(1);
-    }
-    Ok(count)
 }
 
 // The text with U+0430 to U+0449 for `a` to `z`.

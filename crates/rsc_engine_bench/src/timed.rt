@@ -2,8 +2,8 @@
 
 use crate::patterns::{make, text_of};
 use regex::bytes::Regex;
-use rsc_engine::{Cache, Dfa, Matches, Program};
-use rsc_look::AsciiWord;
+use rsc_engine::{AsciiWordClass, Cache, Dfa, Matches, Program};
+use rsc_look::{AsciiWord, WordClass};
 use rsc_search::Input;
 use std::time::{CpuClock, Duration};
 
@@ -24,10 +24,11 @@ pub fn time_pattern(rt: &HostRuntime, name: &str, text: &[u8]) -> Result<(), Fai
     Ok(())
 }
 
-fn all_of_ours(
+/// Times all matches of a program in a text, each found with its groups, and counts them.
+pub fn all_of_ours<W: WordClass + AsciiWordClass>(
     rt: &HostRuntime,
     name: &str,
-    program: &Program<AsciiWord>,
+    program: &Program<W>,
     text: &[u8],
 ) -> Result<usize, Fail> {
     let from = rt.thread_cpu_time()?;
@@ -37,9 +38,9 @@ fn all_of_ours(
 }
 
 /// How many matches an input of a text of that many bytes has, each found with its groups.
-pub fn count(
+pub fn count<W: WordClass + AsciiWordClass>(
     rt: &HostRuntime,
-    program: &Program<AsciiWord>,
+    program: &Program<W>,
     input: Input<'_>,
     length: usize,
 ) -> Result<usize, Fail> {
@@ -68,7 +69,13 @@ fn is_one_of_ours(
     Ok(found)
 }
 
-fn all_of_theirs(rt: &HostRuntime, name: &str, regex: &Regex, text: &[u8]) -> Result<usize, Fail> {
+/// Times all matches of the toolchain's `regex` in the same way.
+pub fn all_of_theirs(
+    rt: &HostRuntime,
+    name: &str,
+    regex: &Regex,
+    text: &[u8],
+) -> Result<usize, Fail> {
     let mut matcher = regex.matcher(rt.alloc())?;
     let mut locations = regex.capture_locations(rt.alloc())?;
     let from = rt.thread_cpu_time()?;
