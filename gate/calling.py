@@ -1,9 +1,9 @@
 """Makes the lower part of a library's CALLING.md of its sources, its definitions and its callers in rsc_uses; and docs/CALLS.md, which has each public
 call of the libraries, the names of its clauses, what calls it, and a wrong body that is refused for them. gate/pages.py imports it."""
-import itertools
 import pathlib
 import re
 
+from defined import names_of_specs
 from edits import edits_in
 from heads import above, head, source_of
 from typed import calls_of, files
@@ -95,67 +95,6 @@ def contracts(crate):
             parts += [f"### `{path}`", "", "```text", *shown, "```", ""]
     if last:
         parts += ["### Laws on clones, defaults and hashes", "", "```text", *last, "```", ""]
-    return "\n".join(parts)
-
-
-# How many characters the fields of a record take at most where a table has them whole.
-MOST_OF_A_RECORD = 280
-
-
-def own_text(lines):
-    """Returns what stands for a comment that a definition lacks: the lines below its first, which define it."""
-    own = itertools.takewhile(str.strip, lines)
-    return "; ".join(f"`{it.strip()}`" for it in own if not it.strip().startswith("--"))
-
-
-def meaning(comment, line, below):
-    """Returns what a definition says: its comment, with a record's fields or a definition of one line after it, or else how it is defined.
-
-    >>> meaning("two ends", "pub record Ends : Type 0 where", ["  pub start : ℕ", "  pub end : ℕ", ""])
-    'two ends (a record: `start : ℕ`, `end : ℕ`)'
-    >>> meaning("one more than one", "abbrev pub two : ℕ", ["two = 1 + 1", ""])
-    'one more than one: `two = 1 + 1`'
-    >>> meaning("two is even", "pub two-even : IsEven two", ["two-even = refl", ""])
-    'two is even'
-    """
-    own = own_text(below)
-    if " record " in line:
-        fields = [*itertools.takewhile(lambda it: it.startswith("  "), below)]
-        names = [f"`{found[1]}`" for it in fields if (found := re.match(r"  pub (\S+) :", it))]
-        whole = [f"`{it.strip().removeprefix('pub ')}`" for it in fields]
-        # What the fields say, too, if they are few.
-        is_short = len(whole) == len(names) and len("".join(whole)) <= MOST_OF_A_RECORD
-        return f"{comment} (a record: {', '.join(whole if is_short else names)})".strip()
-    # A lemma is what its comment says; its proof says nothing.
-    is_short = re.match(r"\s*(abbrev|unfoldable) ", line) and own.count("`") == 2
-    return f"{comment}: {own}" if comment and is_short else comment or own
-
-
-def names_of_specs(crate):
-    """Returns the definitions of specs/, each with the comment above it, or how it is defined; the lemmas come last, and private ones are left out."""
-    believed, others = [], []
-    for file in sorted((ROOT / "crates" / crate / "specs").glob("**/*.antt")):
-        comment, is_taken = "", False
-        lines = file.read_text(encoding="utf-8").splitlines()
-        for k, line in enumerate(lines):
-            # A definition within a section is indented; so is a field of a record, which is no definition.
-            name = re.match(r"(?:  (?=abbrev ))?(?:abbrev |unfoldable )*pub (?:record |data |class )?([^\s:]+)", line)
-            if line.startswith(("-- ", "  -- ")):
-                comment, is_taken = f"{'' if is_taken else comment} {line.strip()[3:]}".strip(), False
-            elif name and not line.startswith("pub mod"):
-                if "Layout" in file.stem:
-                    continue
-                rows = others if re.search(r"Laws|Same", file.stem) else believed
-                if comment or rows is believed:
-                    text = meaning(comment, line, lines[k + 1 :])
-                    rows.append(f"| `{file.stem}.{name[1]}` | {text.replace('|', chr(92) + '|')} |")
-                # Of several definitions in a row the comment is that of each.
-                is_taken = True
-            elif not line.strip():
-                comment, is_taken = "", False
-    parts = ["## Names of `specs/`", "", "| Name | What it says |", "|---|---|", *believed, ""]
-    if others:
-        parts += ["These serve proofs, and need no trust:", "", "| Name | What it says |", "|---|---|", *others, ""]
     return "\n".join(parts)
 
 

@@ -12,12 +12,11 @@
   four spaces and `// `. A test begins with such a comment, and its last example ends at its `Ok(())`. The example of a head has the crate's name.
 - The table of docs/WRONG_BODIES.md: for each edit that it names, the function and the goal that refuse it.
 - The comments of each Lib.antt: the first sentence of each module's head.
+- The lists of docs/DEFINITIONS.md: the comments of the files of specs/ that each line `<!-- specs: FILE .. -->` names. Each file but `..Layout` is named.
 - Numbers that other files decide: README.md's totals of docs/PERFORMANCE.md, of commands and of wrong bodies, and the sizes of a batch of names.
 
-It asks that the forms under 'Forms that are asked for' of docs/DECISIONS.md are there, that no library calls a function whose sums wrap, and that
-docs/DEFINITIONS.md has each definition that a public contract or the promise of a trait's methods cites, and each of docs/TRUSTED.md, in backquotes, alone or
-after its module, as `Holds` or `Holds.Holds`, and no name at the head of a line that isn't there. A definition is a name of a crate's specs/ that a
-`ghost use` line brings into a file.
+It asks that the forms under 'Forms that are asked for' of docs/DECISIONS.md are there, that no library calls a function whose sums wrap, and that no
+definition of a `..Layout` is cited by a public contract or the promise of a trait's methods, or is in docs/TRUSTED.md.
 
 A file that a page written by hand names in backquotes, below one of the usual folders, is there, and so is what a page links to.
 
@@ -33,9 +32,10 @@ import re
 import sys
 
 from calling import ROOT, calls, is_exported, page, promises, sources
+from defined import definitions_page
 from edits import edits_in
 from heads import above, head, source_of
-from trusted import believed, definitions, engine_statement, reached, statement, trusted
+from trusted import believed, engine_statement, reached, statement, trusted
 from typed import LIBRARIES
 
 MOST_COLUMNS = 160
@@ -174,6 +174,11 @@ def pages():
         yield file, module_list(file)
     file = ROOT / "README.md"
     yield file, by_hand(believed(with_quotes(file.read_text(encoding="utf-8"))))
+    file = ROOT / "docs/DEFINITIONS.md"
+    listed, left = definitions_page(file.read_text(encoding="utf-8"))
+    if left:
+        raise ValueError(f"docs/DEFINITIONS.md names no list of {', '.join(left)}")
+    yield file, listed
     yield ROOT / "docs/TRUSTED.md", trusted()
     yield ROOT / "docs/CALLS.md", calls(LIBRARIES)
 
@@ -200,30 +205,12 @@ def cited():
     return found
 
 
-def unknown_definitions(text):
-    """Returns the names that a line of docs/DEFINITIONS.md begins with and that no file of specs/ has."""
-    there = collections.defaultdict(set)
-    for crate in LIBRARIES:
-        for file in (ROOT / "crates" / crate / "specs").glob("**/*.antt"):
-            there[".".join(file.relative_to(ROOT / "crates" / crate / "specs").with_suffix("").parts)] |= set(definitions(file.read_text(encoding="utf-8")))
-    unknown, module = [], ""
-    for line in re.findall(r"^- (`[A-Z]\w*\.[^:]*)", text, flags=re.M):
-        for name in re.findall(r"`([\w.-]+)`", line):
-            module = name.rpartition(".")[0] or module
-            if name.rpartition(".")[2] not in there[module]:
-                unknown.append(f"{module}.{name.rpartition('.')[2]}")
-    return unknown
-
-
 def definition_faults():
-    """Yields for each definition that a contract cites or docs/TRUSTED.md lists what docs/DEFINITIONS.md lacks, and the names there that no definition has."""
-    text = (ROOT / "docs/DEFINITIONS.md").read_text(encoding="utf-8")
-    shown = {it.rpartition(".")[2] for it in re.findall(r"`([\w.-]+)`", text)}
+    """Yields for each definition that a contract cites or docs/TRUSTED.md lists whether it is one of a `..Layout`, which docs/DEFINITIONS.md leaves out."""
     needed = [(crate, name, ", ".join(sorted(citing)[:3]) + " cites") for crate, names in sorted(cited().items()) for name, citing in sorted(names.items())]
     needed += [(crate, f"{module}.{it}", "docs/TRUSTED.md lists") for (crate, module), names in sorted(reached([*statement(False), *engine_statement()])[0].items()) for it in sorted(names)]
     for crate, name, why in needed:
-        yield [] if name.rpartition(".")[2] in shown else [f"docs/DEFINITIONS.md lacks `{name}` of {crate}, which {why}"]
-    yield [f"docs/DEFINITIONS.md names `{it}`, which isn't there" for it in unknown_definitions(text)]
+        yield [f"docs/DEFINITIONS.md leaves out `{name}` of {crate}, which {why}"] if "Layout" in name.rpartition(".")[0] else []
 
 
 def named_bodies(text):

@@ -7,7 +7,7 @@ The edits stand in crates/CRATE/tested-bodies.edits; gate/edits.py explains the 
                                          alone; without it all but those of cost, which take long
     snippet: memory lists_are_dropped    if there: a snippet of that crate's must-run, and its test that is run instead of the crate's
     refused: `x` does not live           if there: what the compiler must say of the snippet's test instead
-    seconds: 240                         if there: the time that each test has; it must pass within it without the edit
+    seconds: 240                         the time that each test has, 240 seconds unless it's there; without the edit it must pass within it
     runs: looks Start -- ''              instead of tests: the arguments, with \\xHH for bytes, of a plain stored run (gate/stored-runs.py), which must write
                                          something else or end with another status; or files of runs/, as `looks.txt`, or `all`: one of these runs must
     runs: refused 3: calls               or the stored run of these arguments of which the third request for memory is refused
@@ -17,8 +17,8 @@ Each is compiled and run without a proof, in a copy of the repository. It passes
 trait, or as it says. The compiler takes 20 seconds for the toolchain's library alone, so a crate's edits are compiled together: edit 3 of a part of those of
 `rsc_search` as a crate `rsc_search_3`, with its tests in a module `v3`, and edits of a program as modules of one program, which writes to standard output
 what they write to standard error. For each edit a stored run takes a quarter of a second, and more in a larger program, so an edit of a program with
-many runs names the one that refuses it. The edits with a snippet, with seconds or with refused memory are tried alone: the first two took longer together, and
-in a joined program other requests for memory would come before the one that is refused.
+many runs names the one that refuses it. Those that give their tests less time are compiled together too, eight at once. The edits with a snippet or with
+refused memory are tried alone: the first took longer together, and in a joined program other requests for memory would come before the one that is refused.
 """
 import os
 import pathlib
@@ -34,6 +34,8 @@ from runs import answer_where_refused, goes_as_stored, refused_at, runs_of, unes
 
 FIELDS = ("file", "tests", "modules", "snippet", "refused", "seconds", "runs", "also")
 IN_ONE = 50
+TIMED_IN_ONE = 8
+UNTIMED = "240"
 
 
 def tested_edits(wanted, names=()):
@@ -230,9 +232,9 @@ def judged(crate, left, failing):
             yield False, f"{crate}/{name}: NOTHING FAILS"
 
 
-def judge_together(copy, crate, tests, edits):
-    """Tries edits of a crate together by the tests."""
-    left, said, results = run_together(copy, crate, tests, edits, lambda: written(f"{copy}/crates/{tests}", "--test", "--seconds", "240"))
+def judge_together(copy, crate, tests, seconds, edits):
+    """Tries edits of a crate together by the tests, each of which has that many seconds."""
+    left, said, results = run_together(copy, crate, tests, edits, lambda: written(f"{copy}/crates/{tests}", "--test", "--seconds", seconds))
     failing = {number: re.findall(rf"^test v{number}::(\S+) \.\.\. FAILED", said, flags=re.M) for number in [0, *left]}
     return results + [*judged(crate, left, failing)]
 
@@ -298,7 +300,7 @@ def judge_tests(copy, crate, name, fields):
         texts = {path: with_tests(text, test) for path, text in texts.items()}
     shutil.rmtree(tests / "src")
     write(tests / "src", texts)
-    said = written(str(tests), "--test", *(["--seconds", fields["seconds"]] if "seconds" in fields else []))
+    said = written(str(tests), "--test")
     refused = [it for it in re.findall(r"error\[.*", said) if "refused" in fields and fields["refused"] in it]
     if refused:
         return True, f"{crate}/{name}: doesn't compile: {refused[0][:150]}"
@@ -314,11 +316,6 @@ def judge_tests(copy, crate, name, fields):
 def judge_alone(copy, crate, name, fields, pairs):
     """Tries one edit in a copy, and returns whether a test or a run fails, with a line that says which."""
     try:
-        if "seconds" in fields:
-            _, line = judge_tests(copy, crate, name, fields)
-            reset(copy, crate, fields["tests"])
-            if not line.endswith("NOTHING FAILS"):
-                return False, f"{crate}/{name}: NOT JUDGED: without an edit, {line}"
         for source, (_, after) in changed(copy, crate, fields, pairs).items():
             pathlib.Path(copy, "crates", crate, source).write_text(after, encoding="utf-8")
         if "runs" in fields:
@@ -335,14 +332,15 @@ def tested_tasks(wanted, room):
     """Returns the tasks that try the edits over which a test must fail, each in one of a lane's copies of the repository, which are made in a folder."""
     together, calls = {}, {}
     for crate, name, fields, pairs in wanted:
-        if {"snippet", "seconds"} & {*fields} or fields.get("runs", "").startswith("refused "):
+        if "snippet" in fields or fields.get("runs", "").startswith("refused "):
             calls[crate, name] = lambda copy, it=(crate, name, fields, pairs): [judge_alone(copy, *it)]
         else:
-            together.setdefault((crate, fields.get("tests")), []).append((name, fields, pairs))
-    for (crate, tests), edits in together.items():
-        for at in range(0, len(edits), IN_ONE):
-            part = edits[at : at + IN_ONE]
-            calls[crate, tests, at] = lambda copy, it=(crate, tests, part): judge_together(copy, *it) if it[1] else judge_programs(copy, it[0], it[2])
+            together.setdefault((crate, fields.get("tests"), fields.get("seconds", UNTIMED)), []).append((name, fields, pairs))
+    for (crate, tests, seconds), edits in together.items():
+        most = IN_ONE if seconds == UNTIMED else TIMED_IN_ONE
+        for at in range(0, len(edits), most):
+            its = (crate, tests, seconds, edits[at : at + most])
+            calls[crate, tests, seconds, at] = lambda copy, it=its: judge_together(copy, *it) if it[1] else judge_programs(copy, it[0], it[3])
     copies = queue.Queue()
     for lane in range(min(len(calls), len(os.sched_getaffinity(0)))):
         shutil.copytree(f"{ROOT}/crates", f"{room}/{lane}/crates", ignore=LEFT_OUT)
