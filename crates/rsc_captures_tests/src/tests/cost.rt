@@ -10,7 +10,7 @@ use std::test::Fail;
 
 const NAMES: usize = 50_000;
 
-const GROUPS: usize = 200_000;
+const GROUPS: usize = 100_000;
 
 // The group info of one pattern.
 fn info_of(alloc: Global, groups: &[Option<&str>]) -> Result<GroupInfo, Fail> {
@@ -63,7 +63,7 @@ fn captures_of(alloc: Global, are_patterns: bool) -> Result<Captures, Fail> {
 
 // Whether each call on a group of the one pattern answers as it should.
 fn is_group(info: &GroupInfo, g: usize) -> bool
-    requires { g ≤ 200000 }
+    requires { g ≤ 100000 }
 {
     let slots = info.slots(PatternID::ZERO, g);
     let counts = [
