@@ -7,7 +7,8 @@ The edits stand in crates/CRATE/tested-bodies.edits; gate/edits.py explains the 
                                          alone; without it all but those of cost, which take long
     snippet: memory lists_are_dropped    if there: a snippet of that crate's must-run, and its test that is run instead of the crate's
     refused: `x` does not live           if there: what the compiler must say of the snippet's test instead
-    seconds: 240                         the time that each test has, 240 seconds unless it's there; without the edit it must pass within it
+    seconds: 240                         the time that each test has, 240 seconds unless it's there; without the edit it must pass within it, or on
+                                         a busy machine within four times as long
     runs: looks Start -- ''              instead of tests: the arguments, with \\xHH for bytes, of a plain stored run (gate/stored-runs.py), which must write
                                          something else or end with another status; or files of runs/, as `looks.txt`, or `all`: one of these runs must
     runs: refused 3: calls               or the stored run of these arguments of which the third request for memory is refused
@@ -233,9 +234,13 @@ def judged(crate, left, failing):
 
 
 def judge_together(copy, crate, tests, seconds, edits):
-    """Tries edits of a crate together by the tests, each of which has that many seconds."""
-    left, said, results = run_together(copy, crate, tests, edits, lambda: written(f"{copy}/crates/{tests}", "--test", "--seconds", seconds))
-    failing = {number: re.findall(rf"^test v{number}::(\S+) \.\.\. FAILED", said, flags=re.M) for number in [0, *left]}
+    """Tries edits of a crate together by the tests, each of which has that many seconds; four times as many if one fails over the unchanged crate, as it may
+    on a busy machine."""
+    for limit in (seconds, str(4 * int(seconds))):
+        left, said, results = run_together(copy, crate, tests, edits, lambda: written(f"{copy}/crates/{tests}", "--test", "--seconds", limit))
+        failing = {number: re.findall(rf"^test v{number}::(\S+) \.\.\. FAILED", said, flags=re.M) for number in [0, *left]}
+        if not failing[0]:
+            break
     return results + [*judged(crate, left, failing)]
 
 
